@@ -16,8 +16,10 @@ const NON_FILE_ARGUMENTS = new Set(["CYCLES", "N", "KEYS", "FIRST", "LAST", "COU
  */
 export function checkArguments(words, names, max = names.length, hasProject = false) {
   const missingNames = names.slice(words.length).filter((name) => !name.endsWith("?"));
-  if (missingNames.length > 0) throw new UsageError(say.missing(missingNames, hasProject && words.length === 0 && !existsSync(PROJECT_FILE)));
-  if (words.length > max) throw new UsageError(say.oneTooMany(words[max]));
+  if (missingNames.length > 0) {
+    throw new UsageError(say.argumentsMissing(missingNames, hasProject && words.length === 0 && !existsSync(PROJECT_FILE)));
+  }
+  if (words.length > max) throw new UsageError(say.extraArgument(words[max]));
   const canBeEmpty = (/** @type {string} */ name) => NON_FILE_ARGUMENTS.has(name.replace("?", ""));
   if (words.some((word, index) => word === "" && !canBeEmpty(names[index] || ""))) throw new UsageError(say.EMPTY_ARGUMENT);
 }

@@ -144,7 +144,7 @@ async function rejectCommand(word) {
 async function printHelp([name, ...extraWords]) {
   const { formatCommandHelp, formatMcs4Help, formatMcs4Usage } = await import("./command_help.mjs");
   if (extraWords.length > 0) {
-    printErrorLines("mcs4", say.oneTooMany(extraWords[0]));
+    printErrorLines("mcs4", say.extraArgument(extraWords[0]));
     printError(`${formatMcs4Usage()}\n`);
     return WRONG_ARGUMENTS_STATUS;
   }
@@ -168,7 +168,7 @@ export async function runLine([name = "", ...words]) {
   if (name === "help") return printHelp(words);
   if (name !== "" && name !== "version") return rejectCommand(name);
   const { formatMcs4Usage } = await import("./command_help.mjs");
-  if (name === "version") printErrorLines("mcs4", say.oneTooMany(words[0]));
+  if (name === "version") printErrorLines("mcs4", say.extraArgument(words[0]));
   printError(`${formatMcs4Usage()}\n`);
   return WRONG_ARGUMENTS_STATUS;
 }

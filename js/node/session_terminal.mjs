@@ -2,7 +2,7 @@
 // and all messages go to standard error.
 import { joinLines } from "../core/bench/inputs.js";
 import { SessionPrompt } from "../core/prompt/bench_prompt.js";
-import { BEGINNING } from "../words/session_prompt.js";
+import { GREETING } from "../words/session_prompt.js";
 import { completePath, expandTilde } from "./file_names.mjs";
 import { MAX_SCRIPT_BYTES, readDecodedFile } from "./input_texts.mjs";
 import { print } from "./output.mjs";
@@ -81,7 +81,7 @@ export async function servePrompt(word, name) {
       }));
       /** @type {TerminalPrompt} */
       const terminal = new TerminalPrompt(prompt, { output: process.stderr });
-      terminal.print(BEGINNING);
+      terminal.print(GREETING);
       signalStatus = await terminal.run();
       unservedInput = signalStatus === 0 ? prompt.unfinishedText : "";
     }

@@ -192,7 +192,7 @@ async function main() {
   block("needs").hidden = true;
   const missingName = missingFeature();
   if (missingName) {
-    notice.show(say.hasNo(missingName, embeddedText("needs")));
+    notice.show(say.featureMissing(missingName, embeddedText("needs")));
     return;
   }
   /** @type {Data} */

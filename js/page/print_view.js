@@ -20,7 +20,7 @@ export class PrintView {
 
   fill() {
     const { name, board, program } = this.readContents();
-    this.block.replaceChildren(...textNodes(say.sourceOf(name), program), ...textNodes(say.boardOf(name), board));
+    this.block.replaceChildren(...textNodes(say.sourceTitle(name), program), ...textNodes(say.boardTitle(name), board));
   }
 }
 

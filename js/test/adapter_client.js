@@ -10,8 +10,8 @@ import { readPageData } from "../node/page_parts.mjs";
 import { pageModule } from "./page_session.js";
 
 export const engine = new Engine(new globalThis.WebAssembly.Module(pageModule));
-const lock = (name) => readFileSync(new URL(`../../examples/lock/${name}`, import.meta.url), "utf8");
-export const FILES = Object.fromEntries(["board.toml", "lock.asm", "mcs4.toml"].map((name) => [`/lock/${name}`, lock(name)]));
+const readLockFile = (name) => readFileSync(new URL(`../../examples/lock/${name}`, import.meta.url), "utf8");
+export const FILES = Object.fromEntries(["board.toml", "lock.asm", "mcs4.toml"].map((name) => [`/lock/${name}`, readLockFile(name)]));
 export const LOCK = { program: "/lock/lock.asm" };
 export const SOURCE = { path: "/lock/lock.asm" };
 
@@ -23,30 +23,30 @@ const TIMEOUT = 20000;
  */
 const startedAdapters = [];
 afterEach(async () => {
-  // If a test ends while time is running, only this call stops it.
+  // If the machine is still running at the end of a test, only this call stops it.
   for (const adapter of startedAdapters.splice(0)) await adapter.leave();
 });
 
-/** A stand-in for the program that serves a session file. It stores the file's bytes and the lines that it has received. */
+/** A stand-in for the program that serves a session file. It stores the bytes of the file and the lines that the program has received. */
 export class FakeFile {
   constructor(bytes) {
     this.bytes = bytes.slice();
-    this.now = bytes.slice();
-    this.lines = [];
-    this.replaced = 0;
+    this.currentBytes = bytes.slice();
+    this.servedLines = [];
+    this.replacementCount = 0;
     this.hasEnded = false;
   }
 
   async ask(lines) {
-    this.lines.push(...lines.split("\n").slice(0, -1));
-    return engine.serve(this.now, lines, this.now).answers;
+    this.servedLines.push(...lines.split("\n").slice(0, -1));
+    return engine.serve(this.currentBytes, lines, this.currentBytes).answers;
   }
 
   async replace(bytes, lines, count, check) {
     const next = bytes.slice();
     check(engine.serve(next, lines, next).answers);
-    this.now = next;
-    this.replaced += 1;
+    this.currentBytes = next;
+    this.replacementCount += 1;
   }
 
   async end() {
@@ -54,15 +54,18 @@ export class FakeFile {
   }
 }
 
-/** Returns an adapter and its client. `files` has the text of each file and `sessions` the FakeFile of each session file, by path. */
+/**
+ * Returns an adapter and the client that sends requests to it. `files` contains the text of each file by its path, and `sessions` contains
+ * the FakeFile of each session file by its path.
+ */
 export function startAdapter(files = FILES, sessions = {}) {
   const reader = new MessageReader();
   const messages = [];
-  const ended = [];
+  const exitStatuses = [];
   const connection = new AdapterConnection((bytes) => messages.push(...[...reader.take(bytes)].map(({ text }) => JSON.parse(text))));
   const host = {
     nameOf: (name, folder) => (/^([A-Z]:)?\//.test(name) ? name : `${folder}/${name}`),
-    beside: (name, other) => other.replace(/[^/]*$/, name),
+    beside: (name, sibling) => sibling.replace(/[^/]*$/, name),
     read: (name) => files[name] ?? null,
     readErrorMessage: (name) => `cannot read ${name}: there is no such file`,
     fileExists: (name) => name in files || name in sessions,
@@ -74,55 +77,56 @@ export function startAdapter(files = FILES, sessions = {}) {
     },
     readSession: async (name) => {
       if (sessions[name].isInUse) throw new Error(`${name} is in use by mcs4 open (process 7)`);
-      return sessions[name].now.slice();
+      return sessions[name].currentBytes.slice();
     },
     pause: () => new Promise(setImmediate),
-    end: (status) => ended.push(status),
+    end: (status) => exitStatuses.push(status),
   };
   const adapter = new DebugAdapter(connection, engine, readPageData(), host);
   startedAdapters.push(adapter);
   let seq = 0;
-  const until = async (matches) => {
-    const end = performance.now() + TIMEOUT;
+  const waitFor = async (matches) => {
+    const deadline = performance.now() + TIMEOUT;
     while (!messages.some(matches)) {
-      if (performance.now() > end) throw new Error(`nothing came: ${JSON.stringify(messages.slice(-3))}`);
+      if (performance.now() > deadline) throw new Error(`no such message arrived: ${JSON.stringify(messages.slice(-3))}`);
       await new Promise(setImmediate);
     }
     return messages.find(matches);
   };
-  /** Sends a request; returns its number. */
-  const send = (command, args) => {
+  /** Sends a request. Returns the number of the request. */
+  const sendRequest = (command, args) => {
     seq += 1;
     connection.take(frameMessage({ seq, type: "request", command, arguments: args }));
     return seq;
   };
-  const answerTo = (own) => until((each) => each.type === "response" && each.request_seq === own);
-  const answer = (command, args) => answerTo(send(command, args));
-  const ask = async (command, args) => {
-    const response = await answer(command, args);
+  const responseTo = (requestNumber) => waitFor((message) => message.type === "response" && message.request_seq === requestNumber);
+  const getResponse = (command, args) => responseTo(sendRequest(command, args));
+  const request = async (command, args) => {
+    const response = await getResponse(command, args);
     assert.ok(response.success, response.message);
     return response.body;
   };
-  const stops = () => messages.filter(({ event }) => event === "stopped").map(({ body }) => body);
-  const move = async (command, args = { threadId: 1 }) => {
-    const before = stops().length;
-    await ask(command, args);
-    await until(() => stops().length > before);
-    return stops()[before];
+  const getStops = () => messages.filter(({ event }) => event === "stopped").map(({ body }) => body);
+  const moveAndWait = async (command, args = { threadId: 1 }) => {
+    const stopCount = getStops().length;
+    await request(command, args);
+    await waitFor(() => getStops().length > stopCount);
+    return getStops()[stopCount];
   };
-  const begin = async (args = LOCK, configure = async () => {}) => {
-    const { supportsInvalidatedEvent = true, command = "launch", client = {}, ...given } = args;
-    await ask("initialize", { adapterID: "mcs4", supportsInvalidatedEvent, ...client });
-    await ask(command, given);
+  const startSession = async (args = LOCK, configure = async () => {}) => {
+    const { supportsInvalidatedEvent = true, command = "launch", client = {}, ...launchArguments } = args;
+    await request("initialize", { adapterID: "mcs4", supportsInvalidatedEvent, ...client });
+    await request(command, launchArguments);
     await configure();
-    const before = stops().length;
-    await ask("configurationDone");
-    if (args.stopOnEntry !== false) await until(() => stops().length > before);
+    const stopCount = getStops().length;
+    await request("configurationDone");
+    if (args.stopOnEntry !== false) await waitFor(() => getStops().length > stopCount);
   };
-  const output = () => messages.filter(({ event }) => event === "output").map(({ body }) => body.output).join("");
-  const evaluate = async (expression, context = "watch") => (await ask("evaluate", { expression, context })).result;
-  const lines = async () => (await ask("stackTrace", { threadId: 1 })).stackFrames.map(({ line }) => line);
+  const getOutput = () => messages.filter(({ event }) => event === "output").map(({ body }) => body.output).join("");
+  const evaluate = async (expression, context = "watch") => (await request("evaluate", { expression, context })).result;
+  const getFrameLines = async () => (await request("stackTrace", { threadId: 1 })).stackFrames.map(({ line }) => line);
   return {
-    adapter, connection, messages, ended, until, send, answerTo, answer, ask, move, begin, output, evaluate, lines, stops, sessions,
+    adapter, connection, messages, exitStatuses, waitFor, sendRequest, responseTo, getResponse, request, moveAndWait, startSession,
+    getOutput, evaluate, getFrameLines, getStops, sessions,
   };
 }

@@ -7,18 +7,18 @@ import {
 import { ADDRESS_COUNT, NO_BYTE, parseRomBytes } from "../core/bench/rom_bytes.js";
 import { ForecastAnswers, parseTraceLine, rowValues } from "../core/engine/forecast_answers.js";
 
-test("refusals, with a line and without", () => {
+test("refusals with and without a line number", () => {
   assert.deepEqual(parseRefusal("no 34 line 2"), { number: 34, line: 2 });
   assert.deepEqual(parseRefusal("no 90"), { number: 90, line: 0 });
-  for (const other of ["ok 5", "no", "no way", "no 34 line", "xno 34"]) assert.equal(parseRefusal(other), null);
+  for (const line of ["ok 5", "no", "no way", "no 34 line", "xno 34"]) assert.equal(parseRefusal(line), null);
 });
 
 test("the answer to a run", () => {
   assert.deepEqual(readRun("ok 21 ran 11 watch"), { cycles: 11, end: "watch" });
-  for (const other of ["ok 22", "no 41", "seq 3"]) assert.equal(readRun(other), null);
+  for (const line of ["ok 22", "no 41", "seq 3"]) assert.equal(readRun(line), null);
 });
 
-test("what ends a row of steps", () => {
+test("the answers that end a series of steps", () => {
   assert.deepEqual(["ok 23 ran 70 end", "ok 5", "ok 21 ran 11 watch", "no 41", "seq 3"].map(isStop), [false, false, true, true, false]);
 });
 
@@ -30,40 +30,42 @@ test("registers", () => {
 });
 
 test("RAM", () => {
-  const found = readRam(["ram 0 chips 1", "0.0.0 2000000000000000 0000", "0.0.1 0000000000000000 0020", "0.0 out 1"]);
-  assert.deepEqual([...found.registers], [
+  const ram = readRam(["ram 0 chips 1", "0.0.0 2000000000000000 0000", "0.0.1 0000000000000000 0020", "0.0 out 1"]);
+  assert.deepEqual([...ram.registers], [
     ["0.0.0", { characters: "2000000000000000", status: "0000" }], ["0.0.1", { characters: "0000000000000000", status: "0020" }]]);
-  assert.deepEqual([...found.ports], [["0.0", "1"]]);
+  assert.deepEqual([...ram.ports], [["0.0", "1"]]);
 });
 
-test("the bytes of ROM, of one and two digits that are not 0", () => {
+test("the bytes of ROM, from listing lines with one and with two bytes", () => {
   const answer = ["list 0 4", "000 D3    LDM 3", "001 24 5F FIM P2 0x5F", "003 40 0C JUN 0x00C", "FFE 50 A0 JMS 0x0A0", "ok 3"];
   const bytes = parseRomBytes(answer);
-  const found = [...bytes].flatMap((byte, address) => (byte === NO_BYTE ? [] : [[address, byte]]));
-  assert.deepEqual(found, [[0, 0xD3], [1, 0x24], [2, 0x5F], [3, 0x40], [4, 0x0C], [0xFFE, 0x50], [0xFFF, 0xA0]]);
+  const addressesWithBytes = [...bytes].flatMap((byte, address) => (byte === NO_BYTE ? [] : [[address, byte]]));
+  assert.deepEqual(addressesWithBytes, [[0, 0xD3], [1, 0x24], [2, 0x5F], [3, 0x40], [4, 0x0C], [0xFFE, 0x50], [0xFFF, 0xA0]]);
   assert.equal(bytes.length, ADDRESS_COUNT);
 });
 
-test("marks", () => {
+test("breakpoints and watches", () => {
   assert.deepEqual(readItems("breaks 000 003"), ["000", "003"]);
   assert.deepEqual(readItems("watches -"), []);
 });
 
-test("what is watched", () => {
+test("the places that the bench watches", () => {
   assert.deepEqual(watchedPlaces("watches 0.3F 7.00"), ["ram.0.0x3F", "ram.7.0x00"]);
   assert.deepEqual(watchedPlaces("watches -"), []);
 });
 
-test("where a program's lines and names stand", () => {
+test("the addresses of a program's lines and names", () => {
   const answers = ["map lines 3 names 2", "line 1 000 0", "line 2 FFF 1", "line 3 1000 0", "name time 00C", "name go FFF"];
   assert.deepEqual(readMap(answers), {
     lines: [{ line: 1, address: 0, size: 0 }, { line: 2, address: 0xFFF, size: 1 }, { line: 3, address: 0x1000, size: 0 }],
     names: [{ name: "time", value: 12 }, { name: "go", value: 0xFFF }],
   });
-  for (const none of [[], ["no 31 line 2"], ["map lines 0 names 0"]]) assert.deepEqual(readMap(none), { lines: [], names: [] });
+  for (const answersWithoutMap of [[], ["no 31 line 2"], ["map lines 0 names 0"]]) {
+    assert.deepEqual(readMap(answersWithoutMap), { lines: [], names: [] });
+  }
 });
 
-test("what a run would do, among other answers", () => {
+test("forecasts of a run, among other answers", () => {
   const answers = new ForecastAnswers([
     "trace ran 3 end lines 2 0 -", "0 000 1 -", "2 00A 2 *", "count ran 3 code lines 2", "000 1", "00A 12 3",
     "ok 7 ran 3 code", "no 11"]);
@@ -75,7 +77,7 @@ test("what a run would do, among other answers", () => {
   assert.equal(answers.isEmpty, true);
 });
 
-test("listings, but not the answers between them", () => {
+test("listing lines are read, and other answers between them are skipped", () => {
   assert.deepEqual(readListing(["000 40 24 JUN 0x024", "ok 7", "002 00    NOP"]),
     [{ address: 0, line: "000 40 24 JUN 0x024" }, { address: 2, line: "002 00    NOP" }]);
 });

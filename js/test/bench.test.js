@@ -12,10 +12,10 @@ function createClient() {
     const worker = {
       sent: [],
       listeners: {},
-      ended: false,
+      hasEnded: false,
       postMessage: (message) => worker.sent.push(message),
-      terminate: () => { worker.ended = true; },
-      addEventListener: (kind, listen) => { worker.listeners[kind] = listen; },
+      terminate: () => { worker.hasEnded = true; },
+      addEventListener: (kind, listener) => { worker.listeners[kind] = listener; },
       deliver: (data) => worker.listeners.message({ data }),
       reply: (result) => worker.deliver({ kind: "reply", number: worker.sent[worker.sent.length - 1].number, result }),
     };
@@ -25,7 +25,7 @@ function createClient() {
   return { bench, workers };
 }
 
-async function startedClient() {
+async function createStartedClient() {
   const { bench, workers } = createClient();
   const start = bench.start();
   workers[0].reply(5);
@@ -35,79 +35,80 @@ async function startedClient() {
 
 test.afterEach(() => mock.timers.reset());
 
-test("a worker is started with the module, and answers requests by their numbers", async () => {
-  const { bench, worker } = await startedClient();
+test("a worker starts with the module, and its replies are matched to requests by their numbers", async () => {
+  const { bench, worker } = await createStartedClient();
   assert.equal(bench.size, 5);
-  const first = bench.call("ask", ["seq\n"]);
-  const second = bench.call("ask", ["regs\n"]);
-  const [one, two] = worker.sent.slice(-2);
-  worker.deliver({ kind: "reply", number: two.number, result: ["acc"] });
-  worker.deliver({ kind: "reply", number: one.number, fault: { kind: "refusal", words: "no 90", number: 90 } });
-  assert.deepEqual(await second, ["acc"]);
-  await assert.rejects(first, /no 90/);
+  const firstReply = bench.call("ask", ["seq\n"]);
+  const secondReply = bench.call("ask", ["regs\n"]);
+  const [firstRequest, secondRequest] = worker.sent.slice(-2);
+  worker.deliver({ kind: "reply", number: secondRequest.number, result: ["acc"] });
+  worker.deliver({ kind: "reply", number: firstRequest.number, fault: { kind: "refusal", words: "no 90", number: 90 } });
+  assert.deepEqual(await secondReply, ["acc"]);
+  await assert.rejects(firstReply, /no 90/);
 });
 
-test("a reply that is reported early is taken once, and only where none before it is waited for", async () => {
-  const { bench, worker } = await startedClient();
-  const first = bench.call("advance", [100]);
-  const second = bench.call("advance", [100, "0 0"]);
-  const done = [];
-  first.then((frame) => done.push(frame));
-  second.then((frame) => done.push(frame));
-  const [one, two] = worker.sent.slice(-2);
-  worker.deliver({ kind: "early", number: two.number, result: "too early" });
-  worker.deliver({ kind: "reply", number: one.number, result: "first" });
-  worker.deliver({ kind: "early", number: two.number, result: "second" });
-  worker.deliver({ kind: "reply", number: two.number, result: "late" });
-  await Promise.all([first, second]);
-  assert.deepEqual(done, ["first", "second"]);
+test("an early reply is accepted once, and only if no earlier request is pending", async () => {
+  const { bench, worker } = await createStartedClient();
+  const firstReply = bench.call("advance", [100]);
+  const secondReply = bench.call("advance", [100, "0 0"]);
+  const frames = [];
+  firstReply.then((frame) => frames.push(frame));
+  secondReply.then((frame) => frames.push(frame));
+  const [firstRequest, secondRequest] = worker.sent.slice(-2);
+  worker.deliver({ kind: "early", number: secondRequest.number, result: "too early" });
+  worker.deliver({ kind: "reply", number: firstRequest.number, result: "first" });
+  worker.deliver({ kind: "early", number: secondRequest.number, result: "second" });
+  worker.deliver({ kind: "reply", number: secondRequest.number, result: "late" });
+  await Promise.all([firstReply, secondReply]);
+  assert.deepEqual(frames, ["first", "second"]);
 });
 
 test("long work reports its progress, and can be cancelled", async () => {
-  const { bench, worker } = await startedClient();
+  const { bench, worker } = await createStartedClient();
   const controller = new AbortController();
-  const received = [];
-  const served = bench.call("serve", ["seq\n"], { signal: controller.signal, progress: (done, total) => received.push([done, total]) });
+  const progressReports = [];
+  const reply = bench.call("serve", ["seq\n"],
+    { signal: controller.signal, progress: (done, total) => progressReports.push([done, total]) });
   const { number } = worker.sent[worker.sent.length - 1];
   worker.deliver({ kind: "progress", number, done: 1, total: 4 });
   controller.abort();
   assert.deepEqual(worker.sent[worker.sent.length - 1], { kind: "cancel", number });
   worker.deliver({ kind: "reply", number, fault: { kind: "cancelled", words: "", number: 0 } });
-  await assert.rejects(served, CancelledError);
-  assert.deepEqual(received, [[1, 4]]);
+  await assert.rejects(reply, CancelledError);
+  assert.deepEqual(progressReports, [[1, 4]]);
   mock.timers.tick(5000);
-  assert.equal(worker.ended, false);
+  assert.equal(worker.hasEnded, false);
 });
 
-test("a worker that does not hear that it is to stop is ended", async () => {
-  const { bench, worker } = await startedClient();
-  let died = 0;
-  bench.listener.died = () => { died += 1; };
+test("a worker that does not react to a cancellation is ended", async () => {
+  const { bench, worker } = await createStartedClient();
+  let deathCount = 0;
+  bench.listener.died = () => { deathCount += 1; };
   const controller = new AbortController();
-  const served = bench.call("serve", ["seq\n"], { signal: controller.signal });
+  const reply = bench.call("serve", ["seq\n"], { signal: controller.signal });
   controller.abort();
   mock.timers.tick(2000);
-  await assert.rejects(served, WorkerDiedError);
-  assert.deepEqual([worker.ended, died], [true, 1]);
+  await assert.rejects(reply, WorkerDiedError);
+  assert.deepEqual([worker.hasEnded, deathCount], [true, 1]);
 });
 
-test("a worker that owes something and gives no sign of life is ended; one that owes nothing is not", async () => {
-  const { bench, worker } = await startedClient();
+test("an unresponsive worker is ended if a request is pending, and otherwise stays", async () => {
+  const { bench, worker } = await createStartedClient();
   mock.timers.tick(60000);
-  assert.equal(worker.ended, false);
+  assert.equal(worker.hasEnded, false);
   const answer = bench.call("ask", ["seq\n"]);
   for (let second = 0; second < 30; second++) {
     mock.timers.tick(1000);
     worker.deliver({ kind: "pong" });
   }
-  assert.equal(worker.ended, false);
+  assert.equal(worker.hasEnded, false);
   mock.timers.tick(12000);
   await assert.rejects(answer, WorkerDiedError);
-  assert.equal(worker.ended, true);
+  assert.equal(worker.hasEnded, true);
 });
 
-test("a script fault in the worker ends it, and another one can be started", async () => {
-  const { bench, workers, worker } = await startedClient();
+test("a script error ends the worker, and another worker can be started", async () => {
+  const { bench, workers, worker } = await createStartedClient();
   const answer = bench.call("ask", ["seq\n"]);
   worker.listeners.error({ preventDefault: () => {} });
   await assert.rejects(answer, WorkerDiedError);
@@ -115,29 +116,29 @@ test("a script fault in the worker ends it, and another one can be started", asy
   const start = bench.start();
   workers[1].reply(5);
   await start;
-  // The client ignores a late report of the old worker.
+  // The client ignores a late message from the old worker.
   worker.deliver({ kind: "frame", frame: {} });
-  const again = bench.call("ask", ["seq\n"]);
+  const secondAnswer = bench.call("ask", ["seq\n"]);
   workers[1].reply(["seq 0"]);
-  assert.deepEqual(await again, ["seq 0"]);
+  assert.deepEqual(await secondAnswer, ["seq 0"]);
 });
 
-test("arrays of files go back to the worker with the next request, but no others", async () => {
-  const { bench, worker } = await startedClient();
-  const count = worker.sent.length;
+test("buffers of the file's size return to the worker with the next request; other buffers do not", async () => {
+  const { bench, worker } = await createStartedClient();
+  const sentCount = worker.sent.length;
   bench.returnBuffer(new ArrayBuffer(4));
   bench.returnBuffer(new ArrayBuffer(5));
-  assert.equal(worker.sent.length, count);
+  assert.equal(worker.sent.length, sentCount);
   bench.call("ask", ["seq\n"]);
   bench.call("ask", ["seq\n"]);
-  assert.deepEqual(worker.sent.slice(count).map(({ spare }) => spare.map(({ byteLength }) => byteLength)), [[5], []]);
+  assert.deepEqual(worker.sent.slice(sentCount).map(({ spare }) => spare.map(({ byteLength }) => byteLength)), [[5], []]);
 });
 
-test("at full speed they go back at once", async () => {
-  const { bench, worker } = await startedClient();
-  const count = worker.sent.length;
+test("at full speed, buffers return at once", async () => {
+  const { bench, worker } = await createStartedClient();
+  const sentCount = worker.sent.length;
   bench.isRunning = true;
   bench.returnBuffer(new ArrayBuffer(4));
   bench.returnBuffer(new ArrayBuffer(5));
-  assert.deepEqual(worker.sent.slice(count).map(({ kind }) => kind), ["spare"]);
+  assert.deepEqual(worker.sent.slice(sentCount).map(({ kind }) => kind), ["spare"]);
 });

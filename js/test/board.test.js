@@ -12,7 +12,7 @@ import { BoardReader, readBoardText } from "../core/text/board_reader.js";
 import { completeBoard } from "../core/text/board_completion.js";
 import { commentAt } from "../core/text/sendable_text.js";
 import { readProjectToml } from "../core/project/project_toml.js";
-import { begin, pageModule } from "./page_session.js";
+import { openExample, pageModule } from "./page_session.js";
 import { boardTables, helpForBoard, tableAt } from "../core/text/text_help.js";
 
 // The manual's tables, as page/build reads them.
@@ -26,30 +26,30 @@ const errorOf = (text) => {
   const error = bench.wiring(text);
   return error && createBoardError(text, error, tables, (number) => `words of ${number}`);
 };
-const wordsOf = (text) => {
+const describeError = (text) => {
   const error = errorOf(text);
   return error ? `${error.line}: ${error.number} ${error.words}` : "";
 };
-const shown = (text) => {
+const errorText = (text) => {
   const { line, from, to } = errorOf(text);
   return text.split("\n")[line - 1].slice(from, to);
 };
 const ROM = '[[rom]]\nchip = 0\nport = "iii0"\n';
 const CHAIN = '[[chain]]\nclock = "rom0.0"\ndata = "rom0.0"\nchips = 1\n';
 
-test("the boards of the examples are right", () => {
+test("the boards of the examples have no errors", () => {
   for (const name of ["calculator", "three_lamps"]) {
-    assert.equal(wordsOf(readFileSync(new URL(`../../examples/${name}/board.toml`, import.meta.url), "utf8")), "");
+    assert.equal(describeError(readFileSync(new URL(`../../examples/${name}/board.toml`, import.meta.url), "utf8")), "");
   }
 });
 
-test("answers are read", () => {
-  const none = { section: "", index: 0, key: "" };
+test("answers to `wiring` and `errors` are parsed", () => {
+  const noPart = { section: "", index: 0, key: "" };
   assert.equal(readWiring("wiring valid"), null);
-  assert.deepEqual(readWiring("no 13"), { number: 13, line: 0, ...none });
-  assert.deepEqual(readWiring("no 20 line 3"), { number: 20, line: 3, ...none });
-  assert.deepEqual(readWiring("no 21 line 4 key lampe"), { number: 21, line: 4, ...none, key: "lampe" });
-  assert.deepEqual(readWiring("no 23 line 1 rom"), { number: 23, line: 1, ...none, section: "rom" });
+  assert.deepEqual(readWiring("no 13"), { number: 13, line: 0, ...noPart });
+  assert.deepEqual(readWiring("no 20 line 3"), { number: 20, line: 3, ...noPart });
+  assert.deepEqual(readWiring("no 21 line 4 key lampe"), { number: 21, line: 4, ...noPart, key: "lampe" });
+  assert.deepEqual(readWiring("no 23 line 1 rom"), { number: 23, line: 1, ...noPart, section: "rom" });
   assert.deepEqual(readWiring("no 25 line 6 lamp 2 key line"), { number: 25, line: 6, section: "lamp", index: 2, key: "line" });
   assert.deepEqual(readWiring("no 27 line 9 keys key columns"), { number: 27, line: 9, section: "keys", index: 0, key: "columns" });
   assert.deepEqual(parseRefusal("no 25 line 6 lamp 2 key line"), { number: 25, line: 6 });
@@ -57,14 +57,14 @@ test("answers are read", () => {
   assert.deepEqual(readErrors(["no 13"]), []);
 });
 
-test("what a board can have is what the bench takes, to each edge", async () => {
-  const calls = await begin("three lamps");
-  const numberOf = async (text) => (parseRefusal((await calls.serve(`wire\n${text}.\n`)).first) || { number: 0 }).number;
+test("the page's limits for boards are the limits of the bench", async () => {
+  const calls = await openExample("three lamps");
+  const refusalNumberOf = async (text) => (parseRefusal((await calls.serve(`wire\n${text}.\n`)).first) || { number: 0 }).number;
   const rom = (chip, port = "0000") => `[[rom]]\nchip = ${chip}\nport = "${port}"\n`;
   const chain = (chips) => `[[chain]]\nclock = "rom8.0"\ndata = "rom8.1"\nchips = ${chips}\n`;
   const keys = (columns, values = {}) => {
-    const all = { chain: 0, first: 0, rows: 1, ...values };
-    return `[keys]\n${Object.keys(all).map((key) => `${key} = ${all[key]}\n`).join("")}columns = [${columns.join(", ")}]\n`;
+    const keyValues = { chain: 0, first: 0, rows: 1, ...values };
+    return `[keys]\n${Object.keys(keyValues).map((key) => `${key} = ${keyValues[key]}\n`).join("")}columns = [${columns.join(", ")}]\n`;
   };
   const column = '"rom7.0"';
   const roms = rom(7, "iiii") + rom(8);
@@ -78,84 +78,86 @@ test("what a board can have is what the bench takes, to each edge", async () => 
   assert.deepEqual(Object.keys(boards), Object.keys(VALUE_RANGES));
   for (const [key, { from, to }] of Object.entries(VALUE_RANGES)) {
     const refusalNumbers = [];
-    for (const value of [from - 1, from, to, to + 1]) refusalNumbers.push(await numberOf(boards[key](value)));
+    for (const value of [from - 1, from, to, to + 1]) refusalNumbers.push(await refusalNumberOf(boards[key](value)));
     assert.deepEqual(refusalNumbers, [23, 0, 0, 23], key);
   }
-  const counted = {
+  const boardsByCount = {
     rom: (count) => Array.from({ length: count }, (_, chip) => rom(Math.min(15, chip))).join(""),
     ram: (count) => Array.from({ length: count }, (_, bank) => boards["ram.bank"](Math.min(7, bank))).join(""),
     chain: (count) => roms + chain(1).repeat(count), lamp: (count) => roms + '[[lamp]]\nline = "rom8.0"\n'.repeat(count),
   };
-  for (const [kind, most] of Object.entries(MAX_PARTS)) {
-    assert.deepEqual([await numberOf(counted[kind](most)), await numberOf(counted[kind](most + 1))], [0, 27], kind);
+  for (const [kind, maximum] of Object.entries(MAX_PARTS)) {
+    assert.deepEqual([await refusalNumberOf(boardsByCount[kind](maximum)), await refusalNumberOf(boardsByCount[kind](maximum + 1))],
+      [0, 27], kind);
   }
   const columns = (count) => roms + chain(1) + keys(Array(count).fill(column));
-  assert.deepEqual([await numberOf(columns(MAX_COLUMNS)), await numberOf(columns(MAX_COLUMNS + 1))], [0, 27]);
-  const largest = counted.rom(16) + counted.ram(8).replace(/chips = 1/g, "chips = 4") + chain(8).repeat(4);
+  assert.deepEqual([await refusalNumberOf(columns(MAX_COLUMNS)), await refusalNumberOf(columns(MAX_COLUMNS + 1))], [0, 27]);
+  const largest = boardsByCount.rom(16) + boardsByCount.ram(8).replace(/chips = 1/g, "chips = 4") + chain(8).repeat(4);
   const lamp = (line) => `${largest}[[lamp]]\nline = "${line}"\n`;
-  for (const line of LINE_NAMES) assert.equal(await numberOf(lamp(line)), 0, line);
-  const others = ["rom16.0", "rom0.4", "rom01.0", "ram8.0.0", "ram0.4.0", "ram0.0.4", "chain4.0", "chain0.80", "chain0.00", "rom0", ""];
-  for (const line of others) {
-    assert.deepEqual([LINE_NAMES.has(line), await numberOf(lamp(line))], [false, 23], line);
+  for (const line of LINE_NAMES) assert.equal(await refusalNumberOf(lamp(line)), 0, line);
+  const unknownLines = ["rom16.0", "rom0.4", "rom01.0", "ram8.0.0", "ram0.4.0", "ram0.0.4", "chain4.0", "chain0.80", "chain0.00", "rom0",
+    ""];
+  for (const line of unknownLines) {
+    assert.deepEqual([LINE_NAMES.has(line), await refusalNumberOf(lamp(line))], [false, 23], line);
   }
   const lines = boardLines({ roms: [{ chip: 3, port: "i001" }], banks: [], chains: [] });
   assert.deepEqual(lines.map(({ name, isInput }) => `${name} ${isInput}`), ["rom3.0 false", "rom3.1 false", "rom3.2 false", "rom3.3 true"]);
 });
 
-test("what is not TOML", () => {
-  assert.equal(wordsOf("[[rom\n"), "1: 20 ] is missing: [[rom]]");
-  assert.equal(wordsOf('[[rom]]\nchip 0\nport = "0000\n'), "2: 20 = is missing after chip");
-  assert.equal(wordsOf("port = 0000\n"), '1: 20 a number has no leading zero; write a text in quotes: "0000"');
-  assert.equal(wordsOf("[[rom]]\nport = iiii\n"), '2: 20 iiii is a text: write it in quotes: "iiii"');
-  assert.equal(wordsOf('[[rom]]\nchip = 0\nchip = 1\nport = "0000"\n'), "3: 20 chip is already in line 2");
-  // If the page's reader accepts a text but the bench rejects it, the message is that of the bench's error number.
-  assert.equal(wordsOf("[[rom]]\n[rom]\n"), "2: 20 words of 20");
+test("texts that are not TOML", () => {
+  assert.equal(describeError("[[rom\n"), "1: 20 ] is missing: [[rom]]");
+  assert.equal(describeError('[[rom]]\nchip 0\nport = "0000\n'), "2: 20 = is missing after chip");
+  assert.equal(describeError("port = 0000\n"), '1: 20 a number has no leading zero; write a text in quotes: "0000"');
+  assert.equal(describeError("[[rom]]\nport = iiii\n"), '2: 20 iiii is a text: write it in quotes: "iiii"');
+  assert.equal(describeError('[[rom]]\nchip = 0\nchip = 1\nport = "0000"\n'), "3: 20 chip is already in line 2");
+  // If the page's reader accepts a text but the bench rejects it, the message explains the bench's error number.
+  assert.equal(describeError("[[rom]]\n[rom]\n"), "2: 20 words of 20");
 });
 
-test("keys and values", () => {
-  assert.equal(wordsOf('[[rom]]\nchip = 16\nport = "0000"\n'), "2: 23 chip must be a unique number from 0 to 15");
-  assert.equal(wordsOf('[[rom]]\nchip = "0"\nport = "0000"\n'), "2: 23 chip is a number: write 0 without quotes");
-  assert.equal(shown('[[rom]]\nchip = 16\nport = "0000"\n'), "16");
-  assert.equal(shown('[[rom]]\nchip = 1\nport = "oooo"\n'), '"oooo"');
-  assert.equal(wordsOf("[[ram]]\nbank = 0\nchip = 1\n"), "3: 21 chip is not a key of ram; chips?");
+test("wrong keys and values", () => {
+  assert.equal(describeError('[[rom]]\nchip = 16\nport = "0000"\n'), "2: 23 chip must be a unique number from 0 to 15");
+  assert.equal(describeError('[[rom]]\nchip = "0"\nport = "0000"\n'), "2: 23 chip is a number: write 0 without quotes");
+  assert.equal(errorText('[[rom]]\nchip = 16\nport = "0000"\n'), "16");
+  assert.equal(errorText('[[rom]]\nchip = 1\nport = "oooo"\n'), '"oooo"');
+  assert.equal(describeError("[[ram]]\nbank = 0\nchip = 1\n"), "3: 21 chip is not a key of ram; chips?");
   assert.deepEqual(errorOf("[[ram]]\nbank = 0\nchip = 1\n").quickFixTexts, ["chips"]);
-  assert.equal(wordsOf("[[ram]]\nbank = 0\n"), "1: 22 this ram lacks chips");
-  assert.equal(wordsOf("[[rmo]]\n"), "1: 21 rmo is not a part of a board; rom?");
+  assert.equal(describeError("[[ram]]\nbank = 0\n"), "1: 22 this ram lacks chips");
+  assert.equal(describeError("[[rmo]]\n"), "1: 21 rmo is not a part of a board; rom?");
   assert.deepEqual(errorOf("[[rmo]]\n").quickFixTexts, ["[[rom]]"]);
-  assert.equal(wordsOf("speed = 3\n"), "1: 21 speed is not a part of a board, which has rom, ram, chain, keys, lamp");
-  assert.equal(wordsOf("[[keys]]\n"), "1: 23 a board has one key matrix: [keys]");
-  assert.equal(wordsOf("[rom]\nchip = 0\nport = \"0000\"\n"), "1: 23 there can be several: write [[rom]]");
-  assert.equal(wordsOf("rom = [\n  { chip = 0, port = '1i0i' }, # one\n  { chip = 0x4D, port = '0000' },\n]\n"),
+  assert.equal(describeError("speed = 3\n"), "1: 21 speed is not a part of a board, which has rom, ram, chain, keys, lamp");
+  assert.equal(describeError("[[keys]]\n"), "1: 23 a board has one key matrix: [keys]");
+  assert.equal(describeError("[rom]\nchip = 0\nport = \"0000\"\n"), "1: 23 there can be several: write [[rom]]");
+  assert.equal(describeError("rom = [\n  { chip = 0, port = '1i0i' }, # one\n  { chip = 0x4D, port = '0000' },\n]\n"),
     "3: 23 chip must be a unique number from 0 to 15");
 });
 
 test("parts that the board lacks, and lines of the wrong direction", () => {
   const lamp = (line) => `${ROM}${CHAIN}[[ram]]\nbank = 2\nchips = 1\n[[lamp]]\nline = ${line}\n`;
-  assert.equal(wordsOf(`${ROM}${ROM}`), "5: 24 chip 0 is already in line 1");
-  assert.equal(wordsOf(lamp('"rom9.0"')), "12: 25 the board has no line rom9.0: no [[rom]] has chip = 9");
-  assert.equal(wordsOf(lamp('"ram1.0.0"')), "12: 25 the board has no line ram1.0.0: no [[ram]] has bank = 1");
-  assert.equal(wordsOf(lamp('"ram2.1.0"')), "12: 25 the board has no line ram2.1.0: bank 2 has only chip 0");
-  assert.equal(wordsOf(lamp('"chain0.10"')), "12: 25 the board has no line chain0.10: chain 0 has bits 0 to 9");
-  assert.equal(wordsOf(lamp('"chain1.0"')), "12: 25 the board has no chain 1: it has only chain 0");
-  assert.equal(wordsOf(lamp('"led"')), '12: 23 led is not the name of a line; names are like "rom1.0", "ram0.0.3" and "chain0.5"');
-  assert.equal(wordsOf(lamp('["rom0.0"]')), "12: 23 line must be a line that is not an input line");
-  assert.equal(wordsOf(lamp("{}")), "12: 23 line must be a line that is not an input line");
-  assert.equal(wordsOf(lamp('"rom0.1"')), "12: 26 rom0.1 is an input line (i in its ROM's port); a lamp needs an output line");
-  assert.equal(wordsOf(`${ROM}${CHAIN.replace("rom0.0", "chain0.1")}`),
+  assert.equal(describeError(`${ROM}${ROM}`), "5: 24 chip 0 is already in line 1");
+  assert.equal(describeError(lamp('"rom9.0"')), "12: 25 the board has no line rom9.0: no [[rom]] has chip = 9");
+  assert.equal(describeError(lamp('"ram1.0.0"')), "12: 25 the board has no line ram1.0.0: no [[ram]] has bank = 1");
+  assert.equal(describeError(lamp('"ram2.1.0"')), "12: 25 the board has no line ram2.1.0: bank 2 has only chip 0");
+  assert.equal(describeError(lamp('"chain0.10"')), "12: 25 the board has no line chain0.10: chain 0 has bits 0 to 9");
+  assert.equal(describeError(lamp('"chain1.0"')), "12: 25 the board has no chain 1: it has only chain 0");
+  assert.equal(describeError(lamp('"led"')), '12: 23 led is not the name of a line; names are like "rom1.0", "ram0.0.3" and "chain0.5"');
+  assert.equal(describeError(lamp('["rom0.0"]')), "12: 23 line must be a line that is not an input line");
+  assert.equal(describeError(lamp("{}")), "12: 23 line must be a line that is not an input line");
+  assert.equal(describeError(lamp('"rom0.1"')), "12: 26 rom0.1 is an input line (i in its ROM's port); a lamp needs an output line");
+  assert.equal(describeError(`${ROM}${CHAIN.replace("rom0.0", "chain0.1")}`),
     "5: 26 chain0.1 is a bit of a chain; clock needs an output line of a ROM or a RAM chip");
   const matrix = (count, columns) => `${ROM}${CHAIN}[keys]\nchain = 0\nfirst = 5\nrows = ${count}\ncolumns = ${columns}\n`;
-  assert.equal(wordsOf(matrix(6, '["rom0.1"]')), "11: 25 the rows need bits 5 to 10 of chain 0, which has bits 0 to 9");
+  assert.equal(describeError(matrix(6, '["rom0.1"]')), "11: 25 the rows need bits 5 to 10 of chain 0, which has bits 0 to 9");
   const columns = matrix(5, '["rom0.1", "rom0.0"]');
-  assert.equal(wordsOf(columns), "12: 26 rom0.0 is not an input line; a column needs a line of a ROM that is i in its port");
-  assert.equal(shown(columns), '"rom0.0"');
-  assert.equal(shown(matrix(5, '["rom0.1", "rom0.4"]')), '"rom0.4"');
-  assert.equal(shown(matrix(5, '["rom0.1", "rom7.1"]')), '"rom7.1"');
-  assert.match(wordsOf(matrix(5, '"rom0.1"')), /^12: 23 columns must be an array of 1 to 8 lines/);
-  assert.equal(wordsOf(matrix(5, `[${'"rom0.1", '.repeat(9)}]`)), "12: 27 a key matrix has at most 8 columns");
-  assert.equal(wordsOf(`${ROM}${CHAIN.repeat(5)}`), "20: 27 a board has at most 4 [[chain]]");
+  assert.equal(describeError(columns), "12: 26 rom0.0 is not an input line; a column needs a line of a ROM that is i in its port");
+  assert.equal(errorText(columns), '"rom0.0"');
+  assert.equal(errorText(matrix(5, '["rom0.1", "rom0.4"]')), '"rom0.4"');
+  assert.equal(errorText(matrix(5, '["rom0.1", "rom7.1"]')), '"rom7.1"');
+  assert.match(describeError(matrix(5, '"rom0.1"')), /^12: 23 columns must be an array of 1 to 8 lines/);
+  assert.equal(describeError(matrix(5, `[${'"rom0.1", '.repeat(9)}]`)), "12: 27 a key matrix has at most 8 columns");
+  assert.equal(describeError(`${ROM}${CHAIN.repeat(5)}`), "20: 27 a board has at most 4 [[chain]]");
 });
 
-test("a text is read with its places", () => {
+test("the reader reports the line of each key", () => {
   const { entries } = readBoardText(`${ROM}# a comment\n`);
   assert.deepEqual(entries[0].keys.map(({ name, line, value }) => [name, line, value.inner]), [["chip", 2, 0], ["port", 3, "iii0"]]);
   assert.equal(commentAt('a = "#" # b', "#"), 8);
@@ -166,23 +168,23 @@ test("the keys of a board's tables are those of the manual", () => {
     [["rom", "chip,port"], ["ram", "bank,chips"], ["chain", "clock,data,chips"], ["keys", "chain,first,rows,columns"], ["lamp", "line"]]);
   assert.deepEqual([tableAt(["[[rom]]", "c"], 1), tableAt(["rom = [", "  { chip = 0 },"], 1), tableAt(["# x"], 0)], ["rom", "rom", ""]);
   assert.equal(helpForBoard(["[[rom]]", "chip = 0"], 1, 2, tables), "chip of rom: a unique number from 0 to 15.");
-  const texts = (lines, line, at) => completeBoard(lines, line, at, tables).list.map(({ text }) => text);
-  assert.deepEqual(texts(["[[rom]]", "p"], 1, 1), ["port"]);
-  assert.deepEqual(texts(["[[r"], 0, 3), ["rom", "ram"]);
-  assert.deepEqual(texts(["[[rom]]", 'port = "i'], 1, 9), ['iiii"']);
+  const completionTexts = (lines, line, column) => completeBoard(lines, line, column, tables).list.map(({ text }) => text);
+  assert.deepEqual(completionTexts(["[[rom]]", "p"], 1, 1), ["port"]);
+  assert.deepEqual(completionTexts(["[[r"], 0, 3), ["rom", "ram"]);
+  assert.deepEqual(completionTexts(["[[rom]]", 'port = "i'], 1, 9), ['iiii"']);
 });
 
-test("values are completed by the lines that the board has so far, and an empty line by whole parts", () => {
+test("values are completed with lines of the board, and an empty line with whole parts", () => {
   const board = ["[[rom]]", "chip = 0", 'port = "i000"', "[[ram]]", "bank = 0", "chips = 1", "[[chain]]", "clock = ", "data = \"rom0.1\"",
     "chips = 1", "[keys]", "chain = ", "columns = [", "  ", "]", "[[lamp]]", 'line = "chain0.', ""];
-  const texts = (line) => completeBoard(board, line, board[line].length, tables).list.map(({ text }) => text);
-  assert.deepEqual(texts(7), ['"rom0.0"', '"rom0.1"', '"rom0.2"', '"ram0.0.0"', '"ram0.0.1"', '"ram0.0.2"', '"ram0.0.3"']);
-  assert.deepEqual(texts(11), ["0"]);
-  assert.deepEqual(texts(13), ['"rom0.3"']);
-  assert.deepEqual(texts(16), [...Array(10).keys()].map((bit) => `chain0.${bit}"`));
+  const completionTexts = (line) => completeBoard(board, line, board[line].length, tables).list.map(({ text }) => text);
+  assert.deepEqual(completionTexts(7), ['"rom0.0"', '"rom0.1"', '"rom0.2"', '"ram0.0.0"', '"ram0.0.1"', '"ram0.0.2"', '"ram0.0.3"']);
+  assert.deepEqual(completionTexts(11), ["0"]);
+  assert.deepEqual(completionTexts(13), ['"rom0.3"']);
+  assert.deepEqual(completionTexts(16), [...Array(10).keys()].map((bit) => `chain0.${bit}"`));
   assert.equal(completeBoard(['[[lamp]]', 'line = "rom"'], 1, 11, tables).list.length, 0);
-  const offered = texts(17);
-  assert.ok(offered.includes('[[rom]]\nchip = 1\nport = "0000"') && offered.includes('[[lamp]]\nline = "rom0.0"'));
+  const suggestions = completionTexts(17);
+  assert.ok(suggestions.includes('[[rom]]\nchip = 1\nport = "0000"') && suggestions.includes('[[lamp]]\nline = "rom0.0"'));
   const [first] = completeBoard([""], 0, 0, tables).list;
   assert.equal(first.text, '[[rom]]\nchip = 0\nport = "0000"');
 });
@@ -190,31 +192,31 @@ test("values are completed by the lines that the board has so far, and an empty 
 /** Returns how often the reader accesses the words of a board text while it parses the text. */
 function countWordReads(text) {
   const reader = new BoardReader(text);
-  let looks = 0;
+  let accessCount = 0;
   reader.words = new Proxy(reader.words, {
-    get: (words, at) => {
-      looks += 1;
-      return words[at];
+    get: (words, index) => {
+      accessCount += 1;
+      return words[index];
     },
   });
   reader.read();
-  return looks;
+  return accessCount;
 }
 
-test("a text that is four times as long is read by four times as many looks at its words", () => {
+test("reading a text takes a number of accesses that is proportional to its length", () => {
   for (const line of ["wire\n", "asm\n.\n", "x =\n", "x = [1,\n", "[[lamp]]\n", "a . b\n", "x = [\n", "{a = [1}\n"]) {
-    const [short, long] = [16384, 65536].map((size) => countWordReads(line.repeat(size / line.length)));
-    assert.ok(short > 1000 && long < 4.5 * short, `${JSON.stringify(line)}: ${short} and ${long} looks`);
+    const [shortCount, longCount] = [16384, 65536].map((size) => countWordReads(line.repeat(size / line.length)));
+    assert.ok(shortCount > 1000 && longCount < 4.5 * shortCount, `${JSON.stringify(line)}: ${shortCount} and ${longCount} accesses`);
   }
 });
 
-test("brackets and braces are open up to a number, and more of them are a fault in their line", () => {
-  const faultsOf = (text) => readBoardText(text).faults.map(({ line, words }) => `${line}: ${words}`);
+test("up to 32 brackets and braces can be open; one more is an error in its line", () => {
+  const errorsOf = (text) => readBoardText(text).faults.map(({ line, words }) => `${line}: ${words}`);
   const tooDeep = "more than 32 brackets and braces are open here";
-  assert.deepEqual(faultsOf(`\nx = ${"[".repeat(32)}${"]".repeat(32)}\n`), []);
-  assert.deepEqual(faultsOf(`\nx = ${"[".repeat(33)}${"]".repeat(33)}\ny = 1 2\n`), [`2: ${tooDeep}`, "3: the line must end here"]);
-  assert.deepEqual(faultsOf(`x = ${"[\n".repeat(16300)}`).slice(0, 1), [`33: ${tooDeep}`]);
-  assert.deepEqual(faultsOf(`x = ${"{a = [".repeat(10000)}`), [`1: ${tooDeep}`]);
-  const [fault] = readProjectToml(`board = "b"\nprogram = ${"[".repeat(16300)}`).faults;
-  assert.deepEqual([fault.line, fault.words], [2, tooDeep]);
+  assert.deepEqual(errorsOf(`\nx = ${"[".repeat(32)}${"]".repeat(32)}\n`), []);
+  assert.deepEqual(errorsOf(`\nx = ${"[".repeat(33)}${"]".repeat(33)}\ny = 1 2\n`), [`2: ${tooDeep}`, "3: the line must end here"]);
+  assert.deepEqual(errorsOf(`x = ${"[\n".repeat(16300)}`).slice(0, 1), [`33: ${tooDeep}`]);
+  assert.deepEqual(errorsOf(`x = ${"{a = [".repeat(10000)}`), [`1: ${tooDeep}`]);
+  const [error] = readProjectToml(`board = "b"\nprogram = ${"[".repeat(16300)}`).faults;
+  assert.deepEqual([error.line, error.words], [2, tooDeep]);
 });

@@ -15,11 +15,11 @@ import { PerceivedText } from "../core/engine/perceived_text.js";
 import { examplesOfPage, pageModule } from "./page_session.js";
 
 /** The length of a frame at 60 frames per second, in cycles and in milliseconds. */
-const FRAME = 1543;
-const FRAME_TIME = 1000 / 60;
+const FRAME_CYCLES = 1543;
+const FRAME_MS = 1000 / 60;
 
 /** In each iteration of the loop, lamp 0 is on for 3 cycles and lamp 1 for the other cycles. Lamp 2 is always on, lamp 3 never. */
-const PULSES = {
+const PULSE_EXAMPLE = {
   board: `[[rom]]\nchip = 0\nport = "0000"\n${[0, 1, 2, 3].map((line) => `[[lamp]]\nline = "rom0.${line}"\n`).join("")}`,
   program: "FIM P0, 0\nSRC P0\nloop: LDM 5\nWRR\nNOP\nLDM 6\nWRR\nFIM P1, 0\nwait: ISZ R2, wait\nJUN loop\n",
 };
@@ -28,7 +28,7 @@ const PULSES = {
  * Two rows of three lamps. In each iteration of the loop, columns 0 and 2 of row 0 are on for 5 cycles, then column 1 of row 1 for 10
  * cycles. Then all lamps are off.
  */
-const SCANNED = {
+const SCANNED_EXAMPLE = {
   board: `# matrix 0: 2 rows of 3 scanned by 4\n[[rom]]\nchip = 0\nport = "0000"\n[[ram]]\nbank = 0\nchips = 2\n${
     ["ram0.0.0", "ram0.0.1", "ram0.0.2", "ram0.0.3", "ram0.1.0", "ram0.1.1"].map((line) => `[[lamp]]\nline = "${line}"\n`).join("")}`,
   program: `FIM P0, 0\nFIM P1, 0x40
@@ -39,12 +39,12 @@ loop:   LDM 5\nSRC P0\nWMP\nLDM 1\nSRC P1\nWMP
         JUN loop\n`,
 };
 
-const textOf = (name) => readFileSync(new URL(name, import.meta.url), "utf8");
+const readText = (name) => readFileSync(new URL(name, import.meta.url), "utf8");
 
 /** A display of two digits. In each iteration of its main loop, the program rewrites the display lamp by lamp. */
-const REFRESHED = { board: textOf("two_digits.toml"), program: textOf("two_digits.asm") };
+const REFRESHED_EXAMPLE = { board: readText("two_digits.toml"), program: readText("two_digits.asm") };
 
-async function begin({ board, program }) {
+async function openSession({ board, program }) {
   const calls = new BenchCalls(async () => true);
   await calls.load(pageModule, []);
   calls.open(calls.make({ name: "own", title: "", board, program, tests: "", properties: "", lines: "", project: "" }));
@@ -53,74 +53,76 @@ async function begin({ board, program }) {
 }
 
 /** Returns the bench's answers to `lamps` before each cycle and after the last cycle. */
-function lampAnswers(calls, cycles) {
+function queryLamps(calls, cycles) {
   const answers = calls.ask(`lamps\n${"run 1\nlamps\n".repeat(cycles)}`).filter((line) => line.startsWith("lamps"));
   return answers.map((line) => line.slice("lamps ".length));
 }
 
 /** Returns the number of cycles for which each lamp is on, counted from the answers to `lamps`. */
-function cyclesOn(calls, cycles) {
-  const marks = lampAnswers(calls, cycles).slice(0, cycles);
-  return [...marks[0]].map((_, lamp) => marks.filter((each) => each[lamp] === "*").length);
+function countLitCycles(calls, cycles) {
+  const marks = queryLamps(calls, cycles).slice(0, cycles);
+  return [...marks[0]].map((_, lamp) => marks.filter((row) => row[lamp] === "*").length);
 }
 
 /**
  * Returns when each lamp changes, computed from the answers to `lamps`: the cycle of the first change, the longest time between two
  * changes, and the cycles after the last change. Returns null for a lamp that does not change.
  */
-function lampChanges(calls, cycles) {
-  const marks = lampAnswers(calls, cycles);
+function findLampChanges(calls, cycles) {
+  const marks = queryLamps(calls, cycles);
   return [...marks[0]].map((_, lamp) => {
-    const moments = marks.flatMap((each, at) => (at > 0 && each[lamp] !== marks[at - 1][lamp] ? [at] : []));
-    if (moments.length === 0) return null;
-    const longest = Math.max(0, ...moments.slice(1).map((moment, at) => moment - moments[at]));
-    return { first: moments[0], longest, rest: cycles - moments[moments.length - 1] };
+    const changeCycles = marks.flatMap((row, index) => (index > 0 && row[lamp] !== marks[index - 1][lamp] ? [index] : []));
+    if (changeCycles.length === 0) return null;
+    const longest = Math.max(0, ...changeCycles.slice(1).map((cycle, index) => cycle - changeCycles[index]));
+    return { first: changeCycles[0], longest, rest: cycles - changeCycles[changeCycles.length - 1] };
   });
 }
 
-test("how long lamps are lit, and when they change, is reported to the cycle", async () => {
-  const calls = await begin(PULSES);
-  for (const cycles of [1, 7, FRAME, 2000, 11]) {
-    const [wanted, moved] = [cyclesOn(calls, cycles), lampChanges(calls, cycles)];
-    const [last] = lampAnswers(calls, cycles).slice(-1);
+test("the lit times and the changes of lamps are reported exactly", async () => {
+  const calls = await openSession(PULSE_EXAMPLE);
+  for (const cycles of [1, 7, FRAME_CYCLES, 2000, 11]) {
+    const [expected, expectedChanges] = [countLitCycles(calls, cycles), findLampChanges(calls, cycles)];
+    const [lastMarks] = queryLamps(calls, cycles).slice(-1);
     const { litShares } = calls.advance(cycles);
     assert.deepEqual([litShares.face, litShares.cycles, litShares.lamps, litShares.moved, litShares.marks],
-      [7, cycles, wanted, moved, last]);
+      [7, cycles, expected, expectedChanges, lastMarks]);
   }
 });
 
-test("what an eye sees is the part of the time that trace reports, to 2 %", async () => {
-  const calls = await begin(PULSES);
-  const parts = cyclesOn(calls, 3800).map((lit) => lit / 3800);
-  const seen = new Brightness(new Face(PULSES.board), 4);
+test("the perceived brightness is the share of lit cycles in the trace, within 2 %", async () => {
+  const calls = await openSession(PULSE_EXAMPLE);
+  const expectedShares = countLitCycles(calls, 3800).map((lit) => lit / 3800);
+  const brightness = new Brightness(new Face(PULSE_EXAMPLE.board), 4);
   for (let frame = 0; frame < 30; frame++) {
-    seen.add(calls.advance(FRAME).litShares, FRAME_TIME);
-    if (frame > 9) seen.lamps.forEach((part, lamp) => assert.ok(Math.abs(part - parts[lamp]) < 0.02, `${seen.lamps} of ${parts}`));
+    brightness.add(calls.advance(FRAME_CYCLES).litShares, FRAME_MS);
+    if (frame <= 9) continue;
+    brightness.lamps.forEach((share, lamp) => (
+      assert.ok(Math.abs(share - expectedShares[lamp]) < 0.02, `${brightness.lamps} of ${expectedShares}`)));
   }
 });
 
-test("a lamp between two lines is lit where both are 1, to the cycle", async () => {
-  const calls = await begin(SCANNED);
+test("a scanned lamp is lit while both of its lines are 1, exactly", async () => {
+  const calls = await openSession(SCANNED_EXAMPLE);
   calls.advance(100);
-  for (const cycles of [1, 26, FRAME, 333]) {
+  for (const cycles of [1, 26, FRAME_CYCLES, 333]) {
     const marks = calls.ask(`lamps\n${"run 1\nlamps\n".repeat(cycles)}`).filter((line) => line.startsWith("lamps")).slice(0, cycles);
-    const wanted = [4, 5].flatMap((row) => [0, 1, 2].map((column) => (
+    const expected = [4, 5].flatMap((row) => [0, 1, 2].map((column) => (
       marks.filter((line) => line["lamps ".length + row] === "*" && line["lamps ".length + column] === "*").length)));
-    assert.deepEqual(calls.advance(cycles).litShares.scanned, [wanted]);
+    assert.deepEqual(calls.advance(cycles).litShares.scanned, [expected]);
   }
-  const seen = new Brightness(new Face(SCANNED.board), 6);
-  for (let frame = 0; frame < 20; frame++) seen.add(calls.advance(FRAME).litShares, FRAME_TIME);
-  const turn = 28;
-  const [scanned] = seen.scannedGroups;
-  scanned.forEach((part, at) => assert.ok(Math.abs(part - [5, 0, 5, 0, 10, 0][at] / turn) < 0.02, String(scanned)));
+  const brightness = new Brightness(new Face(SCANNED_EXAMPLE.board), 6);
+  for (let frame = 0; frame < 20; frame++) brightness.add(calls.advance(FRAME_CYCLES).litShares, FRAME_MS);
+  const loopCycles = 28;
+  const [group] = brightness.scannedGroups;
+  group.forEach((share, index) => assert.ok(Math.abs(share - [5, 0, 5, 0, 10, 0][index] / loopCycles) < 0.02, String(group)));
 });
 
-test("digits that are lit by turns show what they show longest while they are lit", () => {
+test("each multiplexed digit shows the pattern that it has longest while it is lit", () => {
   const face = new Face("# display 0: 3 digits of 7 segments with points scanned by 8\n# lamp 11: minus\n");
   const text = new DisplayText(face.groups, [{ at: 11, text: "minus" }]);
   const marks = (segments, digits, minus) => segments.padEnd(8, ".") + digits + minus;
   const trace = (...rows) => [`trace ran ${rows.length * 100} end lines ${rows.length - 1} ${rows[0]}`,
-    ...rows.slice(1).map((row, at) => `${at * 100 + 99} 000 ${row}`)];
+    ...rows.slice(1).map((row, index) => `${index * 100 + 99} 000 ${row}`)];
   const read = (...rows) => {
     const { number, names } = new PerceivedText(face, 12).read(trace(...rows));
     return [number, names];
@@ -134,19 +136,19 @@ test("digits that are lit by turns show what they show longest while they are li
   assert.equal(text.read(two).number, "2. ");
 });
 
-test("the edges of a line are reported to the cycle, and its samples have its pitch", async () => {
-  const calls = await begin(PULSES);
+test("the edges of a line are reported exactly, and its sound samples have the right pitch", async () => {
+  const calls = await openSession(PULSE_EXAMPLE);
   calls.listenTo("rom0.0");
   let level = -1;
-  for (const cycles of [3, 40, FRAME, 1]) {
+  for (const cycles of [3, 40, FRAME_CYCLES, 1]) {
     const lampLines = calls.ask(`lamps\n${"run 1\nlamps\n".repeat(cycles)}`).filter((line) => line.startsWith("lamps")).slice(0, cycles);
-    const wanted = lampLines.map((line) => (line["lamps ".length] === "*" ? 1 : -1));
-    assert.deepEqual([...soundSamples(calls.advance(cycles).heard)], wanted);
+    const expected = lampLines.map((line) => (line["lamps ".length] === "*" ? 1 : -1));
+    assert.deepEqual([...soundSamples(calls.advance(cycles).heard)], expected);
   }
-  const pieces = new SampleBuffer(4200);
+  const buffer = new SampleBuffer(4200);
   let [rises, count] = [0, 0];
   for (let frame = 0; frame < 60; frame++) {
-    for (const sample of pieces.add(calls.advance(FRAME).heard) || []) {
+    for (const sample of buffer.add(calls.advance(FRAME_CYCLES).heard) || []) {
       rises += Number(sample > level && level === -1 && count > 0);
       level = sample;
       count += 1;
@@ -159,107 +161,107 @@ test("the edges of a line are reported to the cycle, and its samples have its pi
 });
 
 /**
- * Returns the perceived brightness of a board with one lamp, and the function `pass`. `pass` simulates `time` milliseconds, in which the
- * lamp is on for the fraction `lit` of the time.
+ * Returns the perceived brightness of a board with one lamp, and the function `simulate`. It simulates `time` milliseconds, in which the
+ * lamp is on for the fraction `litShare` of the time.
  */
-function oneLamp() {
-  const seen = new Brightness(new Face(""), 1);
-  const pass = (lit, time, moved = null, marks = lit > 0 ? "*" : ".") => (
-    seen.add({ face: 0, cycles: 100, marks, lamps: [lit * 100], moved: [moved], displays: [], scanned: [] }, time));
-  return { seen, pass };
+function createLamp() {
+  const brightness = new Brightness(new Face(""), 1);
+  const simulate = (litShare, time, moved = null, marks = litShare > 0 ? "*" : ".") => (
+    brightness.add({ face: 0, cycles: 100, marks, lamps: [litShare * 100], moved: [moved], displays: [], scanned: [] }, time));
+  return { seen: brightness, pass: simulate };
 }
 
-test("a lamp that flickers from now on is seen to 63 % after the persistence, and fades so", () => {
-  const { seen, pass } = oneLamp();
-  for (let part = 0; part < 10; part++) pass(0.8, EYE_PERSISTENCE_MS / 10, { first: 1, longest: 8, rest: 7 });
-  assert.ok(Math.abs(seen.lamps[0] - 0.8 * (1 - Math.exp(-1))) < 1e-9);
-  pass(1, Infinity);
-  assert.equal(seen.lamps[0], 1);
-  pass(0, EYE_PERSISTENCE_MS);
-  assert.ok(Math.abs(seen.lamps[0] - Math.exp(-1)) < 1e-9);
-  seen.begin("*");
-  assert.equal(seen.lamps[0], 1);
+test("the brightness of a flickering lamp rises, and falls, by 63 % within the persistence time", () => {
+  const { seen: brightness, pass: simulate } = createLamp();
+  for (let part = 0; part < 10; part++) simulate(0.8, EYE_PERSISTENCE_MS / 10, { first: 1, longest: 8, rest: 7 });
+  assert.ok(Math.abs(brightness.lamps[0] - 0.8 * (1 - Math.exp(-1))) < 1e-9);
+  simulate(1, Infinity);
+  assert.equal(brightness.lamps[0], 1);
+  simulate(0, EYE_PERSISTENCE_MS);
+  assert.ok(Math.abs(brightness.lamps[0] - Math.exp(-1)) < 1e-9);
+  brightness.begin("*");
+  assert.equal(brightness.lamps[0], 1);
   assert.deepEqual([0, 0.25, 1, 2].map(perceivedBrightness), [0, 0.53, 1, 1]);
 });
 
-test("a lamp that stands still is full at once, and fades when it goes out; one that is lit for a moment is seen, and is not lit", () => {
-  const { seen, pass } = oneLamp();
-  pass(0.3, FRAME_TIME, { first: 70, longest: 0, rest: 30 });
-  assert.deepEqual([seen.lamps, seen.isOn], [[1], [true]]);
-  pass(0.4, FRAME_TIME, { first: 40, longest: 0, rest: 60 }, ".");
-  assert.deepEqual(seen.isOn, [true]);
-  pass(0, FRAME_TIME);
-  assert.deepEqual(seen.isOn, [false]);
-  assert.ok(seen.lamps[0] > 0.3 && seen.lamps[0] < 0.5, String(seen.lamps[0]));
-  for (let frame = 0; frame < 30; frame++) pass(0, FRAME_TIME);
-  assert.deepEqual(seen.lamps, [0]);
-  pass(0.06, FRAME_TIME, { first: 10, longest: 6, rest: 84 }, ".");
-  assert.ok(seen.lamps[0] > 0.02 && seen.lamps[0] < 0.03, String(seen.lamps[0]));
-  assert.deepEqual(seen.isOn, [false]);
+test("a steady lamp has full brightness at once, and fades when it goes out; a short flash is visible, but not on", () => {
+  const { seen: brightness, pass: simulate } = createLamp();
+  simulate(0.3, FRAME_MS, { first: 70, longest: 0, rest: 30 });
+  assert.deepEqual([brightness.lamps, brightness.isOn], [[1], [true]]);
+  simulate(0.4, FRAME_MS, { first: 40, longest: 0, rest: 60 }, ".");
+  assert.deepEqual(brightness.isOn, [true]);
+  simulate(0, FRAME_MS);
+  assert.deepEqual(brightness.isOn, [false]);
+  assert.ok(brightness.lamps[0] > 0.3 && brightness.lamps[0] < 0.5, String(brightness.lamps[0]));
+  for (let frame = 0; frame < 30; frame++) simulate(0, FRAME_MS);
+  assert.deepEqual(brightness.lamps, [0]);
+  simulate(0.06, FRAME_MS, { first: 10, longest: 6, rest: 84 }, ".");
+  assert.ok(brightness.lamps[0] > 0.02 && brightness.lamps[0] < 0.03, String(brightness.lamps[0]));
+  assert.deepEqual(brightness.isOn, [false]);
 });
 
-test("a lamp that rested within a frame stands still once it rests for twice as long", () => {
-  const { seen, pass } = oneLamp();
+test("a lamp that is steady within a frame is steady once it stays unchanged for twice as long", () => {
+  const { seen: brightness, pass: simulate } = createLamp();
   // In 20 ms, the lamp stays unchanged for 2 ms, then 8 ms, then 10 ms.
-  pass(0.5, 20, { first: 10, longest: 40, rest: 50 });
-  assert.ok(Math.abs(seen.lamps[0] - 0.5 * (1 - Math.exp(-20 / EYE_PERSISTENCE_MS))) < 1e-9, String(seen.lamps[0]));
-  pass(1, 5);
-  assert.ok(seen.lamps[0] < 0.5, String(seen.lamps[0]));
-  pass(1, 5);
-  assert.deepEqual(seen.lamps, [1]);
+  simulate(0.5, 20, { first: 10, longest: 40, rest: 50 });
+  assert.ok(Math.abs(brightness.lamps[0] - 0.5 * (1 - Math.exp(-20 / EYE_PERSISTENCE_MS))) < 1e-9, String(brightness.lamps[0]));
+  simulate(1, 5);
+  assert.ok(brightness.lamps[0] < 0.5, String(brightness.lamps[0]));
+  simulate(1, 5);
+  assert.deepEqual(brightness.lamps, [1]);
 });
 
-test("what comes and goes more often than an eye follows never stands still", () => {
-  const { seen, pass } = oneLamp();
+test("a lamp that changes faster than the eye can follow is never steady", () => {
+  const { seen: brightness, pass: simulate } = createLamp();
   // The lamp is off for 12 ms and on for 8 ms. It is sampled every 4 ms.
   for (let turn = 0; turn < 50; turn++) {
-    pass(0, 4, { first: 0, longest: 0, rest: 100 });
-    pass(0, 4);
-    pass(0, 4);
-    pass(1, 4, { first: 0, longest: 0, rest: 100 });
-    pass(1, 4);
-    if (turn > 10) assert.ok(seen.lamps[0] > 0.4 && seen.lamps[0] < 0.6, String(seen.lamps[0]));
+    simulate(0, 4, { first: 0, longest: 0, rest: 100 });
+    simulate(0, 4);
+    simulate(0, 4);
+    simulate(1, 4, { first: 0, longest: 0, rest: 100 });
+    simulate(1, 4);
+    if (turn > 10) assert.ok(brightness.lamps[0] > 0.4 && brightness.lamps[0] < 0.6, String(brightness.lamps[0]));
   }
 });
 
-test("digits that are shifted in are shown at once when they stand, and nothing else before", async () => {
+test("digits that are shifted in appear at once when they are complete, and nothing else appears before", async () => {
   const example = examplesOfPage.find(({ name }) => name === "calculator");
-  const calls = await begin(example);
-  const seen = new Brightness(new Face(example.board), 43);
-  const pass = (cycles, key = null) => {
-    seen.add(calls.advance(cycles, key).litShares, (FRAME_TIME * cycles) / FRAME);
-    return seen.patterns.map(displayedNumber).join(" ");
+  const calls = await openSession(example);
+  const brightness = new Brightness(new Face(example.board), 43);
+  const simulate = (cycles, key = null) => {
+    brightness.add(calls.advance(cycles, key).litShares, (FRAME_MS * cycles) / FRAME_CYCLES);
+    return brightness.patterns.map(displayedNumber).join(" ");
   };
-  for (let frame = 0; frame < 60; frame++) pass(FRAME);
-  let isAtOnce = 0;
-  [[2, 0, "1"], [2, 1, "12"], [2, 2, "123"], [1, 0, "1234"], [1, 1, "12345"], [1, 2, "123456"]].forEach(([row, column, number], at) => {
+  for (let frame = 0; frame < 60; frame++) simulate(FRAME_CYCLES);
+  let immediateCount = 0;
+  [[2, 0, "1"], [2, 1, "12"], [2, 2, "123"], [1, 0, "1234"], [1, 1, "12345"], [1, 2, "123456"]].forEach(([row, column, number], index) => {
     const key = matrixKey(row, column);
-    const before = pass(FRAME + 137 * at);
+    const before = simulate(FRAME_CYCLES + 137 * index);
     // First the cycles that are simulated early for a key press, then the cycles that are due.
-    isAtOnce += Number(pass(2 * FRAME - 100 * at, key) === number);
+    immediateCount += Number(simulate(2 * FRAME_CYCLES - 100 * index, key) === number);
     calls.release(key);
     const numbers = new Set();
-    for (let frame = 0; frame < 6; frame++) numbers.add(pass(FRAME));
+    for (let frame = 0; frame < 6; frame++) numbers.add(simulate(FRAME_CYCLES));
     numbers.delete(before);
     assert.deepEqual([...numbers], [number]);
   });
-  assert.equal(isAtOnce, 6);
+  assert.equal(immediateCount, 6);
 });
 
-test("a display that is refreshed in the main loop shows its number in each frame, though seldom at an instant", async () => {
-  const calls = await begin(REFRESHED);
+test("a display that the main loop refreshes shows its number in each frame, but rarely at a single instant", async () => {
+  const calls = await openSession(REFRESHED_EXAMPLE);
   calls.advance(10000);
-  const face = new Face(REFRESHED.board);
-  const seen = new Brightness(face, 14);
-  const instants = new DisplayText(face.groups, []);
+  const face = new Face(REFRESHED_EXAMPLE.board);
+  const brightness = new Brightness(face, 14);
+  const instantText = new DisplayText(face.groups, []);
   const numbers = new Set();
-  let matches = 0;
+  let matchCount = 0;
   for (let frame = 0; frame < 150; frame++) {
-    const { litShares, snapshot } = calls.advance(FRAME);
-    seen.add(litShares, FRAME_TIME);
-    numbers.add(seen.patterns.map(displayedNumber).join(" "));
-    matches += Number(instants.read(/ lamps (\S+) /.exec(snapshot[0])[1]).number === "42");
+    const { litShares, snapshot } = calls.advance(FRAME_CYCLES);
+    brightness.add(litShares, FRAME_MS);
+    numbers.add(brightness.patterns.map(displayedNumber).join(" "));
+    matchCount += Number(instantText.read(/ lamps (\S+) /.exec(snapshot[0])[1]).number === "42");
   }
   assert.deepEqual([...numbers], ["42"]);
-  assert.ok(matches > 5 && matches < 60, String(matches));
+  assert.ok(matchCount > 5 && matchCount < 60, String(matchCount));
 });

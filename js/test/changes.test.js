@@ -1,11 +1,11 @@
-// Tests the marks on changed values, which the page shows while time is paused and removes while time is running.
+// Tests the marks on changed values. The page shows them while the machine is paused and removes them while it is running.
 
 import assert from "node:assert/strict";
 import test from "node:test";
 import { Changes } from "../page/machine/changes.js";
 
 /** Returns a stand-in for a cell of the page, with the members that Changes uses. */
-function fakeCell() {
+function createFakeCell() {
   const classes = new Set();
   const cell = { text: "", node: { classList: classes }, set: (text) => cell.text !== text && ((cell.text = text), true) };
   classes.remove = classes.delete;
@@ -13,9 +13,9 @@ function fakeCell() {
   return cell;
 }
 
-test("what differs from the stop before is marked, however long ago it changed", () => {
+test("a value that differs from the previous stop is marked, however long ago it changed", () => {
   const changes = new Changes();
-  const [first, second] = [fakeCell(), fakeCell()];
+  const [first, second] = [createFakeCell(), createFakeCell()];
   for (const cell of [first, second]) changes.set(cell, "0");
   changes.handlePaused();
   assert.deepEqual([first.isMarked(), second.isMarked()], [false, false]);
@@ -26,9 +26,9 @@ test("what differs from the stop before is marked, however long ago it changed",
   assert.deepEqual([first.isMarked(), second.isMarked()], [true, false]);
 });
 
-test("a value that has come back to what it was is not marked", () => {
+test("a value that has changed back is not marked", () => {
   const changes = new Changes();
-  const cell = fakeCell();
+  const cell = createFakeCell();
   changes.set(cell, "1");
   changes.set(cell, "2");
   changes.handleRunning();
@@ -37,9 +37,9 @@ test("a value that has come back to what it was is not marked", () => {
   assert.equal(cell.isMarked(), false);
 });
 
-test("marks stay where nothing has happened, and go when time runs", () => {
+test("marks stay while nothing happens, and disappear when the machine runs", () => {
   const changes = new Changes();
-  const cell = fakeCell();
+  const cell = createFakeCell();
   changes.set(cell, "1");
   changes.set(cell, "2");
   changes.handlePaused();
@@ -49,9 +49,9 @@ test("marks stay where nothing has happened, and go when time runs", () => {
   assert.equal(cell.isMarked(), false);
 });
 
-test("the next stop compares with this one", () => {
+test("each stop compares values with the stop before it", () => {
   const changes = new Changes();
-  const [first, second] = [fakeCell(), fakeCell()];
+  const [first, second] = [createFakeCell(), createFakeCell()];
   for (const cell of [first, second]) changes.set(cell, "0");
   changes.set(first, "1");
   changes.handlePaused();
@@ -60,9 +60,9 @@ test("the next stop compares with this one", () => {
   assert.deepEqual([first.isMarked(), second.isMarked()], [false, true]);
 });
 
-test("cells of another board begin without marks", () => {
+test("cells of a new board have no marks", () => {
   const changes = new Changes();
-  const cell = fakeCell();
+  const cell = createFakeCell();
   changes.set(cell, "1");
   changes.set(cell, "2");
   changes.handlePaused();

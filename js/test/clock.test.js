@@ -6,114 +6,114 @@ import { matrixKey } from "../core/board/key_place.js";
 import { CYCLES_PER_SECOND } from "../core/time/mcs4_time.js";
 import { SPEEDS, findSpeed } from "../core/time/speeds.js";
 
-/** Returns a clock that was started at time 0, and its calls. `wait` sets the time. `to` sets the time and delivers an animation frame. */
+/** Returns a clock that starts at time 0, its calls, and two functions. `advanceTo` sets the time and delivers an animation frame. */
 function startClock(speed = "real") {
   let now = 0;
-  let frame = null;
+  let frameCallback = null;
   mock.method(performance, "now", () => now);
   mock.method(Date, "now", () => now);
   globalThis.document = { hidden: false };
-  globalThis.requestAnimationFrame = (act) => { frame = act; };
-  globalThis.cancelAnimationFrame = () => { frame = null; };
+  globalThis.requestAnimationFrame = (callback) => { frameCallback = callback; };
+  globalThis.cancelAnimationFrame = () => { frameCallback = null; };
   const calls = [];
-  const seen = { calls, fails: [], gaps: 0, waiting: null };
+  const log = { calls, failures: [], standstillCount: 0, pendingCall: null };
   const clock = new Clock({
     advance: (cycles, key) => {
       calls.push(key ? [cycles, key] : [cycles]);
-      return seen.waiting || Promise.resolve();
+      return log.pendingCall || Promise.resolve();
     },
     runInstruction: async () => { calls.push(["instruction"]); },
     runFull: async () => { calls.push(["full"]); },
-    reportStandstill: () => { seen.gaps += 1; },
-    reportFailure: (fault) => seen.fails.push(fault),
+    reportStandstill: () => { log.standstillCount += 1; },
+    reportFailure: (error) => log.failures.push(error),
   });
   clock.setSpeed(findSpeed(speed));
   clock.start();
-  const wait = (time) => { now = time; };
-  const to = async (time) => {
+  const setTime = (time) => { now = time; };
+  const advanceTo = async (time) => {
     now = time;
-    if (frame) frame(time);
+    if (frameCallback) frameCallback(time);
     await promisesSettled();
   };
-  return { clock, seen, calls, wait, to };
+  return { clock, log, calls, setTime, advanceTo };
 }
 
-const promisesSettled = () => new Promise((done) => setImmediate(done));
+const promisesSettled = () => new Promise((resolve) => setImmediate(resolve));
 const sumOf = (calls) => calls.reduce((sum, [cycles]) => sum + cycles, 0);
 
 test.afterEach(() => mock.restoreAll());
 
-test("a key goes along with the cycles that are due and those of a frame, and the next frame has none", async () => {
-  const { clock, calls, wait, to } = startClock();
-  await to(10);
-  wait(15);
+test("a key press is simulated with the due cycles and those of a frame, and the next frame simulates none", async () => {
+  const { clock, calls, setTime, advanceTo } = startClock();
+  await advanceTo(10);
+  setTime(15);
   assert.equal(clock.simulateKeyPress(matrixKey(0, 1)), true);
   assert.deepEqual(calls, [[925], [464 + 1543, matrixKey(0, 1)]]);
   await promisesSettled();
-  await to(30);
+  await advanceTo(30);
   assert.equal(calls.length, 2);
-  await to(100);
+  await advanceTo(100);
   assert.equal(sumOf(calls), Math.floor(CYCLES_PER_SECOND / 10));
   assert.equal(clock.now, 100);
 });
 
-test("the time that counts is ahead for as long as cycles are lent", async () => {
-  const { clock, wait } = startClock();
-  wait(10);
+test("the clock is ahead while cycles have been simulated early", async () => {
+  const { clock, setTime } = startClock();
+  setTime(10);
   clock.simulateKeyPress(matrixKey(0, 1));
   assert.ok(Math.abs(clock.now - 10 - 1000 / 60) < 0.01, `${clock.now}`);
 });
 
-test("while a call is under way a key is reported separately, and cycles follow at the end of the call", async () => {
-  const { clock, seen, calls, wait, to } = startClock();
-  let done = () => {};
-  seen.waiting = new Promise((keep) => { done = keep; });
-  await to(10);
-  seen.waiting = null;
-  wait(12);
+test("during a call, a key is reported separately, and the cycles follow at the end of the call", async () => {
+  const { clock, log, calls, setTime, advanceTo } = startClock();
+  let endCall = () => {};
+  log.pendingCall = new Promise((resolve) => { endCall = resolve; });
+  await advanceTo(10);
+  log.pendingCall = null;
+  setTime(12);
   assert.equal(clock.simulateKeyPress(matrixKey(0, 1)), false);
   assert.deepEqual(calls, [[925]]);
-  done();
+  endCall();
   await promisesSettled();
   assert.deepEqual(calls, [[925], [186 + 1543]]);
-  await to(60);
+  await advanceTo(60);
   assert.equal(sumOf(calls), Math.floor(60 * CYCLES_PER_SECOND / 1000));
 });
 
-test("where that call ends the time nothing follows, and nothing is owed when it goes on", async () => {
-  const { clock, seen, calls, wait, to } = startClock();
-  wait(5);
+test("if the clock stops during that call, no cycles follow, and none are due after a restart", async () => {
+  const { clock, log, calls, setTime, advanceTo } = startClock();
+  setTime(5);
   clock.simulateKeyPress(matrixKey(0, 1));
   await promisesSettled();
-  wait(6);
-  let done = () => {};
-  seen.waiting = new Promise((keep) => { done = keep; });
-  await to(40);
-  seen.waiting = null;
+  setTime(6);
+  let endCall = () => {};
+  log.pendingCall = new Promise((resolve) => { endCall = resolve; });
+  await advanceTo(40);
+  log.pendingCall = null;
   assert.equal(clock.simulateKeyPress(matrixKey(0, 2)), false);
   clock.stop();
-  done();
+  endCall();
   await promisesSettled();
-  const before = calls.length;
-  wait(50);
+  const callCount = calls.length;
+  setTime(50);
   assert.equal(clock.simulateKeyPress(matrixKey(0, 3)), false);
   clock.start();
-  await to(60);
-  assert.deepEqual(calls.slice(before), [[925]]);
+  await advanceTo(60);
+  assert.deepEqual(calls.slice(callCount), [[925]]);
 });
 
-test("nothing is lent while time stands still, at full speed, and in slow motion", async () => {
-  for (const { id } of SPEEDS.filter((each) => each.id !== "real")) {
-    const { clock, calls, wait } = startClock(id);
+test("no cycles are simulated early while paused, at full speed or in slow motion", async () => {
+  for (const { id } of SPEEDS.filter((speed) => speed.id !== "real")) {
+    const { clock, calls, setTime } = startClock(id);
     calls.length = 0;
-    wait(500);
+    setTime(500);
     const isReported = clock.simulateKeyPress(matrixKey(0, 1));
-    const slow = { tenth: [[4629, matrixKey(0, 1)]], hundredth: [[462, matrixKey(0, 1)]], thousandth: [[46, matrixKey(0, 1)]] };
-    assert.deepEqual(calls, slow[id] || [], id);
-    assert.equal(isReported, id in slow, id);
+    const slowCalls = { tenth: [[4629, matrixKey(0, 1)]], hundredth: [[462, matrixKey(0, 1)]], thousandth: [[46, matrixKey(0, 1)]] };
+    assert.deepEqual(calls, slowCalls[id] || [], id);
+    assert.equal(isReported, id in slowCalls, id);
     await promisesSettled();
     clock.stop();
-    wait(900);
+    setTime(900);
     assert.equal(clock.simulateKeyPress(matrixKey(0, 1)), false);
     mock.restoreAll();
   }
@@ -123,27 +123,27 @@ test("nothing is lent while time stands still, at full speed, and in slow motion
   assert.deepEqual(calls, []);
 });
 
-test("a page that was hidden owes nothing back, and lends nothing while it is hidden", async () => {
-  const { clock, calls, seen, wait, to } = startClock();
+test("a hidden page simulates no key press, and skips the time for which it was hidden", async () => {
+  const { clock, calls, log, setTime, advanceTo } = startClock();
   clock.simulateKeyPress(matrixKey(0, 1));
   await promisesSettled();
   globalThis.document.hidden = true;
   clock.handlePageHidden();
-  wait(5000);
+  setTime(5000);
   assert.equal(clock.simulateKeyPress(matrixKey(0, 2)), false);
   globalThis.document.hidden = false;
-  await to(9000);
-  assert.equal(seen.gaps, 1);
-  await to(9010);
+  await advanceTo(9000);
+  assert.equal(log.standstillCount, 1);
+  await advanceTo(9010);
   assert.deepEqual(calls, [[1543, matrixKey(0, 1)], [925]]);
 });
 
-test("a call that fails is reported, and the next frame goes on", async () => {
-  const { calls, seen, to } = startClock();
-  seen.waiting = Promise.reject(new Error("trap"));
-  await to(10);
-  seen.waiting = null;
-  assert.deepEqual(seen.fails.map(({ message }) => message), ["trap"]);
-  await to(20);
+test("a failed call is reported, and the next frame continues", async () => {
+  const { calls, log, advanceTo } = startClock();
+  log.pendingCall = Promise.reject(new Error("trap"));
+  await advanceTo(10);
+  log.pendingCall = null;
+  assert.deepEqual(log.failures.map(({ message }) => message), ["trap"]);
+  await advanceTo(20);
   assert.deepEqual(calls, [[925], [926]]);
 });

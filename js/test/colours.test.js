@@ -25,7 +25,7 @@ test("a board's tables, keys, values and comments are distinguished", () => {
   assert.equal(describeColours('name = "open', boardColours), 'name property|"open string');
 });
 
-test("lines of tests: the first word, names of tests, comments but behind keys", () => {
+test("lines of tests: the first word, test names, and comments, except after keys", () => {
   assert.equal(describeColours("test it is # 5", COLOURS.tests), "test keyword|it is # 5 string");
   assert.equal(describeColours("  keys 5 #", COLOURS.tests), "keys keyword|5 number|# variable-2");
   assert.equal(describeColours("  expect lamp 1 on # lit", COLOURS.tests), "expect keyword|lamp keyword|1 number|on keyword|# lit comment");

@@ -10,12 +10,12 @@ import { COMMAND_WORDS } from "../words/commands.js";
 const MAIN = fileURLToPath(new URL("../node/mcs4.cjs", import.meta.url));
 
 /** Runs mcs4. Returns the exit status and the output. */
-function run(...words) {
-  const { status, stdout, stderr } = spawnSync(process.execPath, [MAIN, ...words], { encoding: "utf8", cwd: "/" });
+function runMcs4(...args) {
+  const { status, stdout, stderr } = spawnSync(process.execPath, [MAIN, ...args], { encoding: "utf8", cwd: "/" });
   return { status, stdout, stderr };
 }
 
-test("each command has words, and a module that runs it", async () => {
+test("each command has help texts and a module that runs it", async () => {
   assert.deepEqual(Object.keys(COMMANDS), Object.keys(COMMAND_WORDS));
   assert.deepEqual(Object.keys(COMMANDS), Object.keys(COMMANDS).sort());
   for (const [name, { options, load }] of Object.entries(COMMANDS)) {
@@ -24,42 +24,42 @@ test("each command has words, and a module that runs it", async () => {
   }
 });
 
-test("help fits a terminal, and names all options and statuses", () => {
+test("help can be printed, and names all options and statuses", () => {
   for (const [name, { options }] of Object.entries(COMMANDS)) {
-    const { status, stdout, stderr } = run(name, "--help");
+    const { status, stdout, stderr } = runMcs4(name, "--help");
     assert.deepEqual({ status, stderr }, { status: 0, stderr: "" });
-    assert.deepEqual(run(name, "-h"), { status, stdout, stderr });
+    assert.deepEqual(runMcs4(name, "-h"), { status, stdout, stderr });
     assert.ok(stdout.startsWith(`usage: mcs4 ${name}`), name);
     for (const option of Object.keys(options)) assert.match(stdout, new RegExp(`^ .*--${option}( |\n)`, "m"));
     assert.match(stdout, /\n {2}0: [^]*\n {2}1: [^]*\n {2}2: /);
   }
 });
 
-test("wrong arguments have status 2, the use of the command, and a suggestion where one is near", () => {
+test("wrong arguments give status 2, the usage of the command, and a suggestion for a similar option", () => {
   const usage = "usage: mcs4 cover [-C FOLDER] [--lcov FILE] [BOARD PROGRAM] [TEST ..]\n"
     + "       mcs4 cover [--lcov FILE] --session SESSION CYCLES PROGRAM\n";
-  const refused = (words, message) => (
-    assert.deepEqual(run("cover", ...words), { status: 2, stdout: "", stderr: `cover: ${message}\n${usage}` }));
-  refused(["--lcvo", "x"], "there is no option --lcvo; did you mean --lcov?");
-  refused(["--frobnicate"], "there is no option --frobnicate");
-  refused(["-x"], "there is no option -x");
-  refused(["--lcov"], "FILE is missing after --lcov");
-  refused(["--lcov", "--session", "s.mcs"], "FILE is missing after --lcov");
-  refused(["--lcov", "a", "--lcov", "b"], "--lcov is given twice");
-  refused(["--help=3"], "--help takes no value");
-  refused(["a", "b"], "TEST is missing");
-  refused([], "BOARD, PROGRAM and TEST are missing, and there is no mcs4.toml here");
-  refused(["a", "", "c"], "an argument is empty; it names a file");
-  refused(["--session", "s.mcs", "0", "p"], "CYCLES: '0' is not a decimal number from 1 to 100000000");
-  refused(["--session", "s.mcs", "-5", "p"], "there is no option -5");
-  refused(["--session", "s.mcs", "1", "p", "q"], "'q' is one argument too many");
-  refused(["-C", "x", "--session", "s.mcs", "1", "p"], "-C and --session exclude each other");
+  const assertRejected = (args, message) => (
+    assert.deepEqual(runMcs4("cover", ...args), { status: 2, stdout: "", stderr: `cover: ${message}\n${usage}` }));
+  assertRejected(["--lcvo", "x"], "there is no option --lcvo; did you mean --lcov?");
+  assertRejected(["--frobnicate"], "there is no option --frobnicate");
+  assertRejected(["-x"], "there is no option -x");
+  assertRejected(["--lcov"], "FILE is missing after --lcov");
+  assertRejected(["--lcov", "--session", "s.mcs"], "FILE is missing after --lcov");
+  assertRejected(["--lcov", "a", "--lcov", "b"], "--lcov is given twice");
+  assertRejected(["--help=3"], "--help takes no value");
+  assertRejected(["a", "b"], "TEST is missing");
+  assertRejected([], "BOARD, PROGRAM and TEST are missing, and there is no mcs4.toml here");
+  assertRejected(["a", "", "c"], "an argument is empty; it names a file");
+  assertRejected(["--session", "s.mcs", "0", "p"], "CYCLES: '0' is not a decimal number from 1 to 100000000");
+  assertRejected(["--session", "s.mcs", "-5", "p"], "there is no option -5");
+  assertRejected(["--session", "s.mcs", "1", "p", "q"], "'q' is one argument too many");
+  assertRejected(["-C", "x", "--session", "s.mcs", "1", "p"], "-C and --session exclude each other");
 });
 
-test("after -- nothing is an option, and a name that is none of a command has a suggestion", () => {
-  const { status, stderr } = run("test", "--", "--help", "b", "c");
+test("after `--` nothing is an option, and an unknown command has a suggestion", () => {
+  const { status, stderr } = runMcs4("test", "--", "--help", "b", "c");
   assert.deepEqual({ status, stderr }, { status: 1, stderr: "test: cannot read --help: there is no such file\n" });
-  assert.deepEqual(run("tset"), {
+  assert.deepEqual(runMcs4("tset"), {
     status: 2, stdout: "", stderr: "mcs4: there is no command tset; did you mean test? mcs4 help lists the commands\n",
   });
 });

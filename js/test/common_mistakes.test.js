@@ -33,52 +33,53 @@ function openSession(program) {
 }
 
 /** Returns the mistakes that are reported during some frames of a program, each with its source line. */
-function mistakesOf(program, frames = 3, debug = openSession(program)) {
-  const faults = Array.from({ length: frames }, () => debug.advance(1543).tally.usual).flat();
-  return faults.map(({ address, words }) => `${debug.commonMistakes.map.lineOf(address)}: ${words}`);
+function findMistakes(program, frames = 3, debug = openSession(program)) {
+  const mistakes = Array.from({ length: frames }, () => debug.advance(1543).tally.usual).flat();
+  return mistakes.map(({ address, words }) => `${debug.commonMistakes.map.lineOf(address)}: ${words}`);
 }
 
-test("each of them is reported once, with its line", () => {
-  const calls = "a: JMS b\nend: JUN end\nb: JMS c\nBBL 0\nc: JMS d\nBBL 0\nd: JMS e\nBBL 0\ne: JMS f\nf: BBL 0\n";
-  assert.deepEqual(mistakesOf(calls), ["7: 4th nested JMS: return address 002 was overwritten",
+test("each mistake is reported once, with its line", () => {
+  const nestedCalls = "a: JMS b\nend: JUN end\nb: JMS c\nBBL 0\nc: JMS d\nBBL 0\nd: JMS e\nBBL 0\ne: JMS f\nf: BBL 0\n";
+  assert.deepEqual(findMistakes(nestedCalls), ["7: 4th nested JMS: return address 002 was overwritten",
     "6: a BBL without a call: it goes to 010, which is after no JMS", "0: execution left the program"]);
-  assert.deepEqual(mistakesOf("a: NOP\nBBL 0\n"), ["2: a BBL without a call: it goes to 000, which is after no JMS",
+  assert.deepEqual(findMistakes("a: NOP\nBBL 0\n"), ["2: a BBL without a call: it goes to 000, which is after no JMS",
     "0: execution left the program"]);
-  const port = (rom, io) => `FIM P0, ${rom}\nSRC P0\n${io}\nend: JUN end\n`;
-  assert.deepEqual(mistakesOf(port(0x10, "WRR")), ["3: WRR writes to ROM 1, whose port has no output line; the last SRC is at 002"]);
-  assert.deepEqual(mistakesOf(port(0x00, "RDR")), ["3: RDR reads ROM 0, whose port has no input line; the last SRC is at 002"]);
-  assert.deepEqual(mistakesOf(port(0x20, "WRR")), ["3: WRR writes to ROM 2, which the board lacks; the last SRC is at 002"]);
-  assert.deepEqual(mistakesOf(port(0x40, "WRM")), ["3: WRM writes to chip 1 of bank 0, which has 1; the last SRC is at 002"]);
-  const absent = "6: WR2 writes to bank 3, where the board has no RAM; the last SRC is at 005";
-  assert.deepEqual(mistakesOf(port(0x00, "LDM 3\nDCL\nSRC P0\nWR2")), [absent]);
-  assert.deepEqual(mistakesOf("LDM 1\nXCH R4\n"), ["0: execution left the program"]);
+  const portProgram = (rom, instruction) => `FIM P0, ${rom}\nSRC P0\n${instruction}\nend: JUN end\n`;
+  assert.deepEqual(findMistakes(portProgram(0x10, "WRR")),
+    ["3: WRR writes to ROM 1, whose port has no output line; the last SRC is at 002"]);
+  assert.deepEqual(findMistakes(portProgram(0x00, "RDR")), ["3: RDR reads ROM 0, whose port has no input line; the last SRC is at 002"]);
+  assert.deepEqual(findMistakes(portProgram(0x20, "WRR")), ["3: WRR writes to ROM 2, which the board lacks; the last SRC is at 002"]);
+  assert.deepEqual(findMistakes(portProgram(0x40, "WRM")), ["3: WRM writes to chip 1 of bank 0, which has 1; the last SRC is at 002"]);
+  const expected = "6: WR2 writes to bank 3, where the board has no RAM; the last SRC is at 005";
+  assert.deepEqual(findMistakes(portProgram(0x00, "LDM 3\nDCL\nSRC P0\nWR2")), [expected]);
+  assert.deepEqual(findMistakes("LDM 1\nXCH R4\n"), ["0: execution left the program"]);
 });
 
-test("an SRC that still points elsewhere: RAM was used, and the same WRR used another ROM before", () => {
-  const wired = BOARD.replace("}]", '}, { chip = 2, port = "0000" }]');
+test("an outdated SRC is reported if it was for RAM and the same WRR used another ROM before", () => {
+  const board = BOARD.replace("}]", '}, { chip = 2, port = "0000" }]');
   const program = "again: FIM P0, 0\nSRC P0\nFIM P1, 0x20\nturn: WRR\nSRC P1\nWRM\nJUN turn\n";
-  const session = new DebugSession(engine, { board: wired, program });
+  const session = new DebugSession(engine, { board: board, program });
   const mistakes = session.debugger.advance(1543).tally.usual;
   assert.deepEqual(mistakes.map(({ kind }) => kind), ["source"]);
   assert.equal(mistakes[0].words,
     "this WRR writes to ROM 2, and before it used ROM 0: the last SRC, at 006, was for RAM; is an SRC missing?");
 });
 
-test("an SRC for RDR that WRR goes on with", () => {
-  const wired = BOARD.replace("iiii", "ii00");
+test("an SRC for RDR that a WRR then uses is reported", () => {
+  const board = BOARD.replace("iiii", "ii00");
   const program = "again: FIM P0, 0\nSRC P0\nFIM P1, 0x10\nturn: WRR\nSRC P1\nRDR\nJUN turn\n";
-  const mistakes = new DebugSession(engine, { board: wired, program }).debugger.advance(1543).tally.usual;
+  const mistakes = new DebugSession(engine, { board: board, program }).debugger.advance(1543).tally.usual;
   assert.deepEqual(mistakes.map(({ words }) => words),
     ["this WRR writes to ROM 1, and before it used ROM 0: the last SRC, at 006, was for an RDR; is an SRC missing?"]);
 });
 
-test("nothing is reported of what is right", () => {
-  const right = "turn: FIM P0, 0x00\nSRC P0\nWRR\nWRM\nFIM P0, 0x10\nSRC P0\nRDR\nJMS a\nJUN turn\n"
+test("a correct program has no reports", () => {
+  const program = "turn: FIM P0, 0x00\nSRC P0\nWRR\nWRM\nFIM P0, 0x10\nSRC P0\nRDR\nJMS a\nJUN turn\n"
     + "a: JMS b\nBBL 0\nb: JMS c\nBBL 0\nc: BBL 0\n";
-  assert.deepEqual(mistakesOf(right, 20), []);
+  assert.deepEqual(findMistakes(program, 20), []);
 });
 
-test("time stops before one that it is to stop at, and goes on with it", () => {
+test("the machine pauses before a selected mistake, and then continues", () => {
   const debug = openSession("LDM 1\nFIM P0, 0x10\nSRC P0\nWRR\nLDM 2\nend: JUN end\n");
   debug.commonMistakes.stoppingKinds.add("lines");
   const frame = debug.advance(1543);
@@ -89,58 +90,58 @@ test("time stops before one that it is to stop at, and goes on with it", () => {
   assert.deepEqual(Object.keys(KINDS).length, 6);
 });
 
-test("it is reported once a run, and anew in the next one", () => {
+test("a mistake is reported once in each run", () => {
   const program = "turn: FIM P0, 0x10\nSRC P0\nWRR\nJUN turn\n";
   const debug = openSession(program);
-  assert.equal(mistakesOf(program, 5, debug).length, 1);
+  assert.equal(findMistakes(program, 5, debug).length, 1);
   debug.begin();
-  assert.equal(mistakesOf(program, 5, debug).length, 1);
+  assert.equal(findMistakes(program, 5, debug).length, 1);
 });
 
-test("later a sample is looked at, and all again after a key", () => {
+test("after a while only samples are checked, and all cycles again after a key press", () => {
   const debug = openSession("turn: JUN turn\n");
-  const looked = () => {
-    let sum = 0;
-    for (let at = 0; at < 32; at++) sum += Number(debug.commonMistakes.cyclesToCheck([{ line: "run 1543", change: null }]) > 0);
-    return sum;
+  const countChecks = () => {
+    let count = 0;
+    for (let frame = 0; frame < 32; frame++) count += Number(debug.commonMistakes.cyclesToCheck([{ line: "run 1543", change: null }]) > 0);
+    return count;
   };
-  assert.equal(looked(), 32);
+  assert.equal(countChecks(), 32);
   assert.equal(debug.commonMistakes.cyclesToCheck([{ line: "run 8000000", change: null }]), 50000 - 32 * 1543);
   debug.begin();
   assert.equal(debug.commonMistakes.cyclesToCheck([{ line: "run 8000000", change: null }]), 10000);
   debug.commonMistakes.remainingCycles = 0;
-  assert.equal(looked(), 2);
+  assert.equal(countChecks(), 2);
   debug.commonMistakes.cyclesToCheck([
     { line: "press 0 0", change: { key: matrixKey(0, 0), word: "press" } }, { line: "run 5", change: null }]);
-  assert.equal(looked(), 32);
+  assert.equal(countChecks(), 32);
 });
 
-test("where lamps wait for a key it is looked for once they are reported, and reported with the next frame", () => {
+test("during a key press, mistakes are checked after the lamps are reported, and reported with the next frame", () => {
   const program = "JMS a\nend: JUN end\na: FIM P0, 0x10\nSRC P0\nWRR\nBBL 0\n";
-  const [now, later] = [openSession(program), openSession(program)];
-  for (const each of [now, later]) each.session.queue.press(pinKey(1));
-  const wanted = now.advance(1543).tally.usual;
-  assert.equal(wanted.length, 1);
-  const hurried = later.advance(1543, true);
-  assert.deepEqual([hurried.tally.usual, later.lateMistakes], [[], []], "nothing is looked for before that");
-  later.checkLastLines();
-  later.checkLastLines();
-  assert.deepEqual(later.advance(1543, true).tally.usual, wanted);
-  later.checkLastLines();
-  assert.deepEqual(later.advance(1543).tally.usual, [], "it is reported once");
-  now.advance(1543);
-  now.advance(1543);
-  assert.deepEqual(later.session.ask("state\n"), now.session.ask("state\n"), "and what is done is the same");
+  const [immediate, deferred] = [openSession(program), openSession(program)];
+  for (const session of [immediate, deferred]) session.session.queue.press(pinKey(1));
+  const expected = immediate.advance(1543).tally.usual;
+  assert.equal(expected.length, 1);
+  const frame = deferred.advance(1543, true);
+  assert.deepEqual([frame.tally.usual, deferred.lateMistakes], [[], []], "nothing is checked before that");
+  deferred.checkLastLines();
+  deferred.checkLastLines();
+  assert.deepEqual(deferred.advance(1543, true).tally.usual, expected);
+  deferred.checkLastLines();
+  assert.deepEqual(deferred.advance(1543).tally.usual, [], "it is reported once");
+  immediate.advance(1543);
+  immediate.advance(1543);
+  assert.deepEqual(deferred.session.ask("state\n"), immediate.session.ask("state\n"), "both sessions have the same state");
 });
 
-test("but at once where time stops in that frame, or is to stop at a fault", () => {
+test("mistakes are checked at once if that frame has a stop, or if mistakes cause stops", () => {
   const program = "FIM P0, 0x10\nSRC P0\nWRR\nJUN on\non: NOP\nend: JUN end\n";
-  const broken = openSession(program);
-  broken.session.changeBreaks("break 7\n");
-  const frame = broken.advance(1543, true);
+  const withBreakpoint = openSession(program);
+  withBreakpoint.session.changeBreaks("break 7\n");
+  const frame = withBreakpoint.advance(1543, true);
   assert.deepEqual([frame.stop.why, frame.tally.usual.length], ["break", 1]);
-  const stops = openSession(program);
-  stops.commonMistakes.stoppingKinds.add("lines");
-  const stopped = stops.advance(1543, true);
-  assert.deepEqual([stopped.stop.why, stopped.cycles, stopped.tally.usual.length], ["usual", 3, 1]);
+  const withStop = openSession(program);
+  withStop.commonMistakes.stoppingKinds.add("lines");
+  const stopFrame = withStop.advance(1543, true);
+  assert.deepEqual([stopFrame.stop.why, stopFrame.cycles, stopFrame.tally.usual.length], ["usual", 3, 1]);
 });

@@ -80,7 +80,7 @@ const RANDOM_CELLS = [["acc", 16], ["cy", 2], ["r5", 16], ["r4", 16], ["ram.0.0x
  * Conditions that a user of the debugger can type. Each has a function that computes the expected result from the bench's answers to
  * `regs`, `lamps`, `state` and `ram 0`.
  * @typedef {{ acc: number, cy: number, pc: number, r: number[], lamps: string, keys: string[], test: string, digit: number }} MachineState
- * @type {[string, (is: MachineState) => boolean][]}
+ * @type {[string, (state: MachineState) => boolean][]}
  */
 const CONDITIONS = [
   ["R5 == 10", ({ r }) => r[5] === 10], ["R5=10", ({ r }) => r[5] === 10], ["r5 == 0xA", ({ r }) => r[5] === 10],
@@ -100,7 +100,8 @@ const CONDITIONS = [
 const INPUT_CONDITIONS = [
   ["key = down", ({ keys }) => keys.includes("0.1")],
   ["key # up and key A down", ({ keys }) => !keys.includes("0.3") && keys.includes("0.0")],
-  ["(key no down)", ({ keys }) => keys.includes("0.2")], ["test = 0", (is) => is.test === "0"], ["key WALK down", (is) => is.test === "0"],
+  ["(key no down)", ({ keys }) => keys.includes("0.2")], ["test = 0", (state) => state.test === "0"],
+    ["key WALK down", (state) => state.test === "0"],
 ];
 
 /** @type {DebugSession} */
@@ -113,18 +114,19 @@ before(() => {
   names = { ...session.names, watched: collectWatchNames(WATCHED) };
 });
 
-const below = (random, most) => Math.floor(random() * most);
+const randomBelow = (random, limit) => Math.floor(random() * limit);
 
 /** Sets the machine to a random state, and returns the bench's answers about that state. */
 async function setRandomState(random) {
-  const pokes = RANDOM_CELLS.map(([place, most]) => `poke ${place} ${below(random, most)}\n`).join("");
-  const ports = `asm\n FIM P0, 0\n SRC P0\n LDM ${below(random, 16)}\n WMP\n FIM P0, 0x40\n SRC P0\n LDM ${below(random, 2)}\n WMP\n.\n`;
-  const keys = [0, 1, 2, 3].map((column) => `${below(random, 2) ? "press" : "release"} 0 ${column}\n`).join("");
-  await session.debugger.session.serve(`${ports}poke pc 0\nrun 10\n${pokes}${keys}test ${below(random, 2)}\n`, async () => true);
+  const pokes = RANDOM_CELLS.map(([place, limit]) => `poke ${place} ${randomBelow(random, limit)}\n`).join("");
+  const ports = `asm\n FIM P0, 0\n SRC P0\n LDM ${randomBelow(random, 16)}\n WMP\n`
+    + ` FIM P0, 0x40\n SRC P0\n LDM ${randomBelow(random, 2)}\n WMP\n.\n`;
+  const keys = [0, 1, 2, 3].map((column) => `${randomBelow(random, 2) ? "press" : "release"} 0 ${column}\n`).join("");
+  await session.debugger.session.serve(`${ports}poke pc 0\nrun 10\n${pokes}${keys}test ${randomBelow(random, 2)}\n`, async () => true);
   const [regs, lamps, state, ...ram] = session.debugger.session.ask("regs\nlamps\nstate\nram 0\n");
-  const [, acc, cy, pc, tested, registers] = /^acc (.) cy (.) pc (...) owed . dcl . test (.) r (\w{16})/.exec(regs);
+  const [, acc, cy, pc, testPin, registers] = /^acc (.) cy (.) pc (...) owed . dcl . test (.) r (\w{16})/.exec(regs);
   return {
-    acc: parseInt(acc, 16), cy: Number(cy), pc: parseInt(pc, 16), r: [...registers].map((digit) => parseInt(digit, 16)), test: tested,
+    acc: parseInt(acc, 16), cy: Number(cy), pc: parseInt(pc, 16), r: [...registers].map((digit) => parseInt(digit, 16)), test: testPin,
     lamps: lamps.slice("lamps ".length), keys: / keys (\S+)/.exec(state)[1].split(","), digit: parseInt(ram[2].split(" ")[1][2], 16),
   };
 }
@@ -139,23 +141,24 @@ function conditionContext() {
 async function resultOrError(call) {
   try {
     return await call();
-  } catch (fault) {
-    return fault.message;
+  } catch (error) {
+    return error.message;
   }
 }
 
-const currentValues = ({ places }) => session.debugger.readPlaces(places);
+const readValues = ({ places }) => session.debugger.readPlaces(places);
 
 /** The prompt of `mcs4 debug` for the session, and the prompt's last output. */
 let prompt;
 let printed = "";
 before(() => {
-  const launched = { session, kept: null, program: "p.asm", board: "b.toml", stopsOnEntry: true, isDebugged: true, nameOf: (name) => name };
-  const put = (words) => {
-    printed = words;
+  const launchResult = { session, kept: null, program: "p.asm", board: "b.toml", stopsOnEntry: true, isDebugged: true,
+    nameOf: (name) => name };
+  const capture = (text) => {
+    printed = text;
   };
-  const calls = { print: put, complain: put, pause: async () => {}, source: () => null, isInteractive: false, view: null };
-  prompt = new Prompt(launched, readPageData(), calls);
+  const calls = { print: capture, complain: capture, pause: async () => {}, source: () => null, isInteractive: false, view: null };
+  prompt = new Prompt(launchResult, readPageData(), calls);
 });
 
 /**
@@ -171,8 +174,8 @@ const USES = {
   },
   Watch: (text) => {
     const { watched, fault } = parseWatch(text, names);
-    const look = ["state\n", "ram 0\n"].map((line) => session.debugger.session.ask(line).join("\n"));
-    return fault || joinPieces(watched.pieces(new MachineState(look), names)) === "true";
+    const snapshot = ["state\n", "ram 0\n"].map((line) => session.debugger.session.ask(line).join("\n"));
+    return fault || joinPieces(watched.pieces(new MachineState(snapshot), names)) === "true";
   },
   "mcs4 debug": async (text) => {
     conditionContext();
@@ -181,54 +184,54 @@ const USES = {
   },
   breakpoint: (text) => {
     const { soft, fault } = compileBreakpoint({ id: 1, address: 0, condition: text, from: 1, note: "", hits: 0 }, names);
-    return fault || soft.holds(currentValues(soft));
+    return fault || soft.holds(readValues(soft));
   },
   "log message": (text) => {
     const { note, fault } = compileNote(`{${text}}`, names);
-    return fault || note.words(currentValues(note)) === "true";
+    return fault || note.words(readValues(note)) === "true";
   },
   evaluate: (text) => resultOrError(() => evaluateExpression(text, conditionContext()) === "true"),
   console: (text) => resultOrError(async () => (
     (await new Console({ isMoving: false }, conditionContext(), null, {}).serveLine(text)).words === "true")),
   trigger: (text) => {
     const { trigger, fault } = readTrigger(text, createBoardLines(names.board, BOARD, true, []), names);
-    return fault || trigger.holds(currentValues(trigger));
+    return fault || trigger.holds(readValues(trigger));
   },
   property: (text) => {
     const { campaign, faults } = readCampaign(`press A\nalways ${text}\n`, { names, instructions: [] });
-    return faults.length > 0 ? faults[0].words : campaign.properties[0].condition.holds(currentValues(campaign.properties[0].condition));
+    return faults.length > 0 ? faults[0].words : campaign.properties[0].condition.holds(readValues(campaign.properties[0].condition));
   },
 };
 
-for (const [use, holds] of Object.entries(USES)) {
-  test(`${use}: what is typed means what was meant`, async () => {
+for (const [use, evaluate] of Object.entries(USES)) {
+  test(`${use}: conditions have their intended meaning`, async () => {
     const random = createRandom(83);
-    const seen = new Map();
+    const resultsByText = new Map();
     const isLive = use !== "trigger" && use !== "property";
     for (let round = 0; round < 60; round++) {
-      const is = await setRandomState(random);
-      for (const [text, meant] of isLive ? [...CONDITIONS, ...INPUT_CONDITIONS] : CONDITIONS) {
-        const held = await holds(text);
-        assert.equal(held, meant(is), `${text}: ${JSON.stringify(is)}`);
-        seen.set(text, (seen.get(text) || new Set()).add(held));
+      const state = await setRandomState(random);
+      for (const [text, compute] of isLive ? [...CONDITIONS, ...INPUT_CONDITIONS] : CONDITIONS) {
+        const result = await evaluate(text);
+        assert.equal(result, compute(state), `${text}: ${JSON.stringify(state)}`);
+        resultsByText.set(text, (resultsByText.get(text) || new Set()).add(result));
       }
     }
     // Each condition was true in some state and false in another.
-    for (const [text, held] of seen) if (text !== "lamps = 9") assert.equal(held.size, 2, text);
+    for (const [text, results] of resultsByText) if (text !== "lamps = 9") assert.equal(results.size, 2, text);
   });
 }
 
-test("A names the accumulator where the user has given A to nothing", () => {
+test("A names the accumulator unless the user has defined A", () => {
   for (const text of ["A = 10", "a == 0xA"]) assert.deepEqual(compileCondition(text, names).condition.places, ["acc"], text);
-  const watched = { ...names, watched: collectWatchNames(["A = r3"]) };
-  assert.deepEqual(compileCondition("A = 10", watched).condition.places, ["r3"]);
-  const label = { ...names, map: { ...names.map, names: new Map([["A", { value: 10, isLabel: true }]]) } };
-  assert.deepEqual(compileCondition("A = 10", label).condition.places, []);
+  const namesWithWatch = { ...names, namesWithWatch: collectWatchNames(["A = r3"]) };
+  assert.deepEqual(compileCondition("A = 10", namesWithWatch).condition.places, ["r3"]);
+  const namesWithLabel = { ...names, map: { ...names.map, names: new Map([["A", { value: 10, isLabel: true }]]) } };
+  assert.deepEqual(compileCondition("A = 10", namesWithLabel).condition.places, []);
 });
 
 test("an error in a condition is the same in each place of use; a breakpoint with it stops every time", async () => {
-  for (const [use, holds] of Object.entries(USES)) {
-    assert.match(String(await holds("accu = 10")), /accu: no such place; the accumulator is acc/, use);
+  for (const [use, evaluate] of Object.entries(USES)) {
+    assert.match(String(await evaluate("accu = 10")), /accu: no such place; the accumulator is acc/, use);
   }
   const { soft, fault } = compileBreakpoint({ id: 1, address: 0, condition: "accu = 10", from: 1, note: "", hits: 0 }, names);
   assert.equal(fault, "accu: no such place; the accumulator is acc (column 1)");
@@ -236,67 +239,71 @@ test("an error in a condition is the same in each place of use; a breakpoint wit
 });
 
 /** Returns the state of the machine in the form that the functions in CONDITIONS take. */
-function machineState() {
+function readMachineState() {
   const [regs, lamps, ...ram] = session.debugger.session.ask("regs\nlamps\nram 0\n");
-  const [, acc, cy, pc, owed, tested, registers] = /^acc (.) cy (.) pc (...) owed (.) dcl . test (.) r (\w{16})/.exec(regs);
+  const [, acc, cy, pc, owed, testPin, registers] = /^acc (.) cy (.) pc (...) owed (.) dcl . test (.) r (\w{16})/.exec(regs);
   return {
-    acc: parseInt(acc, 16), cy: Number(cy), pc: parseInt(pc, 16), r: [...registers].map((digit) => parseInt(digit, 16)), test: tested, owed,
+    acc: parseInt(acc, 16), cy: Number(cy), pc: parseInt(pc, 16), r: [...registers].map((digit) => parseInt(digit, 16)), test: testPin,
+      owed,
     lamps: lamps.slice("lamps ".length), keys: [], digit: parseInt(ram[2].split(" ")[1][2], 16),
   };
 }
 
-test("searches of the past, and on: a condition is found where it became true, instruction by instruction", async () => {
-  const own = new DebugSession(engine, { board: BOARD, program: SEARCH_PROGRAM });
-  Object.defineProperty(own, "names", { configurable: true, value: { ...own.names, watched: collectWatchNames(WATCHED) } });
-  const kept = session;
-  session = own;
+test("searches back and forward find the instructions at which a condition became true", async () => {
+  const searchSession = new DebugSession(engine, { board: BOARD, program: SEARCH_PROGRAM });
+  Object.defineProperty(searchSession, "names",
+    { configurable: true, value: { ...searchSession.names, watched: collectWatchNames(WATCHED) } });
+  const originalSession = session;
+  session = searchSession;
   try {
-    const bench = own.debugger.session;
-    const all = [{ is: machineState(), total: bench.count.total }];
+    const bench = searchSession.debugger.session;
+    const history = [{ is: readMachineState(), total: bench.count.total }];
     for (let step = 0; step < 260; step++) {
-      await own.stepInto();
-      all.push({ is: machineState(), total: bench.count.total });
+      await searchSession.stepInto();
+      history.push({ is: readMachineState(), total: bench.count.total });
     }
-    const last = all.length - 1;
-    let compared = 0;
-    for (const [text, meant] of CONDITIONS) {
-      const rises = all.flatMap(({ is }, at) => (at > 0 && meant(is) && !meant(all[at - 1].is) ? [at] : []));
-      const went = await own.goBack({ kind: "when", condition: text });
+    const last = history.length - 1;
+    let comparedCount = 0;
+    for (const [text, compute] of CONDITIONS) {
+      const rises = history.flatMap(({ is }, index) => (index > 0 && compute(is) && !compute(history[index - 1].is) ? [index] : []));
+      const travel = await searchSession.goBack({ kind: "when", condition: text });
       // The session is now at the instruction that makes the condition true.
-      const want = rises.length === 0 ? all[last] : all[rises[rises.length - 1] - 1];
-      assert.deepEqual([went.isDone, bench.count.total], [rises.length > 0, want.total], `back ${text}: ${went.words}`);
-      if (rises.length > 0) assert.match(went.words, /: this instruction makes .* true\.$/);
-      else assert.match(went.words, /has not become true in the remembered past\.$/);
-      if (went.isDone) own.goForward();
-      assert.equal(bench.count.total, all[last].total);
-      compared += rises.length > 0 ? 1 : 0;
+      const expected = rises.length === 0 ? history[last] : history[rises[rises.length - 1] - 1];
+      assert.deepEqual([travel.isDone, bench.count.total], [rises.length > 0, expected.total], `back ${text}: ${travel.words}`);
+      if (rises.length > 0) assert.match(travel.words, /: this instruction makes .* true\.$/);
+      else assert.match(travel.words, /has not become true in the remembered past\.$/);
+      if (travel.isDone) searchSession.goForward();
+      assert.equal(bench.count.total, history[last].total);
+      comparedCount += rises.length > 0 ? 1 : 0;
     }
-    assert.ok(compared > 12, String(compared));
+    assert.ok(comparedCount > 12, String(comparedCount));
     // Run forward from power-on.
-    const begun = new DebugSession(engine, { board: BOARD, program: SEARCH_PROGRAM });
-    Object.defineProperty(begun, "names", { configurable: true, value: { ...begun.names, watched: collectWatchNames(WATCHED) } });
-    for (const [text, meant] of CONDITIONS) {
-      const [first] = all.flatMap(({ is, total }, at) => (at > 0 && meant(is) && !meant(all[at - 1].is) ? [total] : []));
+    const forwardSession = new DebugSession(engine, { board: BOARD, program: SEARCH_PROGRAM });
+    Object.defineProperty(forwardSession, "names",
+      { configurable: true, value: { ...forwardSession.names, watched: collectWatchNames(WATCHED) } });
+    for (const [text, compute] of CONDITIONS) {
+      const [first] = history
+        .flatMap(({ is, total }, index) => (index > 0 && compute(is) && !compute(history[index - 1].is) ? [total] : []));
       if (first === undefined) continue;
-      const stop = await begun.runToGoal({ kind: "when", condition: text });
+      const stop = await forwardSession.runToGoal({ kind: "when", condition: text });
       assert.equal(stop.why, "goal", `${text}: ${stop.words}`);
-      // If the condition becomes true in a two-cycle instruction, time stops after the first cycle.
-      const { total } = begun.debugger.session.count;
+      // If the condition becomes true in a two-cycle instruction, the machine stops after the first cycle.
+      const { total } = forwardSession.debugger.session.count;
       assert.ok(total === first || total === first - 1, `${text}: ${total}, ${first}`);
-      await begun.goBack({ kind: "stop" });
+      await forwardSession.goBack({ kind: "stop" });
     }
   } finally {
-    session = kept;
+    session = originalSession;
   }
 });
 
-test("what no trace shows is refused where nothing else is asked", () => {
+test("conditions that no trace shows are rejected in traced conditions", () => {
   for (const [text] of INPUT_CONDITIONS) {
     assert.match(compileTracedCondition(text, names).fault, /^no run changes .*: ask for it at a breakpoint$/);
   }
 });
 
-test("errors point at their column, and propose", () => {
+test("errors have a column and a suggestion", () => {
   for (const [text, column, fault] of [
     ["accu = 10", 0, "accu: no such place; the accumulator is acc"], ["cy = 1 and carry = 1", 11, "carry: no such place; the carry is cy"],
     ["r5 = 10 or (r4 = 3", 11, "this parenthesis is not closed"], ["r5 = 12x", 5, "12x is not a number; numbers are 10, 0xA or 0b1010"],
@@ -310,38 +317,39 @@ test("errors point at their column, and propose", () => {
     [`${"(".repeat(MAX_DEPTH + 1)}r5 = 1`, MAX_DEPTH, "parentheses can be nested at most 30 deep"],
     ["x".repeat(MAX_LENGTH + 1), MAX_LENGTH - 1, "a condition has at most 2000 characters"],
   ]) {
-    const read = compileCondition(text, names);
-    assert.deepEqual([read.fault, read.column], [fault, column], text);
+    const result = compileCondition(text, names);
+    assert.deepEqual([result.fault, result.column], [fault, column], text);
   }
 });
 
-test("a text of any kind is read in time, and an error is in a column of it", () => {
+test("random texts are parsed in limited time, and errors have a column in the text", () => {
   const pieces = [
     "r5", "R5", "acc", "cy", "ram.0.0x12", "ram", "st", "lamps", "lamp", "key", "display", "printed", "chain0", "rom1", "in", "out",
     "at", "@turn", "count", "limit", "foo", "on", "off", "down", "up", "not", "!", "and", "&&", "or", "||", "(", ")", "=", "==", "!=",
     "<", "<=", ">", ">=", "+", "-", "&", "10", "0xA", "0b1", "99999999999999999999", "1x", '"', '"a b"', "?", "*.", "none", "cycles",
     "é", "\u0000", "", "😀", "__proto__", "constructor", "toString", "\t", "ret", "test", "owed", "P2", "="];
   const random = createRandom(1971);
-  const began = process.cpuUsage();
-  let taken = 0;
-  for (let each = 0; each < 10000; each++) {
-    const count = below(random, each % 100 === 0 ? 1500 : 14);
-    const glue = below(random, 4) === 0 ? "" : " ";
-    const text = Array.from({ length: count }, () => pieces[below(random, pieces.length)]).join(glue);
-    const setting = (all) => readSetting(all, names.map, names.board);
-    const readers = [compileCondition, compileExpression, compileTestCondition, compileTracedCondition, setting];
-    for (const read of readers) {
-      const { fault, column } = read(text, names);
-      if (fault === "") taken += 1;
+  const startUsage = process.cpuUsage();
+  let acceptedCount = 0;
+  for (let round = 0; round < 10000; round++) {
+    const count = randomBelow(random, round % 100 === 0 ? 1500 : 14);
+    const separator = randomBelow(random, 4) === 0 ? "" : " ";
+    const text = Array.from({ length: count }, () => pieces[randomBelow(random, pieces.length)]).join(separator);
+    const parseSetting = (assignment) => readSetting(assignment, names.map, names.board);
+    const readers = [compileCondition, compileExpression, compileTestCondition, compileTracedCondition, parseSetting];
+    for (const parse of readers) {
+      const { fault, column } = parse(text, names);
+      if (fault === "") acceptedCount += 1;
       else assert.ok(column >= 0 && (column < text.length || (column === 0 && text === "")), `${JSON.stringify(text)}: ${fault} ${column}`);
     }
   }
-  assert.ok(taken > 200, String(taken));
+  assert.ok(acceptedCount > 200, String(acceptedCount));
   // The same parser also reads other contexts of conditions. Its error messages name the column.
-  for (let each = 0; each < 1500; each++) {
-    const text = Array.from({ length: below(random, 12) }, () => pieces[below(random, pieces.length)]).join(" ");
-    const heads = ["while ", "once ", "after press A, ", "after press A within 5 ms, ", "never ", "always ", ""];
-    const line = heads[below(random, heads.length)] + text.replace("+", ",") + [", never cy 1", "", " for 5 ms"][below(random, 3)];
+  for (let round = 0; round < 1500; round++) {
+    const text = Array.from({ length: randomBelow(random, 12) }, () => pieces[randomBelow(random, pieces.length)]).join(" ");
+    const prefixes = ["while ", "once ", "after press A, ", "after press A within 5 ms, ", "never ", "always ", ""];
+    const line = prefixes[randomBelow(random, prefixes.length)] + text.replace("+", ",") + [", never cy 1", "",
+      " for 5 ms"][randomBelow(random, 3)];
     readCampaign(line, { names, instructions: [] });
     readTests(`test t\nexpect ${text}\nuntil ${text} within 5\nset ${text}\n`, names);
     for (const fault of [parseWatch(text, names).fault, parseWatch(`x = ${text}`, names).fault, parseGoal(text, names).fault,
@@ -351,56 +359,58 @@ test("a text of any kind is read in time, and an error is in a column of it", ()
     }
   }
   // The limit is in microseconds of processor time.
-  assert.ok(process.cpuUsage(began).user < 60e6);
+  assert.ok(process.cpuUsage(startUsage).user < 60e6);
 });
 
-test("`set PLACE = VALUE` in a console stands for the lines that do so", () => {
-  const put = (line) => replaceNames(line, session.map);
-  assert.deepEqual(put("set r4 = 0b111\n"), { lines: "poke r4 7\n", words: "", line: 0 });
-  assert.deepEqual(put("set RAM 0 0x12 = limit\nlamps"), { lines: "poke ram.0.0x12 9\nlamps", words: "", line: 0 });
-  assert.deepEqual(put("set P2=0x1F"), { lines: "poke r4 1\npoke r5 15", words: "", line: 0 });
-  assert.deepEqual([put("set test = 0").lines, put("set pc = @turn").lines], ["test 0", "poke pc 3"]);
-  assert.match(put("set A = 1").words, /^A: no such place; the accumulator is acc \(column 5\)\.$/);
-  assert.equal(put("set cy = 2").words, "cy holds 0 to 1, not 2 (column 10).");
-  assert.equal(put("asm\nset r4 = 1\n.\n").lines, "asm\nset r4 = 1\n.\n");
+test("`set PLACE = VALUE` in a console is replaced by session lines", () => {
+  const replaceIn = (line) => replaceNames(line, session.map);
+  assert.deepEqual(replaceIn("set r4 = 0b111\n"), { lines: "poke r4 7\n", words: "", line: 0 });
+  assert.deepEqual(replaceIn("set RAM 0 0x12 = limit\nlamps"), { lines: "poke ram.0.0x12 9\nlamps", words: "", line: 0 });
+  assert.deepEqual(replaceIn("set P2=0x1F"), { lines: "poke r4 1\npoke r5 15", words: "", line: 0 });
+  assert.deepEqual([replaceIn("set test = 0").lines, replaceIn("set pc = @turn").lines], ["test 0", "poke pc 3"]);
+  assert.match(replaceIn("set A = 1").words, /^A: no such place; the accumulator is acc \(column 5\)\.$/);
+  assert.equal(replaceIn("set cy = 2").words, "cy holds 0 to 1, not 2 (column 10).");
+  assert.equal(replaceIn("asm\nset r4 = 1\n.\n").lines, "asm\nset r4 = 1\n.\n");
 });
 
 /** Returns the conditions in the tests of all examples, with the boards and programs of the examples. */
 function conditionsOfExamples() {
   const folder = new URL("../../examples/", import.meta.url);
-  return readdirSync(folder, { withFileTypes: true }).filter((each) => each.isDirectory()).flatMap(({ name }) => {
+  return readdirSync(folder, { withFileTypes: true }).filter((entry) => entry.isDirectory()).flatMap(({ name }) => {
     const read = (file) => readFileSync(new URL(`${name}/${file}`, folder), "utf8");
     const files = readdirSync(new URL(`${name}/`, folder));
     const source = files.find((file) => file.endsWith(".asm"));
     const texts = files.filter((file) => file.endsWith(".test")).map(read).join("\n");
-    const all = [...texts.matchAll(/^\s*(?:expect\s+(.*?)|until\s+(.*?)\s+within\s.*)\s*$/gm)].map((found) => found[1] || found[2]);
-    return source && all.length > 0 ? [{ board: read("board.toml"), program: read(source), conditions: [...new Set(all)] }] : [];
+    const conditions = [...texts.matchAll(/^\s*(?:expect\s+(.*?)|until\s+(.*?)\s+within\s.*)\s*$/gm)].map((match) => match[1] || match[2]);
+    return source && conditions.length > 0
+      ? [{ board: read("board.toml"), program: read(source), conditions: [...new Set(conditions)] }] : [];
   });
 }
 
-test("the conditions of the examples' tests mean the same here", () => {
+test("the conditions in the examples' tests have the same meaning elsewhere", () => {
   const random = createRandom(7);
-  let compared = 0;
+  let comparedCount = 0;
   for (const { board, program, conditions } of conditionsOfExamples()) {
-    const { names: own } = new DebugSession(engine, { board, program });
+    const { names: exampleNames } = new DebugSession(engine, { board, program });
     for (const text of conditions) {
-      const [old, read] = [compileTestCondition(text, own), compileCondition(text, own)];
-      assert.equal(old.fault, "", text);
+      const [testResult, result] = [compileTestCondition(text, exampleNames), compileCondition(text, exampleNames)];
+      assert.equal(testResult.fault, "", text);
       // Forms that are valid only in the lines of a test are still rejected.
-      if (old.condition.needs.some((need) => need !== "test")) {
-        assert.match(read.fault, /^(the digits are multiplexed|printed text|no run changes)/, text);
+      if (testResult.condition.needs.some((need) => need !== "test")) {
+        assert.match(result.fault, /^(the digits are multiplexed|printed text|no run changes)/, text);
         continue;
       }
-      if (old.condition.needs.length > 0) continue;
-      assert.deepEqual([read.fault, read.condition?.places], ["", old.condition.places], text);
+      if (testResult.condition.needs.length > 0) continue;
+      assert.deepEqual([result.fault, result.condition?.places], ["", testResult.condition.places], text);
       for (let round = 0; round < 20; round++) {
-        const values = old.condition.places.map((place) => (place === "lamps" ? own.board.lamps.map(() => ".*"[below(random, 2)]).join("")
-          : below(random, place === "pc" ? 4096 : 16).toString(16).toUpperCase().padStart(place === "pc" ? 3 : 1, "0")));
-        assert.equal(read.condition.holds(values), old.condition.holds(values), `${text}: ${values}`);
-        assert.equal(read.condition.explain(values), old.condition.explain(values), `${text}: ${values}`);
+        const values = testResult.condition.places
+          .map((place) => (place === "lamps" ? exampleNames.board.lamps.map(() => ".*"[randomBelow(random, 2)]).join("")
+          : randomBelow(random, place === "pc" ? 4096 : 16).toString(16).toUpperCase().padStart(place === "pc" ? 3 : 1, "0")));
+        assert.equal(result.condition.holds(values), testResult.condition.holds(values), `${text}: ${values}`);
+        assert.equal(result.condition.explain(values), testResult.condition.explain(values), `${text}: ${values}`);
       }
-      compared += 1;
+      comparedCount += 1;
     }
   }
-  assert.ok(compared > 60, String(compared));
+  assert.ok(comparedCount > 60, String(comparedCount));
 });

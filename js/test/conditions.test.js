@@ -8,42 +8,42 @@ import { compileCondition, compileTestCondition } from "../core/conditions/condi
 import { parseDuration, parseExactDuration } from "../core/conditions/durations.js";
 import { SourceMap } from "../core/machine/source_map.js";
 import { ForecastAnswers, rowValues } from "../core/engine/forecast_answers.js";
-import { begin } from "./page_session.js";
+import { openExample } from "./page_session.js";
 
-const WIRED = [
+const BOARD_TABLES = [
   '[[rom]]\nchip = 0\nport = "0000"', '[[rom]]\nchip = 1\nport = "1i0i"', "[[ram]]\nbank = 0\nchips = 2",
   '[[chain]]\nclock = "rom0.0"\ndata = "rom0.1"\nchips = 1',
   ...[0, 1, 2, 3].map((line) => `[[lamp]]\nline = "ram0.0.${line}"`), '[[lamp]]\nline = "ram0.1.0"',
 ].join("\n\n");
-const TEXT = `# lamp 0: _ _ locked open alarm\n# display 0: 1 digit\n${WIRED}\n`;
+const BOARD_TEXT = `# lamp 0: _ _ locked open alarm\n# display 0: 1 digit\n${BOARD_TABLES}\n`;
 const PROGRAM = "limit = 5\nstart: FIM P0, 0\nSRC P0\nLDM 4\nWMP\nWRM\nFIM P1, 0x40\nSRC P1\nLDM 1\nWMP\nend: JUN end\n";
 
 /** Returns a session with the board TEXT and the program PROGRAM after some session lines, and the names that both define. */
-async function bench(lines = "") {
-  const calls = await begin("empty bench", `wire\n${TEXT}.\nasm\n${PROGRAM}.\n${lines}`);
+async function openBench(lines = "") {
+  const calls = await openExample("empty bench", `wire\n${BOARD_TEXT}.\nasm\n${PROGRAM}.\n${lines}`);
   const board = readBoard(calls.ask("board\n"));
-  return { calls, names: { face: new Face(TEXT), board, map: new SourceMap(calls.ask(`map\n${PROGRAM}.\n`), PROGRAM) } };
+  return { calls, names: { face: new Face(BOARD_TEXT), board, map: new SourceMap(calls.ask(`map\n${PROGRAM}.\n`), PROGRAM) } };
 }
 
 /** @type {import("../core/conditions/condition_language.js").Names} */
 let names;
 before(async () => {
-  ({ names } = await bench());
+  ({ names } = await openBench());
 });
 
 /** Returns the current values of the places that a condition reads. */
-function valuesNow(calls, { places }) {
+function readValues(calls, { places }) {
   return places.length === 0 ? [] : rowValues(new ForecastAnswers(calls.ask(`trace 1 ${places.join(" ")}\n`)).takeTrace().row);
 }
 
-const read = (text) => {
+const compile = (text) => {
   const { condition, fault } = compileCondition(text, names);
   assert.equal(fault, "", text);
   return condition;
 };
-test("conditions hold by what the bench reports of their places", async () => {
-  const { calls } = await bench("run 19\n");
-  const holding = ["acc 1", "acc = 1", "acc=1", "r2 4", "r2 > 3", "r2>=4", "r2 != 5", "r3 0", "cy 0", "dcl 0", "@end", "at end",
+test("conditions are evaluated with the values that the bench reports", async () => {
+  const { calls } = await openBench("run 19\n");
+  const trueConditions = ["acc 1", "acc = 1", "acc=1", "r2 4", "r2 > 3", "r2>=4", "r2 != 5", "r3 0", "cy 0", "dcl 0", "@end", "at end",
     "pc = 11", "pc > 10",
     "not at start", "not not @end", "lamps locked alarm", "lamps ..* .*", "lamps ???.?", "lamp locked on", "lamp 3 off",
     "not lamp open on",
@@ -53,43 +53,43 @@ test("conditions hold by what the bench reports of their places", async () => {
     "ram0.1 out 1", "ram0.1 out = 1", "rom0 out 0", "rom1 in 8", "rom1 out 0", "rom1.0 0", "rom0 in 0", "chain0 0000000000",
     "chain0 00???? ????",
     "chain0 ?????00000", "chain0 = 0?????????", "not chain0 != 0000000000", "chain0.5 0", "acc 1 and r2 4 and lamp alarm on", "pc @end"];
-  for (const text of holding) {
-    const condition = read(text);
-    const values = valuesNow(calls, condition);
+  for (const text of trueConditions) {
+    const condition = compile(text);
+    const values = readValues(calls, condition);
     assert.equal(condition.holds(values), true, `${text}: ${condition.places} ${values}`);
     assert.equal(condition.explain(values), "", text);
   }
   for (const text of ["acc 2", "r2 < 4", "r2 <= 3", "@start", "lamps locked", "lamps none", "display 2 locked", "display != 2",
     "ram.0.0 4 1",
     "acc 1 and r2 5", "not pc 11"]) {
-    assert.equal(read(text).holds(valuesNow(calls, read(text))), false, text);
+    assert.equal(compile(text).holds(readValues(calls, compile(text))), false, text);
   }
 });
 
-test("what does not hold is reported as mcs4 test reports it", async () => {
-  const { calls } = await bench("run 19\n");
-  const shown = (text) => read(text).explain(valuesNow(calls, read(text)));
-  assert.equal(shown("acc 2"), "acc is 1, but must be 2");
-  assert.equal(shown("not acc 1"), "acc is 1, but must not be 1");
-  assert.equal(shown("@start"), "pc is 00B (end), but must be @start");
-  assert.equal(shown("acc 1 and lamp alarm off"), "lamp alarm is on, but must be off");
-  assert.equal(shown("lamps none"), "lamps are ..*.*, but must be ??...; lit: locked alarm");
-  assert.equal(shown("ram.0.0 4 1"), "ram.0.0x00 is 4 0, but must be 4 1");
-  assert.equal(shown("r2 < 4"), "r2 is 4, but must be < 4");
+test("a condition that does not hold is explained as by mcs4 test", async () => {
+  const { calls } = await openBench("run 19\n");
+  const explain = (text) => compile(text).explain(readValues(calls, compile(text)));
+  assert.equal(explain("acc 2"), "acc is 1, but must be 2");
+  assert.equal(explain("not acc 1"), "acc is 1, but must not be 1");
+  assert.equal(explain("@start"), "pc is 00B (end), but must be @start");
+  assert.equal(explain("acc 1 and lamp alarm off"), "lamp alarm is on, but must be off");
+  assert.equal(explain("lamps none"), "lamps are ..*.*, but must be ??...; lit: locked alarm");
+  assert.equal(explain("ram.0.0 4 1"), "ram.0.0x00 is 4 0, but must be 4 1");
+  assert.equal(explain("r2 < 4"), "r2 is 4, but must be < 4");
 });
 
-test("places are reported once, and what a query takes is not exceeded", () => {
-  assert.deepEqual(read("acc 1 and not acc 2 and r9 3").places, ["acc", "r9"]);
-  assert.deepEqual(read("lamp 3 on and lamps none").places, ["lamps"]);
-  assert.deepEqual(read("@end").address, 11);
-  assert.deepEqual([read("not @end").address, read("pc > 3").address, read("@end and acc 1").address], [-1, -1, -1]);
-  const many = Array.from({ length: MAX_PLACES }, (_, at) => `r${at} 0`).join(" and ");
-  assert.equal(read(many).places.length, MAX_PLACES);
-  assert.equal(compileCondition(`${many} and acc 1`, names).fault, "it reads 17 places; at most 16 are allowed");
+test("each place is requested once, and the limit of a query is not exceeded", () => {
+  assert.deepEqual(compile("acc 1 and not acc 2 and r9 3").places, ["acc", "r9"]);
+  assert.deepEqual(compile("lamp 3 on and lamps none").places, ["lamps"]);
+  assert.deepEqual(compile("@end").address, 11);
+  assert.deepEqual([compile("not @end").address, compile("pc > 3").address, compile("@end and acc 1").address], [-1, -1, -1]);
+  const longCondition = Array.from({ length: MAX_PLACES }, (_, register) => `r${register} 0`).join(" and ");
+  assert.equal(compile(longCondition).places.length, MAX_PLACES);
+  assert.equal(compileCondition(`${longCondition} and acc 1`, names).fault, "it reads 17 places; at most 16 are allowed");
 });
 
-test("what cannot be read is reported, with what the board has", () => {
-  const faults = [
+test("syntax errors are reported with the names that the board has", () => {
+  const cases = [
     ["", "a condition is missing"], ["not", "a condition is missing"], ["acc 1 and", "a condition is missing"],
     ["lamp purple on", "the board has no lamp purple; it has: locked open alarm"],
     ["lamp 5 on", "the board has no lamp 5; it has: locked open alarm"],
@@ -115,38 +115,40 @@ test("what cannot be read is reported, with what the board has", () => {
     ["r2 < 4 5", "5: a condition ends before this; join two by and, or"],
     ["ram.0.0 4 < 5", "<: a condition ends before this; join two by and, or"], ["= 3", "a value is missing before ="],
   ];
-  for (const [text, fault] of faults) {
-    const shown = compileCondition(text, names).fault;
-    assert.ok(shown.startsWith(fault), `${text}: ${shown}`);
+  for (const [text, expected] of cases) {
+    const actual = compileCondition(text, names).fault;
+    assert.ok(actual.startsWith(expected), `${text}: ${actual}`);
   }
-  const bare = { ...names, face: new Face(WIRED) };
-  assert.equal(compileCondition("lamp red on", bare).fault, "the board has no lamp red; its text names no lamps (`# lamp 0: NAME ..`)");
-  assert.equal(compileCondition("display 3", bare).fault, "the board's text names no display (`# display 0: 4 digits`)");
-  assert.match(compileCondition("printed 3", bare).fault, /^the board's text names no printer /);
-  const printing = { ...names, face: new Face(`${WIRED}\n# printer rom0.0: ram0.0 0 1 feed\n`) };
-  assert.match(compileCondition("printed 3", printing).fault, /^printed text arrives line by line/);
+  const namesWithoutFace = { ...names, face: new Face(BOARD_TABLES) };
+  assert.equal(compileCondition("lamp red on", namesWithoutFace).fault,
+    "the board has no lamp red; its text names no lamps (`# lamp 0: NAME ..`)");
+  assert.equal(compileCondition("display 3", namesWithoutFace).fault, "the board's text names no display (`# display 0: 4 digits`)");
+  assert.match(compileCondition("printed 3", namesWithoutFace).fault, /^the board's text names no printer /);
+  const namesWithPrinter = { ...names, face: new Face(`${BOARD_TABLES}\n# printer rom0.0: ram0.0 0 1 feed\n`) };
+  assert.match(compileCondition("printed 3", namesWithPrinter).fault, /^printed text arrives line by line/);
 });
 
-test("the lines of a test ask for what no trace shows as well", () => {
-  const ofTest = (text) => compileTestCondition(text, names);
-  const { condition } = ofTest("test 1");
+test("conditions in tests can use values that no trace shows", () => {
+  const compileForTest = (text) => compileTestCondition(text, names);
+  const { condition } = compileForTest("test 1");
   assert.deepEqual([condition.places, condition.needs], [[], ["test"]]);
   const extraValues = { test: "1", owed: "1", keys: "", cycles: 538, seen: [], printed: [] };
-  const both = ofTest("r9 = 3 and (test = 1 or cycles at most 5)").condition;
-  assert.deepEqual([both.places, both.needs], [["r9"], ["cycles", "test"]]);
-  const held = [both.holds(["3"], extraValues), both.holds(["3"], { ...extraValues, test: "0" }), both.holds(["4"], extraValues)];
-  assert.deepEqual(held, [true, false, false]);
+  const bothCondition = compileForTest("r9 = 3 and (test = 1 or cycles at most 5)").condition;
+  assert.deepEqual([bothCondition.places, bothCondition.needs], [["r9"], ["cycles", "test"]]);
+  const results = [bothCondition.holds(["3"], extraValues), bothCondition.holds(["3"], { ...extraValues, test: "0" }),
+    bothCondition.holds(["4"], extraValues)];
+  assert.deepEqual(results, [true, false, false]);
   assert.equal(condition.holds([], extraValues), true);
-  assert.equal(ofTest("cycles at most 6 ms").condition.holds([], extraValues), true);
-  assert.equal(ofTest("cycles 537").condition.explain([], extraValues), "cycles are 538, but must be 537");
-  assert.equal(ofTest("@end").condition.explain(["00B"], extraValues), "pc is 00B (end), within an instruction, but must be @end");
-  assert.equal(ofTest("cycles").fault, "write `cycles TIME`, `cycles at most TIME` or `cycles at least TIME`");
+  assert.equal(compileForTest("cycles at most 6 ms").condition.holds([], extraValues), true);
+  assert.equal(compileForTest("cycles 537").condition.explain([], extraValues), "cycles are 538, but must be 537");
+  assert.equal(compileForTest("@end").condition.explain(["00B"], extraValues), "pc is 00B (end), within an instruction, but must be @end");
+  assert.equal(compileForTest("cycles").fault, "write `cycles TIME`, `cycles at most TIME` or `cycles at least TIME`");
 });
 
-test("times", () => {
-  const shown = [["538", 538], ["538 cycles", 538], ["1 cycle", 1], ["20 ms", 1852], ["20ms", 1852], ["1.5 s", 138889], ["0", 0],
+test("durations", () => {
+  const cases = [["538", 538], ["538 cycles", 538], ["1 cycle", 1], ["20 ms", 1852], ["20ms", 1852], ["1.5 s", 138889], ["0", 0],
     ["1.5", 0], ["ms", 0], ["", 0],
     ["3 x", 0], ["1000000001", 0], ["-3", 0], ["1.5.2 ms", 0]];
-  for (const [text, cycles] of shown) assert.equal(parseExactDuration(text.split(" ")), cycles, text);
+  for (const [text, cycles] of cases) assert.equal(parseExactDuration(text.split(" ")), cycles, text);
   assert.deepEqual(parseDuration(["pace", "43", "ms", "1", "s"], 1), { cycles: 3981, words: 2 });
 });

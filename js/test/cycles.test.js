@@ -23,7 +23,7 @@ test("accepted commands, their cycles, and resets", () => {
   assert.equal(findAcceptedCommands(readInputs("asm\nNOP\n.\n"), [["ok 1 bytes 1"]])[0].line, "asm\nNOP\n.");
 });
 
-test("since the last stop: the stretch that ended there, until another one begins", () => {
+test("at a stop, the count since the last stop is that of the last run", () => {
   const cycles = new Cycles();
   cycles.update({ total: 500, reset: 0 });
   cycles.update({ total: 900, reset: 0 });
@@ -36,7 +36,7 @@ test("since the last stop: the stretch that ended there, until another one begin
   assert.deepEqual(new Cycles(cycles.storedCounts).counts, cycles.counts);
 });
 
-test("marks: from one to here, between two, and then anew", () => {
+test("markers: cycles since the first marker, then between two markers, then since a new marker", () => {
   const cycles = new Cycles({ total: 10, reset: 0, from: 0, marks: [] });
   assert.equal(cycles.counts.marked, null);
   cycles.mark();
@@ -49,36 +49,36 @@ test("marks: from one to here, between two, and then anew", () => {
   assert.equal(cycles.counts.marked, 0);
 });
 
-test("places by their names", () => {
+test("places are parsed, and read from trace values", () => {
   const board = readBoard(["board", "[[rom]]", "chip = 1", 'port = "iiii"', "[[ram]]", "bank = 0", "chips = 1", "[[chain]]",
     'clock = "ram0.0.0"', 'data = "ram0.0.1"', "chips = 2", "[[lamp]]", 'line = "ram0.0.3"', "[[lamp]]", 'line = "chain0.5"']);
   /** Returns a place's name, the places that `trace` must report for it on this board, and its value, computed from the reported values. */
-  const reading = (name, ...values) => {
+  const readPlace = (name, ...values) => {
     const place = parsePlace(name);
     return [place.name, place.probesOn(board).join(" "), place.value(values)];
   };
   assert.deepEqual([
-    reading("acc", "6"), reading("R15", "9"), reading("ram.0.63", "C"), reading("st.0.1.2", "2"), reading("ram0.0.3", "1"),
-    reading("rom1.2", "0"),
-    reading("rom1", "D"), reading("ram0.0", "2"), reading("chain0.19", "1"), reading("lamp1", "1"), reading("lamps", ".*"),
+    readPlace("acc", "6"), readPlace("R15", "9"), readPlace("ram.0.63", "C"), readPlace("st.0.1.2", "2"), readPlace("ram0.0.3", "1"),
+    readPlace("rom1.2", "0"),
+    readPlace("rom1", "D"), readPlace("ram0.0", "2"), readPlace("chain0.19", "1"), readPlace("lamp1", "1"), readPlace("lamps", ".*"),
   ], [
     ["acc", "acc", "6"], ["r15", "r15", "9"], ["ram.0.0x3F", "ram.0.0x3F", "C"], ["st.0.1.2", "st.0.1.2", "2"],
     ["ram0.0.3", "ram0.0.3", "1"], ["rom1.2", "rom1.2", "0"], ["rom1", "rom1", "D"],
     ["ram0.0", "ram0.0", "2"], ["chain0.19", "chain0.19", "1"], ["lamp 1", "chain0.5", "*"],
     ["lamps", "lamps", ".*"],
   ]);
-  const lacking = ["ram.1.0", "ram.0.0x40", "st.0.4.0", "rom3.1", "rom0", "ram0.1", "ram1.0.0", "chain0.20", "chain1.0", "lamp 2"];
-  assert.deepEqual(lacking.map((name) => parsePlace(name).probesOn(board)), lacking.map(() => []));
+  const absentPlaces = ["ram.1.0", "ram.0.0x40", "st.0.4.0", "rom3.1", "rom0", "ram0.1", "ram1.0.0", "chain0.20", "chain1.0", "lamp 2"];
+  assert.deepEqual(absentPlaces.map((name) => parsePlace(name).probesOn(board)), absentPlaces.map(() => []));
   assert.deepEqual(parsePlace("lamps").probesOn(readBoard(["board"])), []);
-  const others = ["", "r16", "pc 4", "ram.8.0", "ram.0.256", "st.0.1.4", "rom16.0", "chain4.0", "key 3"];
-  assert.deepEqual(others.map(parsePlace), others.map(() => null));
+  const invalidPlaces = ["", "r16", "pc 4", "ram.8.0", "ram.0.256", "st.0.1.4", "rom16.0", "chain4.0", "key 3"];
+  assert.deepEqual(invalidPlaces.map(parsePlace), invalidPlaces.map(() => null));
 });
 
-test("why time stopped, in words", () => {
-  const reached = { cycles: 538, why: "goal", returns: false };
-  assert.equal(pauseMessage({ kind: "over" }, { ...reached, returns: true }, "009"), "Returned to 009, after 538 cycles, 5.810 ms.");
-  assert.equal(pauseMessage({ kind: "over" }, { ...reached, cycles: 1 }, "00D"), "At 00D, after 1 cycle, 0.011 ms.");
-  assert.equal(pauseMessage({ kind: "here", address: 20 }, reached, "014"), "Paused at 014, as requested, after 538 cycles, 5.810 ms.");
+test("messages about pauses", () => {
+  const goalStop = { cycles: 538, why: "goal", returns: false };
+  assert.equal(pauseMessage({ kind: "over" }, { ...goalStop, returns: true }, "009"), "Returned to 009, after 538 cycles, 5.810 ms.");
+  assert.equal(pauseMessage({ kind: "over" }, { ...goalStop, cycles: 1 }, "00D"), "At 00D, after 1 cycle, 0.011 ms.");
+  assert.equal(pauseMessage({ kind: "here", address: 20 }, goalStop, "014"), "Paused at 014, as requested, after 538 cycles, 5.810 ms.");
   assert.equal(pauseMessage({ kind: "out" }, { cycles: 4, why: "break", returns: true }, "016"),
     "Paused at 016, at a breakpoint, after 4 cycles, 0.043 ms; the return from the subroutine was not reached.");
   assert.equal(pauseMessage(null, { cycles: 4, why: "break", returns: false }, "016"), "Paused at 016, at a breakpoint.");
@@ -89,5 +89,6 @@ test("why time stopped, in words", () => {
     "Paused at 016, after 4 cycles, 0.043 ms; the return from the subroutine was not reached.");
   assert.equal(describeUserPause(null, 4, "016"), "Paused at 016.");
   const map = new SourceMap(["map lines 2 names 1", "line 1 000 2", "line 2 002 1", "name go 000"], "go: JUN go\nNOP\n");
-  assert.deepEqual(["000", "002", "003"].map((at) => addressWithName(at, map)), ["000 (go, line 1)", "002 (go + 2, line 2)", "003"]);
+  assert.deepEqual(["000", "002", "003"].map((address) => addressWithName(address, map)),
+    ["000 (go, line 1)", "002 (go + 2, line 2)", "003"]);
 });

@@ -49,7 +49,7 @@ before(async () => {
 
 const openSession = (program = PROGRAM) => new DebugSession(engine, { board: BOARD, program });
 
-test("a session in memory: breakpoints at lines, moves, values, back and forward", async () => {
+test("a session in memory: breakpoints at lines, steps, values, and going back and forward", async () => {
   const session = openSession();
   assert.deepEqual(session.rejectedTexts, []);
   session.breakpoints.add({ line: LINE.blank });
@@ -74,104 +74,104 @@ test("a session in memory: breakpoints at lines, moves, values, back and forward
 });
 
 /** Runs to the next stop, `count` times. Returns the value of a register or memory cell at each stop. */
-async function valuesAtStops(session, count, place) {
-  const seen = [];
+async function collectValuesAtStops(session, count, place) {
+  const values = [];
   for (let stop = 0; stop < count; stop++) {
     await session.runToGoal();
-    seen.push(session.values([place])[0]);
+    values.push(session.values([place])[0]);
   }
-  return seen;
+  return values;
 }
 
-test("a condition, a count of hits, and a note in place of a stop; no file has them", async () => {
+test("conditions, hit counts and log messages, which the session file does not contain", async () => {
   const session = openSession();
-  const odd = session.breakpoints.add({ line: LINE.write, condition: "r4 > 9 and lamp two off" });
+  const conditional = session.breakpoints.add({ line: LINE.write, condition: "r4 > 9 and lamp two off" });
   await session.applyBreakpoints();
-  assert.deepEqual(await valuesAtStops(session, 4, "r4"), [..."ADEA"]);
-  assert.equal(session.breakpoints.get(odd.id).hits, 4);
-  const counted = openSession();
-  const { id } = counted.breakpoints.add({ line: LINE.show, from: 5 });
-  counted.breakpoints.add({ line: LINE.increment, note: "R4 is {r4}, lamps {lamps}, two {two}" });
-  await counted.applyBreakpoints();
-  const stop = await counted.runToGoal();
-  assert.deepEqual([stop.why, stop.id, counted.values(["r4"])[0]], ["break", id, "4"]);
+  assert.deepEqual(await collectValuesAtStops(session, 4, "r4"), [..."ADEA"]);
+  assert.equal(session.breakpoints.get(conditional.id).hits, 4);
+  const countedSession = openSession();
+  const { id } = countedSession.breakpoints.add({ line: LINE.show, from: 5 });
+  countedSession.breakpoints.add({ line: LINE.increment, note: "R4 is {r4}, lamps {lamps}, two {two}" });
+  await countedSession.applyBreakpoints();
+  const stop = await countedSession.runToGoal();
+  assert.deepEqual([stop.why, stop.id, countedSession.values(["r4"])[0]], ["break", id, "4"]);
   assert.deepEqual(stop.tally.notes.map(({ words }) => words),
     ["R4 is 0, lamps .., two .", "R4 is 1, lamps *., two .", "R4 is 2, lamps .*, two *", "R4 is 3, lamps **, two *"]);
-  assert.deepEqual(counted.breakpoints.all.map(({ hits }) => hits), [4, 5]);
-  assert.deepEqual(counted.debugger.session.ask("breaks\n"), ["breaks -"]);
+  assert.deepEqual(countedSession.breakpoints.all.map(({ hits }) => hits), [4, 5]);
+  assert.deepEqual(countedSession.debugger.session.ask("breaks\n"), ["breaks -"]);
 });
 
-test("conditional breakpoints stop where one of the bench does, whatever the frames", async () => {
-  const plain = openSession();
-  plain.breakpoints.add({ line: LINE.show });
-  await plain.applyBreakpoints();
-  const wanted = [];
+test("conditional breakpoints stop at the same cycles as plain ones, for each frame length", async () => {
+  const plainSession = openSession();
+  plainSession.breakpoints.add({ line: LINE.show });
+  await plainSession.applyBreakpoints();
+  const expected = [];
   for (let stop = 0; stop < 40; stop++) {
-    await plain.runToGoal();
-    if (plain.values(["r4"])[0] === "7") wanted.push(plain.debugger.session.count.total);
+    await plainSession.runToGoal();
+    if (plainSession.values(["r4"])[0] === "7") expected.push(plainSession.debugger.session.count.total);
   }
   for (const frame of [1, 7, 1543, 100000]) {
-    const soft = openSession();
-    soft.breakpoints.add({ line: LINE.show, condition: "r4 = 7" });
-    soft.breakpoints.add({ line: LINE.wait, note: "waits" });
-    await soft.applyBreakpoints();
-    const seen = [];
-    while (seen.length < wanted.length) {
-      if (soft.debugger.advance(frame).stop) seen.push(soft.debugger.session.count.total);
+    const softSession = openSession();
+    softSession.breakpoints.add({ line: LINE.show, condition: "r4 = 7" });
+    softSession.breakpoints.add({ line: LINE.wait, note: "waits" });
+    await softSession.applyBreakpoints();
+    const actual = [];
+    while (actual.length < expected.length) {
+      if (softSession.debugger.advance(frame).stop) actual.push(softSession.debugger.session.count.total);
     }
-    assert.deepEqual(seen, wanted, String(frame));
+    assert.deepEqual(actual, expected, String(frame));
   }
 });
 
-test("a breakpoint stops a move; one that cannot be read says why, and stops every time until it is mended", async () => {
+test("a breakpoint stops a step; an invalid one reports its error, and stops every time until it is corrected", async () => {
   const session = openSession();
   session.breakpoints.add({ line: LINE.write, condition: "r4 = 0" });
-  const broken = session.breakpoints.add({ line: LINE.increment, condition: "r44 = 0" });
-  const lacking = session.breakpoints.add({ line: LINE.wait, note: "{rom3}" });
+  const invalid = session.breakpoints.add({ line: LINE.increment, condition: "r44 = 0" });
+  const absentPort = session.breakpoints.add({ line: LINE.wait, note: "{rom3}" });
   const { faults } = await session.applyBreakpoints();
-  assert.deepEqual(faults, [[broken.id, "r44: no such place; the registers are r0 to r15 (column 1)"],
-    [lacking.id, "the note asks for {rom3}: the board has no ROM 3 (column 2)"]]);
+  assert.deepEqual(faults, [[invalid.id, "r44: no such place; the registers are r0 to r15 (column 1)"],
+    [absentPort.id, "the note asks for {rom3}: the board has no ROM 3 (column 2)"]]);
   await session.runToGoal({ kind: "here", address: 3 });
   const stop = await session.runToGoal({ kind: "over" });
   assert.deepEqual([stop.why, session.line], ["break", LINE.write]);
   const stops = [];
-  for (let more = 0; more < 4; more++) stops.push([(await session.runToGoal()).id, session.line]);
-  assert.deepEqual(stops, [[lacking.id, LINE.wait], [lacking.id, LINE.wait], [lacking.id, LINE.wait], [lacking.id, LINE.wait]]);
-  session.breakpoints.change(lacking.id, { note: "{rom0}" });
-  session.breakpoints.change(broken.id, { condition: "accu = 1" });
+  for (let round = 0; round < 4; round++) stops.push([(await session.runToGoal()).id, session.line]);
+  assert.deepEqual(stops, [[absentPort.id, LINE.wait], [absentPort.id, LINE.wait], [absentPort.id, LINE.wait], [absentPort.id, LINE.wait]]);
+  session.breakpoints.change(absentPort.id, { note: "{rom0}" });
+  session.breakpoints.change(invalid.id, { condition: "accu = 1" });
   await session.applyBreakpoints();
-  const unsure = await session.runToGoal();
-  assert.deepEqual([unsure.id, session.line], [broken.id, LINE.increment]);
-  assert.equal(unsure.words, "Paused at 005 (turn + 2, line 6), at a breakpoint that has an error, "
+  const errorStop = await session.runToGoal();
+  assert.deepEqual([errorStop.id, session.line], [invalid.id, LINE.increment]);
+  assert.equal(errorStop.words, "Paused at 005 (turn + 2, line 6), at a breakpoint that has an error, "
     + "accu: no such place; the accumulator is acc (column 1).");
-  assert.equal((await session.runToGoal()).id, broken.id);
-  session.breakpoints.change(broken.id, { condition: "R4 == 0b11 || r4 >= 0xF" });
+  assert.equal((await session.runToGoal()).id, invalid.id);
+  session.breakpoints.change(invalid.id, { condition: "R4 == 0b11 || r4 >= 0xF" });
   await session.applyBreakpoints();
-  const mended = [];
-  for (let more = 0; more < 3; more++) mended.push([(await session.runToGoal()).id, session.values(["r4"])[0]]);
-  assert.deepEqual(mended, [[broken.id, "3"], [broken.id, "F"], [1, "0"]]);
+  const stopsAfterFix = [];
+  for (let round = 0; round < 3; round++) stopsAfterFix.push([(await session.runToGoal()).id, session.values(["r4"])[0]]);
+  assert.deepEqual(stopsAfterFix, [[invalid.id, "3"], [invalid.id, "F"], [1, "0"]]);
   assert.match(stop.words, /^Paused at 009 \(show \+ 1, line 9\), at a breakpoint, when r4 = 0, after 3 cycles, .*; the return .* not/);
 });
 
-test("breakpoints are no part of the past: going back leaves them, and what comes after is done again as it was", async () => {
+test("going back keeps the current breakpoints, and running again repeats the same states", async () => {
   const session = openSession();
   const { session: bench } = session.debugger;
   await session.runToGoal({ kind: "count", count: 20 });
   const first = session.breakpoints.add({ line: LINE.write });
   await session.applyBreakpoints();
   await session.runToGoal();
-  const seen = [bench.count.total, session.values(["r4", "pc"])];
+  const stateBefore = [bench.count.total, session.values(["r4", "pc"])];
   await session.runToGoal();
   session.breakpoints.remove(first.id);
   session.breakpoints.add({ line: LINE.increment });
   await session.applyBreakpoints();
   await session.goBack({ kind: "stop" });
   await session.goBack({ kind: "stop" });
-  assert.deepEqual([bench.count.total, session.values(["r4", "pc"])], seen);
+  assert.deepEqual([bench.count.total, session.values(["r4", "pc"])], stateBefore);
   assert.deepEqual(bench.ask("breaks\n"), ["breaks 005"]);
   await session.runToGoal();
   assert.equal(session.line, LINE.increment);
-  for (let more = 0; more < 3; more++) await session.runToGoal();
+  for (let round = 0; round < 3; round++) await session.runToGoal();
   const end = [bench.count.total, session.values(["r4", "pc"])];
   await session.goBack({ kind: "instruction" });
   await session.stepInto();
@@ -179,101 +179,103 @@ test("breakpoints are no part of the past: going back leaves them, and what come
 });
 
 /** Runs to the next breakpoint, `count` times. Returns the total cycle count and the value of r4 at each stop. */
-async function statesAtBreakpoints(session, count) {
-  const seen = [];
+async function collectStatesAtBreakpoints(session, count) {
+  const states = [];
   for (let stop = 0; stop < count; stop++) {
     await session.runToGoal();
-    seen.push([session.debugger.session.count.total, session.values(["r4"])[0]]);
+    states.push([session.debugger.session.count.total, session.values(["r4"])[0]]);
   }
-  return seen;
+  return states;
 }
 
-const backToArrival = (session, place = "") => session.goBack({ kind: "arrival", place });
+const goBackToArrival = (session, place = "") => session.goBack({ kind: "arrival", place });
 
-test("back to the last arrival at a breakpoint: the stops of the way there, whatever was done between", async () => {
+test("going back to breakpoints passes the same stops in reverse order", async () => {
   const session = openSession();
   const { session: bench } = session.debugger;
   session.breakpoints.add({ line: LINE.write });
   await session.applyBreakpoints();
-  const seen = await statesAtBreakpoints(session, 30);
+  const states = await collectStatesAtBreakpoints(session, 30);
   session.breakpoints.add({ line: LINE.increment, isOn: false });
   session.breakpoints.add({ line: LINE.back, note: "no stop" });
   await session.applyBreakpoints();
   await session.debugger.session.serve("poke r9 3\nrun 5\ntest 0\nrun 7\n", async () => true);
   const { total } = bench.count;
-  for (const [at, [cycles, r4]] of [...seen].reverse().entries()) {
-    const from = bench.count.total;
-    const back = await backToArrival(session);
+  for (const [index, [cycles, r4]] of [...states].reverse().entries()) {
+    const totalBefore = bench.count.total;
+    const travel = await goBackToArrival(session);
     assert.deepEqual([bench.count.total, session.values(["r4"])[0], session.line], [cycles, r4, LINE.write]);
-    assert.deepEqual([back.isDone, back.end, back.id, back.cycles], [true, "break", 1, from - cycles]);
-    assert.match(back.words, at === 0 ? /^Back at 009 \(show \+ 1, line 9\), 12 cycles, 0.130 ms earlier, at a/ : /at a breakpoint\.$/);
+    assert.deepEqual([travel.isDone, travel.end, travel.id, travel.cycles], [true, "break", 1, totalBefore - cycles]);
+    assert.match(travel.words,
+      index === 0 ? /^Back at 009 \(show \+ 1, line 9\), 12 cycles, 0.130 ms earlier, at a/ : /at a breakpoint\.$/);
   }
-  const begin = await backToArrival(session);
-  assert.deepEqual([begin.isDone, begin.end, bench.count.total], [true, "beginning", 0]);
-  assert.match(begin.words, /^Back at 000 \(start, line 2\), .* earlier, at the beginning of the remembered past: no breakpoint was/);
-  const none = await backToArrival(session);
-  assert.deepEqual([none.isDone, none.words], [false, "Nothing was done: the remembered past reaches no further back."]);
-  for (let times = 0; times < seen.length + 1; times++) session.goForward();
+  const travelToStart = await goBackToArrival(session);
+  assert.deepEqual([travelToStart.isDone, travelToStart.end, bench.count.total], [true, "beginning", 0]);
+  assert.match(travelToStart.words,
+    /^Back at 000 \(start, line 2\), .* earlier, at the beginning of the remembered past: no breakpoint was/);
+  const failedTravel = await goBackToArrival(session);
+  assert.deepEqual([failedTravel.isDone, failedTravel.words], [false, "Nothing was done: the remembered past reaches no further back."]);
+  for (let move = 0; move < states.length + 1; move++) session.goForward();
   assert.equal(bench.count.total, total);
 });
 
-test("back to an arrival: conditions are asked, counts are not, and breakpoints of then are not those of now", async () => {
+test("going back to breakpoints checks conditions, ignores hit counts, and uses the current breakpoints", async () => {
   const session = openSession();
   const { session: bench } = session.debugger;
   const first = session.breakpoints.add({ line: LINE.show });
   await session.applyBreakpoints();
-  const seen = await statesAtBreakpoints(session, 40);
+  const states = await collectStatesAtBreakpoints(session, 40);
   session.breakpoints.remove(first.id);
   const { id } = session.breakpoints.add({ line: LINE.show, condition: "r4 = 3", from: 100 });
   await session.applyBreakpoints();
-  for (const [cycles] of seen.filter(([, r4]) => r4 === "3").reverse()) {
-    const back = await backToArrival(session);
-    assert.deepEqual([bench.count.total, back.id], [cycles, id]);
-    assert.match(back.words, /, at a breakpoint, when r4 = 3\.$/);
+  for (const [cycles] of states.filter(([, r4]) => r4 === "3").reverse()) {
+    const travel = await goBackToArrival(session);
+    assert.deepEqual([bench.count.total, travel.id], [cycles, id]);
+    assert.match(travel.words, /, at a breakpoint, when r4 = 3\.$/);
   }
-  assert.equal((await backToArrival(session)).end, "beginning");
+  assert.equal((await goBackToArrival(session)).end, "beginning");
   assert.deepEqual(bench.ask("breaks\n"), ["breaks -"]);
 });
 
-test("back to an arrival meets what is watched, by the bench or beside it, and stands before the change", async () => {
+test("going back also stops before changes of watched places", async () => {
   const session = openSession(PROGRAM.replace("BBL 0", "WRM\n BBL 0"));
   const { session: bench } = session.debugger;
   session.breakpoints.add({ line: LINE.show, condition: "r4 = 2" });
   await session.applyBreakpoints();
   await bench.serve("watch 0 0\nrun 100000\n", async () => true);
   await bench.serve("unwatch 0 0\nrun 300\nwatch 0 0\n", async () => true);
-  const watched = await backToArrival(session);
-  assert.deepEqual([watched.end, watched.place, watched.line], ["change", "ram.0.0x00", ""]);
-  assert.match(watched.words, /: this instruction changes ram\.0\.0x00 from \w to \w\.$/);
-  const old = session.values(["ram.0.0x00"])[0];
+  const travel = await goBackToArrival(session);
+  assert.deepEqual([travel.end, travel.place, travel.line], ["change", "ram.0.0x00", ""]);
+  assert.match(travel.words, /: this instruction changes ram\.0\.0x00 from \w to \w\.$/);
+  const oldValue = session.values(["ram.0.0x00"])[0];
   await session.stepInto();
-  assert.notEqual(session.values(["ram.0.0x00"])[0], old);
+  assert.notEqual(session.values(["ram.0.0x00"])[0], oldValue);
   await bench.serve("unwatch 0 0\n", async () => true);
-  const beside = await backToArrival(session, "r4");
-  assert.equal(beside.place, "r4");
-  assert.equal((await backToArrival(session, "ram.7.0")).why, "lacks");
-  assert.match((await backToArrival(session, "ram1.0")).words, /^Nothing was done: this board has no ram1\.0\.$/);
+  const travelToRegister = await goBackToArrival(session, "r4");
+  assert.equal(travelToRegister.place, "r4");
+  assert.equal((await goBackToArrival(session, "ram.7.0")).why, "lacks");
+  assert.match((await goBackToArrival(session, "ram1.0")).words, /^Nothing was done: this board has no ram1\.0\.$/);
 });
 
-test("back to an arrival is found in what is kept of a long run, at once", async () => {
+test("going back to a breakpoint in a long run is fast", async () => {
   // R0 to R3 count the iterations. The program reaches `hit` once in 16 ** 4 iterations.
-  const turns = [0, 1, 2, 3].map((each) => ` ISZ R${each}, turn\n`).join("");
-  const session = openSession(`start: FIM P0, 0\n FIM P1, 0\nturn: NOP\n${turns}hit: NOP\n JUN turn\n`);
+  const loopCode = [0, 1, 2, 3].map((register) => ` ISZ R${register}, turn\n`).join("");
+  const session = openSession(`start: FIM P0, 0\n FIM P1, 0\nturn: NOP\n${loopCode}hit: NOP\n JUN turn\n`);
   const { session: bench } = session.debugger;
   const hit = session.map.findValue("hit");
   session.breakpoints.add({ line: session.map.lineOf(hit) });
   await session.applyBreakpoints();
-  const seen = await statesAtBreakpoints(session, 3);
+  const states = await collectStatesAtBreakpoints(session, 3);
   for (let frame = 0; bench.count.total < 10000000; frame++) {
-    if (session.debugger.advance(400000).stop) seen.push([bench.count.total, ""]);
+    if (session.debugger.advance(400000).stop) states.push([bench.count.total, ""]);
   }
-  for (const [cycles] of seen.reverse()) {
+  for (const [cycles] of states.reverse()) {
     if (cycles === bench.count.total) continue;
-    assert.deepEqual([(await backToArrival(session)).end, bench.count.total, session.address], ["break", cycles, hit]);
+    assert.deepEqual([(await goBackToArrival(session)).end, bench.count.total, session.address], ["break", cycles, hit]);
   }
 });
 
-test("a program that is assembled anew takes its breakpoints along", async () => {
+test("breakpoints move with their lines when a program is assembled again", async () => {
   const session = openSession();
   session.breakpoints.add({ line: LINE.increment });
   session.breakpoints.add({ line: LINE.back, isOn: false });
@@ -289,7 +291,7 @@ test("a program that is assembled anew takes its breakpoints along", async () =>
   assert.equal(session.line, LINE.increment + 1);
 });
 
-test("a pause ends a run without a stop", async () => {
+test("a pause ends a run that has no stop", async () => {
   const session = openSession("JMS x\nx: JUN x\n");
   await session.runToGoal({ kind: "count", count: 1 });
   const stop = await session.runToGoal({ kind: "out" }, async (done) => done < 1000000);
@@ -297,7 +299,7 @@ test("a pause ends a run without a stop", async () => {
   assert.match(stop.words, /^Paused at 002 \(x, line 2\), after .*; the return from the subroutine was not reached\.$/);
 });
 
-test("notes report lamps by their names and ports as digits", () => {
+test("log messages show lamps by their names and ports as digits", () => {
   const face = new Face(BOARD);
   const lamps = [0, 1].flatMap((line) => ["[[lamp]]", `line = "ram0.0.${line}"`]);
   const board = readBoard(["board", "[[rom]]", "chip = 0", 'port = "0000"', ...lamps]);
@@ -311,43 +313,44 @@ const linesAfterEdit = (lines, edit) => {
   list.edit(edit);
   return list.all.map(({ line }) => line);
 };
-const at = (line, ch = 0) => ({ line, ch });
+const position = (line, ch = 0) => ({ line, ch });
 
 test("breakpoints move with the lines of the text", () => {
-  const typed = { from: at(3, 5), to: at(3, 5), text: ["x"], removed: [""] };
-  assert.deepEqual(linesAfterEdit([2, 4, 6], typed), [2, 4, 6]);
+  const edit = { from: position(3, 5), to: position(3, 5), text: ["x"], removed: [""] };
+  assert.deepEqual(linesAfterEdit([2, 4, 6], edit), [2, 4, 6]);
   // Insert a line break before line 4, at its beginning, in its middle, and at its end.
-  assert.deepEqual(linesAfterEdit([3, 4, 5], { from: at(2, 9), to: at(2, 9), text: ["", ""], removed: [""] }), [3, 5, 6]);
-  assert.deepEqual(linesAfterEdit([3, 4, 5], { from: at(3), to: at(3), text: ["", ""], removed: [""] }), [3, 5, 6]);
-  assert.deepEqual(linesAfterEdit([3, 4, 5], { from: at(3, 4), to: at(3, 4), text: ["", ""], removed: [""] }), [3, 4, 6]);
+  assert.deepEqual(linesAfterEdit([3, 4, 5], { from: position(2, 9), to: position(2, 9), text: ["", ""], removed: [""] }), [3, 5, 6]);
+  assert.deepEqual(linesAfterEdit([3, 4, 5], { from: position(3), to: position(3), text: ["", ""], removed: [""] }), [3, 5, 6]);
+  assert.deepEqual(linesAfterEdit([3, 4, 5], { from: position(3, 4), to: position(3, 4), text: ["", ""], removed: [""] }), [3, 4, 6]);
   // First delete lines 3 and 4, with their line breaks. Then join line 4 to line 3.
-  assert.deepEqual(linesAfterEdit([2, 3, 4, 5], { from: at(2), to: at(4), text: ["", ""].slice(1), removed: ["a", "b", ""] }), [2, 3]);
-  assert.deepEqual(linesAfterEdit([3, 4, 5], { from: at(2, 3), to: at(3, 0), text: [""], removed: ["", ""] }), [3, 4]);
+  assert.deepEqual(linesAfterEdit([2, 3, 4, 5], { from: position(2), to: position(4), text: ["", ""].slice(1), removed: ["a", "b", ""] }),
+    [2, 3]);
+  assert.deepEqual(linesAfterEdit([3, 4, 5], { from: position(2, 3), to: position(3, 0), text: [""], removed: ["", ""] }), [3, 4]);
   // Replace the whole text with a text that has one more line at its beginning.
   const removed = ["a", "b", "c", "d"];
-  assert.deepEqual(linesAfterEdit([2, 4], { from: at(0), to: at(3, 1), text: ["new", ...removed], removed }), [3, 5]);
-  assert.deepEqual(linesAfterEdit([2, 4], { from: at(0), to: at(3, 1), text: ["a", "new", "b", "c", "d"], removed }), [3, 5]);
+  assert.deepEqual(linesAfterEdit([2, 4], { from: position(0), to: position(3, 1), text: ["new", ...removed], removed }), [3, 5]);
+  assert.deepEqual(linesAfterEdit([2, 4], { from: position(0), to: position(3, 1), text: ["a", "new", "b", "c", "d"], removed }), [3, 5]);
 });
 
-test("a line that is taken out takes its breakpoint along, and brings it back when that is undone", () => {
+test("a deleted line removes its breakpoint, and undoing the deletion restores it", () => {
   const list = new BreakpointList([{ line: 2 }, { line: 4, condition: "r4 = 7" }, { line: 6 }]);
-  list.edit({ from: at(2), to: at(4), text: [""], removed: ["a", "b", ""], origin: "cut" });
+  list.edit({ from: position(2), to: position(4), text: [""], removed: ["a", "b", ""], origin: "cut" });
   assert.deepEqual(list.all.map(({ line }) => line), [2, 4]);
-  assert.equal(list.edit({ from: at(2), to: at(2), text: ["a", "b", ""], removed: [""], origin: "undo" }), true);
+  assert.equal(list.edit({ from: position(2), to: position(2), text: ["a", "b", ""], removed: [""], origin: "undo" }), true);
   assert.deepEqual(list.all.map(({ line, condition }) => [line, condition]), [[2, ""], [4, "r4 = 7"], [6, ""]]);
 });
 
-test("where all of the text is another one, breakpoints are where their addresses are", () => {
+test("if the whole text is replaced, breakpoints keep their addresses", () => {
   const [removed, text] = [["a", "b", "c", "d"], ["new", "lines", "here", "x"]];
   // First no text ends with a line feed, then both do. In the third case, lines below the edit stay, so it does not replace the whole text.
   for (const [end, isWhole, lines] of [[[], true, [[3, -1], [0, 4]]], [[""], true, [[3, -1], [0, 4]]], [[], false, [[2, 4], [3, -1]]]]) {
     const list = new BreakpointList([{ line: 2, address: 4 }, { line: 3 }]);
-    list.edit({ from: at(0), to: at(3 + end.length), text: [...text, ...end], removed: [...removed, ...end], isWhole });
+    list.edit({ from: position(0), to: position(3 + end.length), text: [...text, ...end], removed: [...removed, ...end], isWhole });
     assert.deepEqual(list.all.map(({ line, address }) => [line, address]), lines);
   }
 });
 
-test("where a breakpoint has a condition or a count, the words of the stop have it", async () => {
+test("the message about a stop contains the breakpoint's condition and hit count", async () => {
   const session = openSession();
   session.breakpoints.add({ line: LINE.write, condition: "r4 = 2", from: 2 });
   await session.applyBreakpoints();

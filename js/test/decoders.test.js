@@ -8,7 +8,7 @@ import { find, readSearch } from "../core/waves/wave_search.js";
 import { readTrigger } from "../core/waves/trigger.js";
 import { vcdParts } from "../core/waves/vcd.js";
 import { Waves } from "../core/waves/wave_recording.js";
-import { begin, examplesOfPage } from "./page_session.js";
+import { openExample, examplesOfPage } from "./page_session.js";
 
 const BOARD = readBoard([
   "board", "[[rom]]", "chip = 0", 'port = "0000"', "[[rom]]", "chip = 1", 'port = "iiii"',
@@ -16,10 +16,10 @@ const BOARD = readBoard([
   "[keys]", "chain = 0", "first = 1", "rows = 2", 'columns = ["rom1.2", "rom1.0"]',
 ]);
 const LINES = createBoardLines(BOARD, "# row 0: 7 CE\n", false);
-const numberOf = (waves, name) => waves.lines.findIndex((line) => line.name === name);
+const lineIndexOf = (waves, name) => waves.lines.findIndex((line) => line.name === name);
 
 /** Returns a recording. `changes` has the cycles in which each line changes, by line name. Each line begins at level 0. */
-function recordingOf(changes, cycles) {
+function createRecording(changes, cycles) {
   const tracks = LINES.map(({ name, width }) => (
     { first: 0, moments: Uint32Array.from(changes[name] || []), values: width > 1 ? new Float64Array(0) : null }));
   return new Waves({ from: 0, cycles, isStuck: false, isOwed: false, lines: LINES, tracks,
@@ -28,7 +28,7 @@ function recordingOf(changes, cycles) {
 
 /** Returns the values of a row, each with the cycle in which it begins. */
 function valuesOfRow(waves, name) {
-  const line = numberOf(waves, name);
+  const line = lineIndexOf(waves, name);
   return [waves.from, ...waves.changesOf(line)].map((moment) => `${moment} ${waves.valueAt(line, moment)}`);
 }
 
@@ -45,18 +45,18 @@ const TRACE = {
 };
 const SHIFTED_BITS = ["0 = 000", "10 1", "20 0", "30 0", "46 = 004", "100 1", "116 1", "132 = 013", "133 0", "149 = 026"];
 
-test("a shift register's row has each bit that came in, and its bits at rest", () => {
-  assert.deepEqual(valuesOfRow(recordingOf(TRACE, 200), "shift.chain0"), SHIFTED_BITS);
+test("a shift register's row has each shifted bit, and the value between shifts", () => {
+  assert.deepEqual(valuesOfRow(createRecording(TRACE, 200), "shift.chain0"), SHIFTED_BITS);
 });
 
-test("it is at rest only once the recording has come so far", () => {
-  assert.deepEqual(valuesOfRow(recordingOf(TRACE, 148), "shift.chain0"), SHIFTED_BITS.slice(0, -1));
-  assert.deepEqual(valuesOfRow(recordingOf(TRACE, 149), "shift.chain0"), SHIFTED_BITS);
-  assert.deepEqual(valuesOfRow(recordingOf({}, 50), "shift.chain0"), ["0 = 000"]);
+test("a value between shifts appears once the recording is long enough", () => {
+  assert.deepEqual(valuesOfRow(createRecording(TRACE, 148), "shift.chain0"), SHIFTED_BITS.slice(0, -1));
+  assert.deepEqual(valuesOfRow(createRecording(TRACE, 149), "shift.chain0"), SHIFTED_BITS);
+  assert.deepEqual(valuesOfRow(createRecording({}, 50), "shift.chain0"), ["0 = 000"]);
 });
 
-test("its bits are written as numbers are", () => {
-  const waves = recordingOf(TRACE, 200);
+test("the value has the recording's number base", () => {
+  const waves = createRecording(TRACE, 200);
   waves.base = "binary";
   assert.equal(valuesOfRow(waves, "shift.chain0")[7], "132 = 0000010011");
   waves.base = "decimal";
@@ -70,76 +70,78 @@ const SCAN = {
   "rom1.2": [20, 40, 70, 80], "rom1.0": [30, 45, 55, 65],
 };
 
-test("a key scan has the rows that are driven, and the keys that answer", () => {
-  assert.deepEqual(valuesOfRow(recordingOf(SCAN, 100), "scan.keys"), [
+test("a key scan has the driven rows and the detected keys", () => {
+  assert.deepEqual(valuesOfRow(createRecording(SCAN, 100), "scan.keys"), [
     "0 -", "10 row 0", "20 row 0: 7", "30 row 0: 7 CE", "40 row 0: CE", "45 row 0", "50 rows 0+1", "55 rows 0+1: column 1", "60 row 1: 1.1",
     "65 row 1", "70 row 1: 1.0", "80 row 1", "90 -",
   ]);
 });
 
-test("piece by piece, without what was before, the rows are the same", () => {
-  const all = { ...SCAN, ...TRACE, "chain0.1": SCAN["chain0.1"], "chain0.2": SCAN["chain0.2"] };
+test("a recording in pieces has the same rows as a whole recording", () => {
+  const changes = { ...SCAN, ...TRACE, "chain0.1": SCAN["chain0.1"], "chain0.2": SCAN["chain0.2"] };
   for (const name of ["shift.chain0", "scan.keys"]) {
-    const whole = recordingOf(all, 200);
-    const wanted = [...whole.changesOf(numberOf(whole, name))].map((moment) => `${moment} ${whole.valueAt(numberOf(whole, name), moment)}`);
+    const wholeRecording = createRecording(changes, 200);
+    const expected = [...wholeRecording.changesOf(lineIndexOf(wholeRecording, name))]
+      .map((moment) => `${moment} ${wholeRecording.valueAt(lineIndexOf(wholeRecording, name), moment)}`);
     for (const size of [1, 7, 16, 50]) {
-      const parts = recordingOf({}, 0);
-      const got = [];
-      parts.changesOf(numberOf(parts, name));
+      const recording = createRecording({}, 0);
+      const actual = [];
+      recording.changesOf(lineIndexOf(recording, name));
       for (let from = 0; from < 200; from += size) {
         const to = Math.min(200, from + size);
-        parts.beginAt(from);
-        const tracks = parts.lines.map(({ name: each }) => (
-          { first: 0, moments: Uint32Array.from((all[each] || []).filter((at) => at > from && at <= to)), values: null }));
-        parts.append({ from, cycles: to, isStuck: false, isOwed: false, tracks: tracks.map((data, line) => (
-          { ...data, values: parts.lines[line].width > 1 ? new Float64Array(0) : null })), moments: new Uint32Array(0),
+        recording.beginAt(from);
+        const tracks = recording.lines.map(({ name: lineName }) => (
+          { first: 0, moments: Uint32Array.from((changes[lineName] || []).filter((cycle) => cycle > from && cycle <= to)), values: null }));
+        recording.append({ from, cycles: to, isStuck: false, isOwed: false, tracks: tracks.map((data, line) => (
+          { ...data, values: recording.lines[line].width > 1 ? new Float64Array(0) : null })), moments: new Uint32Array(0),
         counters: new Uint16Array(0), listing: [] });
-        got.push(...valuesOfRow(parts, name).slice(1));
+        actual.push(...valuesOfRow(recording, name).slice(1));
       }
-      assert.deepEqual(got, wanted, `${name} by ${size}`);
+      assert.deepEqual(actual, expected, `${name} by ${size}`);
     }
   }
 });
 
-test("a decoder is searched for its changes, a scan for a key; a trigger names a line", () => {
-  const waves = recordingOf(SCAN, 100);
-  const moments = (text) => {
+test("a decoder can be searched for changes, and a key scan for keys; a decoder cannot be a trigger", () => {
+  const waves = createRecording(SCAN, 100);
+  const findMoments = (text) => {
     const { search, fault } = readSearch(text, waves, -1);
     return search ? [find(waves, search, 0, true), find(waves, search, 100, false)] : fault;
   };
-  assert.deepEqual([moments("key scan = CE"), moments("scan.keys = 1.0"), moments("scan.keys changes")], [[30, 30], [70, 70], [10, 90]]);
-  assert.match(moments("scan.keys = 3"), /^scan\.keys is decoded/);
-  assert.match(moments("4003 shift-in 0 rises"), /^shift\.chain0 is decoded/);
+  assert.deepEqual([findMoments("key scan = CE"), findMoments("scan.keys = 1.0"), findMoments("scan.keys changes")],
+    [[30, 30], [70, 70], [10, 90]]);
+  assert.match(findMoments("scan.keys = 3"), /^scan\.keys is decoded/);
+  assert.match(findMoments("4003 shift-in 0 rises"), /^shift\.chain0 is decoded/);
   assert.match(readTrigger("shift.chain0 changes", LINES, /** @type {any} */ ({})).fault, /^shift\.chain0 is decoded from other lines/);
 });
 
-test("a file has decoders as texts without blanks, and they are shown at first where they change", () => {
-  const waves = recordingOf(SCAN, 100);
-  const file = [...vcdParts(waves, [numberOf(waves, "scan.keys")])].join("");
+test("a VCD file has decoders as strings without blanks, and decoders that change are shown by default", () => {
+  const waves = createRecording(SCAN, 100);
+  const file = [...vcdParts(waves, [lineIndexOf(waves, "scan.keys")])].join("");
   assert.match(file, /\$var string 1 A scan\.keys \$end/);
   assert.match(file, /#2160\nsrow_0:_7 A\n/);
   const names = chooseFirstLines(waves).map((line) => waves.lines[line].name);
   assert.deepEqual(names.slice(-2), ["scan.keys", "pc"]);
 });
 
-test("of a calculator: each bit is that of the first stage after the clock, and at rest the bits are those of the port", async () => {
+test("in a calculator, each shifted bit is that of the first stage, and values between shifts are those of the chain", async () => {
   const { board, program } = examplesOfPage.find(({ name }) => name === "calculator");
-  const calls = await begin("calculator", "run 30000\npress 2 0\n");
+  const calls = await openExample("calculator", "run 30000\npress 2 0\n");
   const waves = new Waves(await calls.record(20000, false, { board, program, values: [] }));
   for (const chain of [0, 1]) {
     const names = [`shift.chain${chain}`, `chain${chain}.0`, `chain${chain}[${chain === 0 ? 9 : 39}:0]`, chain === 0 ? "rom0.0" : "rom0.2"];
-    const [line, first, port, clock] = names.map((name) => numberOf(waves, name));
-    const boxes = [...waves.changesOf(line)];
-    const clocks = [...waves.changesOf(clock)].filter((moment) => waves.numberAt(clock, moment) === 1);
-    assert.ok(clocks.length > 20);
-    assert.deepEqual(boxes.filter((moment) => !waves.valueAt(line, moment).startsWith("=")), clocks);
-    for (const moment of boxes) {
+    const [line, first, port, clock] = names.map((name) => lineIndexOf(waves, name));
+    const moments = [...waves.changesOf(line)];
+    const clockEdges = [...waves.changesOf(clock)].filter((moment) => waves.numberAt(clock, moment) === 1);
+    assert.ok(clockEdges.length > 20);
+    assert.deepEqual(moments.filter((moment) => !waves.valueAt(line, moment).startsWith("=")), clockEdges);
+    for (const moment of moments) {
       const value = waves.valueAt(line, moment);
       assert.equal(value, value.startsWith("=") ? `= ${waves.valueAt(port, moment)}` : waves.valueAt(first, moment));
     }
   }
-  const scan = numberOf(waves, "scan.keys");
-  const seen = new Set([...waves.changesOf(scan)].map((moment) => waves.valueAt(scan, moment)));
+  const scan = lineIndexOf(waves, "scan.keys");
+  const values = new Set([...waves.changesOf(scan)].map((moment) => waves.valueAt(scan, moment)));
   // Key 2.0 is the key "1".
-  assert.deepEqual([...seen].sort(), ["row 0", "row 1", "row 2: 1", "row 3", "row 4"]);
+  assert.deepEqual([...values].sort(), ["row 0", "row 1", "row 2: 1", "row 3", "row 4"]);
 });

@@ -14,83 +14,83 @@ import { applyEdits, inverseEdits } from "../core/drawing/text_edits.js";
 import { Engine } from "../core/engine/engine.js";
 import { examplesOfPage, pageModule } from "./page_session.js";
 
-const loading = Engine.load(pageModule);
+const enginePromise = Engine.load(pageModule);
 const examples = examplesOfPage;
-const boardOf = (wanted) => examples.find(({ name }) => name === wanted).board;
+const boardOf = (exampleName) => examples.find(({ name }) => name === exampleName).board;
 
 /** Returns a drawn board for a text, as the page creates it. */
 async function createDrawnBoard(text = "") {
-  const engine = await loading;
+  const engine = await enginePromise;
   const file = engine.begin();
-  const desk = { text, steps: [], shown: null, asked: 0, whileAsked: () => {} };
-  desk.drawing = new Drawing({
-    text: () => desk.text,
+  const fixture = { text, undoSteps: [], view: null, queryCount: 0, onQuery: () => {} };
+  fixture.drawing = new Drawing({
+    text: () => fixture.text,
     ask: async (lines) => {
-      desk.asked += 1;
-      desk.whileAsked();
+      fixture.queryCount += 1;
+      fixture.onQuery();
       return engine.ask(file, lines).answers;
     },
     edit: (edits) => {
-      desk.steps.push(inverseEdits(desk.text, edits));
-      desk.text = applyEdits(desk.text, edits);
+      fixture.undoSteps.push(inverseEdits(fixture.text, edits));
+      fixture.text = applyEdits(fixture.text, edits);
     },
     undo: () => {
-      const last = desk.steps.pop();
-      if (last) desk.text = applyEdits(desk.text, last);
-      return last !== undefined;
+      const lastStep = fixture.undoSteps.pop();
+      if (lastStep) fixture.text = applyEdits(fixture.text, lastStep);
+      return lastStep !== undefined;
     },
     redo: () => false,
     describeRefusal: (number) => `refusal ${number}`,
-  }, (shown) => {
-    desk.shown = shown;
+  }, (view) => {
+    fixture.view = view;
   });
-  await desk.drawing.refresh();
-  return desk;
+  await fixture.drawing.refresh();
+  return fixture;
 }
 
-test("an empty bench: parts come with what they need, and a wire goes from pin to pin", async () => {
-  const desk = await createDrawnBoard();
-  const { drawing } = desk;
-  assert.deepEqual([desk.shown.fault, [...desk.shown.shelf.values()].every((why) => why === "")], ["", true]);
+test("on an empty bench, parts are added with the parts that they need, and a wire goes from pin to pin", async () => {
+  const fixture = await createDrawnBoard();
+  const { drawing } = fixture;
+  assert.deepEqual([fixture.view.fault, [...fixture.view.shelf.values()].every((why) => why === "")], ["", true]);
   await drawing.performInOrder({ kind: "add", part: "keys" });
-  assert.equal(desk.shown.lastMessage, "The keys were added, with ROM 0, chain 0 and ROM 1.");
-  assert.deepEqual([desk.shown.selected, desk.shown.shelf.get("keys")],
+  assert.equal(fixture.view.lastMessage, "The keys were added, with ROM 0, chain 0 and ROM 1.");
+  assert.deepEqual([fixture.view.selected, fixture.view.shelf.get("keys")],
     ["keys", "A board has one key matrix: give it more rows and columns."]);
   await drawing.performInOrder({ kind: "add", part: "lamp" });
   await drawing.handleClick("rom0.2");
-  assert.equal(desk.shown.lastMessage, "Wire from line rom0.2: it can end at 3 pins.");
-  assert.deepEqual([...desk.shown.ends], ["clock 0", "data 0", "lamp 0"]);
+  assert.equal(fixture.view.lastMessage, "Wire from line rom0.2: it can end at 3 pins.");
+  assert.deepEqual([...fixture.view.ends], ["clock 0", "data 0", "lamp 0"]);
   await drawing.handleClick("lamp 0");
-  assert.equal(desk.shown.lastMessage, "Line rom0.2 is wired to lamp 0.");
-  assert.deepEqual([desk.shown.board.lamps, desk.shown.selected, desk.shown.wireStart], [["rom0.2"], "lamp 0", ""]);
-  for (const wanted of ["Undone.", "Undone.", "Undone.", "There is nothing to undo."]) {
+  assert.equal(fixture.view.lastMessage, "Line rom0.2 is wired to lamp 0.");
+  assert.deepEqual([fixture.view.board.lamps, fixture.view.selected, fixture.view.wireStart], [["rom0.2"], "lamp 0", ""]);
+  for (const expected of ["Undone.", "Undone.", "Undone.", "There is nothing to undo."]) {
     await drawing.undoOrRedo("undo");
-    assert.equal(desk.shown.lastMessage, wanted);
+    assert.equal(fixture.view.lastMessage, expected);
   }
-  assert.deepEqual([desk.text, desk.shown.selected], ["", ""]);
+  assert.deepEqual([fixture.text, fixture.view.selected], ["", ""]);
 });
 
-test("a wire may begin at what takes it; one that cannot be is none, and Escape leaves it", async () => {
-  const desk = await createDrawnBoard(boardOf("lock"));
-  const { drawing } = desk;
+test("a wire can begin at either end; an impossible wire is not drawn, and Escape cancels the wire", async () => {
+  const fixture = await createDrawnBoard(boardOf("lock"));
+  const { drawing } = fixture;
   await drawing.handleClick("column 1");
-  assert.deepEqual([...desk.shown.ends], possibleSources(desk.shown.board, "column 1").filter((line) => line !== "rom1.1"));
+  assert.deepEqual([...fixture.view.ends], possibleSources(fixture.view.board, "column 1").filter((line) => line !== "rom1.1"));
   await drawing.handleClick("rom0.3");
-  assert.deepEqual([desk.shown.wireStart, desk.shown.selected, desk.text], ["rom0.3", "rom0.3", boardOf("lock")]);
+  assert.deepEqual([fixture.view.wireStart, fixture.view.selected, fixture.text], ["rom0.3", "rom0.3", boardOf("lock")]);
   drawing.cancelWire();
-  assert.deepEqual([desk.shown.wireStart, desk.shown.selected, desk.shown.lastMessage], ["", "rom0.3", "No wire was drawn."]);
+  assert.deepEqual([fixture.view.wireStart, fixture.view.selected, fixture.view.lastMessage], ["", "rom0.3", "No wire was drawn."]);
   drawing.cancelWire();
-  assert.equal(desk.shown.selected, "");
+  assert.equal(fixture.view.selected, "");
   await drawing.handleClick("rom0.3");
   await drawing.handleClick("rom0.3");
-  assert.equal(desk.shown.wireStart, "");
+  assert.equal(fixture.view.wireStart, "");
   await drawing.handleClick("keys");
-  assert.deepEqual([desk.shown.wireStart, desk.shown.selected], ["", "keys"]);
+  assert.deepEqual([fixture.view.wireStart, fixture.view.selected], ["", "keys"]);
 });
 
-test("what cannot be is refused in words, and the text stays", async () => {
-  const desk = await createDrawnBoard(boardOf("lock"));
-  for (const [act, words] of [
+test("impossible actions are rejected with a reason, and the text stays", async () => {
+  const fixture = await createDrawnBoard(boardOf("lock"));
+  for (const [action, message] of [
     [{ kind: "delete", part: "clock 0" }, /wire it to another line, or delete the chain/],
     [{ kind: "delete", part: "rom0.1" }, /only with its chip/],
     [{ kind: "delete", part: "processor" }, /Each board has its processor/],
@@ -98,135 +98,135 @@ test("what cannot be is refused in words, and the text stays", async () => {
     [{ kind: "wire", line: "rom1.0", target: "clock 0" }, /is an input line/],
     [{ kind: "colour", lamp: 0, colour: "amber" }, /^No change\.$/],
   ]) {
-    await desk.drawing.performInOrder(act);
-    assert.match(desk.shown.lastMessage, words);
+    await fixture.drawing.performInOrder(action);
+    assert.match(fixture.view.lastMessage, message);
   }
-  assert.equal(desk.text, boardOf("lock"));
+  assert.equal(fixture.text, boardOf("lock"));
 });
 
-test("a text with faults is not drawn in; what was drawn last stays", async () => {
-  const desk = await createDrawnBoard(boardOf("lock"));
-  desk.text = `${desk.text}\n[[lamp]]\n`;
-  await desk.drawing.refresh();
-  assert.match(desk.shown.fault, /^The bench rejects the board's text: refusal 2[02]\. Board shows where\.$/);
-  assert.equal(desk.shown.board.lamps.length, 3);
-  const text = desk.text.replace("\n[[lamp]]\n", "");
-  desk.text = text.replace('"rom1.0"', '"rom1\\u002e0"');
-  await desk.drawing.refresh();
-  assert.match(desk.shown.fault, /the picture cannot change/);
-  await desk.drawing.performInOrder({ kind: "add", part: "rom" });
-  assert.match(desk.shown.lastMessage, /^It was not done\. .* the picture cannot change/);
-  desk.text = text;
-  await desk.drawing.refresh();
-  assert.equal(desk.shown.fault, "");
+test("a text with errors cannot be edited, and the last valid drawing stays", async () => {
+  const fixture = await createDrawnBoard(boardOf("lock"));
+  fixture.text = `${fixture.text}\n[[lamp]]\n`;
+  await fixture.drawing.refresh();
+  assert.match(fixture.view.fault, /^The bench rejects the board's text: refusal 2[02]\. Board shows where\.$/);
+  assert.equal(fixture.view.board.lamps.length, 3);
+  const text = fixture.text.replace("\n[[lamp]]\n", "");
+  fixture.text = text.replace('"rom1.0"', '"rom1\\u002e0"');
+  await fixture.drawing.refresh();
+  assert.match(fixture.view.fault, /the picture cannot change/);
+  await fixture.drawing.performInOrder({ kind: "add", part: "rom" });
+  assert.match(fixture.view.lastMessage, /^It was not done\. .* the picture cannot change/);
+  fixture.text = text;
+  await fixture.drawing.refresh();
+  assert.equal(fixture.view.fault, "");
 });
 
-test("what is longer than the bench takes is not done", async () => {
-  const long = `${'lamp = [] # x\n'}${"rom = []\n".repeat(0)}${" \n".repeat(16370)}`;
-  const desk = await createDrawnBoard(long);
-  assert.equal(desk.shown.fault, "");
-  await desk.drawing.performInOrder({ kind: "add", part: "rom" });
-  assert.match(desk.shown.lastMessage, /^It was not done\. The bench rejects the board's text: refusal 13\./);
-  assert.equal(desk.text, long);
+test("an action is rejected if the text would be too long for the bench", async () => {
+  const longText = `${'lamp = [] # x\n'}${"rom = []\n".repeat(0)}${" \n".repeat(16370)}`;
+  const fixture = await createDrawnBoard(longText);
+  assert.equal(fixture.view.fault, "");
+  await fixture.drawing.performInOrder({ kind: "add", part: "rom" });
+  assert.match(fixture.view.lastMessage, /^It was not done\. The bench rejects the board's text: refusal 13\./);
+  assert.equal(fixture.text, longText);
 });
 
-test("a text that is edited while the bench is asked keeps that edit", async () => {
-  const desk = await createDrawnBoard(boardOf("lock"));
-  desk.whileAsked = () => {
-    desk.whileAsked = () => {};
-    desk.text = `# typed meanwhile\n${desk.text}`;
+test("an edit of the text during a query to the bench is kept", async () => {
+  const fixture = await createDrawnBoard(boardOf("lock"));
+  fixture.onQuery = () => {
+    fixture.onQuery = () => {};
+    fixture.text = `# typed meanwhile\n${fixture.text}`;
   };
-  await desk.drawing.performInOrder({ kind: "add", part: "ram" });
-  assert.match(desk.text, /^# typed meanwhile\n[^]*chips = 2\n/);
-  assert.deepEqual(desk.shown.board.banks.map(({ chips }) => chips), [2]);
+  await fixture.drawing.performInOrder({ kind: "add", part: "ram" });
+  assert.match(fixture.text, /^# typed meanwhile\n[^]*chips = 2\n/);
+  assert.deepEqual(fixture.view.board.banks.map(({ chips }) => chips), [2]);
 });
 
-test("acts that follow one another at once are done one after the other", async () => {
-  const desk = await createDrawnBoard();
-  await Promise.all([1, 2, 3, 4].map(() => desk.drawing.performInOrder({ kind: "add", part: "lamp" })));
-  assert.deepEqual(desk.shown.board.lamps, ["ram0.0.0", "ram0.0.1", "ram0.0.2", "ram0.0.3"]);
+test("simultaneous actions are performed one after the other", async () => {
+  const fixture = await createDrawnBoard();
+  await Promise.all([1, 2, 3, 4].map(() => fixture.drawing.performInOrder({ kind: "add", part: "lamp" })));
+  assert.deepEqual(fixture.view.board.lamps, ["ram0.0.0", "ram0.0.1", "ram0.0.2", "ram0.0.3"]);
 });
 
-test("lamps of a display are called by what they are in it", () => {
-  const labels = (text, count) => lampLabels(new Face(text), count);
-  assert.deepEqual(labels("# lamp 0: minus\n# display 1: 2 digits with points\n", 9), ["minus", "digit 0: 8", "digit 0: 4", "digit 0: 2",
+test("lamps of a display are labelled by their digit and bit or segment", () => {
+  const labelsOf = (text, count) => lampLabels(new Face(text), count);
+  assert.deepEqual(labelsOf("# lamp 0: minus\n# display 1: 2 digits with points\n", 9), ["minus", "digit 0: 8", "digit 0: 4", "digit 0: 2",
     "digit 0: 1", "digit 0: point", "digit 1: 8", "digit 1: 4", "digit 1: 2"]);
-  assert.deepEqual(labels("# display 0: 2 digits scanned by 4\n", 6), [..."8421"].map((lamp) => `all digits: ${lamp}`)
+  assert.deepEqual(labelsOf("# display 0: 2 digits scanned by 4\n", 6), [..."8421"].map((lamp) => `all digits: ${lamp}`)
     .concat("digit 0", "digit 1"));
-  assert.deepEqual(labels("# display 0: 1 digit of 7 segments\n# bar 7: 2 lamps\n", 9),
+  assert.deepEqual(labelsOf("# display 0: 1 digit of 7 segments\n# bar 7: 2 lamps\n", 9),
     [..."abcdefg"].map((name) => `digit 0: ${name}`).concat("", ""));
 });
 
-test("a line of a face is no title", () => {
+test("a comment line about the front panel is not a title", () => {
   assert.deepEqual([sessionTitle("# lamp 0: a\n[[rom]]\n", "; a program. x\n"), sessionTitle("# My board\n# lamp 0: a\n", "")],
     ["A program.", "My board."]);
 });
 
-test("a board is known to be the one that is wired", async () => {
-  const desk = await createDrawnBoard(boardOf("lock"));
-  assert.equal(desk.shown.isWired, false);
-  desk.drawing.setSessionBoard(desk.drawing.answers);
-  await desk.drawing.refresh();
-  assert.equal(desk.shown.isWired, true);
-  await desk.drawing.performInOrder({ kind: "colour", lamp: 0, colour: "blue" });
-  assert.equal(desk.shown.isWired, true);
-  await desk.drawing.performInOrder({ kind: "add", part: "lamp" });
-  assert.equal(desk.shown.isWired, false);
+test("the drawing reports whether the bench has the same board", async () => {
+  const fixture = await createDrawnBoard(boardOf("lock"));
+  assert.equal(fixture.view.isWired, false);
+  fixture.drawing.setSessionBoard(fixture.drawing.answers);
+  await fixture.drawing.refresh();
+  assert.equal(fixture.view.isWired, true);
+  await fixture.drawing.performInOrder({ kind: "colour", lamp: 0, colour: "blue" });
+  assert.equal(fixture.view.isWired, true);
+  await fixture.drawing.performInOrder({ kind: "add", part: "lamp" });
+  assert.equal(fixture.view.isWired, false);
 });
 
-test("each value that a field offers can be set, or is refused in words; each button does something", async () => {
-  const engine = await loading;
+test("each value that a field offers can be set, or is rejected with a reason; each button has an effect", async () => {
+  const engine = await enginePromise;
   const file = engine.begin();
   for (const name of ["lock", "traffic light", "stopwatch"]) {
     const text = boardOf(name);
     const board = readBoard(engine.ask(file, `wire\n${text.replace(/^#.*$/gm, "")}.\nboard\n`).answers.slice(1));
     const face = new Face(text);
     const names = ["", "rom 0", "ram 0.0", "chain 0", "keys", "lamp 0", "lamps", "test", "rom0.2", "clock 0", "column 0", "row 0"];
-    for (const chosen of names) {
-      const isThere = board.chains.length > 0 || !/chain|keys|clock|column|row/.test(chosen);
-      const { title, fields, buttons } = selectionForm(board, face, isThere ? chosen : "");
+    for (const selection of names) {
+      const hasPart = board.chains.length > 0 || !/chain|keys|clock|column|row/.test(selection);
+      const { title, fields, buttons } = selectionForm(board, face, hasPart ? selection : "");
       assert.ok(title.length > 3);
       for (const { label, value, options, act } of fields) {
-        if (options) assert.ok(options.some((each) => each.value === value), `${name}: ${chosen}: ${label} is ${value}`);
-        for (const wanted of options ? options.map((each) => each.value) : ["Other"]) {
-          const { refusal, words } = applyAction(text, act(wanted));
-          assert.ok(refusal !== "" || words !== "", `${name}: ${label} ${wanted}`);
+        if (options) assert.ok(options.some((option) => option.value === value), `${name}: ${selection}: ${label} is ${value}`);
+        for (const choice of options ? options.map((each) => each.value) : ["Other"]) {
+          const { refusalOf: refusal, words } = applyAction(text, act(choice));
+          assert.ok(refusal !== "" || words !== "", `${name}: ${label} ${choice}`);
         }
       }
-      for (const { act } of buttons) assert.ok(applyAction(text, act).refusal !== "" || applyAction(text, act).edits.length > 0);
+      for (const { act } of buttons) assert.ok(applyAction(text, act).refusalOf !== "" || applyAction(text, act).edits.length > 0);
     }
   }
 });
 
-test("where chains were dragged to follows their numbers, and comes back with the text", async () => {
-  const desk = await createDrawnBoard(boardOf("calculator"));
-  const { drawing } = desk;
+test("the positions of dragged chains follow their numbers, and are restored with the text", async () => {
+  const fixture = await createDrawnBoard(boardOf("calculator"));
+  const { drawing } = fixture;
   const { movedParts: parts } = drawing;
-  const begun = [["chain 0", { x: 1, y: 2 }], ["chain 1", { x: 3, y: 4 }], ["rom 0", { x: 5, y: 6 }]];
-  parts.load(begun);
+  const initialPositions = [["chain 0", { x: 1, y: 2 }], ["chain 1", { x: 3, y: 4 }], ["rom 0", { x: 5, y: 6 }]];
+  parts.load(initialPositions);
   await drawing.performInOrder({ kind: "add", part: "lamp" });
   assert.equal(parts.takeChanges(), false);
   await drawing.performInOrder({ kind: "delete", part: "chain 0" });
-  const moved = { "chain 0": { x: 3, y: 4 }, "rom 0": { x: 5, y: 6 } };
-  assert.deepEqual([Object.fromEntries(parts.positions), parts.takeChanges()], [moved, true]);
+  const expectedPositions = { "chain 0": { x: 3, y: 4 }, "rom 0": { x: 5, y: 6 } };
+  assert.deepEqual([Object.fromEntries(parts.positions), parts.takeChanges()], [expectedPositions, true]);
   await drawing.undoOrRedo("undo");
-  const changes = () => [parts.takeChanges(), parts.takeChanges()];
-  assert.deepEqual([Object.fromEntries(parts.positions), ...changes()], [Object.fromEntries(begun), true, false]);
+  const takeChangesTwice = () => [parts.takeChanges(), parts.takeChanges()];
+  assert.deepEqual([Object.fromEntries(parts.positions), ...takeChangesTwice()], [Object.fromEntries(initialPositions), true, false]);
   await drawing.undoOrRedo("undo");
-  assert.deepEqual([Object.fromEntries(parts.positions), parts.takeChanges()], [Object.fromEntries(begun), false]);
+  assert.deepEqual([Object.fromEntries(parts.positions), parts.takeChanges()], [Object.fromEntries(initialPositions), false]);
 });
 
-test("of several chains that go, those between them keep their places", () => {
+test("if several chains are deleted, the others keep their positions", () => {
   const parts = new MovedParts();
-  parts.load([0, 1, 2, 3].map((at) => [`chain ${at}`, { x: at, y: 0 }]));
+  parts.load([0, 1, 2, 3].map((number) => [`chain ${number}`, { x: number, y: 0 }]));
   parts.recordDeletion("before", "after", [2, 0]);
-  const chains = () => [...parts.positions].sort().map(([part, { x }]) => `${part} ${x}`);
-  for (let times = 0; times < 2; times++) {
+  const chainPositions = () => [...parts.positions].sort().map(([part, { x }]) => `${part} ${x}`);
+  for (let round = 0; round < 2; round++) {
     parts.updateForTextChange("before", "after");
-    assert.deepEqual(chains(), ["chain 0 1", "chain 1 3"]);
+    assert.deepEqual(chainPositions(), ["chain 0 1", "chain 1 3"]);
     parts.updateForTextChange("after", "before");
-    assert.deepEqual(chains(), ["chain 0 0", "chain 1 1", "chain 2 2", "chain 3 3"]);
+    assert.deepEqual(chainPositions(), ["chain 0 0", "chain 1 1", "chain 2 2", "chain 3 3"]);
   }
   parts.updateForTextChange("before", "another");
-  assert.equal(chains().length, 4);
+  assert.equal(chainPositions().length, 4);
 });

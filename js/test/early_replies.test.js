@@ -1,4 +1,4 @@
-// Tests early replies in browsers that have broadcast channels, lack them or forbid them.
+// Tests early replies in browsers that have, lack or forbid broadcast channels.
 import assert from "node:assert/strict";
 import { test } from "node:test";
 import { earlySender } from "../page/bench/early_replies.js";
@@ -8,7 +8,7 @@ const EARLY = { kind: /** @type {"early"} */ ("early"), number: 7, result: "lamp
 
 test.afterEach(() => Reflect.deleteProperty(globalThis, "BroadcastChannel"));
 
-test("a reply goes to the channel of that name", () => {
+test("a reply is sent to the channel with the given name", () => {
   const received = [];
   globalThis.BroadcastChannel = class {
     constructor(name) { this.name = name; }
@@ -19,7 +19,7 @@ test("a reply goes to the channel of that name", () => {
   assert.deepEqual(received, [["one", EARLY]]);
 });
 
-test("without a name, without channels, or where they are refused, nothing is reported and nothing fails", () => {
+test("without a name, or if channels are missing or forbidden, nothing is sent and nothing fails", () => {
   globalThis.BroadcastChannel = class { constructor() { throw new Error("insecure"); } };
   earlySender("one")(EARLY);
   earlySender("")(EARLY);

@@ -1,5 +1,5 @@
 // Tests the two hosts of the engine, the WebAssembly module and the native program. Both must give the same answers to the same lines. The
-// environment variable MCS4 can name another native program than the shipped one. If no native program starts on this system, only the
+// environment variable MCS4 can name a native program other than the shipped one. If no native program starts on this system, only the
 // module is tested.
 import { test } from "node:test";
 import assert from "node:assert/strict";
@@ -43,11 +43,11 @@ const BOARD = 'wire\n[[rom]]\nchip = 0\nport = "0000"\n[[ram]]\nbank = 0\nchips 
 const PROGRAM = "asm\nloop: IAC\n      WMP\n      JUN loop\n.\n";
 
 /** Runs a test on both hosts. The results must be equal. */
-function testOnBothHosts(name, act) {
+function testOnBothHosts(name, run) {
   test(name, async () => {
-    const found = [];
-    for (const engine of Object.values(hosts)) found.push(await act(engine));
-    for (const other of found.slice(1)) assert.deepEqual(other, found[0]);
+    const results = [];
+    for (const engine of Object.values(hosts)) results.push(await run(engine));
+    for (const result of results.slice(1)) assert.deepEqual(result, results[0]);
   });
 }
 
@@ -58,7 +58,7 @@ function stateAfter(engine, lines) {
   return state;
 }
 
-testOnBothHosts("a new session has no commands, and questions leave it as it is", (engine) => {
+testOnBothHosts("a new session has no commands, and queries do not change it", (engine) => {
   const state = engine.begin();
   const { status, opened, answers } = engine.ask(state, "seq\nregs\nlamps\nseq\n");
   assert.deepEqual([status, opened, answers[0], answers[3]], [0, "session 0", "seq 0", "seq 0"]);
@@ -66,7 +66,7 @@ testOnBothHosts("a new session has no commands, and questions leave it as it is"
   return answers;
 });
 
-testOnBothHosts("commands lead to the next state; the state before stays", (engine) => {
+testOnBothHosts("commands produce a new state; the previous state is unchanged", (engine) => {
   const before = stateAfter(engine, BOARD + PROGRAM);
   const after = new Uint8Array(engine.size);
   const { opened, answers } = engine.serve(before, "run 10\nlamps\n", after);
@@ -77,25 +77,25 @@ testOnBothHosts("commands lead to the next state; the state before stays", (engi
   return [answers, engine.ask(before, "state\n"), engine.ask(after, "state\n")];
 });
 
-testOnBothHosts("commands that are asked about change nothing", (engine) => {
+testOnBothHosts("commands in `ask` change nothing", (engine) => {
   const state = stateAfter(engine, BOARD + PROGRAM);
   const answers = [engine.ask(state, "run 7\ntrace 1\nseq\n"), engine.ask(state, "poke acc 9\nregs\n"), engine.ask(state, "regs\nseq\n")];
   assert.equal(answers[2].answers[1], "seq 2");
   return answers;
 });
 
-testOnBothHosts("a trace goes through breakpoints, its last lines end at one, and the session stays", async (engine) => {
+testOnBothHosts("a trace continues through breakpoints, its last lines end at one, and the session is unchanged", async (engine) => {
   const state = stateAfter(engine, `${BOARD}${PROGRAM}run 3\nbreak 0x002\n`);
   const trace = new SessionTrace(engine, state, async () => {});
-  const linesOf = async (pieces) => {
+  const collectLines = async (pieces) => {
     const lines = [];
     for await (const piece of pieces) lines.push(...piece);
     return lines;
   };
-  const next = await linesOf(trace.next(1200, null));
+  const next = await collectLines(trace.next(1200, null));
   assert.deepEqual([next[0], next.length], ["       0  (the second cycle)         acc 1 cy 0", 901]);
   assert.equal(next[2], "       2  001 E1    WMP              acc 2 cy 0  out 0.0 2 lamps .");
-  assert.deepEqual(await linesOf(trace.last(1, 100000, null)), [
+  assert.deepEqual(await collectLines(trace.last(1, 100000, null)), [
     "       2  001 E1    WMP              acc 2 cy 0  out 0.0 2 lamps .", "       3  002 40 00 JUN 0x000        stops before it: break",
   ]);
   assert.deepEqual(engine.ask(state, "breaks\nseq\n").answers, ["breaks 002", "seq 4"]);
@@ -105,8 +105,8 @@ testOnBothHosts("a trace goes through breakpoints, its last lines end at one, an
 testOnBothHosts("a VCD file is written piece by piece", async (engine) => {
   const state = copyWithoutStops(engine, stateAfter(engine, `${BOARD}${PROGRAM}`));
   const board = readBoard(engine.ask(state, "board\n").answers);
-  const all = chooseLines(board, "", false, ["ram0.0", "acc", "pc", "ram0.0[3:0]"]);
-  const { lines, chosen } = linesWithMembers(all.lines, all.chosen);
+  const choice = chooseLines(board, "", false, ["ram0.0", "acc", "pc", "ram0.0[3:0]"]);
+  const { lines, chosen } = linesWithMembers(choice.lines, choice.chosen);
   let text = null;
   let file = "";
   for await (const waves of recordPieces(engine, state, { lines, program: null, cycles: 45000 }, async () => {})) {
@@ -118,18 +118,18 @@ testOnBothHosts("a VCD file is written piece by piece", async (engine) => {
   return file;
 });
 
-testOnBothHosts("a copy of a state is the same state, and many states can be returned to", (engine) => {
+testOnBothHosts("a copy is the same state, and the engine can return to any of many states", (engine) => {
   const states = [stateAfter(engine, BOARD + PROGRAM)];
-  for (let at = 1; at <= 50; at++) {
-    const state = states[at - 1].slice();
-    engine.serve(state, `run ${at}\n`, state);
+  for (let number = 1; number <= 50; number++) {
+    const state = states[number - 1].slice();
+    engine.serve(state, `run ${number}\n`, state);
     states.push(state);
   }
   engine.keep(states[20]);
-  return [0, 50, 20, 3, 20, 49, 3, 50].map((at) => engine.ask(states[at].slice(), "state\n"));
+  return [0, 50, 20, 3, 20, 49, 3, 50].map((index) => engine.ask(states[index].slice(), "state\n"));
 });
 
-testOnBothHosts("no line, blank lines and refused lines", (engine) => {
+testOnBothHosts("empty input, blank lines and rejected lines", (engine) => {
   const state = engine.begin();
   return [
     "", "\n\n  \n", "nonsense\nrun\nrun 0\nseq 5\n SEQ\n", `${"x".repeat(300)}\nseq\n`, "poke acc 99\n", "run 5 6 7\r\nregs\r\n",
@@ -137,7 +137,7 @@ testOnBothHosts("no line, blank lines and refused lines", (engine) => {
   ].map((lines) => [engine.serve(state, lines, state), engine.ask(state, lines)]);
 });
 
-testOnBothHosts("`seq` within a text is a line of it, and `seq` has answers of its own", (engine) => {
+testOnBothHosts("`seq` within a text is a line of the text, and otherwise a query with its own answer", (engine) => {
   const state = stateAfter(engine, BOARD);
   return [
     engine.serve(state, "seq\nasm\nseq\nseq\n.\nseq\n seq \n", state), engine.ask(state, "map\nseq\n.\nseq\n"),
@@ -145,7 +145,7 @@ testOnBothHosts("`seq` within a text is a line of it, and `seq` has answers of i
   ];
 });
 
-testOnBothHosts("lines whose last one, or whose text, has no end", (engine) => {
+testOnBothHosts("lines with an unfinished last line or text", (engine) => {
   const state = stateAfter(engine, BOARD + PROGRAM);
   const answers = [engine.ask(state, "seq\nreg"), engine.ask(state, "run 5\nasm\n NOP\n"), engine.serve(state, "run 5\nasm\n NOP", state)];
   assert.deepEqual(answers[0].answers, ["seq 2", "no 10"]);
@@ -153,11 +153,11 @@ testOnBothHosts("lines whose last one, or whose text, has no end", (engine) => {
   return [answers, engine.ask(state, "state\n")];
 });
 
-testOnBothHosts("more lines, and longer texts and answers, than a pipe takes", (engine) => {
+testOnBothHosts("lines, texts and answers that are longer than a pipe's buffer", (engine) => {
   const state = stateAfter(engine, BOARD);
-  const long = `asm\n${"; a comment that is long\n".repeat(20000)} NOP\n.\n`;
-  const many = "regs\nlist 0 256\nlamps\n".repeat(1500);
-  const { answers } = engine.serve(state, many + long + many + PROGRAM + many, state);
+  const longText = `asm\n${"; a comment that is long\n".repeat(20000)} NOP\n.\n`;
+  const manyLines = "regs\nlist 0 256\nlamps\n".repeat(1500);
+  const { answers } = engine.serve(state, manyLines + longText + manyLines + PROGRAM + manyLines, state);
   assert.equal(answers.length, 3 * 1500 * 258 + 2);
   assert.ok(answers.includes("no 13"));
   return [answers.length, answers.slice(-300), engine.ask(state, "state\n")];
@@ -169,75 +169,75 @@ testOnBothHosts("the bytes of a session file lead to the same state on each host
   return Object.values(hosts).map((host) => host.ask(host.stateOf(bytes), "state\nboard\nlist 0 8\n"));
 });
 
-testOnBothHosts("a state of bytes that were read from a file does not share their memory, nor that of its copies", (engine) => {
-  const read = Buffer.from(engine.bytesOf(stateAfter(engine, BOARD + PROGRAM)));
-  const state = engine.stateOf(read);
+testOnBothHosts("a state does not share memory with the file's bytes or with copies of the state", (engine) => {
+  const fileBytes = Buffer.from(engine.bytesOf(stateAfter(engine, BOARD + PROGRAM)));
+  const state = engine.stateOf(fileBytes);
   const copy = state.slice();
   engine.serve(copy, "run 9\n", copy);
-  read.fill(255);
+  fileBytes.fill(255);
   return [engine.ask(state, "state\n"), engine.ask(copy, "state\n"), state.constructor.name];
 });
 
-testOnBothHosts("bytes that are no session file are rejected by a number", (engine) => {
-  const whole = engine.bytesOf(stateAfter(engine, BOARD));
-  const damaged = whole.slice().fill(255, 0, 4096);
-  return [new Uint8Array(10), whole.slice(0, 1000), damaged].map((bytes) => {
+testOnBothHosts("bytes that are not a session file are rejected with a number", (engine) => {
+  const validFile = engine.bytesOf(stateAfter(engine, BOARD));
+  const damaged = validFile.slice().fill(255, 0, 4096);
+  return [new Uint8Array(10), validFile.slice(0, 1000), damaged].map((bytes) => {
     try {
       return engine.ask(engine.stateOf(bytes), "seq\n");
-    } catch (fault) {
-      assert.ok(fault instanceof BenchRefusal, fault);
-      return fault.number;
+    } catch (error) {
+      assert.ok(error instanceof BenchRefusal, error);
+      return error.number;
     }
   });
 });
 
 testOnBothHosts("tests, coverage and profile of examples", async (engine) => {
-  const texts = (name) => ({ boardText: example(`${name}/board.toml`), programText: example(`${name}/${name}.asm`) });
-  const printed = [];
+  const readTexts = (name) => ({ boardText: example(`${name}/board.toml`), programText: example(`${name}/${name}.asm`) });
+  const reports = [];
   for (const name of ["three_lamps", "lock"]) {
     const sources = [{ name: `${name}.test`, text: example(`${name}/${name}.test`).replace("cycles 538", "cycles 540") }];
-    const { outcomes, coverage, profile } = await runTests(engine, { ...texts(name), sources }, async () => true);
-    const { text, before } = { text: texts(name).programText, before: 0 };
-    printed.push(testsTap(outcomes), coverageText(coverage, { text, before }), lcovText(coverage, { name, before }), profileText(profile));
+    const { outcomes, coverage, profile } = await runTests(engine, { ...readTexts(name), sources }, async () => true);
+    const { text, before } = { text: readTexts(name).programText, before: 0 };
+    reports.push(testsTap(outcomes), coverageText(coverage, { text, before }), lcovText(coverage, { name, before }), profileText(profile));
   }
-  assert.ok(printed[0].includes("not ok 2"));
-  return printed;
+  assert.ok(reports[0].includes("not ok 2"));
+  return reports;
 });
 
 if (!native) {
   test("the native program", { skip: `${program} does not start here; MCS4 names another one` }, () => {});
 } else {
-  test("a program that is missing, that is none, or that ends is an error with a message", () => {
+  test("a missing program, a wrong program and a program that ends are errors with a message", () => {
     const folder = mkdtempSync(join(tmpdir(), "engine_hosts-"));
-    const written = (lines) => {
+    const writeProgram = (lines) => {
       const name = join(folder, "program");
       writeFileSync(name, `#!/bin/sh\n${lines}\n`);
       chmodSync(name, 0o755);
       return name;
     };
-    const failure = (path, wanted, lines = "seq\n") => {
+    const assertFailure = (path, expectedMessage, lines = "seq\n") => {
       const engine = new NativeEngine(path);
       try {
         assert.throws(() => engine.ask(engine.begin(), lines), ProgramError);
-        assert.throws(() => engine.ask(engine.begin(), lines), ({ message }) => message === wanted);
+        assert.throws(() => engine.ask(engine.begin(), lines), ({ message }) => message === expectedMessage);
       } finally {
         engine.end();
       }
     };
-    const noAnswer = (name) => `${join(folder, name)} does not answer; MCS4 names the program where it is not the mcs4 at the top`;
-    failure(join(folder, "none"), noAnswer("none"));
-    failure(written("echo no such thing"), noAnswer("program"));
-    failure(written("echo bad luck >&2"), `bad luck\nbad luck\n${noAnswer("program")}`);
-    failure(written("echo session 0"), "the session has ended; the program said: nothing");
-    const late = written("echo session 0; read -r line; echo seq; echo bad luck >&2");
-    failure(late, "the session has ended; the program said: bad luck; bad luck");
+    const noAnswerMessage = (name) => `${join(folder, name)} does not answer; MCS4 names the program where it is not the mcs4 at the top`;
+    assertFailure(join(folder, "none"), noAnswerMessage("none"));
+    assertFailure(writeProgram("echo no such thing"), noAnswerMessage("program"));
+    assertFailure(writeProgram("echo bad luck >&2"), `bad luck\nbad luck\n${noAnswerMessage("program")}`);
+    assertFailure(writeProgram("echo session 0"), "the session has ended; the program said: nothing");
+    const lateProgram = writeProgram("echo session 0; read -r line; echo seq; echo bad luck >&2");
+    assertFailure(lateProgram, "the session has ended; the program said: bad luck; bad luck");
     // A child process of this program holds the pipe open for a moment. Lines in that pipe must not reach the next program.
-    const holding = written("echo session 0; read -r line; echo \"$line\" >&2; exec 3<&0; sleep 1 > /dev/null 2>&1 &");
-    failure(holding, "the session has ended; the program said: test 0; test 0", "test 0\n");
+    const holdingProgram = writeProgram("echo session 0; read -r line; echo \"$line\" >&2; exec 3<&0; sleep 1 > /dev/null 2>&1 &");
+    assertFailure(holdingProgram, "the session has ended; the program said: test 0; test 0", "test 0\n");
     rmSync(folder, { recursive: true });
   });
 
-  test("the folder is the user's alone, and is removed at every end of node", async () => {
+  test("the temporary folder is private, and is removed whenever Node ends", async () => {
     const folder = mkdtempSync(join(tmpdir(), "engine_hosts-"));
     const script = (end) => `${IMPORT}
       import { readdirSync, statSync } from "node:fs";
@@ -257,12 +257,12 @@ if (!native) {
     rmSync(folder, { recursive: true });
   });
 
-  test("a place where no folder can be made is an error", () => {
+  test("an error is reported if the temporary folder cannot be created", () => {
     const { stderr } = runNode(`${IMPORT} new NativeEngine("x");`, "/none/at/all");
     assert.match(stderr, /cannot make a folder in \/none\/at\/all; TMPDIR names another place/);
   });
 
-  test("the end leaves nothing", () => {
+  test("ending the engine removes its folder", () => {
     const { folder } = native.starter;
     assert.ok(existsSync(folder));
     native.end();

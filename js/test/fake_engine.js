@@ -1,12 +1,12 @@
 // A stand-in for the bench's module. Its session is one byte, C: the number of commands so far. The answer to `run N` is `ok C ran N end`,
-// or an early stop if C reaches `stopAt`. `trap` makes the module fail. The answer to any other command is `ok C`. After `memory` calls,
-// the stand-in answers with error 90 (no memory).
+// or an early stop if C reaches `stopAt`. `trap` makes the module fail. The answer to any other command is `ok C`. After `callLimit`
+// calls, the stand-in answers with refusal 90 (no memory).
 
 import { BenchRefusal, BenchTrap } from "../core/bench/bench_errors.js";
 import { readInputs } from "../core/bench/inputs.js";
 import { hex } from "../core/bench/numbers.js";
 
-const QUESTIONS = {
+const ANSWERS_BY_QUERY = {
   board: () => ["board", "[[ram]]", "bank = 0", "chips = 1"],
   state: (count) => [`state seq ${count} acc 0 cy 0 pc ${hex(count, 3)} owed 0 dcl 0 test 0 r 0000000000000000 ret 000,000,000 src 00 `
     + `banks 0.00 roms - rams 0.0.0 chains - keys - lamps ${count % 2 ? "*" : "."} breaks - watches -`],
@@ -20,7 +20,7 @@ export class FakeEngine {
     this.size = 1;
     this.calls = 0;
     this.stopAt = Infinity;
-    this.memory = Infinity;
+    this.callLimit = Infinity;
   }
 
   begin(into = new Uint8Array(this.size)) {
@@ -34,23 +34,23 @@ export class FakeEngine {
 
   serve(file, lines, into) {
     this.calls += 1;
-    if (this.calls > this.memory) throw new BenchRefusal(90);
-    const served = this.answer(file[0], lines);
-    into[0] = served.count;
-    return served;
+    if (this.calls > this.callLimit) throw new BenchRefusal(90);
+    const result = this.answer(file[0], lines);
+    into[0] = result.count;
+    return result;
   }
 
-  answer(from, lines) {
-    let count = from;
+  answer(initialCount, lines) {
+    let count = initialCount;
     const answers = [];
     for (const { kind, words } of readInputs(lines)) {
       if (kind === "trap") throw new BenchTrap("unreachable");
-      if (kind in QUESTIONS) {
-        answers.push(...QUESTIONS[kind](count));
+      if (kind in ANSWERS_BY_QUERY) {
+        answers.push(...ANSWERS_BY_QUERY[kind](count));
       } else {
         count += 1;
-        const early = count === this.stopAt;
-        answers.push(kind === "run" ? `ok ${count} ran ${early ? 1 : words[1]} ${early ? "break" : "end"}` : `ok ${count}`);
+        const isEarly = count === this.stopAt;
+        answers.push(kind === "run" ? `ok ${count} ran ${isEarly ? 1 : words[1]} ${isEarly ? "break" : "end"}` : `ok ${count}`);
       }
     }
     return { status: 0, answers, count };

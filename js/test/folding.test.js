@@ -35,7 +35,7 @@ put:    SRC P0
 last:   NOP
 `;
 
-test("a subroutine folds with its loops, a loop alone, and lines of comment", () => {
+test("subroutines with their loops, loops alone, and comment lines can be folded", () => {
   assert.deepEqual(findFolds(PROGRAM, PARTS.program), [[1, 2], [7, 14], [8, 14], [17, 18], [20, 22]]);
 });
 
@@ -43,27 +43,27 @@ test("a loop ends where another label or another part begins", () => {
   assert.deepEqual(findFolds("a: NOP\nb: NOP\n NOP\nc: NOP\n NOP\n\nd: NOP\n NOP\n", PARTS.program), [[1, 5], [2, 3], [4, 5], [7, 8]]);
 });
 
-test("tables of a board, and tests", () => {
+test("tables of a board and tests can be folded", () => {
   const board = "# face\n# more\n[[rom]]\nchip = 0\n\n[[ram]]\nbank = 0\nchips = 1\n\n# about keys\n[keys]\nfirst = 0\n";
   assert.deepEqual(findFolds(board, PARTS.board), [[1, 2], [3, 4], [6, 8], [11, 12]]);
   assert.deepEqual(findFolds("# a\ntest one\n  run 1\ntest two\n  run 2\n  expect cycles 2\n", PARTS.tests), [[2, 3], [4, 6]]);
   assert.deepEqual(findFolds("", PARTS.program), []);
 });
 
-test("the part that a line is in, the innermost one", () => {
+test("a line belongs to the innermost part that contains it", () => {
   const lines = PROGRAM.split("\n");
-  const headAt = (line) => findFoldStart((at) => lines[at], line - 1, PARTS.program) + 1;
-  assert.deepEqual([2, 3, 7, 9, 14, 16, 21].map(headAt), [1, 0, 7, 8, 8, 0, 20]);
+  const foldStartOf = (line) => findFoldStart((index) => lines[index], line - 1, PARTS.program) + 1;
+  assert.deepEqual([2, 3, 7, 9, 14, 16, 21].map(foldStartOf), [1, 0, 7, 8, 8, 0, 20]);
 });
 
-test("parts are apart, or one is in the other", () => {
+test("two parts are separate, or one contains the other", () => {
   const text = readFileSync(new URL("../../examples/calculator/calculator.asm", import.meta.url), "utf8");
   const folds = findFolds(text, PARTS.program);
   assert.ok(folds.length > 50);
-  for (const [line, last] of folds) {
-    for (const [other, end] of folds) {
-      const isIn = (other >= line && end <= last) || (other <= line && end >= last);
-      assert.ok(isIn || end < line || other > last);
+  for (const [first, last] of folds) {
+    for (const [otherFirst, otherLast] of folds) {
+      const isNested = (otherFirst >= first && otherLast <= last) || (otherFirst <= first && otherLast >= last);
+      assert.ok(isNested || otherLast < first || otherFirst > last);
     }
   }
 });

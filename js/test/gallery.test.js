@@ -12,25 +12,25 @@ line = "ram0.0.0"
 line = "ram0.0.1"
 `;
 
-const kinds = ({ shapes }) => shapes.map((shape) => shape.kind);
+const kindsOf = ({ shapes }) => shapes.map((shape) => shape.kind);
 
-test("lamps in their colours and keys with their legends; of each colour one is lit", () => {
+test("lamps have their colours and keys their legends; one lamp of each colour is lit", () => {
   const picture = galleryPicture(BOARD);
-  assert.deepEqual(kinds(picture), ["lamp", "lamp", "key", "key"]);
+  assert.deepEqual(kindsOf(picture), ["lamp", "lamp", "key", "key"]);
   assert.deepEqual(picture.shapes.slice(0, 2).map(({ colour, isLit }) => [colour, isLit]), [["red", true], ["green", true]]);
   assert.deepEqual(picture.shapes.slice(2).map(({ legend }) => legend), ["left", "right"]);
 });
 
-test("the calculator: a display, two lamps beside it that are named, twenty keys, all within the picture", () => {
+test("the calculator has a display and twenty keys, all within the picture", () => {
   const text = readFileSync(new URL("../../examples/calculator/board.toml", import.meta.url), "utf8");
   const picture = galleryPicture(text);
-  assert.equal(kinds(picture).filter((kind) => kind === "display").length, 1);
-  assert.equal(kinds(picture).filter((kind) => kind === "key").length, 20);
+  assert.equal(kindsOf(picture).filter((kind) => kind === "display").length, 1);
+  assert.equal(kindsOf(picture).filter((kind) => kind === "key").length, 20);
   assert.equal(picture.shapes.find(({ kind }) => kind === "display").digits.length, 8);
   for (const { x, y } of picture.shapes) assert.ok(x >= 0 && x <= picture.width && y >= 0 && y <= picture.height);
 });
 
-test("a board without anything at its front, and no board", () => {
+test("an empty board text, and a board without lamps and keys, have empty pictures", () => {
   assert.deepEqual(galleryPicture("").shapes, []);
   assert.deepEqual(galleryPicture('[[rom]]\nchip = 0\nport = "0000"\n').shapes, []);
 });

@@ -53,11 +53,11 @@ foul:   LDM 4
 end:    JUN end
 `;
 /** A faulty program that reads PRESS only once in sixteen iterations, so that it misses a short press. */
-const LATE = PROGRAM.replace("wait:   JCN pressed, foul\n        ISZ R4, wait", "wait:   ISZ R4, wait\n        JCN pressed, foul");
+const LATE_PROGRAM = PROGRAM.replace("wait:   JCN pressed, foul\n        ISZ R4, wait", "wait:   ISZ R4, wait\n        JCN pressed, foul");
 const INPUTS = "press START PRESS\nwait 20 to 200\nnote lamps\nheld at most 30\n";
 
 const campaignOf = (text, program = PROGRAM) => readCampaign(INPUTS + text, createSubject(engine, BOARD, program));
-const faultOf = (text) => campaignOf(text).faults.map(({ words }) => words).join();
+const errorsOf = (text) => campaignOf(text).faults.map(({ words }) => words).join();
 
 /** Searches for some seconds. Resolves to the counterexample of the first property, or to null if the search finds none. */
 async function findCounterexample(text, program, seconds) {
@@ -65,8 +65,8 @@ async function findCounterexample(text, program, seconds) {
   const { campaign, faults } = readCampaign(INPUTS + text, subject);
   assert.deepEqual(faults, []);
   const run = new CampaignRun(subject, campaign, 1, () => true, 5e6);
-  const end = performance.now() + 1000 * seconds;
-  while (performance.now() < end && run.counterexamples[0] === null) await run.runFor(20);
+  const deadline = performance.now() + 1000 * seconds;
+  while (performance.now() < deadline && run.counterexamples[0] === null) await run.runFor(20);
   return run.counterexamples[0];
 }
 
@@ -77,20 +77,20 @@ async function testFails(text, program) {
   return outcomes[0].failure !== null;
 }
 
-test("if PRESS comes while it waits, the foul lamp comes on: the program that is late is found, the other one is not", async () => {
+test("a press of PRESS during the wait must light the foul lamp: a counterexample is found for the late program only", async () => {
   // If PRESS is pressed in the last cycles of the wait, the program may read it only after `go`.
   const text = "while lamp waiting on, after press PRESS within 20 lamp foul on or lamp go on\n";
-  const find = await findCounterexample(text, LATE, 30);
-  assert.ok(find);
-  assert.match(find.test, /^test while lamp waiting on, after press PRESS within 20 lamp foul on or lamp go on\n/);
-  assert.match(find.test, /\n {2}until lamp foul on or lamp go on within 20\n$/);
-  assert.deepEqual([await testFails(find.test, LATE), await testFails(find.test, PROGRAM)], [true, false]);
+  const counterexample = await findCounterexample(text, LATE_PROGRAM, 30);
+  assert.ok(counterexample);
+  assert.match(counterexample.test, /^test while lamp waiting on, after press PRESS within 20 lamp foul on or lamp go on\n/);
+  assert.match(counterexample.test, /\n {2}until lamp foul on or lamp go on within 20\n$/);
+  assert.deepEqual([await testFails(counterexample.test, LATE_PROGRAM), await testFails(counterexample.test, PROGRAM)], [true, false]);
   assert.equal(await findCounterexample(text, PROGRAM, 1), null);
   // Without the guard, the property is violated, because PRESS after the wait is not a foul.
   assert.ok(await findCounterexample("after press PRESS within 20 lamp foul on\n", PROGRAM, 30));
 });
 
-test("each guard is found broken, with a test that fails", async () => {
+test("a counterexample is found for each guard, with a test that fails", async () => {
   for (const text of [
     "while lamp waiting on, never pc = foul", "once lamp waiting on, always lamp foul off", "after press PRESS, never lamp foul on",
     "while lamp waiting on, always r4 < 15", "after press START within 300, never lamp foul on",
@@ -98,72 +98,75 @@ test("each guard is found broken, with a test that fails", async () => {
     "while lamp waiting on, at @foul lamp go on", "once lamp foul on, reach lamp foul on", "while lamp go on, reach @stop",
     "once lamp waiting on, while lamp go on, after press START within 300, never lamps go",
   ]) {
-    const find = await findCounterexample(`${text}\n`, PROGRAM, 30);
-    assert.ok(find, text);
-    assert.equal(await testFails(find.test, PROGRAM), !text.includes("reach"), `${text}\n${find.test}`);
+    const counterexample = await findCounterexample(`${text}\n`, PROGRAM, 30);
+    assert.ok(counterexample, text);
+    assert.equal(await testFails(counterexample.test, PROGRAM), !text.includes("reach"), `${text}\n${counterexample.test}`);
   }
 });
 
-test("what is no guard is reported", () => {
-  assert.match(faultOf("while lamp waiting on never lamp foul on"), /^a guard is written as `while CONDITION,`/);
-  assert.match(faultOf("while lamp waiting on,"), /^a guard is written as/);
-  assert.match(faultOf("while lamp purple on, never lamp foul on"), /^the board has no lamp purple/);
-  assert.match(faultOf("while r4 = 1, never lamp purple on"), /^the board has no lamp purple/);
-  assert.match(faultOf("after press X, never lamp foul on"), /^the board has no key X/);
-  assert.match(faultOf("after press PRESS within 5 years, never lamp foul on"), /^a guard is written as/);
-  assert.match(faultOf("while r4 = 1, @go at most once for each press"), /^a guard is written as/);
-  assert.match(faultOf("while r4 = 1, press START"), /^a guard is written as/);
-  assert.match(faultOf(`${"while r4 = 1, ".repeat(5)}never r5 = 2`), /^at most 4 guards/);
-  assert.match(faultOf("once test = 0, never r5 = 2"), /^no run changes test/);
-  assert.equal(faultOf("after press PRESS within 20 lamp foul on"), "");
+test("invalid guards are reported", () => {
+  assert.match(errorsOf("while lamp waiting on never lamp foul on"), /^a guard is written as `while CONDITION,`/);
+  assert.match(errorsOf("while lamp waiting on,"), /^a guard is written as/);
+  assert.match(errorsOf("while lamp purple on, never lamp foul on"), /^the board has no lamp purple/);
+  assert.match(errorsOf("while r4 = 1, never lamp purple on"), /^the board has no lamp purple/);
+  assert.match(errorsOf("after press X, never lamp foul on"), /^the board has no key X/);
+  assert.match(errorsOf("after press PRESS within 5 years, never lamp foul on"), /^a guard is written as/);
+  assert.match(errorsOf("while r4 = 1, @go at most once for each press"), /^a guard is written as/);
+  assert.match(errorsOf("while r4 = 1, press START"), /^a guard is written as/);
+  assert.match(errorsOf(`${"while r4 = 1, ".repeat(5)}never r5 = 2`), /^at most 4 guards/);
+  assert.match(errorsOf("once test = 0, never r5 = 2"), /^no run changes test/);
+  assert.equal(errorsOf("after press PRESS within 20 lamp foul on"), "");
 });
 
 // --- the second implementation: random runs in which the conditions C and G change, and the keys K and J are pressed ---
 
-const LENGTH = 90;
-const below = (random, most) => Math.floor(random() * most);
+const RUN_CYCLES = 90;
+const randomBelow = (random, limit) => Math.floor(random() * limit);
 
 function randomRun(random) {
-  const often = [0, 0.02, 0.12][below(random, 3)];
-  const signal = () => {
-    let is = random() < 0.5;
-    return Array.from({ length: LENGTH + 1 }, () => {
-      if (random() < often) is = !is;
-      return is;
+  const changeRate = [0, 0.02, 0.12][randomBelow(random, 3)];
+  const createSignal = () => {
+    let level = random() < 0.5;
+    return Array.from({ length: RUN_CYCLES + 1 }, () => {
+      if (random() < changeRate) level = !level;
+      return level;
     });
   };
   const acts = [];
-  for (let time = below(random, 12); time < LENGTH; time += below(random, 20)) {
-    acts.push({ time, act: ["K", "K", "J", "reset", "none"][below(random, 5)] });
+  for (let time = randomBelow(random, 12); time < RUN_CYCLES; time += randomBelow(random, 20)) {
+    acts.push({ time, act: ["K", "K", "J", "reset", "none"][randomBelow(random, 5)] });
   }
-  return { c: signal(), g: signal(), acts: acts.filter(({ act }) => act !== "reset" || random() < 0.3) };
+  return { c: createSignal(), g: createSignal(), acts: acts.filter(({ act }) => act !== "reset" || random() < 0.3) };
 }
 
 /**
  * Reports the events of a random run to a property in order. Returns the time at which the property is violated, or -1 if it is not
  * violated.
  */
-function violationTime(property, { c, g, acts }) {
+function findViolationTime(property, { c, g, acts }) {
   const memory = property.from(0, 0);
-  const opensAt = (time) => property.guards.map(({ condition }) => condition !== null && g[time]);
-  let broken = -1;
+  const areGuardsOpenAt = (time) => property.guards.map(({ condition }) => condition !== null && g[time]);
+  let violation = -1;
   const notify = (event, time, input = "") => {
     const isState = event === "values";
-    const areOpen = isState || event === "down" ? opensAt(time) : [];
-    const when = property.update(memory, event, { time, changed: time, address: -1, holds: isState && c[time], areOpen, input, isDown: 0 });
-    if (when >= 0 && (broken < 0 || when < broken)) broken = when;
+    const areOpen = isState || event === "down" ? areGuardsOpenAt(time) : [];
+    const violationNow = property.update(memory, event,
+      { time, changed: time, address: -1, holds: isState && c[time], areOpen, input, isDown: 0 });
+    if (violationNow >= 0 && (violation < 0 || violationNow < violation)) violation = violationNow;
   };
-  let began = 0;
-  for (const { time, act } of [...acts, { time: LENGTH, act: "none" }]) {
-    notify("values", began);
-    for (let at = began + 1; at <= time && broken < 0; at++) if (c[at] !== c[at - 1] || g[at] !== g[at - 1]) notify("values", at);
-    if (broken < 0) notify("end", time);
-    if (broken >= 0) return broken;
+  let start = 0;
+  for (const { time, act } of [...acts, { time: RUN_CYCLES, act: "none" }]) {
+    notify("values", start);
+    for (let cycle = start + 1; cycle <= time && violation < 0; cycle++) {
+      if (c[cycle] !== c[cycle - 1] || g[cycle] !== g[cycle - 1]) notify("values", cycle);
+    }
+    if (violation < 0) notify("end", time);
+    if (violation >= 0) return violation;
     if (act === "K" || act === "J") notify("down", time, act === "K" ? "START" : "PRESS");
     if (act === "reset") notify("reset", time);
-    began = time;
+    start = time;
   }
-  return broken;
+  return violation;
 }
 
 /**
@@ -172,23 +175,23 @@ function violationTime(property, { c, g, acts }) {
  */
 function instantsOf({ c, g, acts }, guards) {
   const instants = [];
-  let once = false;
-  let press = -1;
-  const put = (time, isDown) => {
-    once = once || g[time];
-    const isOpen = guards.every(({ kind, limit }) => (kind === "while" ? g[time] : kind === "once" ? once
-      : press >= 0 && (limit === 0 || time - press <= limit)));
+  let wasConditionMet = false;
+  let lastPress = -1;
+  const addInstant = (time, isDown) => {
+    wasConditionMet = wasConditionMet || g[time];
+    const isOpen = guards.every(({ kind, limit }) => (kind === "while" ? g[time] : kind === "once" ? wasConditionMet
+      : lastPress >= 0 && (limit === 0 || time - lastPress <= limit)));
     instants.push({ time, c: c[time], isOpen, isDown, isReset: false });
   };
-  for (let time = 0; time <= LENGTH; time++) {
-    put(time, false);
-    for (const { act } of acts.filter((each) => each.time === time)) {
-      if (act === "K") press = time;
+  for (let time = 0; time <= RUN_CYCLES; time++) {
+    addInstant(time, false);
+    for (const { act } of acts.filter((event) => event.time === time)) {
+      if (act === "K") lastPress = time;
       if (act === "reset") {
-        [once, press] = [false, -1];
+        [wasConditionMet, lastPress] = [false, -1];
         instants.push({ time, c: false, isOpen: false, isDown: false, isReset: true });
       }
-      put(time, act === "J");
+      addInstant(time, act === "J");
     }
   }
   return instants;
@@ -199,26 +202,26 @@ const VIOLATION_TIMES = {
   never: (instants) => (instants.find(({ c, isOpen }) => isOpen && c) || { time: -1 }).time,
   always: (instants) => (instants.find(({ c, isOpen, isReset }) => isOpen && !isReset && !c) || { time: -1 }).time,
   "never for": (instants, limit) => {
-    let since = -1;
+    let start = -1;
     for (const { time, c, isOpen } of instants) {
-      if (!(c && isOpen)) since = -1;
-      else if (since < 0) since = time;
-      if (since >= 0 && time - since >= limit) return since + limit;
+      if (!(c && isOpen)) start = -1;
+      else if (start < 0) start = time;
+      if (start >= 0 && time - start >= limit) return start + limit;
     }
     return -1;
   },
   "after press": (instants, limit) => {
-    let since = -1;
+    let start = -1;
     for (const { time, c, isOpen, isDown, isReset } of instants) {
-      if (since >= 0 && time > since + limit) return since + limit;
-      if (isReset || c) since = -1;
-      if (isDown && isOpen && !c && since < 0) since = time;
+      if (start >= 0 && time > start + limit) return start + limit;
+      if (isReset || c) start = -1;
+      if (isDown && isOpen && !c && start < 0) start = time;
     }
     return -1;
   },
 };
 
-test("guards mean what the manual says, cycle by cycle", () => {
+test("guards have the meaning that the manual defines, in each cycle", () => {
   const random = createRandom(11);
   const { campaign } = campaignOf(`never lamp go on
 always lamp go on
@@ -240,15 +243,15 @@ while r4 = 1, after press START within 13, after press PRESS within 9 lamp go on
 `);
   const properties = campaign.properties.filter(({ line }) => line > 0);
   assert.equal(properties.length, 17);
-  const seen = new Map();
+  const resultsByText = new Map();
   for (let round = 0; round < 1500; round++) {
-    const world = randomRun(random);
+    const run = randomRun(random);
     for (const property of properties) {
-      const brokenAt = violationTime(property, world);
-      const read = VIOLATION_TIMES[property.form](instantsOf(world, property.guards), property.limit);
-      assert.equal(brokenAt, read, `${property.text}: ${JSON.stringify(world)}`);
-      seen.set(property.text, (seen.get(property.text) || new Set()).add(read >= 0));
+      const actual = findViolationTime(property, run);
+      const expected = VIOLATION_TIMES[property.form](instantsOf(run, property.guards), property.limit);
+      assert.equal(actual, expected, `${property.text}: ${JSON.stringify(run)}`);
+      resultsByText.set(property.text, (resultsByText.get(property.text) || new Set()).add(expected >= 0));
     }
   }
-  for (const [text, both] of seen) assert.equal(both.size, 2, text);
+  for (const [text, results] of resultsByText) assert.equal(results.size, 2, text);
 });

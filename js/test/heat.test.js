@@ -9,7 +9,7 @@ import {
 import { namedSrcBytes, nibbleNames } from "../core/machine/ram_names.js";
 import { SourceMap } from "../core/machine/source_map.js";
 import { parseWatch } from "../core/debug/watch_expressions.js";
-import { begin } from "./page_session.js";
+import { openExample } from "./page_session.js";
 
 const BOARD = `[[rom]]
 chip = 0
@@ -40,42 +40,42 @@ turn:   SRC P0
 // 009, changes ram.0.0x12. The second WRM writes the same value. WR2 writes to a chip that the board lacks.
 const SETUP_CYCLES = 7;
 const LOOP_CYCLES = 8;
-const ALL = "seq\nstate\nram 0\nram 2\n";
+const ALL_QUERIES = "seq\nstate\nram 0\nram 2\n";
 
 /** Returns a session in which the program has run for `cycles` cycles, 30 at a time. */
-async function sessionAfter(cycles) {
-  const calls = await begin("three lamps");
+async function openSessionAfter(cycles) {
+  const calls = await openExample("three lamps");
   await calls.serve(`wire\n${BOARD}.\nasm\n${PROGRAM}.\nreset\n`);
   for (let done = 0; done < cycles; done += 30) await calls.serve(`run ${Math.min(30, cycles - done)}\n`);
   return calls;
 }
 
-const FRAME = 1543;
+const FRAME_CYCLES = 1543;
 
-test("while time runs the same is reported of the cycles that pass, frame by frame", async () => {
-  const calls = await begin("three lamps");
+test("while the machine is running, frames report the same changes as a search of the past", async () => {
+  const calls = await openExample("three lamps");
   await calls.serve(`wire\n${BOARD.split("[[ram]]\nbank = 2")[0]}.\nasm\n${PROGRAM}.\nreset\n`);
   assert.equal(calls.advance(SETUP_CYCLES).warmed, null);
   calls.watchRam(true);
-  const passing = new RecentHeat();
+  const recentHeat = new RecentHeat();
   for (let frame = 0; frame < 20; frame++) {
     if (frame === 5) calls.press(pinKey(1));
-    const { warmed, cycles } = calls.advance(FRAME);
+    const { warmed, cycles } = calls.advance(FRAME_CYCLES);
     assert.deepEqual([warmed.cycles, warmed.chips], [cycles, 1]);
-    passing.add(warmed, cycles, 20 * FRAME);
+    recentHeat.add(warmed, cycles, 20 * FRAME_CYCLES);
   }
-  assert.deepEqual(passing.heat, await calls.heat(20 * FRAME));
-  for (let frame = 0; frame < 20; frame++) passing.add({ cycles: FRAME, cells: [], chips: 1 }, FRAME, 20 * FRAME);
-  assert.deepEqual(passing.heat, { cycles: 20 * FRAME, cells: [] }, "what is long ago is forgotten");
+  assert.deepEqual(recentHeat.heat, await calls.heat(20 * FRAME_CYCLES));
+  for (let frame = 0; frame < 20; frame++) recentHeat.add({ cycles: FRAME_CYCLES, cells: [], chips: 1 }, FRAME_CYCLES, 20 * FRAME_CYCLES);
+  assert.deepEqual(recentHeat.heat, { cycles: 20 * FRAME_CYCLES, cells: [] }, "old changes are forgotten");
   calls.watchRam(false);
-  assert.equal(calls.advance(FRAME).warmed, null);
+  assert.equal(calls.advance(FRAME_CYCLES).warmed, null);
 });
 
-test("of several chips one is looked at in each frame, and of full speed a sample", async () => {
-  const calls = await sessionAfter(SETUP_CYCLES);
+test("each frame reports one of several chips, and full speed reports samples", async () => {
+  const calls = await openSessionAfter(SETUP_CYCLES);
   calls.watchRam(true);
-  const reported = Array.from({ length: 6 }, () => calls.advance(80).warmed);
-  assert.deepEqual(reported.map(({ cells }) => cells.map(({ place, count }) => `${place} ${count}`)), [
+  const reports = Array.from({ length: 6 }, () => calls.advance(80).warmed);
+  assert.deepEqual(reports.map(({ cells }) => cells.map(({ place, count }) => `${place} ${count}`)), [
     ["ram.0.0x12 10"], [], [], ["ram.0.0x12 10"], [], []]);
   assert.equal(calls.advance(50000).warmed, null);
   const { warmed } = calls.bench.session.forecastMeters();
@@ -84,29 +84,29 @@ test("of several chips one is looked at in each frame, and of full speed a sampl
   assert.equal(describeHeatStatus({ chips: 1 }, true), "Counted while running.");
 });
 
-test("what changed is counted over the past, to the cycle, and nothing is undone", async () => {
-  const calls = await sessionAfter(SETUP_CYCLES + 20 * LOOP_CYCLES);
-  const before = calls.ask(ALL);
+test("past changes are counted exactly, and the session stays unchanged", async () => {
+  const calls = await openSessionAfter(SETUP_CYCLES + 20 * LOOP_CYCLES);
+  const answersBefore = calls.ask(ALL_QUERIES);
   const { cycles, cells } = await calls.heat(SETUP_CYCLES + 20 * LOOP_CYCLES);
   assert.equal(cycles, SETUP_CYCLES + 20 * LOOP_CYCLES);
   assert.deepEqual(cells, [
     { place: "ram.0.0x12", count: 20, ago: 6, address: 0x009, line: "" },
   ]);
-  assert.deepEqual(calls.ask(ALL), before);
+  assert.deepEqual(calls.ask(ALL_QUERIES), answersBefore);
 });
 
-test("of a shorter stretch that alone, and of a longer one as far as is remembered", async () => {
-  const calls = await sessionAfter(SETUP_CYCLES + 20 * LOOP_CYCLES);
-  for (const [wanted, reported, count] of [
+test("a short period is counted alone, and a long period as far back as the past is remembered", async () => {
+  const calls = await openSessionAfter(SETUP_CYCLES + 20 * LOOP_CYCLES);
+  for (const [requested, reported, count] of [
     [LOOP_CYCLES, LOOP_CYCLES, 1], [5, 5, 0], [3 * LOOP_CYCLES + 3, 3 * LOOP_CYCLES + 3, 3], [1e7, SETUP_CYCLES + 20 * LOOP_CYCLES, 20],
   ]) {
-    const { cycles, cells } = await calls.heat(wanted);
+    const { cycles, cells } = await calls.heat(requested);
     assert.deepEqual([cycles, cells.reduce((sum, cell) => sum + cell.count, 0)], [reported, count]);
   }
 });
 
-test("a line that pokes is reported as such, also in a bank that no SRC has selected", async () => {
-  const calls = await sessionAfter(SETUP_CYCLES);
+test("`poke` lines are reported, also in a bank that no SRC has selected", async () => {
+  const calls = await openSessionAfter(SETUP_CYCLES);
   await calls.serve("poke st.2.5.3 9\npoke ram.2.0x7F 1\npoke ram.2.0x7F 1\nrun 2\n");
   const { cells } = await calls.heat(100);
   assert.deepEqual(cells.filter(({ line }) => line), [
@@ -115,22 +115,22 @@ test("a line that pokes is reported as such, also in a bank that no SRC has sele
   ]);
 });
 
-test("long runs are looked through in parts, with the same result", async () => {
-  const once = await begin("three lamps");
-  await once.serve(`wire\n${BOARD}.\nasm\n${PROGRAM}.\nreset\nrun 100000\nrun 63\n`);
-  const { cycles, cells } = await once.heat(1e7);
-  const turns = Math.floor((100063 - SETUP_CYCLES) / LOOP_CYCLES);
+test("long runs are searched in parts, with the same result", async () => {
+  const longRun = await openExample("three lamps");
+  await longRun.serve(`wire\n${BOARD}.\nasm\n${PROGRAM}.\nreset\nrun 100000\nrun 63\n`);
+  const { cycles, cells } = await longRun.heat(1e7);
+  const iterations = Math.floor((100063 - SETUP_CYCLES) / LOOP_CYCLES);
   assert.deepEqual([cycles, cells[0].place], [100063, "ram.0.0x12"]);
-  assert.ok(cells[0].count === turns || cells[0].count === turns + 1, `${cells[0].count} of ${turns}`);
+  assert.ok(cells[0].count === iterations || cells[0].count === iterations + 1, `${cells[0].count} of ${iterations}`);
 });
 
-test("it is cancelled like other long work, and a board without RAM has none", async () => {
-  const calls = await sessionAfter(SETUP_CYCLES + 20 * LOOP_CYCLES);
+test("the count can be cancelled, and a board without RAM has no changes", async () => {
+  const calls = await openSessionAfter(SETUP_CYCLES + 20 * LOOP_CYCLES);
   calls.bench.shouldContinue = async () => false;
   await assert.rejects(calls.heat(1000), CancelledError);
-  const bare = await begin("three lamps");
-  await bare.serve("wire\n[[rom]]\nchip = 0\nport = \"0000\"\n.\nrun 20\n");
-  assert.deepEqual(await bare.heat(1000), { cycles: 0, cells: [] });
+  const boardWithoutRam = await openExample("three lamps");
+  await boardWithoutRam.serve("wire\n[[rom]]\nchip = 0\nport = \"0000\"\n.\nrun 20\n");
+  assert.deepEqual(await boardWithoutRam.heat(1000), { cycles: 0, cells: [] });
 });
 
 const HEAT = {
@@ -141,7 +141,7 @@ const HEAT = {
   ],
 };
 
-test("five steps of warmth, and words", () => {
+test("five heat levels, and the descriptions of changes", () => {
   assert.deepEqual([...heatLevels(HEAT, "often").values()], [1, 5, 3]);
   assert.deepEqual([...heatLevels(HEAT, "lately").values()], [1, 5, 3]);
   assert.deepEqual([...heatLevels({ cycles: 5, cells: [{ ...HEAT.cells[0], ago: 0 }] }, "often").values()], [5]);
@@ -158,8 +158,8 @@ test("five steps of warmth, and words", () => {
   assert.match(describeHeat({ cycles: 0, cells: [] }, 9, String, null), /^No earlier cycle/);
 });
 
-test("names: those of values, and those that FIM puts into a pair of an SRC", async () => {
-  const calls = await begin("three lamps");
+test("names of nibbles come from watches and from constants that FIM loads for SRC", async () => {
+  const calls = await openExample("three lamps");
   await calls.serve(`wire\n${BOARD}.\n`);
   const map = new SourceMap(calls.checkProgram(PROGRAM).map, PROGRAM);
   assert.deepEqual(namedSrcBytes(map), [{ name: "digit", byte: 0x12 }, { name: "other", byte: 0x41 }]);

@@ -17,15 +17,15 @@ test("expressions have the values that Intel's assembler gives them", () => {
   }
 });
 
-test("an expression that cannot be read has a fault, and one of a name without a value is not known", () => {
-  const faults = { "1+": "an operand is missing", "(1": "a bracket is missing", "1/0": "a division by 0", Y: "no line defines the name Y",
+test("an invalid expression has an error, and the value of an undefined name is unknown", () => {
+  const errors = { "1+": "an operand is missing", "(1": "a bracket is missing", "1/0": "a division by 0", Y: "no line defines the name Y",
     "9Z": "`9Z` is not a number", "1 2": "`2` is not understood", "'\u00e4'": "'\u00e4' has a character that is not ASCII" };
-  for (const [text, fault] of Object.entries(faults)) assert.equal(evaluate(text, 0, names).fault, fault);
+  for (const [text, error] of Object.entries(errors)) assert.equal(evaluate(text, 0, names).fault, error);
   assert.deepEqual(evaluate("LATER+1", 0, names), { value: 1, isKnown: false, fault: "" });
   assert.match(evaluate("(".repeat(60), 0, names).fault, /more than 50 nested brackets/);
 });
 
-test("names of one beginning stay apart, and each line has one fault at most", () => {
+test("long names with a common beginning stay distinct, and each line has at most one error", () => {
   const { text } = importProgram("ABCDEFGHIJKLMNOPQ EQU 1\nABCDEFGHIJKLMNOPR EQU 2\nABCDEFGHIJKLMN_2 EQU 3\n");
   assert.equal(text, "ABCDEFGHIJKLMNOP = 1\nABCDEFGHIJKLMN_2 = 2\nABCDEFGHIJKLMN_3 = 3\n");
   const { faults } = importProgram(" LDM nowhere+(\n FOO\n");

@@ -1,4 +1,4 @@
-// Tests key presses by touch: taps, long presses, swipes and several fingers, while time is running and while it is paused.
+// Tests key presses by touch: taps, long presses, swipes and several fingers, while the machine is running and while it is paused.
 
 import assert from "node:assert/strict";
 import test from "node:test";
@@ -20,35 +20,35 @@ class FakeButton extends EventTarget {
 /** Returns a KeyPresser with two keys, and the log of its calls. */
 function createPresser(isRunning) {
   const down = new Set();
-  const done = [];
-  const note = (word, key) => {
-    done.push(keyLine(word, key));
+  const lines = [];
+  const record = (word, key) => {
+    lines.push(keyLine(word, key));
     if (word === "press") down.add(formatKey(key));
     else down.delete(formatKey(key));
   };
-  const pressing = new KeyPresser({
+  const presser = new KeyPresser({
     isRunning: () => isRunning,
     isDown: (key) => down.has(formatKey(key)),
-    press: (key) => note("press", key),
-    release: (key) => note("release", key),
-    change: note,
+    press: (key) => record("press", key),
+    release: (key) => record("release", key),
+    change: record,
     keyForEvent: () => undefined,
   });
   const buttons = [matrixKey(0, 0), matrixKey(0, 1)].map((key) => {
     const button = new FakeButton();
-    pressing.listen(button, { key });
+    presser.listen(button, { key });
     return button;
   });
-  return { done, down, buttons };
+  return { done: lines, down, buttons };
 }
 
-const wait = (time) => new Promise((done) => setTimeout(done, time));
+const wait = (time) => new Promise((resolve) => setTimeout(resolve, time));
 const LONG_PRESS_MS = 120;
 
 for (const isRunning of [true, false]) {
-  const when = isRunning ? "while time runs" : "while time stands still";
+  const condition = isRunning ? "while running" : "while paused";
 
-  test(`a swipe that begins on a key presses nothing, ${when}`, async () => {
+  test(`a swipe that begins on a key does not press it, ${condition}`, async () => {
     const { done, buttons } = createPresser(isRunning);
     buttons[0].fire("pointerdown");
     buttons[0].fire("pointercancel");
@@ -57,7 +57,7 @@ for (const isRunning of [true, false]) {
     assert.deepEqual(done, []);
   });
 
-  test(`a slow swipe takes its press back, ${when}`, async () => {
+  test(`a slow swipe releases the key that it has pressed, ${condition}`, async () => {
     const { done, down, buttons } = createPresser(isRunning);
     buttons[0].fire("pointerdown");
     await wait(LONG_PRESS_MS);
@@ -67,7 +67,7 @@ for (const isRunning of [true, false]) {
     assert.deepEqual([done, down.size], [["press 0 0", "release 0 0"], 0]);
   });
 
-  test(`a slow swipe over a key that stays down leaves it down, ${when}`, async () => {
+  test(`a slow swipe over a held key leaves the key down, ${condition}`, async () => {
     const { down, buttons } = createPresser(isRunning);
     down.add("0 0");
     buttons[0].fire("pointerdown");
@@ -78,7 +78,7 @@ for (const isRunning of [true, false]) {
   });
 }
 
-test("a click that comes of a tap presses nothing more", () => {
+test("the click event after a tap does not press the key again", () => {
   const { done, buttons } = createPresser(true);
   buttons[0].fire("pointerdown");
   buttons[0].fire("pointerup");
@@ -86,7 +86,7 @@ test("a click that comes of a tap presses nothing more", () => {
   assert.deepEqual(done, ["press 0 0", "release 0 0"]);
 });
 
-test("a tap presses and lets go", () => {
+test("a tap presses and releases a key", () => {
   const { done, buttons } = createPresser(true);
   buttons[0].fire("pointerdown");
   buttons[0].fire("pointerup");
@@ -115,7 +115,7 @@ test("a mouse presses at once, and with Shift the key stays down", () => {
   assert.deepEqual([...down], ["0 1"]);
 });
 
-test("while time stands still a tap turns a key over", () => {
+test("while paused, a tap toggles a key", () => {
   const { done, buttons } = createPresser(false);
   for (let tap = 0; tap < 2; tap++) {
     buttons[0].fire("pointerdown");

@@ -7,7 +7,7 @@ import { sentText } from "../core/text/sendable_text.js";
 import { Engine } from "../core/engine/engine.js";
 import { examplesOfPage, pageModule } from "./page_session.js";
 
-const loading = Engine.load(pageModule);
+const enginePromise = Engine.load(pageModule);
 
 /**
  * Returns the text of a board with a key matrix. `clock` and `data` are the lines of its shift-register chain, and `chips` the number of
@@ -36,79 +36,79 @@ first = ${first}
 rows = ${rows}
 columns = [${columns.map((line) => `"${line}"`).join(", ")}]
 `;
-const FOUR = ["rom3.0", "rom3.1", "rom3.2", "rom3.3"];
+const FOUR_COLUMNS = ["rom3.0", "rom3.1", "rom3.2", "rom3.3"];
 const BOARDS = {
-  "four columns of a port": boardOf({ columns: FOUR }),
+  "four columns of a port": boardOf({ columns: FOUR_COLUMNS }),
   "columns in another order, of several ports": boardOf({ columns: ["rom3.2", "rom0.3", "rom5.1", "rom3.0", "rom5.2", "rom0.2"] }),
-  "ten rows, eight columns": boardOf({ rows: 10, columns: [...FOUR, ...FOUR.slice(0, 2), "rom5.1", "rom5.2"].slice(0, 8) }),
+  "ten rows, eight columns": boardOf({ rows: 10, columns: [...FOUR_COLUMNS, ...FOUR_COLUMNS.slice(0, 2), "rom5.1", "rom5.2"].slice(0, 8) }),
   "one key": boardOf({ rows: 1, columns: ["rom0.2"] }),
-  "rows that begin later": boardOf({ first: 6, columns: FOUR }),
-  "rows that begin at bit 16": boardOf({ first: 16, chips: 2, rows: 3, columns: FOUR }),
-  "rows that begin at bit 37": boardOf({ first: 37, chips: 5, rows: 2, columns: FOUR.slice(1) }),
-  "clock and data of other ports": boardOf({ clock: "rom5.3", data: "rom0.0", columns: FOUR }),
-  "clock and data of a RAM chip": boardOf({ clock: "ram2.3.3", data: "ram2.3.0", columns: FOUR }),
-  "clock of a RAM chip, data of another one": boardOf({ clock: "ram2.0.1", data: "ram2.1.2", first: 2, columns: FOUR }),
+  "rows that begin later": boardOf({ first: 6, columns: FOUR_COLUMNS }),
+  "rows that begin at bit 16": boardOf({ first: 16, chips: 2, rows: 3, columns: FOUR_COLUMNS }),
+  "rows that begin at bit 37": boardOf({ first: 37, chips: 5, rows: 2, columns: FOUR_COLUMNS.slice(1) }),
+  "clock and data of other ports": boardOf({ clock: "rom5.3", data: "rom0.0", columns: FOUR_COLUMNS }),
+  "clock and data of a RAM chip": boardOf({ clock: "ram2.3.3", data: "ram2.3.0", columns: FOUR_COLUMNS }),
+  "clock of a RAM chip, data of another one": boardOf({ clock: "ram2.0.1", data: "ram2.1.2", first: 2, columns: FOUR_COLUMNS }),
   "the calculator's": examplesOfPage.find(({ name }) => name === "calculator").board,
 };
 /** A number of cycles in which the routine completes at least two scans. */
 const TWO_SCANS = 30000;
 
 /** Serves lines in a session, and returns the answers. */
-function answersOf(engine, session, lines) {
+function serveLines(engine, session, lines) {
   const { answers } = engine.serve(session, lines, session);
   return answers;
 }
 
 for (const [name, text] of Object.entries(BOARDS)) {
-  test(`it finds each key: ${name}`, async () => {
-    const engine = await loading;
+  test(`the routine finds each key: ${name}`, async () => {
+    const engine = await enginePromise;
     const session = engine.begin();
-    const wired = answersOf(engine, session, `wire\n${sentText(text, "#")}.\n`);
-    assert.match(wired[0], /^ok/, wired.join());
+    const wireAnswers = serveLines(engine, session, `wire\n${sentText(text, "#")}.\n`);
+    assert.match(wireAnswers[0], /^ok/, wireAnswers.join());
     const board = readBoard(engine.ask(session, "board\n").answers);
     const code = keyScanSource(board, "; a source without instructions\n");
-    const [assembled] = answersOf(engine, session, `asm\n${sentText(code, ";")}.\n`);
-    assert.match(assembled, /^ok \d+ bytes \d+$/, code);
+    const [assembleAnswer] = serveLines(engine, session, `asm\n${sentText(code, ";")}.\n`);
+    assert.match(assembleAnswer, /^ok \d+ bytes \d+$/, code);
     const { rows, columns } = board.matrix;
-    const at = /^start: *JMS (\w+)/.exec(code)[1];
-    assert.equal(at, "keys_scan");
-    const found = (lines) => {
-      const regs = answersOf(engine, session, `${lines}run ${TWO_SCANS}\nbreak 2\nrun ${TWO_SCANS}\nunbreak 2\nregs\n`).pop();
+    const label = /^start: *JMS (\w+)/.exec(code)[1];
+    assert.equal(label, "keys_scan");
+    const scanKeys = (lines) => {
+      const regs = serveLines(engine, session, `${lines}run ${TWO_SCANS}\nbreak 2\nrun ${TWO_SCANS}\nunbreak 2\nregs\n`).pop();
       const [, acc, registers] = /^acc (.) .* r (.{16}) /.exec(regs);
       return [acc, registers[4], registers[5]].join("");
     };
-    assert.equal(found("reset\n")[0], "0", "no key is down");
+    assert.equal(scanKeys("reset\n")[0], "0", "no key is down");
     for (let row = 0; row < rows; row++) {
       for (let column = 0; column < columns.length; column++) {
         const first = columns.indexOf(columns[column]);
-        assert.equal(found(`press ${row} ${column}\n`), `1${row.toString(16).toUpperCase()}${first}`, `key ${row}.${column}`);
-        assert.equal(found(`release ${row} ${column}\n`)[0], "0");
+        assert.equal(scanKeys(`press ${row} ${column}\n`), `1${row.toString(16).toUpperCase()}${first}`, `key ${row}.${column}`);
+        assert.equal(scanKeys(`release ${row} ${column}\n`)[0], "0");
       }
     }
   });
 }
 
-test("labels of the source are not used again, and a source with instructions keeps its begin", async () => {
+test("labels of the source are not reused, and a source with instructions keeps its beginning", async () => {
   const board = { chains: [{ clock: "rom0.0", data: "rom0.1", chips: 1 }], matrix: { chain: 0, first: 0, rows: 1, columns: ["rom0.2"] } };
-  const one = keyScanSource(board, "loop: NOP\n JUN loop\n");
-  assert.match(one, /^; Scans the keys: bit 0 of chain 0 drives row 0; columns are read at the port of ROM 0\.\n/);
-  assert.match(one, /^keys_scan: +LDM 0$/m);
-  assert.match(keyScanSource(board, one), /^keys1_scan: /m);
-  assert.match(keyScanSource(board, one + keyScanSource(board, one)), /^keys2_scan: /m);
+  const firstRoutine = keyScanSource(board, "loop: NOP\n JUN loop\n");
+  assert.match(firstRoutine, /^; Scans the keys: bit 0 of chain 0 drives row 0; columns are read at the port of ROM 0\.\n/);
+  assert.match(firstRoutine, /^keys_scan: +LDM 0$/m);
+  assert.match(keyScanSource(board, firstRoutine), /^keys1_scan: /m);
+  assert.match(keyScanSource(board, firstRoutine + keyScanSource(board, firstRoutine)), /^keys2_scan: /m);
   assert.equal(keyScanSource({ ...board, matrix: null }, ""), "");
 });
 
-test("a routine comes behind the line of the caret, else to the end, with blank lines around it", () => {
-  const put = (text, line) => {
+test("a routine is inserted after the caret's paragraph, or at the end, with blank lines around it", () => {
+  const insertRoutine = (text, line) => {
     const { edit, first, isEnd } = routineInsertion(text, line, "scan: BBL 0\n");
     return [text.slice(0, edit.from) + edit.insert + text.slice(edit.to), first, isEnd];
   };
-  assert.deepEqual(put("", 0), ["scan: BBL 0\n", 1, true]);
-  assert.deepEqual(put("", 1), ["scan: BBL 0\n", 1, true]);
-  assert.deepEqual(put("\n\nNOP\n", 1), ["scan: BBL 0\n\nNOP\n", 1, false]);
-  assert.deepEqual(put("NOP\nCLB\n", 0), ["NOP\nCLB\n\nscan: BBL 0\n", 4, true]);
-  assert.deepEqual(put("NOP\nCLB\n\n\n", 2), ["NOP\nCLB\n\nscan: BBL 0\n", 4, true]);
-  assert.deepEqual(put("NOP\n  CLB\n", 1), ["NOP\n\nscan: BBL 0\n\n  CLB\n", 3, false]);
-  assert.deepEqual(put("NOP\n \n\n  CLB", 2), ["NOP\n\nscan: BBL 0\n\n  CLB", 3, false]);
-  assert.deepEqual(put("NOP\n \n\n  CLB", 3), put("NOP\n \n\n  CLB", 1));
+  assert.deepEqual(insertRoutine("", 0), ["scan: BBL 0\n", 1, true]);
+  assert.deepEqual(insertRoutine("", 1), ["scan: BBL 0\n", 1, true]);
+  assert.deepEqual(insertRoutine("\n\nNOP\n", 1), ["scan: BBL 0\n\nNOP\n", 1, false]);
+  assert.deepEqual(insertRoutine("NOP\nCLB\n", 0), ["NOP\nCLB\n\nscan: BBL 0\n", 4, true]);
+  assert.deepEqual(insertRoutine("NOP\nCLB\n\n\n", 2), ["NOP\nCLB\n\nscan: BBL 0\n", 4, true]);
+  assert.deepEqual(insertRoutine("NOP\n  CLB\n", 1), ["NOP\n\nscan: BBL 0\n\n  CLB\n", 3, false]);
+  assert.deepEqual(insertRoutine("NOP\n \n\n  CLB", 2), ["NOP\n\nscan: BBL 0\n\n  CLB", 3, false]);
+  assert.deepEqual(insertRoutine("NOP\n \n\n  CLB", 3), insertRoutine("NOP\n \n\n  CLB", 1));
 });

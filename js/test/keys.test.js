@@ -6,7 +6,7 @@ import { PressedKeys, isSameKey, parseKey, keyLine, matrixKey, pinKey, formatKey
 import { KeyQueue, MAX_RUN_CYCLES } from "../core/engine/key_queue.js";
 import { KEY_DOWN_CYCLES, KEY_UP_CYCLES } from "../core/time/mcs4_time.js";
 
-const lines = (queue, cycles) => queue.plan(cycles).map((step) => step.line);
+const planLines = (queue, cycles) => queue.plan(cycles).map((step) => step.line);
 
 test("legends come from the comments of a board's text", () => {
   const { keys } = new Face("# row 0: 7 8 _\n[keys]\n#row 1: a\n# row 2: WALK  x \n");
@@ -14,89 +14,91 @@ test("legends come from the comments of a board's text", () => {
     [["0 0", "7"], ["0 1", "8"], ["0 2", ""], ["1 0", "a"], ["2 0", "WALK"], ["2 1", "x"]]);
 });
 
-test("keys have places, legends and letters that are their own", () => {
+test("each key has its own place, legend and letter", () => {
   const keys = boardKeys({ rows: 2, columns: 2 }, new Face("# row 0: CE _\n# row 1: C x\n"));
   assert.deepEqual(keys.map(({ key, legend, letter, isNamed }) => [formatKey(key), legend, letter, isNamed]),
     [["0 0", "CE", "c", true], ["0 1", "", "", false], ["1 0", "C", "C", true], ["1 1", "x", "x", true]]);
   assert.equal(new Set(boardKeys({ rows: 10, columns: 8 }, new Face("")).map(({ letter }) => letter).filter(Boolean)).size, 36);
 });
 
-test("keys of the keyboard: own letters, named keys, then the other case", () => {
+test("keyboard keys match letters first, then named keys, then the other case", () => {
   const keys = boardKeys({ rows: 1, columns: 5 }, new Face("# row 0: = C c x .\n"));
-  const meant = (typed) => findBoardKey(keys, typed)?.legend;
-  assert.deepEqual(["Enter", "Escape", "c", "C", "X", ",", "Shift", "y"].map(meant), ["=", "C", "c", "C", "x", ".", undefined, undefined]);
+  const legendOf = (character) => findBoardKey(keys, character)?.legend;
+  assert.deepEqual(["Enter", "Escape", "c", "C", "X", ",", "Shift", "y"].map(legendOf),
+    ["=", "C", "c", "C", "x", ".", undefined, undefined]);
 });
 
-test("what is at TEST is the last key, with a letter of its own", () => {
+test("the key at TEST is the last key, and has its own letter", () => {
   const keys = boardKeys({ rows: 1, columns: 1 }, new Face("# row 0: w\n# test: button WALK_NOW\n"));
-  const wanted = { key: pinKey(0), legend: "WALK NOW", words: "button WALK NOW, at TEST", isNamed: true, isSwitch: false, letter: "a" };
-  assert.deepEqual(keys[1], wanted);
-  const [only] = boardKeys({ rows: 0, columns: 0 }, new Face("# test: switch R to 1"));
-  assert.deepEqual([only.key, only.isSwitch, only.letter], [pinKey(1), true, "R"]);
+  const expected = { key: pinKey(0), legend: "WALK NOW", words: "button WALK NOW, at TEST", isNamed: true, isSwitch: false, letter: "a" };
+  assert.deepEqual(keys[1], expected);
+  const [pinOnlyKey] = boardKeys({ rows: 0, columns: 0 }, new Face("# test: switch R to 1"));
+  assert.deepEqual([pinOnlyKey.key, pinOnlyKey.isSwitch, pinOnlyKey.letter], [pinKey(1), true, "R"]);
 });
 
-test("the lines of presses: keys by their places, TEST by its level", () => {
+test("key presses become session lines: keys by their places, TEST by its level", () => {
   const linesOf = (key) => [keyLine("press", key), keyLine("release", key)];
   assert.deepEqual(linesOf(matrixKey(0, 1)), ["press 0 1", "release 0 1"]);
   assert.deepEqual([pinKey(0), pinKey(1)].map(linesOf), [["test 0", "test 1"], ["test 1", "test 0"]]);
   const queue = new KeyQueue();
   queue.press(pinKey(0));
   queue.release(pinKey(0));
-  assert.deepEqual(lines(queue, 5000), ["test 0", `run ${KEY_DOWN_CYCLES}`, "test 1", "run 1000"]);
+  assert.deepEqual(planLines(queue, 5000), ["test 0", `run ${KEY_DOWN_CYCLES}`, "test 1", "run 1000"]);
 });
 
-test("a key is a value: its text is read back, and it is compared by what it is", () => {
+test("keys can be formatted, parsed and compared by value", () => {
   const keys = [matrixKey(0, 0), matrixKey(1, 0), matrixKey(0, 1), matrixKey(12, 7), pinKey(0), pinKey(1)];
   assert.deepEqual(keys.map((key) => parseKey(formatKey(key))), keys);
-  for (const one of keys) for (const other of keys) assert.equal(isSameKey(one, { ...other }), one === other);
+  for (const key of keys) for (const otherKey of keys) assert.equal(isSameKey(key, { ...otherKey }), key === otherKey);
   for (const text of ["", "0", "0.0", "0 0 0", " 0 0", "1234 0", "test", "test 2", "r4"]) assert.equal(parseKey(text), null, text);
 });
 
-test("the keys that are down, by an answer and the level of TEST", () => {
-  const down = new PressedKeys(["0.2", "12.7"]);
-  assert.equal(down.count, 2);
-  assert.deepEqual([matrixKey(0, 2), matrixKey(12, 7), matrixKey(2, 0), matrixKey(1, 2)].map((key) => down.has(key, "1")),
+test("the pressed keys are determined from an answer and the level of TEST", () => {
+  const pressedKeys = new PressedKeys(["0.2", "12.7"]);
+  assert.equal(pressedKeys.count, 2);
+  assert.deepEqual([matrixKey(0, 2), matrixKey(12, 7), matrixKey(2, 0), matrixKey(1, 2)].map((key) => pressedKeys.has(key, "1")),
     [true, true, false, false]);
-  assert.deepEqual([down.has(pinKey(1), "1"), down.has(pinKey(0), "1"), down.has(pinKey(0), "")], [true, false, false]);
+  assert.deepEqual([pressedKeys.has(pinKey(1), "1"), pressedKeys.has(pinKey(0), "1"), pressedKeys.has(pinKey(0), "")],
+    [true, false, false]);
 });
 
-test("what is reported below the keys", () => {
+test("the hint below the keys", () => {
   assert.equal(keyHint([]), "This board has no keys.");
   assert.match(keyHint(boardKeys({ rows: 1, columns: 1 }, new Face(""))), /# row 0: 7 8 9/);
   assert.doesNotMatch(keyHint(boardKeys({ rows: 1, columns: 1 }, new Face("# row 0: 7"))), /# row 0/);
 });
 
-test("without keys the cycles are runs of at most 100,000", () => {
-  assert.deepEqual(lines(new KeyQueue(), 1543), ["run 1543"]);
-  assert.deepEqual(lines(new KeyQueue(), 2 * MAX_RUN_CYCLES + 5), ["run 100000", "run 100000", "run 5"]);
+test("without key changes, the cycles are split into runs of at most 100,000", () => {
+  assert.deepEqual(planLines(new KeyQueue(), 1543), ["run 1543"]);
+  assert.deepEqual(planLines(new KeyQueue(), 2 * MAX_RUN_CYCLES + 5), ["run 100000", "run 100000", "run 5"]);
 });
 
-test("a press stays down and then up for its time, over several plans", () => {
+test("a key stays down, and then up, for its full time, across several plans", () => {
   const queue = new KeyQueue();
   queue.press(matrixKey(0, 1));
   queue.release(matrixKey(0, 1));
   queue.press(matrixKey(0, 2));
-  const first = queue.plan(5000);
-  assert.deepEqual(first.map(({ line }) => line), ["press 0 1", `run ${KEY_DOWN_CYCLES}`, "release 0 1", "run 1000"]);
-  queue.markExecuted(first, (at) => [0, KEY_DOWN_CYCLES, 0, 1000][at]);
-  assert.deepEqual(lines(queue, 1500), [`run ${KEY_UP_CYCLES - 1000}`, "press 0 2", "run 500"]);
+  const steps = queue.plan(5000);
+  assert.deepEqual(steps.map(({ line }) => line), ["press 0 1", `run ${KEY_DOWN_CYCLES}`, "release 0 1", "run 1000"]);
+  queue.markExecuted(steps, (index) => [0, KEY_DOWN_CYCLES, 0, 1000][index]);
+  assert.deepEqual(planLines(queue, 1500), [`run ${KEY_UP_CYCLES - 1000}`, "press 0 2", "run 500"]);
 });
 
-test("a run that stops early leaves the rest of the time to wait", () => {
+test("after a run that stops early, the key still waits for the remaining cycles", () => {
   const queue = new KeyQueue();
   queue.press(matrixKey(0, 1));
   queue.release(matrixKey(0, 1));
   const steps = queue.plan(3000);
   queue.markExecuted(steps, () => 10);
-  assert.deepEqual(lines(queue, 4000), [`run ${KEY_DOWN_CYCLES - 10}`, "release 0 1", "run 10"]);
+  assert.deepEqual(planLines(queue, 4000), [`run ${KEY_DOWN_CYCLES - 10}`, "release 0 1", "run 10"]);
 });
 
-test("changes of a key can be forgotten, and all of them", () => {
+test("the queued changes of one key, or of all keys, can be removed", () => {
   const queue = new KeyQueue();
   queue.press(matrixKey(0, 1));
   queue.press(matrixKey(0, 2));
   queue.forget(matrixKey(0, 1));
-  assert.deepEqual(lines(queue, 1), ["press 0 2", "run 1"]);
+  assert.deepEqual(planLines(queue, 1), ["press 0 2", "run 1"]);
   queue.clear();
-  assert.deepEqual(lines(queue, 1), ["run 1"]);
+  assert.deepEqual(planLines(queue, 1), ["run 1"]);
 });

@@ -10,7 +10,7 @@ import { LINES_BY_GROUPS } from "../words/lines.js";
 import { pageModule } from "./page_session.js";
 
 const engine = new Engine(new globalThis.WebAssembly.Module(pageModule));
-const OF_LINES = [10, 11, 12, 14];
+const LINE_REFUSALS = [10, 11, 12, 14];
 const WORDS = [...ANSWER_FORMATS.keys(), ...`acc cy pc dcl r0 r15 r16 rx
   rom.0 rom.4096 rom.x ram.0.0 ram.7.255 ram.8.1 ram.0.256 ram.0 ram0.0 ram0.4
   ram7.3.3 ram8.0.0 st.0.0.0 st.7.15.3 st.0.16.0 st.0.0.4 rom0 rom16 rom15.3 rom0.4 chain0 chain4 chain3.79
@@ -27,27 +27,27 @@ function createRandom(seed) {
 }
 
 /** Returns the error number with which the bench rejects the syntax of a line, or 0 if the bench accepts the syntax. */
-function refusalNumber(line) {
+function benchRefusalOf(line) {
   const refusal = parseRefusal(engine.ask(engine.begin(), `${line}\n`).answers[0] || "");
-  return refusal && OF_LINES.includes(refusal.number) ? refusal.number : 0;
+  return refusal && LINE_REFUSALS.includes(refusal.number) ? refusal.number : 0;
 }
 
-const numberOf = (line) => (findLineError(line) || { number: 0 }).number;
+const pageRefusalOf = (line) => (findLineError(line) || { number: 0 }).number;
 
-test("each line of words is rejected as the bench does", () => {
+test("random lines are rejected with the same number as by the bench", () => {
   const next = createRandom(4004);
-  const firsts = [...ANSWER_FORMATS.keys(), "poke", "poke", "trace", "trace", "list", "watch"];
-  for (let at = 0; at < 6000; at++) {
-    const first = next(8) === 0 ? WORDS[next(WORDS.length)] : firsts[next(firsts.length)];
-    const more = next(10) === 0 ? next(20) : next(4);
-    const line = [first, ...Array.from({ length: more }, () => WORDS[next(WORDS.length)])].join(next(5) === 0 ? "\t " : " ");
+  const firstWords = [...ANSWER_FORMATS.keys(), "poke", "poke", "trace", "trace", "list", "watch"];
+  for (let round = 0; round < 6000; round++) {
+    const first = next(8) === 0 ? WORDS[next(WORDS.length)] : firstWords[next(firstWords.length)];
+    const argumentCount = next(10) === 0 ? next(20) : next(4);
+    const line = [first, ...Array.from({ length: argumentCount }, () => WORDS[next(WORDS.length)])].join(next(5) === 0 ? "\t " : " ");
     // These commands open a text, so the bench does not answer them yet.
     if (/^(wire|asm|map|wiring|errors)$/.test(line)) continue;
-    assert.equal(numberOf(line), refusalNumber(line), line);
+    assert.equal(pageRefusalOf(line), benchRefusalOf(line), line);
   }
 });
 
-test("the ends of ranges", () => {
+test("the limits of ranges", () => {
   const lines = [
     "list 0 0", "list 0 1", "list 4095 256", "list 0 257", "list 4096 1", "count 0", "count 1", "count 100000", "count 100001",
     "run 0", "run 4294967295", "run 4294967296", "test 1", "test 2", "break 4095", "break 4096", "ram 7", "ram 8", "watch 7 255",
@@ -55,17 +55,17 @@ test("the ends of ranges", () => {
     "poke dcl 8", "poke rom.4095 255", "poke rom.0 256", "poke st.7.15.3 15", "poke st.7.15.3 16", "trace 1 chain3.79",
     "trace 1 chain3.80", "trace 0 acc",
   ];
-  for (const line of lines) assert.equal(numberOf(line), refusalNumber(line), line);
+  for (const line of lines) assert.equal(pageRefusalOf(line), benchRefusalOf(line), line);
 });
 
 test("length and characters", () => {
   const lines = ["", "  \t", " ".repeat(256), `seq${" ".repeat(252)}`, `seq${" ".repeat(253)}`, "seq\x01", "seq é", "seq ; \x7f", " seq "];
   for (const line of lines) {
-    assert.equal(numberOf(line), refusalNumber(line), JSON.stringify(line));
+    assert.equal(pageRefusalOf(line), benchRefusalOf(line), JSON.stringify(line));
   }
 });
 
-test("the words name the word at fault", () => {
+test("the message names the wrong word", () => {
   for (const [line, words] of [
     ["bogus", "bogus is not a command; help shows the commands"],
     ["pres 1 2", "pres is not a command; did you mean press?"],

@@ -8,9 +8,9 @@ import { isInsideLine, visibleLines } from "../core/machine/listing_range.js";
 /** Returns a generator of pseudo-random numbers that are the same in each run. */
 function createRandom(seed) {
   let state = seed;
-  return (below) => {
+  return (limit) => {
     state = (Math.imul(state, 1103515245) + 12345) & 0x7fffffff;
-    return (state >> 8) % below;
+    return (state >> 8) % limit;
   };
 }
 
@@ -20,52 +20,52 @@ const hasTwoWords = (code) => [1, 4, 5, 7].includes(code >> 4) || ((code >> 4) =
 const hex = (number, digits) => number.toString(16).toUpperCase().padStart(digits, "0");
 
 /** Returns a stand-in for the bench that answers `list A N` from some bytes and counts the requested lines. */
-function fakeBench(bytes) {
-  const asked = { lists: 0, lines: 0 };
+function createFakeBench(bytes) {
+  const requested = { lists: 0, lines: 0 };
   const ask = async (lines) => {
     const [, start, count] = /^list (\d+) (\d+)\n$/.exec(lines).map(Number);
     assert.ok(count >= 1 && count <= 256 && start <= 4095, lines);
     const answers = [];
-    for (let at = start; at < 4096 && answers.length < count;) {
-      const size = hasTwoWords(bytes[at]) && at < 4095 ? 2 : 1;
-      const words = [...bytes.slice(at, at + size)].map((byte) => hex(byte, 2)).join(" ");
-      answers.push(`${hex(at, 3)} ${words.padEnd(5)} NOP`);
-      at += size;
+    for (let address = start; address < 4096 && answers.length < count;) {
+      const size = hasTwoWords(bytes[address]) && address < 4095 ? 2 : 1;
+      const words = [...bytes.slice(address, address + size)].map((byte) => hex(byte, 2)).join(" ");
+      answers.push(`${hex(address, 3)} ${words.padEnd(5)} NOP`);
+      address += size;
     }
-    asked.lists += 1;
-    asked.lines += answers.length;
+    requested.lists += 1;
+    requested.lines += answers.length;
     return answers;
   };
-  return { ask, asked };
+  return { ask, asked: requested };
 }
 
-function programs() {
+function createPrograms() {
   const random = createRandom(4004);
-  const made = [new Uint8Array(4096), new Uint8Array(4096).fill(0x40)];
-  for (let count = 0; count < 8; count++) made.push(Uint8Array.from({ length: 4096 }, () => random(256)));
-  return made;
+  const result = [new Uint8Array(4096), new Uint8Array(4096).fill(0x40)];
+  for (let count = 0; count < 8; count++) result.push(Uint8Array.from({ length: 4096 }, () => random(256)));
+  return result;
 }
 
 /** Returns the addresses of the instructions of a program that begins at 000. */
 function instructionAddresses(bytes) {
-  const found = [];
-  for (let at = 0; at < 4096; at += hasTwoWords(bytes[at]) && at < 4095 ? 2 : 1) found.push(at);
-  return found;
+  const addresses = [];
+  for (let address = 0; address < 4096; address += hasTwoWords(bytes[address]) && address < 4095 ? 2 : 1) addresses.push(address);
+  return addresses;
 }
 
-async function stretch(reader, from, anchor, rows) {
+async function readLines(reader, from, anchor, rows) {
   return visibleLines(await reader.read({ from, anchor }, rows), from, rows);
 }
 
-test("a line begins at the anchor, wherever it is, and all rows have a line", async () => {
+test("a line begins at each anchor, and all rows have a line", async () => {
   const random = createRandom(1);
-  for (const bytes of programs()) {
-    const reader = new ListingReader(fakeBench(bytes).ask);
+  for (const bytes of createPrograms()) {
+    const reader = new ListingReader(createFakeBench(bytes).ask);
     const starts = instructionAddresses(bytes);
-    for (let turn = 0; turn < 60; turn++) {
+    for (let round = 0; round < 60; round++) {
       const rows = 5 + random(45);
       const counter = starts[random(starts.length)];
-      const lines = await stretch(reader, Math.max(0, counter - Math.floor(rows / 2)), counter, rows);
+      const lines = await readLines(reader, Math.max(0, counter - Math.floor(rows / 2)), counter, rows);
       assert.equal(lines.length, rows);
       assert.ok(lines.some((line) => line.address === counter));
       assert.equal(isInsideLine(lines, counter), false);
@@ -73,30 +73,30 @@ test("a line begins at the anchor, wherever it is, and all rows have a line", as
   }
 });
 
-test("page by page from one end to the other each address is shown, in step", async () => {
-  for (const bytes of programs()) {
+test("scrolling page by page shows each instruction", async () => {
+  for (const bytes of createPrograms()) {
     const rows = 21;
-    const reader = new ListingReader(fakeBench(bytes).ask);
-    let lines = await stretch(reader, 0, 0, rows);
-    const shown = new Set();
+    const reader = new ListingReader(createFakeBench(bytes).ask);
+    let lines = await readLines(reader, 0, 0, rows);
+    const shownAddresses = new Set();
     for (let page = 0; page < 400; page++) {
-      for (const { address } of lines) shown.add(address);
+      for (const { address } of lines) shownAddresses.add(address);
       const next = lines[lines.length - 1].address;
       if (lines[0].address === next || next + 1 + Number(hasTwoWords(bytes[next])) > 4095) break;
-      lines = await stretch(reader, next, next, rows);
+      lines = await readLines(reader, next, next, rows);
     }
-    assert.deepEqual([...shown].filter((address) => address === 0 || address >= 4094).length > 1, true);
-    assert.deepEqual(instructionAddresses(bytes).slice(0, -rows).filter((address) => !shown.has(address)), []);
+    assert.deepEqual([...shownAddresses].filter((address) => address === 0 || address >= 4094).length > 1, true);
+    assert.deepEqual(instructionAddresses(bytes).slice(0, -rows).filter((address) => !shownAddresses.has(address)), []);
     const last = lines[lines.length - 1];
     assert.ok(last.address + Number(hasTwoWords(bytes[last.address])) >= 4095);
   }
 });
 
-test("the end fills the rows with the last lines", async () => {
-  for (const bytes of programs()) {
-    const reader = new ListingReader(fakeBench(bytes).ask);
+test("at the end of ROM, the last lines fill the rows", async () => {
+  for (const bytes of createPrograms()) {
+    const reader = new ListingReader(createFakeBench(bytes).ask);
     for (const rows of [1, 7, 40]) {
-      const lines = await stretch(reader, 4095, null, rows);
+      const lines = await readLines(reader, 4095, null, rows);
       assert.equal(lines.length, rows);
       const { address } = lines[rows - 1];
       assert.ok(address + (hasTwoWords(bytes[address]) && address < 4095 ? 2 : 1) === 4096);
@@ -104,17 +104,17 @@ test("the end fills the rows with the last lines", async () => {
   }
 });
 
-test("the bench is asked for little more than is shown", async () => {
+test("the bench is asked for only a few more lines than are shown", async () => {
   const random = createRandom(2);
-  for (const bytes of programs()) {
-    const { ask, asked } = fakeBench(bytes);
+  for (const bytes of createPrograms()) {
+    const { ask, asked } = createFakeBench(bytes);
     const reader = new ListingReader(ask);
-    for (let turn = 0; turn < 50; turn++) await stretch(reader, random(4096), null, 20);
+    for (let round = 0; round < 50; round++) await readLines(reader, random(4096), null, 20);
     assert.deepEqual([asked.lists, asked.lines <= 50 * 60], [50, true]);
   }
 });
 
-test("whether an address lies inside a line", () => {
+test("an address inside a line is detected", () => {
   const lines = [{ address: 4, line: "" }, { address: 6, line: "" }, { address: 7, line: "" }];
   assert.deepEqual([3, 4, 5, 6, 7, 8].map((address) => isInsideLine(lines, address)), [false, false, true, false, false, false]);
   assert.equal(isInsideLine([], 0), false);

@@ -7,25 +7,25 @@ import { SourceMap } from "../core/machine/source_map.js";
 const TEXT = "on = 12\ngo: jms  put ; far\nput:\nout: BBL 0\n\tJUN out\n";
 const MAP = new SourceMap(["map lines 5 names 4", "line 1 000 0", "line 2 000 2", "line 3 002 0", "line 4 002 1", "line 5 003 2",
   "name on 00C", "name go 000", "name put 002", "name out 002"], TEXT);
-const listed = (line) => ({ address: parseInt(line.slice(0, 3), 16), line });
+const listingLine = (line) => ({ address: parseInt(line.slice(0, 3), 16), line });
 
 test("a line has its labels, its target's label and its line of the source", () => {
-  assert.deepEqual(addLineNames(listed("000 50 02 JMS 0x002"), MAP), { address: 0, first: "000", second: "001", bytes: "000 50 02",
+  assert.deepEqual(addLineNames(listingLine("000 50 02 JMS 0x002"), MAP), { address: 0, first: "000", second: "001", bytes: "000 50 02",
     labels: "go:", instruction: "JMS put", source: "line 2: go: jms put ; far" });
-  assert.deepEqual(addLineNames(listed("002 C0    BBL 0"), MAP), { address: 2, first: "002", second: "", bytes: "002 C0   ",
+  assert.deepEqual(addLineNames(listingLine("002 C0    BBL 0"), MAP), { address: 2, first: "002", second: "", bytes: "002 C0   ",
     labels: "put: out:", instruction: "BBL 0", source: "line 4: out: BBL 0" });
-  assert.equal(addLineNames(listed("003 40 02 JUN 0x002"), MAP).instruction, "JUN out");
+  assert.equal(addLineNames(listingLine("003 40 02 JUN 0x002"), MAP).instruction, "JUN out");
 });
 
-test("a line that is not of the program stays as the bench lists it", () => {
+test("a line that is not part of the program stays unchanged", () => {
   const plain = { address: 5, first: "005", second: "006", bytes: "005 40 02", labels: "", instruction: "JUN 0x002", source: "" };
-  assert.deepEqual(addLineNames(listed("005 40 02 JUN 0x002"), MAP), plain);
-  assert.deepEqual(addLineNames(listed("005 40 02 JUN 0x002"), null), plain);
+  assert.deepEqual(addLineNames(listingLine("005 40 02 JUN 0x002"), MAP), plain);
+  assert.deepEqual(addLineNames(listingLine("005 40 02 JUN 0x002"), null), plain);
 });
 
-test("a value that is no target is not a label", () => {
-  assert.equal(addLineNames(listed("000 20 02 FIM P0, 0x02"), MAP).instruction, "FIM P0, 0x02");
-  assert.equal(addLineNames(listed("000 14 02 JCN 4, 0x002"), MAP).instruction, "JCN 4, put");
+test("only jump targets are replaced by labels", () => {
+  assert.equal(addLineNames(listingLine("000 20 02 FIM P0, 0x02"), MAP).instruction, "FIM P0, 0x02");
+  assert.equal(addLineNames(listingLine("000 14 02 JCN 4, 0x002"), MAP).instruction, "JCN 4, put");
 });
 
 test("the width of the labels", () => {
@@ -33,13 +33,13 @@ test("the width of the labels", () => {
   assert.equal(labelsWidth(null), 0);
 });
 
-test("go to: names, addresses of listings, numbers of lines", () => {
+test("go to: names, hexadecimal and decimal addresses", () => {
   const addresses = ["put", " on ", "PUT", "put + 7", "put+0x07", "01E", "01e", "0x1E", "0x01e", "30", "100", "4095", "0", "0xFFF", "0030"];
   assert.deepEqual(addresses.map((text) => parseGoal(text, MAP)), [2, 12, 2, 9, 9, 30, 30, 30, 30, 30, 256, 4095, 0, 4095, 30]
     .map((address) => ({ address, words: "" })));
 });
 
-test("go to: what is no address is refused in words", () => {
+test("go to: invalid addresses are rejected with a reason", () => {
   for (const [text, words] of [["4096", /^4096 is not an address: the last one is FFF/], ["0x1000", /the last one/],
     ["put2", /^put2 is neither/], ["put + 4095", /^put \+ 4095 is neither/],
     ["", /^Enter where to go/], ["1E", /^1E is neither/], ["-1", /neither/], ["01E0", /neither/]]) {

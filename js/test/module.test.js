@@ -9,39 +9,39 @@ import { examplesOfPage, pageModule } from "./page_session.js";
 const [module, examples] = [pageModule, examplesOfPage];
 const calculator = examples.find(({ name }) => name === "calculator");
 
-async function begin(example) {
+async function openExample(example) {
   const calls = new BenchCalls(async () => true);
   const size = await calls.load(module, examples);
   calls.open(calls.make(example));
   return { calls, size };
 }
 
-test("a file is served, and asking leaves it as it was", async () => {
+test("lines are served in a file, and `ask` leaves the file unchanged", async () => {
   const engine = await Engine.load(module);
   assert.equal(engine.size, 163856);
   const file = engine.begin();
-  const before = Buffer.from(file);
+  const bytesBefore = Buffer.from(file);
   assert.deepEqual(engine.ask(file, "poke r5 9\nseq\n"), { status: 0, opened: "session 0", answers: ["ok 1", "seq 1"] });
-  assert.equal(Buffer.compare(before, file), 0);
+  assert.equal(Buffer.compare(bytesBefore, file), 0);
   assert.deepEqual(engine.serve(file, "poke r5 9\n", file).answers, ["ok 1"]);
   assert.deepEqual(engine.ask(file, "seq\n"), { status: 0, opened: "session 1", answers: ["seq 1"] });
 });
 
-test("answers that have no room are given room", async () => {
+test("the buffer for answers grows if necessary", async () => {
   const engine = await Engine.load(module);
   const { answers } = engine.ask(engine.begin(), "list 0 256\n".repeat(400));
   assert.equal(answers.length, 400 * 256);
 });
 
-test("lines beyond ASCII, and more than the room at first", async () => {
+test("lines with other than ASCII characters, and more lines than the initial buffer can hold", async () => {
   const engine = await Engine.load(module);
   const file = engine.begin();
   assert.deepEqual(engine.ask(file, "caf\u00e9\n").answers, ["no 14"]);
   assert.equal(engine.ask(file, `${"x".repeat(200)}\n`.repeat(4000)).answers.length, 4000);
 });
 
-test("bytes that are no session are refused, and the session stays", async () => {
-  const { calls } = await begin(calculator);
+test("bytes that are not a session are rejected, and the session stays", async () => {
+  const { calls } = await openExample(calculator);
   for (const [bytes, number] of [[0, 50], [9, 50], [163857, 50], [163856, 50]]) {
     assert.throws(() => calls.open(new Uint8Array(bytes)), { number });
     assert.throws(() => calls.settled(new Uint8Array(bytes)), { number });
@@ -49,8 +49,8 @@ test("bytes that are no session are refused, and the session stays", async () =>
   assert.equal(calls.ask("board\n")[0], "board");
 });
 
-test("keys are pressed, time passes, and the display shows it", async () => {
-  const { calls } = await begin(calculator);
+test("frames press keys, run cycles, and reuse returned buffers", async () => {
+  const { calls } = await openExample(calculator);
   for (const key of [matrixKey(2, 1), matrixKey(3, 2)]) {
     calls.press(key);
     calls.release(key);
@@ -66,40 +66,40 @@ test("keys are pressed, time passes, and the display shows it", async () => {
   assert.equal(calls.advance(1000).file, frame.file);
 });
 
-test("a key goes down with the cycles that it came with, or when its time comes", async () => {
-  const { calls } = await begin(calculator);
+test("a key goes down at the start of its cycles, or when the keys before it are done", async () => {
+  const { calls } = await openExample(calculator);
   const lampsOf = ({ snapshot }) => / lamps (\S+)/.exec(snapshot[0])[1];
   const linesOf = ({ ran }) => ran.map(({ line }) => line);
-  const before = calls.advance(100000);
+  const frameBefore = calls.advance(100000);
   const frame = calls.advance(2000, matrixKey(2, 1));
   assert.deepEqual(linesOf(frame), ["press 2 1", "run 2000"]);
-  assert.notEqual(lampsOf(frame), lampsOf(before));
+  assert.notEqual(lampsOf(frame), lampsOf(frameBefore));
   calls.release(matrixKey(2, 1));
   assert.deepEqual(linesOf(calls.advance(3000, matrixKey(2, 2))), ["run 2000", "release 2 1", "run 1000"]);
   assert.deepEqual(linesOf(calls.advance(3000)), ["run 1000", "press 2 2", "run 2000"]);
 });
 
-test("a breakpoint ends a frame, and what came after it is not done", async () => {
-  const { calls } = await begin(calculator);
+test("a breakpoint ends a frame early", async () => {
+  const { calls } = await openExample(calculator);
   await calls.serve("break 0x024\n");
   const frame = calls.advance(5000);
   assert.match(frame.end, / break$/);
   assert.ok(frame.cycles < 100);
 });
 
-test("a file of an example gets the texts of the example, and another one what the bench says", async () => {
-  const { calls } = await begin(calculator);
+test("a session with an example's board and program gets the example's texts, and another session gets those of the bench", async () => {
+  const { calls } = await openExample(calculator);
   const texts = calls.texts(calls.make(calculator));
   const { board, program, tests = "", properties = "" } = calculator;
   assert.deepEqual(texts, { boardText: board, programText: program, testText: tests, propertiesText: properties });
-  const own = calls.make({ ...calculator, board: '[[rom]]\nchip = 0\nport = "0000"\n', program: "\tLDM 5\n\tJUN 0\n" });
-  assert.deepEqual(calls.texts(own), {
+  const session = calls.make({ ...calculator, board: '[[rom]]\nchip = 0\nport = "0000"\n', program: "\tLDM 5\n\tJUN 0\n" });
+  assert.deepEqual(calls.texts(session), {
     boardText: '[[rom]]\nchip = 0\nport = "0000"\n', programText: "\tLDM 5\n\tJUN 0x000\n", testText: "", propertiesText: "",
   });
 });
 
-test("the part of a board that is wrong is named, and the lines of a program", async () => {
-  const { calls } = await begin(calculator);
+test("the wrong part of a board and the wrong lines of a program are reported", async () => {
+  const { calls } = await openExample(calculator);
   const board = '[[rom]]\nchip = 0\nport = "0000"\n\n[[lamp]]\nline = "ram0.0.0"\n';
   const { first } = await calls.serve(`wire\n${board}.\n`);
   assert.equal(first, "no 25");
@@ -108,8 +108,8 @@ test("the part of a board that is wrong is named, and the lines of a program", a
   assert.deepEqual(calls.errors("a: NOP\na: NOP\nFOO\n"), [{ line: 2, number: 31 }, { line: 3, number: 30 }]);
 });
 
-test("long work is done whole", async () => {
-  const { calls } = await begin(calculator);
+test("many lines are all executed", async () => {
+  const { calls } = await openExample(calculator);
   const result = await calls.serve("step\n".repeat(5000));
   assert.equal(result.entries.length, 400);
   assert.equal(calls.ask("seq\n")[0], "seq 5002");

@@ -2,177 +2,178 @@
 // shows.
 import assert from "node:assert/strict";
 import { test } from "node:test";
-import { begin, counterOf } from "./page_session.js";
+import { openExample, readCounter } from "./page_session.js";
 import { matrixKey } from "../core/board/key_place.js";
 
 /** Runs until a goal is reached, for at most `most` cycles. Resolves to the cycles, whether the goal was reached, and why the run ended. */
-async function runToGoal(calls, goal, most) {
-  const { cycles, isReached, end } = (await calls.goOn(goal, most)).found;
+async function runToGoal(calls, goal, maximum) {
+  const { cycles, isReached, end } = (await calls.goOn(goal, maximum)).found;
   return { cycles, isReached, end };
 }
 
-test("over a JMS: as many cycles as a breakpoint behind it takes, and nothing stays", async () => {
+test("a step over a JMS takes as many cycles as a run to a breakpoint after it, and leaves no breakpoint", async () => {
   // Run up to the JMS at 007. FIM, SRC, LDM, XCH, LD and WMP take 7 cycles.
-  const calls = await begin("three lamps", "run 7\n");
-  assert.equal(counterOf(calls), "007");
-  const travelled = await calls.goOn({ kind: "over" });
-  assert.deepEqual([travelled.found.isReached, travelled.found.cycles, counterOf(calls)], [true, travelled.total - 7, "009"]);
-  const sent = travelled.entries.map(({ line, answers }) => [line, answers[0].slice(5)]);
-  assert.deepEqual(sent, [[`run ${travelled.found.cycles}`, `ran ${travelled.found.cycles} end`]]);
+  const calls = await openExample("three lamps", "run 7\n");
+  assert.equal(readCounter(calls), "007");
+  const result = await calls.goOn({ kind: "over" });
+  assert.deepEqual([result.found.isReached, result.found.cycles, readCounter(calls)], [true, result.total - 7, "009"]);
+  const sent = result.entries.map(({ line, answers }) => [line, answers[0].slice(5)]);
+  assert.deepEqual(sent, [[`run ${result.found.cycles}`, `ran ${result.found.cycles} end`]]);
   assert.deepEqual(calls.ask("breaks\nwatches\n"), ["breaks -", "watches -"]);
-  const other = await begin("three lamps", "run 7\nbreak 0x009\n");
-  const [answer] = (await other.serve("run 100000\n")).entries[0].answers;
-  assert.equal(answer.split(" ")[3], String(travelled.found.cycles));
+  const otherCalls = await openExample("three lamps", "run 7\nbreak 0x009\n");
+  const [answer] = (await otherCalls.serve("run 100000\n")).entries[0].answers;
+  assert.equal(answer.split(" ")[3], String(result.found.cycles));
 });
 
-test("over anything else is one instruction, and out ends behind the JMS", async () => {
-  const calls = await begin("three lamps");
+test("a step over any other instruction is one instruction, and a step out ends after the JMS", async () => {
+  const calls = await openExample("three lamps");
   assert.deepEqual(await runToGoal(calls, { kind: "over" }), { cycles: 2, isReached: true, end: "" });
   await calls.serve("run 7\n");
-  assert.equal(counterOf(calls), "014");
+  assert.equal(readCounter(calls), "014");
   assert.equal((await calls.goOn({ kind: "out" })).found.isReached, true);
-  assert.equal(counterOf(calls), "009");
+  assert.equal(readCounter(calls), "009");
 });
 
-test("out of no subroutine: nothing is done, also where a return address is left over", async () => {
-  const calls = await begin("three lamps");
+test("a step out without an open call does nothing, even if a stale return address is left", async () => {
+  const calls = await openExample("three lamps");
   for (const lines of ["", "run 7\n"]) {
     await calls.serve(lines);
     if (lines) await calls.goOn({ kind: "over" });
-    const before = calls.ask("regs\nseq\n");
+    const answersBefore = calls.ask("regs\nseq\n");
     assert.deepEqual(await runToGoal(calls, { kind: "out" }), { cycles: 0, isReached: false, end: "outside" });
-    assert.deepEqual(calls.ask("regs\nseq\n"), before);
+    assert.deepEqual(calls.ask("regs\nseq\n"), answersBefore);
   }
 });
 
-test("to an address, so many instructions, and to a change", async () => {
-  const calls = await begin("three lamps");
+test("runs to an address, for a number of instructions, and to a change", async () => {
+  const calls = await openExample("three lamps");
   await calls.goOn({ kind: "here", address: 0x14 });
-  assert.equal(counterOf(calls), "014");
+  assert.equal(readCounter(calls), "014");
   assert.deepEqual(await runToGoal(calls, { kind: "count", count: 3 }), { cycles: 6, isReached: true, end: "" });
-  const before = calls.ask("lamps\n")[0];
-  const travelled = await calls.goOn({ kind: "change", place: "lamps" });
-  assert.equal(travelled.found.isReached, true);
-  assert.notEqual(calls.ask("lamps\n")[0], before);
-  const fresh = await begin("three lamps");
-  assert.equal((await fresh.goOn({ kind: "change", place: "r4" })).found.cycles, 5);
+  const lampsBefore = calls.ask("lamps\n")[0];
+  const result = await calls.goOn({ kind: "change", place: "lamps" });
+  assert.equal(result.found.isReached, true);
+  assert.notEqual(calls.ask("lamps\n")[0], lampsBefore);
+  const newCalls = await openExample("three lamps");
+  assert.equal((await newCalls.goOn({ kind: "change", place: "r4" })).found.cycles, 5);
 });
 
-test("to an address that is far away, also where all breakpoints are taken", async () => {
+test("a run to a distant address, also if all breakpoints are in use", async () => {
   const loops = "far: ISZ R0, far\nISZ R1, far\nISZ R2, far\nISZ R3, far\nend: JUN end\n";
   const setup = `wire\n[[rom]]\nchip = 0\nport = "0000"\n.\nasm\n${loops}.\n`;
-  const calls = await begin("empty bench", setup);
+  const calls = await openExample("empty bench", setup);
   const { found } = await calls.goOn({ kind: "here", address: 8 }, 1000000);
-  assert.deepEqual([found.isReached, counterOf(calls)], [true, "008"]);
-  const taken = await begin("empty bench", `${setup}${Array.from({ length: 32 }, (_, at) => `break ${at + 16}\n`).join("")}`);
-  const other = await runToGoal(taken, { kind: "here", address: 4 }, 1000000);
+  assert.deepEqual([found.isReached, readCounter(calls)], [true, "008"]);
+  const callsWithBreakpoints =
+    await openExample("empty bench", `${setup}${Array.from({ length: 32 }, (_, index) => `break ${index + 16}\n`).join("")}`);
+  const expected = await runToGoal(callsWithBreakpoints, { kind: "here", address: 4 }, 1000000);
   await calls.goBack({ kind: "stop" });
-  assert.deepEqual(other, await runToGoal(calls, { kind: "here", address: 4 }, 1000000));
+  assert.deepEqual(expected, await runToGoal(calls, { kind: "here", address: 4 }, 1000000));
 });
 
 /** Returns a bench with one ROM and a program. */
 function createBench(program) {
-  return begin("empty bench", `wire\n[[rom]]\nchip = 0\nport = "0000"\n.\nasm\n${program}.\n`);
+  return openExample("empty bench", `wire\n[[rom]]\nchip = 0\nport = "0000"\n.\nasm\n${program}.\n`);
 }
 
 /** Returns the source of nested delay loops. An ISZ takes two cycles, and each loop has 16 iterations. */
 function delayLoops(loops) {
-  const all = [0, 1, 2, 3, 4].slice(0, loops);
-  const lines = `FIM P0, 0\nFIM P1, 0\nFIM P2, 0\nloop: ${all.map((each) => `ISZ R${each}, loop\n`).join("")}`;
-  return { lines, cycles: 6 + all.reduce((cycles) => 16 * (cycles + 2), 0) };
+  const registers = [0, 1, 2, 3, 4].slice(0, loops);
+  const lines = `FIM P0, 0\nFIM P1, 0\nFIM P2, 0\nloop: ${registers.map((register) => `ISZ R${register}, loop\n`).join("")}`;
+  return { lines, cycles: 6 + registers.reduce((cycles) => 16 * (cycles + 2), 0) };
 }
 
-/** Runs time in frames until it stops. Returns the last frame. */
+/** Runs frames of `frame` cycles until a stop. Returns the last frame. */
 function runUntilStop(calls, frame) {
   for (;;) {
-    const travelled = calls.advance(frame);
-    if (travelled.stop) return travelled;
+    const result = calls.advance(frame);
+    if (result.stop) return result;
   }
 }
 
-test("over a delay of 24 seconds, and out of it: time that runs, by frames and at full speed", async () => {
+test("a step over a delay of 24 seconds, and out of it, in frames and at full speed", async () => {
   const { lines, cycles } = delayLoops(5);
   const calls = await createBench(`JMS wait\nend: JUN end\nwait: ${lines}BBL 0\n`);
-  const before = Buffer.from(calls.bench.session.file);
-  const near = await calls.goOn({ kind: "over" });
-  assert.deepEqual([near.found.end, near.entries.length, Buffer.compare(before, calls.bench.session.file)], ["bound", 0, 0]);
-  const travelled = runUntilStop(calls, 1543);
-  assert.deepEqual([travelled.stop, counterOf(calls)], [{ why: "goal", id: 0, cycles: cycles + 3, returns: true }, "002"]);
-  assert.ok(travelled.ran.every(({ line }) => /^run \d+$/.test(line)));
+  const fileBefore = Buffer.from(calls.bench.session.file);
+  const result = await calls.goOn({ kind: "over" });
+  assert.deepEqual([result.found.end, result.entries.length, Buffer.compare(fileBefore, calls.bench.session.file)], ["bound", 0, 0]);
+  const frame = runUntilStop(calls, 1543);
+  assert.deepEqual([frame.stop, readCounter(calls)], [{ why: "goal", id: 0, cycles: cycles + 3, returns: true }, "002"]);
+  assert.ok(frame.ran.every(({ line }) => /^run \d+$/.test(line)));
   assert.deepEqual(calls.ask("breaks\nwatches\n"), ["breaks -", "watches -"]);
-  // With exactly this limit, the goal is still reached. When time runs afterwards, it has no goal.
+  // With exactly this limit, the goal is still reached. A later run has no goal.
   assert.equal(calls.advance(1543).stop, null);
   await calls.goBack({ kind: "stop" });
   await calls.serve("reset\nrun 1000\n");
-  const out = await calls.goOn({ kind: "out" }, 100000000);
-  assert.deepEqual([out.found.isReached, out.found.cycles, counterOf(calls)], [true, cycles + 3 - 1000, "002"]);
+  const outResult = await calls.goOn({ kind: "out" }, 100000000);
+  assert.deepEqual([outResult.found.isReached, outResult.found.cycles, readCounter(calls)], [true, cycles + 3 - 1000, "002"]);
 });
 
-test("over a subroutine that waits for a key: the key is pressed while time runs", async () => {
+test("a step over a subroutine that waits for a key, which is pressed during the run", async () => {
   const calls = await createBench("main: JMS getkey\nJUN main\ngetkey: JCN 1, getkey\nBBL 0\n");
   await calls.serve("test 0\n");
   assert.equal((await calls.goOn({ kind: "over" })).found.end, "bound");
   for (let frame = 0; frame < 40; frame++) assert.equal(calls.advance(1543).stop, null);
   await calls.serve("test 1\n");
   const { stop } = runUntilStop(calls, 1543);
-  assert.deepEqual([stop.why, stop.returns, counterOf(calls)], ["goal", true, "002"]);
+  assert.deepEqual([stop.why, stop.returns, readCounter(calls)], ["goal", true, "002"]);
   assert.ok(stop.cycles > 40 * 1543 && stop.cycles < 41 * 1543);
 });
 
-test("a million instructions, from the middle of one on", async () => {
+test("runs of many instructions, also from the middle of an instruction", async () => {
   const calls = await createBench("end: JUN end\n");
   assert.equal((await calls.goOn({ kind: "count", count: 1000000 })).found.cycles, 2000000);
   await calls.serve("run 1\n");
   assert.equal((await calls.goOn({ kind: "count", count: 3 })).found.cycles, 5);
-  const mixed = await createBench("go: NOP\nNOP\nJUN go\n");
-  assert.equal((await mixed.goOn({ kind: "count", count: 300000 })).found.cycles, 400000);
+  const loopCalls = await createBench("go: NOP\nNOP\nJUN go\n");
+  assert.equal((await loopCalls.goOn({ kind: "count", count: 300000 })).found.cycles, 400000);
 });
 
-test("a change that is far away: a register, a whole port, a lamp, a character", async () => {
-  const travelled = async (program, place, lines = "") => {
-    const calls = await begin("three lamps", `asm\n${program}.\nreset\n${lines}`);
+test("runs to a distant change of a register, a port, a lamp and a RAM character", async () => {
+  const runToChange = async (program, place, lines = "") => {
+    const calls = await openExample("three lamps", `asm\n${program}.\nreset\n${lines}`);
     return await runToGoal(calls, { kind: "change", place });
   };
   const { lines: wait, cycles } = delayLoops(4);
   const write = `${wait}SRC P0\nLDM 7\nWMP\nWRM\nend: JUN end\n`;
-  for (const [place, after] of [["acc", 2], ["ram0.0", 3], ["ram0.0.2", 3], ["lamp 2", 3], ["lamps", 3], ["ram.0.0", 4]]) {
-    assert.deepEqual(await travelled(write, place), { cycles: cycles + after, isReached: true, end: "" }, place);
+  for (const [place, cyclesAfter] of [["acc", 2], ["ram0.0", 3], ["ram0.0.2", 3], ["lamp 2", 3], ["lamps", 3], ["ram.0.0", 4]]) {
+    assert.deepEqual(await runToChange(write, place), { cycles: cycles + cyclesAfter, isReached: true, end: "" }, place);
   }
-  assert.deepEqual(await travelled(write, "acc", "break 8\n"), { cycles: 38, isReached: false, end: "break" });
+  assert.deepEqual(await runToChange(write, "acc", "break 8\n"), { cycles: 38, isReached: false, end: "break" });
 });
 
-test("a breakpoint and a watch of the user come first; a goal that never comes does nothing", async () => {
-  const calls = await begin("three lamps", "run 7\nbreak 0x016\n");
+test("the user's breakpoints stop a move first; a goal that is never reached has no effect", async () => {
+  const calls = await openExample("three lamps", "run 7\nbreak 0x016\n");
   assert.deepEqual(await runToGoal(calls, { kind: "over" }), { cycles: 4, isReached: false, end: "break" });
-  assert.equal(counterOf(calls), "016");
+  assert.equal(readCounter(calls), "016");
   assert.deepEqual(await runToGoal(calls, { kind: "change", place: "chain0.1" }), { cycles: 0, isReached: false, end: "lacks" });
-  const empty = await begin("empty bench", "wire\n[[rom]]\nchip = 0\nport = \"0000\"\n.\nasm\nx: JUN x\n.\n");
-  const before = Buffer.from(empty.bench.session.file);
-  const travelled = await empty.goOn({ kind: "change", place: "r4" }, 5000);
-  assert.deepEqual([travelled.found.end, travelled.entries.length, Buffer.compare(before, empty.bench.session.file)], ["bound", 0, 0]);
+  const emptyBench = await openExample("empty bench", "wire\n[[rom]]\nchip = 0\nport = \"0000\"\n.\nasm\nx: JUN x\n.\n");
+  const fileBefore = Buffer.from(emptyBench.bench.session.file);
+  const result = await emptyBench.goOn({ kind: "change", place: "r4" }, 5000);
+  assert.deepEqual([result.found.end, result.entries.length, Buffer.compare(fileBefore, emptyBench.bench.session.file)], ["bound", 0, 0]);
 });
 
-test("a goal among presses of keys comes at the cycle at which it is reached", async () => {
-  const calls = await begin("calculator");
+test("with key presses, a goal stops the run at the cycle in which it is reached", async () => {
+  const calls = await openExample("calculator");
   calls.advance(100000);
-  const before = calls.ask("lamps\n")[0];
+  const lampsBefore = calls.ask("lamps\n")[0];
   assert.equal((await calls.goOn({ kind: "change", place: "lamps" }, 100000)).found.end, "bound");
-  const begun = calls.bench.session.count.total;
-  let travelled = calls.advance(5000, matrixKey(2, 1));
-  for (let frame = 0; !travelled.stop && frame < 100; frame++) travelled = calls.advance(1543);
-  assert.deepEqual([travelled.stop.why, travelled.stop.cycles], ["goal", calls.bench.session.count.total - begun]);
-  assert.notEqual(calls.ask("lamps\n")[0], before);
+  const startTotal = calls.bench.session.count.total;
+  let frameResult = calls.advance(5000, matrixKey(2, 1));
+  for (let frame = 0; !frameResult.stop && frame < 100; frame++) frameResult = calls.advance(1543);
+  assert.deepEqual([frameResult.stop.why, frameResult.stop.cycles], ["goal", calls.bench.session.count.total - startTotal]);
+  assert.notEqual(calls.ask("lamps\n")[0], lampsBefore);
   // One cycle before the change, the lamps were unchanged.
-  const again = await begin("calculator");
-  again.advance(100000);
-  again.press(matrixKey(2, 1));
-  again.advance(travelled.stop.cycles - 1);
-  assert.equal(again.ask("lamps\n")[0], before);
-  again.advance(1);
-  assert.deepEqual(again.ask("state\n")[0].replace(/seq \d+/, ""), calls.ask("state\n")[0].replace(/seq \d+/, ""));
+  const secondCalls = await openExample("calculator");
+  secondCalls.advance(100000);
+  secondCalls.press(matrixKey(2, 1));
+  secondCalls.advance(frameResult.stop.cycles - 1);
+  assert.equal(secondCalls.ask("lamps\n")[0], lampsBefore);
+  secondCalls.advance(1);
+  assert.deepEqual(secondCalls.ask("state\n")[0].replace(/seq \d+/, ""), calls.ask("state\n")[0].replace(/seq \d+/, ""));
 });
 
-test("a reset ends a move, and time runs on", async () => {
+test("a reset ends a move, and the machine can run on", async () => {
   const calls = await createBench("end: JUN end\n");
   assert.equal((await calls.goOn({ kind: "change", place: "r4" })).found.end, "bound");
   assert.equal(calls.bench.debugger.isMoving, true);

@@ -4,19 +4,19 @@ import { test } from "node:test";
 import { noticesToRemove } from "../page/ui/notice.js";
 
 /** Returns the kinds of the notices that are removed from a list of notices, given by their kinds, newest first. */
-const removedKinds = (...kinds) => noticesToRemove(kinds.map((kind) => ({ kind }))).map(({ kind }) => kind);
+const kindsToRemove = (...kinds) => noticesToRemove(kinds.map((kind) => ({ kind }))).map(({ kind }) => kind);
 
-test("three notices are shown, the newest ones", () => {
-  assert.deepEqual(removedKinds(), []);
-  assert.deepEqual(removedKinds("undo", "undo", "file"), []);
-  assert.deepEqual(removedKinds("undo", "undo", "left", "file"), ["file"]);
+test("the newest three notices are shown", () => {
+  assert.deepEqual(kindsToRemove(), []);
+  assert.deepEqual(kindsToRemove("undo", "undo", "file"), []);
+  assert.deepEqual(kindsToRemove("undo", "undo", "left", "file"), ["file"]);
 });
 
-test("what went well makes room before what went wrong", () => {
-  assert.deepEqual(removedKinds("session", "undo", "refusal", "kept"), ["undo"]);
-  assert.deepEqual(removedKinds("undo", "refusal", "session", "kept"), ["kept"]);
+test("notices of success are removed before notices of failure", () => {
+  assert.deepEqual(kindsToRemove("session", "undo", "refusal", "kept"), ["undo"]);
+  assert.deepEqual(kindsToRemove("undo", "refusal", "session", "kept"), ["kept"]);
 });
 
-test("the newest stays, whatever it is", () => {
-  assert.deepEqual(removedKinds("undo", "unended", "unended", "unended"), ["unended"]);
+test("the newest notice stays, whatever its kind", () => {
+  assert.deepEqual(kindsToRemove("undo", "unended", "unended", "unended"), ["unended"]);
 });

@@ -4,7 +4,7 @@ import { test } from "node:test";
 import { OpeningGuard } from "../page/session/opening_guard.js";
 
 /** Returns stand-ins for the browser's local storage, clock and timers. The timers fire when the test requests it. */
-function fakeBrowser() {
+function createFakeBrowser() {
   const words = new Map();
   const timers = [];
   const store = {
@@ -13,26 +13,26 @@ function fakeBrowser() {
     removeItem: (key) => words.delete(key),
   };
   let time = 1e12;
-  const load = () => new OpeningGuard(store, (act) => timers.push(act), () => time);
-  const wait = (passed) => { time += passed; };
-  return { load, words, wait, settle: () => timers.splice(0).forEach((act) => act()) };
+  const createGuard = () => new OpeningGuard(store, (callback) => timers.push(callback), () => time);
+  const wait = (milliseconds) => { time += milliseconds; };
+  return { load: createGuard, words, wait, settle: () => timers.splice(0).forEach((act) => act()) };
 }
 
-test("an opening that came to an end leaves nothing, also where it was refused", async () => {
-  const { load, words, wait, settle } = fakeBrowser();
-  const openings = load();
-  await openings.runOpening("one", async () => {
+test("a finished opening leaves no record, even if it failed", async () => {
+  const { load, words, wait, settle } = createFakeBrowser();
+  const guard = load();
+  await guard.runOpening("one", async () => {
     wait(3000);
     assert.equal(load().hasUnfinishedOpening("one"), true);
   });
   assert.equal(load().hasUnfinishedOpening("one"), true);
-  await assert.rejects(openings.runOpening("two", async () => { throw new Error("no 51"); }), /no 51/);
+  await assert.rejects(guard.runOpening("two", async () => { throw new Error("no 51"); }), /no 51/);
   settle();
   assert.deepEqual([words.size, load().hasUnfinishedOpening("one"), load().hasUnfinishedOpening("two")], [0, false, false]);
 });
 
-test("one that did not is known at the next start, and forgotten once it did", async () => {
-  const { load, words, wait, settle } = fakeBrowser();
+test("an unfinished opening is detected at the next start, and forgotten after a successful one", async () => {
+  const { load, words, wait, settle } = createFakeBrowser();
   load().runOpening("one", () => new Promise(() => {}));
   await load().runOpening("two", async () => {});
   settle();
@@ -43,43 +43,43 @@ test("one that did not is known at the next start, and forgotten once it did", a
   assert.equal(words.size, 0);
 });
 
-test("a page that is left at once was not hung; one that is left later may have been", () => {
-  const { load, wait } = fakeBrowser();
-  const openings = load();
-  openings.runOpening("one", () => new Promise(() => {}));
-  openings.handleLeave();
+test("leaving the page soon is not a sign of a hang; leaving it later can be", () => {
+  const { load, wait } = createFakeBrowser();
+  const guard = load();
+  guard.runOpening("one", () => new Promise(() => {}));
+  guard.handleLeave();
   wait(3000);
   assert.equal(load().hasUnfinishedOpening("one"), false);
-  openings.runOpening("two", () => new Promise(() => {}));
+  guard.runOpening("two", () => new Promise(() => {}));
   wait(3000);
-  openings.handleLeave();
+  guard.handleLeave();
   assert.equal(load().hasUnfinishedOpening("two"), true);
 });
 
-test("a page that is left while it shows a session was not hung by it, however long the opening took", async () => {
-  const { load, wait } = fakeBrowser();
-  const openings = load();
-  await openings.runOpening("one", async () => wait(3000));
-  openings.handleLeave();
+test("leaving the page after a finished opening is not a sign of a hang, even after a long opening", async () => {
+  const { load, wait } = createFakeBrowser();
+  const guard = load();
+  await guard.runOpening("one", async () => wait(3000));
+  guard.handleLeave();
   assert.equal(load().hasUnfinishedOpening("one"), false);
 });
 
-test("a page that is left learns so from each of two events, since a browser may pass over one", async () => {
+test("each of two events reports that the page is left, because a browser can omit one", async () => {
   for (const name of ["beforeunload", "pagehide"]) {
-    const { load, wait } = fakeBrowser();
-    const openings = load();
+    const { load, wait } = createFakeBrowser();
+    const guard = load();
     const target = new EventTarget();
-    openings.listen(target);
-    assert.equal(openings.pendingOpenings.size, 0);
-    await openings.runOpening("one", async () => {});
+    guard.listen(target);
+    assert.equal(guard.pendingOpenings.size, 0);
+    await guard.runOpening("one", async () => {});
     target.dispatchEvent(new Event(name));
     wait(3000);
     assert.equal(load().hasUnfinishedOpening("one"), false, name);
   }
 });
 
-test("another tab may just be opening it", () => {
-  const { load, wait } = fakeBrowser();
+test("a recent opening can be in progress in another tab", () => {
+  const { load, wait } = createFakeBrowser();
   load().runOpening("one", () => new Promise(() => {}));
   wait(1999);
   assert.equal(load().hasUnfinishedOpening("one"), false);
@@ -87,22 +87,22 @@ test("another tab may just be opening it", () => {
   assert.equal(load().hasUnfinishedOpening("one"), true);
 });
 
-test("a session that is opened twice in a row is settled by its last opening", async () => {
-  const { load, wait, settle } = fakeBrowser();
-  const openings = load();
-  await openings.runOpening("one", async () => {});
-  openings.pendingOpenings.set("one", { time: 0, isEnded: false });
+test("if a session is opened twice, only its last opening counts", async () => {
+  const { load, wait, settle } = createFakeBrowser();
+  const guard = load();
+  await guard.runOpening("one", async () => {});
+  guard.pendingOpenings.set("one", { time: 0, isEnded: false });
   settle();
   wait(3000);
   assert.equal(load().hasUnfinishedOpening("one"), true);
 });
 
-test("a browser that keeps nothing", async () => {
-  const broken = () => { throw new DOMException("", "SecurityError"); };
-  for (const store of [null, { getItem: broken, setItem: broken, removeItem: broken }]) {
-    const openings = new OpeningGuard(store, (act) => act());
+test("sessions can be opened in a browser without storage", async () => {
+  const throwSecurityError = () => { throw new DOMException("", "SecurityError"); };
+  for (const store of [null, { getItem: throwSecurityError, setItem: throwSecurityError, removeItem: throwSecurityError }]) {
+    const guard = new OpeningGuard(store, (act) => act());
     let isOpen = false;
-    await openings.runOpening("one", async () => { isOpen = true; });
-    assert.deepEqual([isOpen, openings.hasUnfinishedOpening("one")], [true, false]);
+    await guard.runOpening("one", async () => { isOpen = true; });
+    assert.deepEqual([isOpen, guard.hasUnfinishedOpening("one")], [true, false]);
   }
 });

@@ -9,11 +9,11 @@ import { listDestinations } from "../page/commands/palette_places.js";
 import { searchEntries, rankEntry } from "../page/commands/palette_search.js";
 import * as say from "../words/page_commands.js";
 
-const NONE_HELD = { ctrlKey: false, metaKey: false, altKey: false, shiftKey: false, defaultPrevented: false };
-const typed = (key, held = {}) => ({ ...NONE_HELD, key, ...held });
+const NO_MODIFIERS = { ctrlKey: false, metaKey: false, altKey: false, shiftKey: false, defaultPrevented: false };
+const keyEvent = (key, modifiers = {}) => ({ ...NO_MODIFIERS, key, ...modifiers });
 
 /** Returns a stand-in for the objects that commands call. The stand-in records the calls. */
-function recorder() {
+function createRecorder() {
   const seen = [];
   const calls = new Proxy({}, { get: (_none, name) => (...words) => {
     seen.push([name, ...words]);
@@ -22,92 +22,92 @@ function recorder() {
   return { seen, calls };
 }
 
-test("each command has an id of its own, words of its own, a group, and does something", () => {
+test("each command has a unique id, a unique name, a group and an action", () => {
   assert.equal(new Set(COMMANDS.map(({ id }) => id)).size, COMMANDS.length);
   assert.equal(new Set(COMMANDS.map(({ words }) => words)).size, COMMANDS.length);
   for (const command of COMMANDS) {
     assert.ok(command.words && command.group in say.GROUPS, command.id);
-    const { seen, calls } = recorder();
+    const { seen, calls } = createRecorder();
     command.act(calls);
     assert.equal(seen.length, 1, command.id);
     assert.equal(command.whyNot(calls), "", command.id);
   }
 });
 
-test("no words of a command are left over", () => {
-  const used = new Set(COMMANDS.map(({ id }) => id));
-  assert.deepEqual(Object.keys(say.COMMANDS).filter((id) => !used.has(id)), ["time.pause"]);
+test("each command name belongs to a command", () => {
+  const usedIds = new Set(COMMANDS.map(({ id }) => id));
+  assert.deepEqual(Object.keys(say.COMMANDS).filter((id) => !usedIds.has(id)), ["time.pause"]);
 });
 
-test("what a command presses, ticks or enters is in the page", () => {
-  const bench = readFileSync(new URL("../../page/bench.html", import.meta.url), "utf8");
+test("the elements that commands use exist in the page", () => {
+  const html = readFileSync(new URL("../../page/bench.html", import.meta.url), "utf8");
   for (const command of COMMANDS) {
-    const { seen, calls } = recorder();
+    const { seen, calls } = createRecorder();
     command.act(calls);
     const [[name, id]] = seen;
-    if (["press", "enter", "toggle"].includes(name)) assert.ok(bench.includes(`id="${id}"`), `${command.id}: ${id}`);
+    if (["press", "enter", "toggle"].includes(name)) assert.ok(html.includes(`id="${id}"`), `${command.id}: ${id}`);
   }
 });
 
-test("a command that cannot be done says why", () => {
+test("a command that cannot run gives the reason", () => {
   const calls = { canGoForward: () => false, isOffered: () => false, hasText: () => false, hasNotices: () => false, hasKeys: () => false };
-  const whys = COMMANDS.map((command) => [command.id, command.whyNot(calls)]).filter(([, why]) => why);
-  assert.ok(whys.length > 30);
+  const reasons = COMMANDS.map((command) => [command.id, command.whyNot(calls)]).filter(([, why]) => why);
+  assert.ok(reasons.length > 30);
   assert.equal(commandById("time.redo").whyNot(calls), say.NOTHING_UNDONE);
   assert.equal(commandById("text.find").whyNot(calls), say.NO_EDITOR);
   assert.equal(commandById("waves.save").whyNot(calls), say.NO_WAVES);
-  for (const [id, why] of whys) assert.match(why, /^[a-z].*[a-z]$/, id);
+  for (const [id, why] of reasons) assert.match(why, /^[a-z].*[a-z]$/, id);
 });
 
-test("the keys are those of VS Code and DevTools, and the old ones go on", () => {
+test("the keys are those of VS Code and DevTools", () => {
   const ids = { F5: "time.continue", F8: "time.continue", F10: "time.over", F11: "time.into", F9: "debug.breakpoint", F1: "help.open" };
-  for (const [key, id] of Object.entries(ids)) assert.equal(commandForKey(typed(key)).id, id, key);
-  const shifted = { F8: "time.lastPause", F11: "time.out", F9: "debug.condition" };
-  for (const [key, id] of Object.entries(shifted)) assert.equal(commandForKey(typed(key, { shiftKey: true })).id, id, key);
-  const controlled = { s: "project.save", S: "project.save", o: "project.open", p: "go.to", k: "settings.palette", F11: "time.stepBack" };
-  for (const [key, id] of Object.entries(controlled)) {
-    assert.equal(commandForKey(typed(key, { ctrlKey: true })).id, id, key);
-    assert.equal(commandForKey(typed(key, { metaKey: true })).id, id, key);
+  for (const [key, id] of Object.entries(ids)) assert.equal(commandForKey(keyEvent(key)).id, id, key);
+  const shiftIds = { F8: "time.lastPause", F11: "time.out", F9: "debug.condition" };
+  for (const [key, id] of Object.entries(shiftIds)) assert.equal(commandForKey(keyEvent(key, { shiftKey: true })).id, id, key);
+  const controlIds = { s: "project.save", S: "project.save", o: "project.open", p: "go.to", k: "settings.palette", F11: "time.stepBack" };
+  for (const [key, id] of Object.entries(controlIds)) {
+    assert.equal(commandForKey(keyEvent(key, { ctrlKey: true })).id, id, key);
+    assert.equal(commandForKey(keyEvent(key, { metaKey: true })).id, id, key);
   }
-  assert.equal(commandForKey(typed("P", { ctrlKey: true, shiftKey: true })).id, "settings.palette");
+  assert.equal(commandForKey(keyEvent("P", { ctrlKey: true, shiftKey: true })).id, "settings.palette");
 });
 
-test("other keys are the browser's, and a key that another part has taken is its own", () => {
+test("other keys are left to the browser, and a handled key event is ignored", () => {
   for (const [key, held] of [["a", {}], ["a", { ctrlKey: true }], ["s", {}], ["s", { ctrlKey: true, altKey: true }],
     ["F5", { ctrlKey: true }], ["F9", { defaultPrevented: true }], ["F10", { ctrlKey: true }]]) {
-    assert.equal(commandForKey(typed(key, held)), undefined, `${key} ${JSON.stringify(held)}`);
+    assert.equal(commandForKey(keyEvent(key, held)), undefined, `${key} ${JSON.stringify(held)}`);
   }
 });
 
-test("no key stands twice where it works", () => {
-  const seen = new Map();
+test("no key has two commands in the same part of the page", () => {
+  const idsByKey = new Map();
   for (const { id, keys, place } of COMMANDS) {
     for (const key of keys) {
       const places = place === "everywhere" ? ["everywhere", "texts", "source", "board", "tests", "properties"] : [place, "everywhere"];
-      for (const each of places) {
-        assert.equal(seen.get(`${key} ${each}`), undefined, `${key} of ${id}`);
-        if (each === place) seen.set(`${key} ${each}`, id);
+      for (const scope of places) {
+        assert.equal(idsByKey.get(`${key} ${scope}`), undefined, `${key} of ${id}`);
+        if (scope === place) idsByKey.set(`${key} ${scope}`, id);
       }
     }
   }
 });
 
-test("while a dialog is open keys do nothing, and the browser does nothing with them either", () => {
-  const [done, taken] = [[], []];
+test("while a dialog is open, command keys have no effect, also not in the browser", () => {
+  const [executed, prevented] = [[], []];
   let listener = () => {};
   let isClosed = false;
-  listenToKeys(({ id }) => done.push(id), () => isClosed, { addEventListener: (_name, listen) => { listener = listen; } });
-  const press = (key, held) => listener({ ...typed(key, held), preventDefault: () => taken.push(key) });
+  listenToKeys(({ id }) => executed.push(id), () => isClosed, { addEventListener: (_name, callback) => { listener = callback; } });
+  const press = (key, held) => listener({ ...keyEvent(key, held), preventDefault: () => prevented.push(key) });
   press("s", { ctrlKey: true });
   press("x", {});
   isClosed = true;
   press("o", { ctrlKey: true });
-  assert.deepEqual([done, taken], [["project.save"], ["s", "o"]]);
+  assert.deepEqual([executed, prevented], [["project.save"], ["s", "o"]]);
 });
 
-test("names of keys, as the table and as an editor has them", () => {
-  assert.equal(formatKey(typed("p", { metaKey: true, shiftKey: true })), "Ctrl+Shift+P");
-  assert.equal(formatKey(typed("[", { ctrlKey: true, altKey: true, shiftKey: true })), "Ctrl+Alt+Shift+[");
+test("names of keys have the format of the table or of the editor", () => {
+  assert.equal(formatKey(keyEvent("p", { metaKey: true, shiftKey: true })), "Ctrl+Shift+P");
+  assert.equal(formatKey(keyEvent("[", { ctrlKey: true, altKey: true, shiftKey: true })), "Ctrl+Alt+Shift+[");
   assert.deepEqual(Object.keys(editorKeys("text.foldAll", () => {})), ["Ctrl-Alt-Shift-[", "Cmd-Alt-Shift-["]);
   assert.deepEqual(Object.keys(editorKeys("text.comment", () => {})), ["Ctrl-/", "Cmd-/"]);
   assert.deepEqual(Object.keys(editorKeys("debug.condition", () => {})), ["Shift-F9"]);
@@ -115,7 +115,7 @@ test("names of keys, as the table and as an editor has them", () => {
 
 const entry = (words, hint = "", keys = []) => ({ words, hint, why: "", keys, act: () => {} });
 
-test("the palette finds by words in any order, what begins with them first", () => {
+test("the palette finds entries by words in any order, and ranks matches at the beginning first", () => {
   const entries = [entry("Show Source"), entry("Save project"), entry("Step over", "Time", ["F10"]), entry("Zoom to fit")];
   const names = (query) => searchEntries(entries, query).map(({ words }) => words);
   assert.deepEqual(names(""), ["Show Source", "Save project", "Step over", "Zoom to fit"]);
@@ -130,32 +130,34 @@ test("the palette finds by words in any order, what begins with them first", () 
 });
 
 test("places: texts, labels, typed addresses and lines, projects, examples", () => {
-  const went = [];
-  const go = (what) => (value) => went.push(`${what} ${value}`);
+  const visits = [];
+  const recordVisit = (kind) => (value) => visits.push(`${kind} ${value}`);
   const names = new Map([["loop", { name: "loop", value: 0x12, isLabel: true }], ["ten", { name: "ten", value: 10, isLabel: false }]]);
   const map = { names, lineOf: () => 7, findValueIgnoringCase: (name) => (names.get(name.toLowerCase()) || {}).value };
-  const calls = { map: () => map, examples: () => ["clock"], projects: () => [{ id: "4", name: "mine" }], show: go("show"),
-    showLine: go("line"), showAddress: go("address"), beginExample: go("example"), openProject: go("project") };
-  const first = (wanted) => {
-    const [place] = searchEntries(listDestinations(wanted, calls), wanted);
+  const calls = { map: () => map, examples: () => ["clock"], projects: () => [{ id: "4", name: "mine" }], show: recordVisit("show"),
+    showLine: recordVisit("line"), showAddress: recordVisit("address"), beginExample: recordVisit("example"),
+      openProject: recordVisit("project") };
+  const openFirst = (query) => {
+    const [place] = searchEntries(listDestinations(query, calls), query);
     place.act();
-    return [place.words, place.hint, went.pop()];
+    return [place.words, place.hint, visits.pop()];
   };
-  assert.deepEqual(first(":12"), ["Line 12 of Source", "", "line 12"]);
-  assert.deepEqual(first("0x20"), ["Address 020", "", "address 32"]);
-  assert.deepEqual(first("loop"), ["loop", "line 7, 012", "address 18"]);
-  assert.deepEqual(first("loop + 2"), ["Address 014", "", "address 20"]);
-  assert.deepEqual(first("wav"), ["Waves", "text", "show waves"]);
-  assert.deepEqual(first("mine"), ["mine", "project", "project 4"]);
-  assert.deepEqual(first("clo"), ["clock", "Example", "example clock"]);
+  assert.deepEqual(openFirst(":12"), ["Line 12 of Source", "", "line 12"]);
+  assert.deepEqual(openFirst("0x20"), ["Address 020", "", "address 32"]);
+  assert.deepEqual(openFirst("loop"), ["loop", "line 7, 012", "address 18"]);
+  assert.deepEqual(openFirst("loop + 2"), ["Address 014", "", "address 20"]);
+  assert.deepEqual(openFirst("wav"), ["Waves", "text", "show waves"]);
+  assert.deepEqual(openFirst("mine"), ["mine", "project", "project 4"]);
+  assert.deepEqual(openFirst("clo"), ["clock", "Example", "example clock"]);
   assert.deepEqual(searchEntries(listDestinations("nowhere", calls), "nowhere"), []);
   assert.equal(listDestinations("", { ...calls, map: () => null }).some(({ words }) => words === "loop"), false);
 });
 
-test("the help's section of the keyboard begins with the keys of the commands", () => {
-  const [one, two] = addKeyRows([{ title: "The keyboard", tables: [{ caption: "", head: [], rows: [] }] }, { title: "Other", tables: [] }]);
-  assert.deepEqual([one.tables.length, two.tables.length], [2, 0]);
-  assert.deepEqual(one.tables[0].rows, keyRows());
+test("the help section about the keyboard begins with the keys of commands", () => {
+  const [keyboard, other] =
+    addKeyRows([{ title: "The keyboard", tables: [{ caption: "", head: [], rows: [] }] }, { title: "Other", tables: [] }]);
+  assert.deepEqual([keyboard.tables.length, other.tables.length], [2, 0]);
+  assert.deepEqual(keyboard.tables[0].rows, keyRows());
   assert.deepEqual(keyRows()[0], ["`F5`, `F8`", "Continue"]);
   assert.equal(keyRows().length, COMMANDS.filter(({ keys }) => keys.length).length);
 });

@@ -6,13 +6,13 @@ export const pageModule = page.readPageModule();
 const { examples } = page.readPageData();
 export const examplesOfPage = examples;
 
-/** Resolves to a session from an example after some lines. */
-export async function begin(name, lines = "") {
-  const calls = new BenchCalls(async () => true);
-  await calls.load(pageModule, examples);
-  calls.open(calls.make(examples.find((each) => each.name === name)));
-  if (lines) await calls.serve(lines);
-  return calls;
+/** Resolves to the calls of a bench with an example's session, after some session lines. */
+export async function openExample(name, lines = "") {
+  const benchCalls = new BenchCalls(async () => true);
+  await benchCalls.load(pageModule, examples);
+  benchCalls.open(benchCalls.make(examples.find((example) => example.name === name)));
+  if (lines) await benchCalls.serve(lines);
+  return benchCalls;
 }
 
-export const counterOf = (calls) => calls.ask("regs\n")[0].split(" ")[5];
+export const readCounter = (benchCalls) => benchCalls.ask("regs\n")[0].split(" ")[5];

@@ -19,11 +19,12 @@ import { PanelTerminal } from "../node/panel_terminal.mjs";
 import { pageModule } from "./page_session.js";
 
 const engine = new Engine(new globalThis.WebAssembly.Module(pageModule));
-const read = (name) => readFileSync(new URL(`../../examples/${name}`, import.meta.url), "utf8");
-const CALCULATOR = { board: read("calculator/board.toml"), program: read("calculator/calculator.asm") };
-const PRINTING = { board: read("printing_calculator/board.toml"), program: read("printing_calculator/printing_calculator.asm") };
-const SIZE = { rows: 24, columns: 80 };
-const SECOND = 1000;
+const readExample = (name) => readFileSync(new URL(`../../examples/${name}`, import.meta.url), "utf8");
+const CALCULATOR = { board: readExample("calculator/board.toml"), program: readExample("calculator/calculator.asm") };
+const PRINTING = { board: readExample("printing_calculator/board.toml"),
+  program: readExample("printing_calculator/printing_calculator.asm") };
+const TERMINAL_SIZE = { rows: 24, columns: 80 };
+const SECOND_MS = 1000;
 
 /** A program that counts in R0 to R3, and a board with two keys, a lamp and one RAM chip. */
 const COUNTER = {
@@ -40,40 +41,40 @@ rom = [{ chip = 0, port = "00ii" }]\nram = [{ bank = 2, chips = 1 }]\nlamp = [{ 
  */
 async function openPanel({ board, program }, { lines = "", isPaused = false, hasSource = false } = {}) {
   const state = engine.begin();
-  const ask = async (asked) => engine.serve(state, asked, state).answers;
+  const ask = async (sessionLines) => engine.serve(state, sessionLines, state).answers;
   const answers = await ask(`wire\n${sentText(board, "#")}.\nasm\n${program}.\n${lines}`);
   assert.deepEqual(answers.filter((answer) => answer.startsWith("no ")), []);
   const sourceOf = () => ({ map: sessionProgram(engine, romCodes(engine, state), program).map, lines: program.split("\n"), before: 0 });
-  const of = {
+  const options = {
     name: "s.mcs", board: readBoard(await ask("board\n")), face: new Face(board), note: "", isPaused,
     source: hasSource ? sourceOf() : null,
     describeRefusal: (number) => `words of ${number}`,
   };
-  const panel = new Panel(ask, of, 0);
+  const panel = new Panel(ask, options, 0);
   const screen = new Screen(panel);
   await panel.begin();
   let now = 0;
   const typed = async (keys) => {
     for (const key of splitKeys(keys)) {
       await panel.handleKey(key, now);
-      await panel.snapshot.refresh(middleRows(SIZE));
+      await panel.snapshot.refresh(middleRows(TERMINAL_SIZE));
     }
   };
   /** Lets time pass, frame by frame. */
   const pass = async (milliseconds) => {
-    for (const end = now + milliseconds; now < end;) {
+    for (const deadline = now + milliseconds; now < deadline;) {
       now += 100;
       await panel.keepRealTime(now);
     }
-    await panel.snapshot.refresh(middleRows(SIZE));
+    await panel.snapshot.refresh(middleRows(TERMINAL_SIZE));
   };
-  const rows = (size = SIZE) => screen.rows(size).map(({ pieces }) => pieces.map(({ text }) => text).join(""));
-  return { panel, screen, ask, typed, pass, rows, text: (size = SIZE) => rows(size).map((row) => row.trimEnd()).join("\n") };
+  const rows = (size = TERMINAL_SIZE) => screen.rows(size).map(({ pieces }) => pieces.map(({ text }) => text).join(""));
+  return { panel, screen, ask, typed, pass, rows, text: (size = TERMINAL_SIZE) => rows(size).map((row) => row.trimEnd()).join("\n") };
 }
 
-const keysDown = async (ask) => stateValue((await ask("state\n"))[0], "keys");
+const queryKeysDown = async (ask) => stateValue((await ask("state\n"))[0], "keys");
 
-test("keys in what a terminal sends", () => {
+test("terminal input is split into keys", () => {
   const keysOf = (input) => splitKeys(input).map(({ kind, text }) => `${kind} ${JSON.stringify(text)}`);
   assert.deepEqual(keysOf("a\r\u00e9"), ['character "a"', 'character "\\r"', 'character "\u00e9"']);
   assert.deepEqual(keysOf("\u001b[C\u001bOD\u001bOC1"), ['arrow "right"', 'arrow "left"', 'arrow "right"', 'character "1"']);
@@ -81,53 +82,53 @@ test("keys in what a terminal sends", () => {
     ['sequence "\\u001b[21~"', 'sequence "\\u001bx"', 'escape "\\u001b"', 'arrow "left"']);
 });
 
-test("large digits", () => {
+test("numbers are drawn in large digits", () => {
   const rows = (number) => largeDigitRows(number).map((row) => row.trimEnd());
   assert.deepEqual(rows("4.2"), ["         ###", "#   #       #", " ###     ###", "    #   #", "      #  ###"]);
   assert.deepEqual(rows("-?"), ["       ###", "          #", " ###   ###", "      #", ""]);
 });
 
 test("rows of lamps: a die, a matrix, a grid, and others with names", () => {
-  const shown = (text, count, isLit) => buildLampRows(new Face(text), count)
+  const lampRows = (text, count, isLit) => buildLampRows(new Face(text), count)
     .map((row) => row.map((cell) => formatCell(cell, cell.reader && cell.reader.isLit(isLit) ? 3 : 0)).join("").trimEnd());
-  assert.deepEqual(shown("# die 0: 7 lamps\n", 7, "*..*..*"), ["*       .", ".   *   .", ".       *", ""]);
-  assert.deepEqual(shown("# matrix 0: 2 rows of 2 scanned by 2\n", 4, ".**."), [". *", ". .", ""]);
-  assert.deepEqual(shown("# lamp 0: red go_on _ far\n# grid 0: red 2\n# grid 1: _ go_on\n", 4, "*..*"),
+  assert.deepEqual(lampRows("# die 0: 7 lamps\n", 7, "*..*..*"), ["*       .", ".   *   .", ".       *", ""]);
+  assert.deepEqual(lampRows("# matrix 0: 2 rows of 2 scanned by 2\n", 4, ".**."), [". *", ". .", ""]);
+  assert.deepEqual(lampRows("# lamp 0: red go_on _ far\n# grid 0: red 2\n# grid 1: _ go_on\n", 4, "*..*"),
     ["(*) red .", "        ( ) go on", "", "(*) far"]);
-  assert.deepEqual(shown("# bar 0: 14 lamps\n", 14, `*${".".repeat(13)}`), [`*${".".repeat(13)}`, ""]);
+  assert.deepEqual(lampRows("# bar 0: 14 lamps\n", 14, `*${".".repeat(13)}`), [`*${".".repeat(13)}`, ""]);
 });
 
-test("a calculator: what is typed has its time, and the display is large", async () => {
+test("a calculator: typed keys are pressed one after the other, and the display has large digits", async () => {
   const { typed, pass, text, panel } = await openPanel(CALCULATOR);
   await typed("12+30=");
-  await pass(2 * SECOND);
+  await pass(2 * SECOND_MS);
   assert.match(text(), /^ Desk calculator: s\.mcs {3}\d+ commands {3}running\n {7}###.* display 42\n# {3}# {5}#/);
   assert.match(text(), / 7 {5}8 {5}9 /);
   await panel.end();
   assert.deepEqual([panel.isEnded, panel.snapshot.keysDown.count], [true, 0]);
 });
 
-test("what was typed last is done before the panel ends", async () => {
+test("the last typed keys are processed before the panel ends", async () => {
   const { typed, panel, ask } = await openPanel(CALCULATOR, { lines: "run 2000\n" });
   await typed("12+30=");
   await panel.end();
-  assert.equal(await keysDown(ask), "-");
+  assert.equal(await queryKeysDown(ask), "-");
   await ask("run 20000\n");
   await panel.snapshot.refresh(0);
   assert.equal(panel.snapshot.display, "42");
 });
 
-test("time runs as fast as in the chip, and what a slow host misses is left out", async () => {
+test("the panel runs at the speed of the chip, and skips time that a slow host misses", async () => {
   const { panel, pass } = await openPanel(COUNTER);
-  await pass(SECOND);
+  await pass(SECOND_MS);
   assert.ok(Math.abs(panel.cycles - 92593) <= 1, String(panel.cycles));
-  await panel.keepRealTime(100 * SECOND);
+  await panel.keepRealTime(100 * SECOND_MS);
   assert.equal(panel.cycles - 92593 <= 20000, true);
 });
 
-test("a session at a breakpoint is paused; a step is one instruction; breakpoints come and go", async () => {
+test("a session at a breakpoint is paused; Enter runs one instruction; Tab toggles a breakpoint", async () => {
   const { typed, text, panel } = await openPanel(COUNTER, { lines: "poke r3 15\npoke r2 3\nbreak 2\nrun 100\n" });
-  await panel.snapshot.refresh(middleRows(SIZE));
+  await panel.snapshot.refresh(middleRows(TERMINAL_SIZE));
   assert.match(text(), /paused at a breakpoint\n/);
   assert.match(text(), />\*002 72 00 ISZ R2, 0x000/);
   await typed("\r");
@@ -142,7 +143,7 @@ test("a session at a breakpoint is paused; a step is one instruction; breakpoint
   assert.match(text(), /> 000/);
 });
 
-test("paused, a key goes down and up as it is typed; one that was down before stays down at the end", async () => {
+test("while paused, typing a key toggles it; a key that was down before stays down at the end", async () => {
   const { typed, text, panel, ask } = await openPanel(COUNTER, { lines: "press 0 1\n", isPaused: true });
   await typed("a");
   assert.match(text(), /\[a\] {3}\[CE:c\]/);
@@ -159,22 +160,22 @@ test("paused, a key goes down and up as it is typed; one that was down before st
   await typed("\u0012");
   const [count] = await ask("seq\n");
   await typed("\u0004");
-  const released = `seq ${Number(count.slice("seq ".length)) + 1}`;
-  assert.deepEqual([panel.isEnded, await keysDown(ask), await ask("seq\n")], [true, "-", [released]]);
-  const other = await openPanel(COUNTER, { lines: "press 0 1\n", isPaused: true });
-  const before = await other.ask("seq\n");
-  await other.typed("\u0003");
-  assert.deepEqual([await other.ask("seq\n"), await keysDown(other.ask)], [before, "0.1"]);
+  const finalSeq = `seq ${Number(count.slice("seq ".length)) + 1}`;
+  assert.deepEqual([panel.isEnded, await queryKeysDown(ask), await ask("seq\n")], [true, "-", [finalSeq]]);
+  const otherPanel = await openPanel(COUNTER, { lines: "press 0 1\n", isPaused: true });
+  const seqBefore = await otherPanel.ask("seq\n");
+  await otherPanel.typed("\u0003");
+  assert.deepEqual([await otherPanel.ask("seq\n"), await queryKeysDown(otherPanel.ask)], [seqBefore, "0.1"]);
 });
 
-test("what is refused is reported", async () => {
-  const breaks = Array.from({ length: 32 }, (_, at) => `break ${100 + at}\n`).join("");
+test("a rejected line is reported", async () => {
+  const breaks = Array.from({ length: 32 }, (_, index) => `break ${100 + index}\n`).join("");
   const { typed, text } = await openPanel(COUNTER, { lines: breaks, isPaused: true });
   await typed("\t");
   assert.match(text(), /break 0x000 is rejected: no (\d+): words of \1\n/);
 });
 
-test("a source: its lines in the listing, and the line that comes next above it", async () => {
+test("with a source, the listing has source lines, and the next line is above it", async () => {
   const { typed, text } = await openPanel(COUNTER, { isPaused: true, hasSource: true });
   await typed("\r");
   assert.match(text(), /\ncount, line 1: count: ISZ R3, count ; low\n/);
@@ -183,62 +184,63 @@ test("a source: its lines in the listing, and the line that comes next above it"
   assert.match(text(), / {2}00A 00 {4}NOP\n/);
 });
 
-test("lamps while time runs: levels of brightness; paused, those of an instant", async () => {
+test("lamps have levels of brightness while running, and the state of an instant while paused", async () => {
   const board = `# lamp 0: seldom mostly always never\n[[rom]]\nchip = 0\nport = "0000"\n${
     [0, 1, 2, 3].map((line) => `[[lamp]]\nline = "rom0.${line}"\n`).join("")}`;
   const program = "FIM P0, 0\nSRC P0\nloop: LDM 5\nWRR\nNOP\nLDM 6\nWRR\nFIM P1, 0\nwait: ISZ R2, wait\nJUN loop\n";
   const { pass, typed, text, screen } = await openPanel({ board, program });
   await pass(200);
   assert.match(text(), /\(:\) seldom[^]*\(\*\) mostly[^]*\(\*\) always[^]*\( \) never/);
-  const seldom = screen.rows(SIZE).flatMap(({ pieces }) => pieces).find((piece) => piece.text.includes("seldom"));
+  const seldom = screen.rows(TERMINAL_SIZE).flatMap(({ pieces }) => pieces).find((piece) => piece.text.includes("seldom"));
   assert.deepEqual([seldom.colour, seldom.level], ["red", 1]);
   await typed(" ");
   assert.doesNotMatch(text(), /\(:\)/);
 });
 
-test("paper: what was printed by running and by steps, its last lines", async () => {
+test("the panel shows the last lines of the printout, after running and after steps", async () => {
   const { typed, pass, rows, panel } = await openPanel(PRINTING);
-  const paper = () => {
-    const all = rows().map((row) => row.slice(29, 53).trimEnd());
-    return all.slice(all.indexOf("--- printout -----------") + 1, -2).filter(Boolean).join("/");
+  const printout = () => {
+    const panelRows = rows().map((row) => row.slice(29, 53).trimEnd());
+    return panelRows.slice(panelRows.indexOf("--- printout -----------") + 1, -2).filter(Boolean).join("/");
   };
   await typed("12+30=5");
-  await pass(3 * SECOND);
-  assert.equal(paper(), "12+/30=/42");
+  await pass(3 * SECOND_MS);
+  assert.equal(printout(), "12+/30=/42");
   await typed(" *");
-  for (let steps = 0; steps < 20000 && paper() === "12+/30=/42"; steps++) await panel.step();
-  assert.equal(paper(), "12+/30=/42/5");
+  for (let steps = 0; steps < 20000 && printout() === "12+/30=/42"; steps++) await panel.step();
+  assert.equal(printout(), "12+/30=/42/5");
   await typed("* ");
   await typed("6=2+2=");
-  await pass(4 * SECOND);
-  assert.equal(paper(), "6=/30/2+/2=/4");
+  await pass(4 * SECOND_MS);
+  assert.equal(printout(), "6=/30/2+/2=/4");
 });
 
-test("rows fit the terminal, and no text of others controls it", async () => {
-  const odd = { ...COUNTER };
-  odd.board = COUNTER.board.replace("# title: Own", `# title: O\u001b[2Jwn ${"x".repeat(200)}\n# lamp 0: go\u009b31m`);
-  const { typed, rows, text } = await openPanel(odd, { isPaused: true });
+test("rows fit the terminal, and texts from files cannot send control characters to it", async () => {
+  const hostileTexts = { ...COUNTER };
+  hostileTexts.board = COUNTER.board.replace("# title: Own", `# title: O\u001b[2Jwn ${"x".repeat(200)}\n# lamp 0: go\u009b31m`);
+  const { typed, rows, text } = await openPanel(hostileTexts, { isPaused: true });
   await typed("\u001b[C");
-  for (const size of [SIZE, { rows: 31, columns: 97 }]) {
+  for (const size of [TERMINAL_SIZE, { rows: 31, columns: 97 }]) {
     assert.deepEqual(rows(size).map((row) => [...row].length), Array(size.rows).fill(size.columns));
   }
   assert.match(text(), /^ O\\x1B\[2Jwn x+\n/);
   assert.match(text(), /\( \) go\\x9B31m/);
   // eslint-disable-next-line no-control-regex
   assert.doesNotMatch(text(), /[\u0000-\u0009\u000b-\u001f\u007f-\u009f]/);
-  assert.deepEqual([fitsPanel(SIZE), fitsPanel({ rows: 23, columns: 80 }), fitsPanel({ rows: 24, columns: 79 })], [true, false, false]);
+  assert.deepEqual([fitsPanel(TERMINAL_SIZE), fitsPanel({ rows: 23, columns: 80 }), fitsPanel({ rows: 24, columns: 79 })],
+    [true, false, false]);
 });
 
-test("a terminal that is restored gets no more pictures: a signal can come while one is made", () => {
-  const written = [];
-  const output = { ...SIZE, write: (text) => written.push(text) };
+test("nothing is drawn after the terminal was restored, even if a signal arrives during drawing", () => {
+  const writtenTexts = [];
+  const output = { ...TERMINAL_SIZE, write: (text) => writtenTexts.push(text) };
   const terminal = Object.assign(Object.create(PanelTerminal.prototype), { output, paint: null, drawnRows: [], isOn: true });
   const rows = [{ pieces: [{ text: "a row", colour: "", level: 0 }], isInverse: false }];
   terminal.draw(rows);
-  assert.deepEqual(written, ["\x1b[2J\x1b[1;1Ha row"]);
+  assert.deepEqual(writtenTexts, ["\x1b[2J\x1b[1;1Ha row"]);
   terminal.isOn = false;
   terminal.drawnRows = [];
   terminal.draw(rows);
   terminal.drawTooSmall();
-  assert.equal(written.length, 1);
+  assert.equal(writtenTexts.length, 1);
 });

@@ -6,24 +6,24 @@ import test from "node:test";
 import { PendingKeys } from "../core/board/pending_keys.js";
 import { matrixKey } from "../core/board/key_place.js";
 import { KeyPresser } from "../page/board/key_presser.js";
-import { begin } from "./page_session.js";
+import { openExample } from "./page_session.js";
 
 const KEY = { key: matrixKey(0, 0), isSwitch: false };
 
 /**
- * Returns a KeyPresser for a key while time is running. `arrive` delivers the requests to the worker, and `look` delivers the worker's
- * report to the page.
+ * Returns a KeyPresser for a key while the machine is running. `arrive` delivers the requests to the worker, and `look` delivers the
+ * worker's report to the page.
  */
 async function createPresser() {
-  const calls = await begin("calculator");
+  const calls = await openExample("calculator");
   const pendingKeys = new PendingKeys();
-  const words = [];
-  let [isDown, onTheWay] = [false, []];
+  const sentWords = [];
+  let [isDown, changesInTransit] = [false, []];
   const send = (word) => {
-    words.push(word);
-    onTheWay.push([word, pendingKeys.send({ word, key: KEY.key })]);
+    sentWords.push(word);
+    changesInTransit.push([word, pendingKeys.send({ word, key: KEY.key })]);
   };
-  const pressing = new KeyPresser({
+  const presser = new KeyPresser({
     isRunning: () => true,
     isDown: (key) => pendingKeys.willBeDown(key, isDown),
     press: () => send("press"),
@@ -32,11 +32,11 @@ async function createPresser() {
     keyForEvent: () => undefined,
   });
   const arrive = () => {
-    for (const [word, arrived] of onTheWay) {
+    for (const [word, confirm] of changesInTransit) {
       pendingKeys.waitingChanges = structuredClone(calls[word](KEY.key));
-      arrived();
+      confirm();
     }
-    onTheWay = [];
+    changesInTransit = [];
   };
   /** Runs `cycles` cycles, then delivers the current state to the page. */
   const look = (cycles) => {
@@ -46,10 +46,10 @@ async function createPresser() {
     pendingKeys.waitingChanges = frame.waiting;
     return isDown;
   };
-  return { pressing, words, arrive, look };
+  return { pressing: presser, words: sentWords, arrive, look };
 }
 
-test("a key is typed again while its release waits for its time", async () => {
+test("a key can be pressed again while its release is delayed", async () => {
   const { pressing, words, look } = await createPresser();
   pressing.pressOrRelease(KEY, false);
   assert.equal(look(1500), true);
@@ -61,7 +61,7 @@ test("a key is typed again while its release waits for its time", async () => {
   assert.deepEqual([look(1001), look(2000), look(4000)], [false, true, false]);
 });
 
-test("a key is typed again while its release is on its way", async () => {
+test("a key can be pressed again while its release is in transit", async () => {
   const { pressing, words, look } = await createPresser();
   pressing.pressOrRelease(KEY, false);
   assert.equal(look(6000), true);
@@ -70,7 +70,7 @@ test("a key is typed again while its release is on its way", async () => {
   assert.deepEqual(words, ["press", "release", "press"]);
 });
 
-test("a key that stays down is let go by a press, also while that press waits", async () => {
+test("pressing a held key releases it, even while its first press is pending", async () => {
   const { pressing, words, look } = await createPresser();
   pressing.pressOrRelease(KEY, true);
   pressing.endPress(KEY.key);
@@ -86,12 +86,12 @@ test("a key that stays down is let go by a press, also while that press waits", 
   assert.deepEqual(words, ["press", "release", "press", "release"]);
 });
 
-test("what is forgotten of a key leaves it as the bench reports it", () => {
+test("after its changes are forgotten, a key has the state that the bench reports", () => {
   const pendingKeys = new PendingKeys();
-  const arrived = pendingKeys.send({ word: "press", key: matrixKey(0, 0) });
+  const confirm = pendingKeys.send({ word: "press", key: matrixKey(0, 0) });
   assert.deepEqual([pendingKeys.willBeDown(matrixKey(0, 0), false), pendingKeys.willBeDown(matrixKey(0, 1), false)], [true, false]);
   pendingKeys.send({ word: "forget", key: matrixKey(0, 0) });
   assert.deepEqual([pendingKeys.willBeDown(matrixKey(0, 0), false), pendingKeys.willBeDown(matrixKey(0, 0), true)], [false, true]);
-  arrived();
+  confirm();
   assert.equal(pendingKeys.changesInTransit.length, 1);
 });

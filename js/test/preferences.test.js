@@ -5,31 +5,32 @@ import test from "node:test";
 import { Preferences } from "../page/ui/preferences.js";
 
 /** Returns a stand-in for the browser's local storage, in memory. */
-function fakeStore(text = null) {
+function createFakeStore(text = null) {
   const store = { text, getItem: () => store.text, setItem: (key, value) => { store.text = value; } };
   return store;
 }
 
-test("what was chosen is there at the next visit", () => {
-  const store = fakeStore();
+test("a preference is stored for the next visit", () => {
+  const store = createFakeStore();
   new Preferences(store).set("fold.memory", "folded");
-  const again = new Preferences(store);
-  assert.equal(again.get("fold.memory"), "folded");
-  assert.equal(again.get("fold.ports"), "");
+  const reloaded = new Preferences(store);
+  assert.equal(reloaded.get("fold.memory"), "folded");
+  assert.equal(reloaded.get("fold.ports"), "");
 });
 
 test("two tabs keep each other's preferences", () => {
-  const store = fakeStore();
+  const store = createFakeStore();
   const [first, second] = [new Preferences(store), new Preferences(store)];
   first.set("text", "board");
   second.set("fold.talk", "folded");
-  const again = new Preferences(store);
-  assert.deepEqual([again.get("text"), again.get("fold.talk")], ["board", "folded"]);
+  const reloaded = new Preferences(store);
+  assert.deepEqual([reloaded.get("text"), reloaded.get("fold.talk")], ["board", "folded"]);
 });
 
-test("a store that is missing, blocked or damaged counts as none", () => {
-  const blocked = { getItem: () => { throw new Error("SecurityError"); }, setItem: () => { throw new Error("SecurityError"); } };
-  for (const store of [null, blocked, fakeStore("{broken"), fakeStore("null"), fakeStore("[1]"), fakeStore('{"text":7}')]) {
+test("preferences work without a store if it is missing, blocked or damaged", () => {
+  const blockedStore = { getItem: () => { throw new Error("SecurityError"); }, setItem: () => { throw new Error("SecurityError"); } };
+  for (const store of [null, blockedStore, createFakeStore("{broken"), createFakeStore("null"), createFakeStore("[1]"),
+    createFakeStore('{"text":7}')]) {
     const preferences = new Preferences(store);
     assert.equal(preferences.get("text"), "");
     preferences.set("text", "board");
@@ -37,6 +38,6 @@ test("a store that is missing, blocked or damaged counts as none", () => {
   }
 });
 
-test("a name that every object has is not a choice", () => {
+test("names of JavaScript object members have no value", () => {
   assert.equal(new Preferences(null).get("toString"), "");
 });

@@ -5,61 +5,61 @@ import { readFileSync, readdirSync } from "node:fs";
 import { findLineChanges, findLengthError, formatProgramLines } from "../core/text/program_format.js";
 
 const EXAMPLES = new URL("../../examples/", import.meta.url);
-const isHead = (word) => ["ORG", "DB", "LD", "LDM", "FIM", "JUN", "JMS", "JCN", "NOP", "SRC", "WRM", "BBL"].includes(word);
-const BLANKS = { tabSize: 8, insertSpaces: true };
-const formatted = (text, layout = BLANKS) => formatProgramLines(text.split("\n"), isHead, layout).join("\n");
+const isMnemonic = (word) => ["ORG", "DB", "LD", "LDM", "FIM", "JUN", "JMS", "JCN", "NOP", "SRC", "WRM", "BBL"].includes(word);
+const BLANK_LAYOUT = { tabSize: 8, insertSpaces: true };
+const format = (text, layout = BLANK_LAYOUT) => formatProgramLines(text.split("\n"), isMnemonic, layout).join("\n");
 
 test("labels, instructions, operands and comments have columns", () => {
-  assert.equal(formatted("start:LDM 5;five\n\tld r3 ;three\nb:  DB  1,2 ,3"), [
+  assert.equal(format("start:LDM 5;five\n\tld r3 ;three\nb:  DB  1,2 ,3"), [
     "start:  LDM 5           ;five",
     "        ld  r3          ;three",
     "b:      DB  1, 2, 3"].join("\n"));
-  assert.equal(formatted("a_long_label: JUN a_long_label ; to itself"), "a_long_label: JUN a_long_label  ; to itself");
-  assert.equal(formatted(" only : "), "only:");
-  assert.equal(formatted("NOP\n  \n\t\nNOP  "), "        NOP\n\n\n        NOP");
+  assert.equal(format("a_long_label: JUN a_long_label ; to itself"), "a_long_label: JUN a_long_label  ; to itself");
+  assert.equal(format(" only : "), "only:");
+  assert.equal(format("NOP\n  \n\t\nNOP  "), "        NOP\n\n\n        NOP");
 });
 
-test("definitions that follow each other have their signs in one column", () => {
-  assert.equal(formatted("a=1\nlonger =0x2 ; two\n\nb=3"), "a      = 1\nlonger = 0x2            ; two\n\nb = 3");
+test("consecutive definitions have their equals signs in one column", () => {
+  assert.equal(format("a=1\nlonger =0x2 ; two\n\nb=3"), "a      = 1\nlonger = 0x2            ; two\n\nb = 3");
 });
 
-test("a comment without code stays at the margin, or goes to the statements or to the comments", () => {
-  assert.equal(formatted("; a\n   ; b\n                  ; c\n LDM 5 ; d\n\t\t\t; e"),
+test("a comment line is aligned with the margin, the statements or the comments", () => {
+  assert.equal(format("; a\n   ; b\n                  ; c\n LDM 5 ; d\n\t\t\t; e"),
     ["; a", "        ; b", "                        ; c", "        LDM 5           ; d", "                        ; e"].join("\n"));
-  assert.equal(formatted(" DB 1, 2, 3, 4, 5, 6 ; d\n                        ; e"),
+  assert.equal(format(" DB 1, 2, 3, 4, 5, 6 ; d\n                        ; e"),
     ["        DB  1, 2, 3, 4, 5, 6    ; d", "                                ; e"].join("\n"));
 });
 
-test("what has no right form stays as it is", () => {
-  const wrong = [" JMP  x", "a : b : NOP", "  LDM  5  5", "LDM 5,,6", "x == 3", "  NOP \u00e9", " 1x: NOP", "\u00a0 NOP",
+test("lines with errors stay unchanged", () => {
+  const invalidLines = [" JMP  x", "a : b : NOP", "  LDM  5  5", "LDM 5,,6", "x == 3", "  NOP \u00e9", " 1x: NOP", "\u00a0 NOP",
     "a = b = 3", "R 3,"];
-  for (const line of wrong) {
-    assert.equal(formatted(line), line);
+  for (const line of invalidLines) {
+    assert.equal(format(line), line);
   }
-  const long = ` DB ${Array(120).fill("1").join(",")} `;
-  assert.equal(formatted(long), long, "a line that would be too long to be sent");
+  const longLine = ` DB ${Array(120).fill("1").join(",")} `;
+  assert.equal(format(longLine), longLine, "a line that would be too long to be sent");
 });
 
-test("tabs, for those who have them", () => {
+test("tabs are used if the layout requests them", () => {
   const layout = { tabSize: 8, insertSpaces: false };
-  assert.equal(formatted("start: LDM 5 ; five\n  LD R3", layout), "start:\tLDM 5\t\t; five\n\tLD  R3");
-  assert.equal(formatted("LDM 5", { tabSize: 4, insertSpaces: false }), "\t\tLDM 5");
+  assert.equal(format("start: LDM 5 ; five\n  LD R3", layout), "start:\tLDM 5\t\t; five\n\tLD  R3");
+  assert.equal(format("LDM 5", { tabSize: 4, insertSpaces: false }), "\t\tLDM 5");
 });
 
-test("the examples keep their words, and are the same after a second time", () => {
-  const words = (line) => [line.replace(/;.*/, "").replace(/\s+/g, ""), line.replace(/^[^;]*/, "").trim()];
+test("formatting keeps the words of the examples, and a second formatting changes nothing", () => {
+  const wordsOf = (line) => [line.replace(/;.*/, "").replace(/\s+/g, ""), line.replace(/^[^;]*/, "").trim()];
   for (const name of readdirSync(EXAMPLES)) {
     if (name.includes(".")) continue;
     const lines = readFileSync(new URL(`${name}/${name}.asm`, EXAMPLES), "utf8").split("\n");
-    for (const layout of [BLANKS, { tabSize: 8, insertSpaces: false }, { tabSize: 3, insertSpaces: false }]) {
-      const once = formatProgramLines(lines, () => true, layout);
-      assert.deepEqual(once.map(words), lines.map(words), name);
-      assert.deepEqual(formatProgramLines(once, () => true, layout), once, name);
+    for (const layout of [BLANK_LAYOUT, { tabSize: 8, insertSpaces: false }, { tabSize: 3, insertSpaces: false }]) {
+      const formattedLines = formatProgramLines(lines, () => true, layout);
+      assert.deepEqual(formattedLines.map(wordsOf), lines.map(wordsOf), name);
+      assert.deepEqual(formatProgramLines(formattedLines, () => true, layout), formattedLines, name);
     }
   }
 });
 
-test("a change has the characters that differ, and a text that would be too long is reported", () => {
+test("an edit replaces only the different characters, and a text that would be too long is reported", () => {
   assert.deepEqual(findLineChanges(["a: NOP", "same", "LD R3"], ["a:      NOP", "same", "LD  R3"]), [
     { line: 0, from: 3, to: 3, text: "     " }, { line: 2, from: 3, to: 3, text: " " }]);
   assert.equal(findLengthError(["NOP"]), "");
@@ -67,10 +67,10 @@ test("a change has the characters that differ, and a text that would be too long
   assert.match(findLengthError(Array(2000).fill(`NOP ;${"x".repeat(40)}`)), /; at most 65,536/);
 });
 
-test("long lines of blanks are read in a time that grows with their length alone", () => {
-  const begun = process.cpuUsage();
+test("long lines of blanks are formatted in time proportional to their length", () => {
+  const startUsage = process.cpuUsage();
   const blanks = " ".repeat(60000);
-  for (const line of [`${blanks}\u00e9`, `a${blanks}b`, `a:${blanks}=`, `DB 1${" ,".repeat(30000)}`, "1".repeat(60000)]) formatted(line);
+  for (const line of [`${blanks}\u00e9`, `a${blanks}b`, `a:${blanks}=`, `DB 1${" ,".repeat(30000)}`, "1".repeat(60000)]) format(line);
   // The limit is in microseconds of processor time.
-  assert.ok(process.cpuUsage(begun).user < 2e6);
+  assert.ok(process.cpuUsage(startUsage).user < 2e6);
 });

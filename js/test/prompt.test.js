@@ -13,16 +13,16 @@ import { pageModule } from "./page_session.js";
 
 const engine = new Engine(new globalThis.WebAssembly.Module(pageModule));
 const data = readPageData();
-const read = (name) => readFileSync(new URL(`../../examples/${name}`, import.meta.url), "utf8");
-const BOARD = read("three_lamps/board.toml");
-const PROGRAM = read("three_lamps/three_lamps.asm");
-const LOCK = { board: read("lock/board.toml"), program: read("lock/lock.asm") };
+const readExample = (name) => readFileSync(new URL(`../../examples/${name}`, import.meta.url), "utf8");
+const BOARD = readExample("three_lamps/board.toml");
+const PROGRAM = readExample("three_lamps/three_lamps.asm");
+const LOCK = { board: readExample("lock/board.toml"), program: readExample("lock/lock.asm") };
 
 /** Returns a prompt with files, and a function that returns its output and errors since the last call. */
-async function prompted({ board, program } = { board: BOARD, program: PROGRAM }, isInteractive = false, files = {}) {
+async function createPrompt({ board, program } = { board: BOARD, program: PROGRAM }, isInteractive = false, files = {}) {
   let printed = [];
   const session = new DebugSession(engine, { board, program });
-  const launched = {
+  const launchResult = {
     session, writer: null, program: "p.asm", board: "b.toml", stopsOnEntry: true, isDebugged: true, nameOf: (name) => name,
   };
   const calls = {
@@ -38,7 +38,7 @@ async function prompted({ board, program } = { board: BOARD, program: PROGRAM },
     isInteractive,
     view: null,
   };
-  const prompt = new Prompt(launched, data, calls);
+  const prompt = new Prompt(launchResult, data, calls);
   await prompt.begin();
   const ask = async (...lines) => {
     printed = [];
@@ -48,8 +48,8 @@ async function prompted({ board, program } = { board: BOARD, program: PROGRAM },
   return { prompt, session, ask, printed: () => printed };
 }
 
-test("the table of commands: each is there, is found by its words, and has help", async () => {
-  const { prompt } = await prompted();
+test("each command has a handler, is found by its names, and has help", async () => {
+  const { prompt } = await createPrompt();
   assert.deepEqual(Object.keys(prompt.handlers).sort(), COMMANDS.map(({ name }) => name).sort());
   const words = COMMANDS.flatMap(({ name, short }) => [name, ...short]);
   assert.equal(new Set(words).size, words.length);
@@ -63,28 +63,30 @@ test("the table of commands: each is there, is found by its words, and has help"
   assert.equal(findCommand("bogus").words, "there is no command bogus; help shows them all");
 });
 
-test("places, counts and times", async () => {
-  const { session } = await prompted();
-  const at = (text) => findInstruction(text, session);
-  assert.deepEqual(at("wait"), { line: session.map.lineOf(0x014), address: 0x014 });
-  assert.deepEqual(at("WAIT + 2").address, 0x016);
-  assert.deepEqual(at("*0x016").address, 0x016);
-  assert.deepEqual(at("three_lamps.asm:1").address, 0);
-  assert.deepEqual(at("").address, 0);
-  for (const wrong of ["nothing", "0x1000", "999", "wait + x", "-1"]) assert.throws(() => at(wrong), /place|addresses|instruction/, wrong);
+test("places, counts and times are parsed", async () => {
+  const { session } = await createPrompt();
+  const findPlace = (text) => findInstruction(text, session);
+  assert.deepEqual(findPlace("wait"), { line: session.map.lineOf(0x014), address: 0x014 });
+  assert.deepEqual(findPlace("WAIT + 2").address, 0x016);
+  assert.deepEqual(findPlace("*0x016").address, 0x016);
+  assert.deepEqual(findPlace("three_lamps.asm:1").address, 0);
+  assert.deepEqual(findPlace("").address, 0);
+  for (const wrong of ["nothing", "0x1000", "999", "wait + x", "-1"]) {
+    assert.throws(() => findPlace(wrong), /place|addresses|instruction/, wrong);
+  }
   assert.deepEqual([parseCountArgument("", 9), parseCountArgument(" 7 ", 9)], [1, 7]);
   for (const wrong of ["0", "10", "x", "-1", "1.5"]) assert.throws(() => parseCountArgument(wrong, 9), /a count is 1 to 9/, wrong);
   assert.deepEqual([parseCycles("538"), parseCycles("20 ms"), parseCycles("1s")], [538, 1852, 92593]);
   assert.throws(() => parseCycles("soon"), /soon is not a time/);
 });
 
-test("moves, and the same way back", async () => {
-  const { session, ask } = await prompted();
+test("steps forward and back", async () => {
+  const { session, ask } = await createPrompt();
   const state = () => session.debugger.session.ask("state\n")[0].replace(/^state seq \d+/, "");
-  const before = state();
+  const stateBefore = state();
   assert.deepEqual(await ask("step 3"), ["3 instructions were done, after 4 cycles, 0.043 ms.", ">    7  004          XCH R4"]);
   await ask("reverse-step 3");
-  assert.equal(state(), before);
+  assert.equal(state(), stateBefore);
   await ask("until wait");
   assert.equal(session.address, 0x014);
   assert.match((await ask("backtrace"))[1], /^#1 {2}007 {2}next \+ 2, line \d+, the call$/);
@@ -96,44 +98,44 @@ test("moves, and the same way back", async () => {
   assert.deepEqual(await ask("finish"), ["refused: no call is open here"]);
 });
 
-test("back to arrivals at breakpoints, to changes of what is watched, and to the stop before", async () => {
-  const { session, ask } = await prompted();
-  const total = () => session.debugger.session.count.total;
+test("going back to breakpoints, to changes of watched places, and to the previous stop", async () => {
+  const { session, ask } = await createPrompt();
+  const getTotal = () => session.debugger.session.count.total;
   await ask("break next if r4 = 2", "continue");
-  const first = total();
+  const totalAtBreakpoint = getTotal();
   await ask("run 50", "run 60");
-  const words = async (line) => (await ask(line)).find((each) => each.startsWith("Back at"));
-  assert.match(await words("back"), /^Back at the stop at .*, 60 cycles, .* earlier\.$/);
-  assert.match(await words("reverse-continue"), /^Back at 005 \(next, line \d+\), 50 cycles, .*, at a breakpoint, when r4 = 2\.$/);
-  assert.equal(total(), first);
+  const backMessage = async (line) => (await ask(line)).find((message) => message.startsWith("Back at"));
+  assert.match(await backMessage("back"), /^Back at the stop at .*, 60 cycles, .* earlier\.$/);
+  assert.match(await backMessage("reverse-continue"), /^Back at 005 \(next, line \d+\), 50 cycles, .*, at a breakpoint, when r4 = 2\.$/);
+  assert.equal(getTotal(), totalAtBreakpoint);
   await ask("watch lamps");
-  assert.match(await words("rc"), /: this instruction changes lamps from \.\.\. to \.\.\*\.$/);
-  assert.match(await words("rc"), /^Back at 000 .*, at the beginning of the remembered past: no breakpoint was passed since then\.$/);
-  assert.equal(total(), 0);
+  assert.match(await backMessage("rc"), /: this instruction changes lamps from \.\.\. to \.\.\*\.$/);
+  assert.match(await backMessage("rc"), /^Back at 000 .*, at the beginning of the remembered past: no breakpoint was passed since then\.$/);
+  assert.equal(getTotal(), 0);
   assert.deepEqual(await ask("rc"), ["refused: Nothing was done: the remembered past reaches no further back."]);
   assert.match((await ask("rc 3")).join(), /^refused: reverse-continue takes no argument/);
 });
 
-test("a run among lines of the bench ends at breakpoints as time does that runs", async () => {
-  const { session, ask } = await prompted();
-  const total = () => session.debugger.session.count.total;
+test("a run with `bench run` also ends at breakpoints", async () => {
+  const { session, ask } = await createPrompt();
+  const getTotal = () => session.debugger.session.count.total;
   await ask("break next if r4 = 2", "continue");
-  const [cycles, before] = [total(), session.breakpoints.all[0].hits];
+  const [cycles, hitsBefore] = [getTotal(), session.breakpoints.all[0].hits];
   await ask("back");
-  assert.equal(total(), 0);
+  assert.equal(getTotal(), 0);
   const printed = (await ask("bench run 100000")).filter((line) => /^(ok|Paused)/.test(line));
-  assert.equal(total(), cycles);
+  assert.equal(getTotal(), cycles);
   assert.match(printed[0], new RegExp(`^ok \\d+ ran ${cycles} end$`));
   assert.match(printed[1], /^Paused at 005 \(next, line \d+\), at a breakpoint, when r4 = 2\. The line run 100000 ended there\.$/);
-  assert.equal(session.breakpoints.all[0].hits, before + 1);
+  assert.equal(session.breakpoints.all[0].hits, hitsBefore + 1);
   await ask("delete", 'break next if r4 = 4 log "R4 is {r4}"');
-  const logged = await ask("bench run 20000");
-  assert.deepEqual(logged.filter((line) => line.startsWith("R4")), Array(session.breakpoints.all[0].hits).fill("R4 is 4"));
-  assert.match(logged[logged.length - 1], /^ok \d+ ran 20000 end$/);
+  const output = await ask("bench run 20000");
+  assert.deepEqual(output.filter((line) => line.startsWith("R4")), Array(session.breakpoints.all[0].hits).fill("R4 is 4"));
+  assert.match(output[output.length - 1], /^ok \d+ ran 20000 end$/);
 });
 
-test("breakpoints with conditions, counts and notes; watches", async () => {
-  const { ask, session } = await prompted();
+test("breakpoints with conditions, hit counts and log messages; watches", async () => {
+  const { ask, session } = await createPrompt();
   assert.match((await ask("break wait from 3"))[0], /^Breakpoint 1 at 014 \(wait, line \d+\)\.$/);
   assert.match((await ask("continue")).join("|"), /Paused at 014 \(wait, line \d+\), at a breakpoint, at hit 3\.\|>\*/);
   assert.match((await ask("info breakpoints"))[0], /^1 {2}line \d+ at 0x014 from 3, 3 hits$/);
@@ -142,9 +144,9 @@ test("breakpoints with conditions, counts and notes; watches", async () => {
   const notes = (await ask("run 100 ms")).filter((line) => line.startsWith("R4"));
   assert.deepEqual(notes, Array(session.breakpoints.all[0].hits).fill("R4 is 4"));
   assert.ok(notes.length > 1);
-  const [refused] = await ask("break next if r4 is big");
-  assert.match(refused, /^refused: /);
-  assert.equal(session.breakpoints.all.length, 1, "the one before stays");
+  const [refusal] = await ask("break next if r4 is big");
+  assert.match(refusal, /^refused: /);
+  assert.equal(session.breakpoints.all.length, 1, "the previous breakpoint stays");
   await ask("delete");
   assert.deepEqual(await ask("continue"), ["refused: nothing would stop it: set a breakpoint, or run for a time, as in run 100 ms"]);
   assert.deepEqual(await ask("watch r4", "info watches"), ["r4 is watched by continue.", "r4, by continue"]);
@@ -154,8 +156,8 @@ test("breakpoints with conditions, counts and notes; watches", async () => {
   assert.deepEqual(await ask("watch chain0.1"), ["refused: the board has no chain0.1"]);
 });
 
-test("what is shown, printed and set", async () => {
-  const { ask } = await prompted();
+test("values are shown, printed and set", async () => {
+  const { ask } = await createPrompt();
   assert.deepEqual(await ask("set r4 = 0x0B", "print r4", "print P2", "set p2 time", "print p2"), ["0xB", "0xB0", "0x0C"]);
   assert.deepEqual(await ask("set R5 = r4 + 15", "print R5", "set st 0 1 2 = R5 & 3", "print st.0.1.2"), ["0xF", "0x3"]);
   assert.deepEqual(await ask("set A = 1", "set r4 16"), [
@@ -183,16 +185,16 @@ test("what is shown, printed and set", async () => {
   assert.deepEqual(await ask("print time"), ["0x0D, 13"]);
 });
 
-test("the view: source, registers, lamps, in any size; values that are others stand out", async () => {
-  const { prompt, ask } = await prompted();
+test("the view shows source, registers and lamps in each size, and marks changed values", async () => {
+  const { prompt, ask } = await createPrompt();
   assert.match((await ask("view")).join(), /^refused: the view needs a terminal/);
   assert.match((await ask("view far")).join(), /^refused: write view, view on or view off$/);
-  const turned = [];
-  prompt.calls.view = { toggle: () => "no room", turn: (isOn) => { turned.push(isOn); return ""; } };
+  const viewChanges = [];
+  prompt.calls.view = { toggle: () => "no room", turn: (isOn) => { viewChanges.push(isOn); return ""; } };
   assert.deepEqual(await ask("tui enable", "layout src", "view off"), []);
-  assert.deepEqual([turned, await ask("view")], [[true, true, false], ["refused: no room"]]);
-  const plain = (text) => text;
-  const marks = { head: plain, nextInstruction: (text) => `[${text}]`, changedValue: (text) => `{${text}}` };
+  assert.deepEqual([viewChanges, await ask("view")], [[true, true, false], ["refused: no room"]]);
+  const unmarked = (text) => text;
+  const marks = { head: unmarked, nextInstruction: (text) => `[${text}]`, changedValue: (text) => `{${text}}` };
   const view = new View(prompt);
   assert.deepEqual(viewSize(24, 80), { rows: 14, columns: 79 });
   assert.deepEqual([viewSize(11, 80), viewSize(24, 39), viewSize(undefined, undefined)], [null, null, null]);
@@ -201,13 +203,13 @@ test("the view: source, registers, lamps, in any size; values that are others st
   const lines = view.lines(viewSize(24, 80), marks);
   assert.equal(lines.length, 14);
   assert.match(lines[0], /^p\.asm {2}014 \(wait, line 20\) {2}9 cycles, 0\.097 ms *$/);
-  const here = lines.find((line) => line.startsWith("["));
-  assert.match(here, /^\[> {3}20 {2}014 {2}wait: {3}FIM P1, time\] +returns 009 000 000$/);
+  const nextLine = lines.find((line) => line.startsWith("["));
+  assert.match(nextLine, /^\[> {3}20 {2}014 {2}wait: {3}FIM P1, time\] +returns 009 000 000$/);
   assert.match(lines.join("\n"), /\{acc 1\} {3}cy 0 .*\n.*\n.*P0 00 {2}P1 00\n.*\{P2 10\}/);
   assert.deepEqual(lines.slice(-3), ["lamps ..* right", "r4 = 0x1", "-".repeat(79)]);
   for (const [rows, columns] of [[12, 40], [24, 60], [50, 200]]) {
     const size = viewSize(rows, columns);
-    const printed = view.lines(size, { head: plain, nextInstruction: plain, changedValue: plain });
+    const printed = view.lines(size, { head: unmarked, nextInstruction: unmarked, changedValue: unmarked });
     assert.equal(printed.length, size.rows);
     assert.deepEqual(printed.filter((line) => line.length > size.columns), []);
     assert.match(printed.join("\n"), /acc 1/);
@@ -215,8 +217,8 @@ test("the view: source, registers, lamps, in any size; values that are others st
   }
 });
 
-test("keys", async () => {
-  const { ask } = await prompted(LOCK);
+test("keys are pressed, held and released", async () => {
+  const { ask } = await createPrompt(LOCK);
   assert.match((await ask("info keys"))[0], /^1 2 3/);
   await ask("run 20 ms");
   assert.match((await ask("press 12")).join(), /Paused at/);
@@ -226,23 +228,23 @@ test("keys", async () => {
   assert.deepEqual((await ask("release 1", "info keys"))[1], "none is down");
   assert.match((await ask("press Q"))[0], /^refused: the board has no key Q; it has: 1 2 3/);
   await ask("break 0x000");
-  const { ask: none } = await prompted();
-  assert.deepEqual(await none("press 1"), ["refused: the board has no keys"]);
+  const { ask: askWithoutKeys } = await createPrompt();
+  assert.deepEqual(await askWithoutKeys("press 1"), ["refused: the board has no keys"]);
 });
 
-test("an empty line does the last move again where a person types", async () => {
-  const { ask, session } = await prompted(undefined, true);
+test("at an interactive prompt, an empty line repeats the last step", async () => {
+  const { ask, session } = await createPrompt(undefined, true);
   await ask("step", "", "");
   assert.equal(session.address, 0x004);
   await ask("info registers", "");
   assert.equal(session.address, 0x004);
-  const script = await prompted();
-  await script.ask("step", "", "");
-  assert.equal(script.session.address, 0x002);
+  const scriptPrompt = await createPrompt();
+  await scriptPrompt.ask("step", "", "");
+  assert.equal(scriptPrompt.session.address, 0x002);
 });
 
-test("breakpoints that are deleted at their stop, that change, and that let hits pass", async () => {
-  const { ask, session } = await prompted(LOCK);
+test("temporary breakpoints, changed conditions, and ignored hits", async () => {
+  const { ask, session } = await createPrompt(LOCK);
   assert.deepEqual(await ask("tbreak scan"), ["Breakpoint 1 at 0A7 (scan, line 125)."]);
   assert.deepEqual(await ask("info breakpoints"), ["1  line 125 at 0x0A7, temporary"]);
   assert.match((await ask("continue")).join("\n"), /Breakpoint 1 was temporary, and is deleted\.\n/);
@@ -257,20 +259,20 @@ test("breakpoints that are deleted at their stop, that change, and that let hits
   await ask("continue");
   assert.equal(session.breakpoints.get(2).hits, 6);
   assert.deepEqual(await ask("ignore $bpnum 0"), ["Breakpoint 2 stops at its next hit."]);
-  for (const [line, words] of [
+  for (const [line, message] of [
     ["condition", /^refused: write condition N/], ["condition 9 acc = 1", /no breakpoint 9/],
     ["ignore 2", /0 to 999,999,999, not nothing/],
     ["ignore 2 -1", /not -1/], ["commands 2 3", /commands N/], ["tbreak nothing", /not a place in the program/],
-  ]) assert.match((await ask(line)).join(), words, line);
+  ]) assert.match((await ask(line)).join(), message, line);
 });
 
-test("commands that run at a stop", async () => {
-  const { ask, prompt } = await prompted(LOCK);
+test("commands can run at a breakpoint's stops", async () => {
+  const { ask, prompt } = await createPrompt(LOCK);
   await ask("break scan", "commands");
   assert.equal(prompt.label, "> ");
   assert.deepEqual(await ask("silent", "", "print pc", "end", "info b"), ["1  line 125 at 0x0A7", "       silent", "       print pc"]);
   assert.deepEqual((await ask("continue")).filter((line) => !line.startsWith("lamps")), ["0x0A7, line 125"]);
-  // After a command that runs time, the remaining commands are skipped. The next stop executes its own commands.
+  // After a command that runs the machine, the remaining commands are skipped. The next stop executes its own commands.
   await ask("commands 1", "print acc", "step", "print never", "end");
   assert.equal((await ask("continue")).filter((line) => /never/.test(line)).length, 0);
   await ask("commands 1", "print pc", "bogus", "print acc", "end");
@@ -280,30 +282,30 @@ test("commands that run at a stop", async () => {
   await ask("commands 1");
   assert.deepEqual([prompt.drop(), prompt.drop()], ["the commands of breakpoint 1 are dropped", ""]);
   // The user interrupts an endless run.
-  let turns = 0;
+  let pauseCount = 0;
   prompt.calls.pause = async () => {
-    turns += 1;
-    if (turns === 5) prompt.interrupt();
+    pauseCount += 1;
+    if (pauseCount === 5) prompt.interrupt();
   };
   await ask("commands 1", "silent", "set acc = 0", "continue", "end", "continue");
-  assert.ok(turns >= 5);
+  assert.ok(pauseCount >= 5);
 });
 
-test("values in formats, at a stop too", async () => {
-  const { ask } = await prompted();
+test("values are printed in formats, also at each stop", async () => {
+  const { ask } = await createPrompt();
   await ask("set r4 = 10", "set r5 = 3");
-  for (const [line, words] of [
+  for (const [line, expected] of [
     ["print/x r4", "0xA"], ["p/d r4", "10"], ["p/u r4 + r5", "13"], ["p/o r4", "012"], ["p/t r4", "0b1010"], ["p/b r5", "0b11"],
     ["p/x r5 - r4", "-0x7"], ["p/a 0x014", "0x014 <wait>"], ["p/x r4 = 10", "0x1"], ["p/x wait", "0x14"],
     ["p/q r4", "refused: q is not a format; formats are x, d, u, o, t, b, a"],
     ["p/x lamps", "refused: lamps is not a number, so it has no format"], ["p/x", "refused: write print WHAT, as in print r4"],
     ["display/t r4", "1: /t r4 = 0b1010"], ["info display", "1: /t r4"],
-  ]) assert.deepEqual(await ask(line), [words], line);
+  ]) assert.deepEqual(await ask(line), [expected], line);
   assert.equal((await ask("step")).at(-1), "1: /t r4 = 0b1010");
 });
 
-test("more that info shows, and short words of gdb", async () => {
-  const { ask } = await prompted(LOCK);
+test("further `info` commands, and gdb's abbreviations", async () => {
+  const { ask } = await createPrompt(LOCK);
   await ask("until scan");
   assert.deepEqual(await ask("info line scan"), ["Line 125 is at 0x0A7 (scan)."]);
   assert.deepEqual(await ask("info line 31"), ["Line 31 is at 0x033 (digit) and 0x034."]);
@@ -319,9 +321,9 @@ test("more that info shows, and short words of gdb", async () => {
   }
 });
 
-test("breakpoints in a file, and commands of one", async () => {
+test("breakpoints are saved to a file, and commands are read from a file", async () => {
   const files = { bad: "# a remark\n\nbreak 31\nbogus\nbreak scan\n", cut: "break 31\ncommands\nprint acc\n", itself: "source itself\n" };
-  const { ask, session, prompt } = await prompted(LOCK, false, files);
+  const { ask, session, prompt } = await createPrompt(LOCK, false, files);
   await ask("break 31 from 3 if r4 = 7", "disable $bpnum", "break scan log \"R4 is {r4}\"", "tbreak 0x010");
   await ask("commands", "silent", "print pc", "end", "watch ram.0.0x01", "watch r4");
   assert.deepEqual(await ask("save breakpoints saved"), ["3 breakpoints saved in saved."]);
@@ -331,8 +333,8 @@ test("breakpoints in a file, and commands of one", async () => {
   ]);
   const printed = [await ask("info breakpoints"), await ask("info watches")];
   await ask("delete", "delete r4", "delete ram.0.0x01", "source saved");
-  const numbers = (lines) => lines.map((line) => line.replace(/^\d/, "N"));
-  assert.deepEqual([numbers(await ask("info breakpoints")), await ask("info watches")], [numbers(printed[0]), printed[1]]);
+  const maskNumbers = (lines) => lines.map((line) => line.replace(/^\d/, "N"));
+  assert.deepEqual([maskNumbers(await ask("info breakpoints")), await ask("info watches")], [maskNumbers(printed[0]), printed[1]]);
   await ask("delete");
   assert.deepEqual((await ask("source bad")).slice(1), ["refused: bad: line 4: there is no command bogus; help shows them all"]);
   assert.equal(session.breakpoints.all.length, 1);
@@ -344,8 +346,8 @@ test("breakpoints in a file, and commands of one", async () => {
   assert.deepEqual(await prompt.complete("save b"), [["breakpoints"], "b"]);
 });
 
-test("what a line can go on with", async () => {
-  const { prompt } = await prompted();
+test("typed lines are completed", async () => {
+  const { prompt } = await createPrompt();
   assert.deepEqual(await prompt.complete("unt"), [["until "], "unt"]);
   assert.deepEqual(await prompt.complete("until wa"), [["wait"], "wa"]);
   assert.deepEqual(await prompt.complete("print not r1 = 3 an"), [["and"], "an"]);

@@ -10,37 +10,37 @@ import { PromptHistory } from "../node/prompt_history.mjs";
 const MODULE = new URL("../node/prompt_history.mjs", import.meta.url).href;
 
 /** Runs an action with a new temporary folder. */
-async function withFolder(act) {
+async function withFolder(action) {
   const folder = mkdtempSync(join(tmpdir(), "history."));
   try {
-    await act(folder, join(folder, "mcs4/history"));
+    await action(folder, join(folder, "mcs4/history"));
   } finally {
     rmSync(folder, { recursive: true });
   }
 }
 
-test("lines are kept, the newest first, and once in a row", () => withFolder((folder, file) => {
+test("lines are stored, the newest first, without repetitions", () => withFolder((folder, file) => {
   const env = { XDG_STATE_HOME: folder };
-  const one = new PromptHistory(env);
-  for (const line of ["a", "b", "b", " ", "", "a", "x".repeat(1001)]) one.add(line);
+  const firstHistory = new PromptHistory(env);
+  for (const line of ["a", "b", "b", " ", "", "a", "x".repeat(1001)]) firstHistory.add(line);
   assert.equal(readFileSync(file, "utf8"), "a\nb\na\n");
-  const other = new PromptHistory(env);
-  assert.deepEqual(other.lines, ["a", "b", "a"]);
-  other.add("a");
+  const secondHistory = new PromptHistory(env);
+  assert.deepEqual(secondHistory.lines, ["a", "b", "a"]);
+  secondHistory.add("a");
   assert.equal(readFileSync(file, "utf8"), "a\nb\na\n");
   assert.equal(statSync(file).mode & 0o777, 0o600);
   chmodSync(file, 0o666);
-  other.add("c");
+  secondHistory.add("c");
   assert.equal(statSync(file).mode & 0o777, 0o600);
 }));
 
-test("lines that would move the cursor are left out", () => withFolder((folder, file) => {
+test("lines with control characters are omitted", () => withFolder((folder, file) => {
   new PromptHistory({ XDG_STATE_HOME: folder }).add("seq");
   writeFileSync(file, "one\n\x1b[Htwo\nthree\u202e\n\n\tfour\n");
   assert.deepEqual(new PromptHistory({ XDG_STATE_HOME: folder }).lines, ["\tfour", "one"]);
 }));
 
-test("without a place of the user's own there is none", () => withFolder((folder) => {
+test("without a usable state folder there is no history", () => withFolder((folder) => {
   for (const env of [{}, { XDG_STATE_HOME: "state" }, { HOME: "" }, { XDG_STATE_HOME: "/proc/none" }]) {
     const history = new PromptHistory(env);
     history.add("seq");
@@ -50,25 +50,25 @@ test("without a place of the user's own there is none", () => withFolder((folder
   history.add("seq");
   assert.ok(existsSync(join(folder, ".local/state/mcs4/history")));
   // A device or a folder is where the history file should be.
-  for (const other of ["/dev/null", folder]) {
+  for (const target of ["/dev/null", folder]) {
     rmSync(join(folder, ".local/state/mcs4/history"));
-    symlinkSync(other, join(folder, ".local/state/mcs4/history"));
+    symlinkSync(target, join(folder, ".local/state/mcs4/history"));
     assert.equal(new PromptHistory({ HOME: folder }).name, "");
   }
 }));
 
-test("several prompts lose no line, also while a long file is shortened", () => withFolder(async (folder, file) => {
+test("simultaneous prompts lose no lines, even while a long file is shortened", () => withFolder(async (folder, file) => {
   new PromptHistory({ XDG_STATE_HOME: folder }).add("first");
   writeFileSync(file, Array.from({ length: 1300 }, (_, at) => `old ${at} ${".".repeat(190)}\n`).join(""));
-  const writing = `import { PromptHistory } from "${MODULE}";
+  const script = `import { PromptHistory } from "${MODULE}";
     for (let at = 0; at < 100; at++) {
       const history = new PromptHistory({ XDG_STATE_HOME: process.argv[1] });
       history.add(\`new \${process.argv[2]} \${at} \${".".repeat(180)}\`);
     }`;
-  const ends = [...Array(4).keys()].map((at) => new Promise((settle) => {
-    spawn(process.execPath, ["--input-type=module", "-e", writing, folder, String(at)]).on("close", settle);
+  const exitStatuses = [...Array(4).keys()].map((index) => new Promise((resolve) => {
+    spawn(process.execPath, ["--input-type=module", "-e", script, folder, String(index)]).on("close", resolve);
   }));
-  assert.deepEqual(await Promise.all(ends), [0, 0, 0, 0]);
+  assert.deepEqual(await Promise.all(exitStatuses), [0, 0, 0, 0]);
   const lines = readFileSync(file, "utf8").trimEnd().split("\n");
   assert.equal(lines.filter((line) => line.startsWith("new ")).length, 400);
   assert.ok(lines.every((line) => /^(old \d+|new \d \d+) \.+$/.test(line)));

@@ -20,15 +20,15 @@ const texts = {
   propertiesText: "test\nnever lamp 1 on\nreach lamp lit on\nnever lamp lit on\n",
 };
 /** The prover's answer for a run that turns the lamp on. The 0 is the value of TEST at the only read. */
-const LIGHTS = "may fail 0\n";
+const LAMP_ON_ANSWER = "may fail 0\n";
 
 /** The prover's answer to a question about common mistakes, unless a test gives another one. */
-const NO_MISTAKE = "holds 9\n";
+const NO_MISTAKE_ANSWER = "holds 9\n";
 
 /**
  * The bench's module with a stand-in for the prover, which records its questions. `asked`: the bound and the number of conditions of each
- * question about properties. `times`: the limit of each question about a stopwatch. `mistakes`: the words of each question about common
- * mistakes. `bySets`: the questions that use sets of states.
+ * question about properties. `times`: the limit of each question about a stopwatch, in cycles. `mistakes`: the words of each question
+ * about common mistakes. `bySets`: the questions that use sets of states.
  */
 class RecordingEngine extends Engine {
   /**
@@ -37,7 +37,7 @@ class RecordingEngine extends Engine {
    * @param {(asked: string) => string} answerSets
    * @param {(within: number) => string} answerTimes
    */
-  constructor(answer, answerMistakes = () => NO_MISTAKE, answerSets = () => "gave up\n", answerTimes = () => "holds 7\n") {
+  constructor(answer, answerMistakes = () => NO_MISTAKE_ANSWER, answerSets = () => "gave up\n", answerTimes = () => "holds 7\n") {
     super(new globalThis.WebAssembly.Module(pageModule));
     this.answer = answer;
     this.answerMistakes = answerMistakes;
@@ -72,28 +72,28 @@ class RecordingEngine extends Engine {
   }
 }
 
-async function runProofs(answer, { most = 50000, answerMistakes, answerSets, answerTimes, ...others } = {}) {
+async function runProofs(answer, { most: maximum = 50000, answerMistakes, answerSets, answerTimes, ...others } = {}) {
   const engine = new RecordingEngine(answer, answerMistakes, answerSets, answerTimes);
-  const seen = [];
-  const { proving, faults } = beginProving(engine, { ...texts, ...others }, most, {
+  const stateCounts = [];
+  const { proving, faults } = beginProving(engine, { ...texts, ...others }, maximum, {
     seen: async (states) => {
-      seen.push(states);
+      stateCounts.push(states);
     },
     yieldToMessages: async () => {},
   });
   const lines = proving ? (await proving.judgeAll()).map(createPropertyVerdict) : [];
-  return { faults, engine, seen, all: lines.filter(({ line }) => line > 0), made: lines.filter(({ line }) => line === 0) };
+  return { faults, engine, seen: stateCounts, all: lines.filter(({ line }) => line > 0), made: lines.filter(({ line }) => line === 0) };
 }
 
-const kinds = (all) => all.map(({ verdict: { kind } }) => kind);
+const kindsOf = (all) => all.map(({ verdict: { kind } }) => kind);
 
-test("the bound on the states doubles up to the one that was asked for", () => {
+test("the bound on the number of states doubles up to the requested maximum", () => {
   assert.deepEqual(boundsUpTo(77), [77]);
   assert.deepEqual(boundsUpTo(10000), [10000]);
   assert.deepEqual(boundsUpTo(50000), [10000, 20000, 40000, 50000]);
 });
 
-test("each question goes on only while there are more states, and says how many were searched", async () => {
+test("a question is repeated with a larger bound while there are more states, and reports its progress", async () => {
   const { all, engine, seen } = await runProofs((bound) => (bound < 40000 ? "too many\n" : "holds 23456\n"),
     { propertiesText: "test\nnever lamp 1 on\n" });
   assert.deepEqual(engine.asked, [[10000, 1], [20000, 1], [40000, 1]]);
@@ -103,108 +103,109 @@ test("each question goes on only while there are more states, and says how many 
   assert.deepEqual(all, [{ text: "never lamp 1 on", line: 2, isGoal: false, verdict }]);
 });
 
-test("properties are asked together, and alone only if that decides something", async () => {
-  const together = await runProofs((_, nevers) => (nevers.length === 2 ? "holds 3\n" : LIGHTS));
-  assert.deepEqual(together.engine.asked, [[10000, 2], [10000, 1]]);
-  assert.deepEqual(kinds(together.all), ["proved", "found", "proved"]);
-  const alone = await runProofs((_, nevers) => (nevers.length === 1 && nevers[0].includes("line1") ? "holds 3\n" : LIGHTS));
-  assert.deepEqual(kinds(alone.all), ["proved", "found", "found"]);
-  const many = await runProofs((bound) => (bound < 50000 ? "too many\n" : "no 90\n"));
-  assert.deepEqual(kinds(many.all), ["open", "open", "open"]);
-  assert.deepEqual(many.engine.asked.map(([, nevers]) => nevers), [2, 2, 2, 2, 1, 1, 1, 1]);
-  assert.match(many.all[0].verdict.words, /memory has room for only 40,000 states/);
-  const single = await runProofs(() => LIGHTS, { propertiesText: "test\nnever lamp lit on\n" });
-  assert.deepEqual(single.engine.asked, [[10000, 1]]);
+test("properties are proved together first, and separately only if necessary", async () => {
+  const togetherResult = await runProofs((_, nevers) => (nevers.length === 2 ? "holds 3\n" : LAMP_ON_ANSWER));
+  assert.deepEqual(togetherResult.engine.asked, [[10000, 2], [10000, 1]]);
+  assert.deepEqual(kindsOf(togetherResult.all), ["proved", "found", "proved"]);
+  const aloneResult = await runProofs((_, nevers) => (nevers.length === 1 && nevers[0].includes("line1") ? "holds 3\n" : LAMP_ON_ANSWER));
+  assert.deepEqual(kindsOf(aloneResult.all), ["proved", "found", "found"]);
+  const openResult = await runProofs((bound) => (bound < 50000 ? "too many\n" : "no 90\n"));
+  assert.deepEqual(kindsOf(openResult.all), ["open", "open", "open"]);
+  assert.deepEqual(openResult.engine.asked.map(([, nevers]) => nevers), [2, 2, 2, 2, 1, 1, 1, 1]);
+  assert.match(openResult.all[0].verdict.words, /memory has room for only 40,000 states/);
+  const singleResult = await runProofs(() => LAMP_ON_ANSWER, { propertiesText: "test\nnever lamp lit on\n" });
+  assert.deepEqual(singleResult.engine.asked, [[10000, 1]]);
 });
 
-test("every program is asked for seven mistakes: together, and each alone if one can be made", async () => {
-  const none = { propertiesText: "" };
-  const { made, engine } = await runProofs(() => "", none);
+test("seven mistakes are checked for each program: together first, and separately if one is possible", async () => {
+  const noProperties = { propertiesText: "" };
+  const { made, engine } = await runProofs(() => "", noProperties);
   assert.deepEqual(engine.mistakes, ["code call return ram rom rdr wrr"]);
-  assert.deepEqual(kinds(made), Array.from({ length: 7 }, () => "proved"));
+  assert.deepEqual(kindsOf(made), Array.from({ length: 7 }, () => "proved"));
   const verdict = { kind: "proved", states: 9, bySets: false, leftOut: "" };
   assert.deepEqual(made[0], { text: "no code outside the instruction table", line: 0, isGoal: false, verdict });
   // The program jumps into ROM that the board lacks.
-  const away = { ...none, programText: "        JUN 256\n" };
-  const one = await runProofs(() => "", { ...away, answerMistakes: (words) => (words.includes("rom") ? "may fail 0\n" : NO_MISTAKE) });
-  assert.deepEqual(one.engine.mistakes.slice(1), ["code", "call", "return", "ram", "rom", "rdr", "wrr"]);
-  assert.deepEqual(kinds(one.made), ["proved", "proved", "proved", "proved", "found", "proved", "proved"]);
+  const programWithMistake = { ...noProperties, programText: "        JUN 256\n" };
+  const mistakeResult = await runProofs(() => "",
+    { ...programWithMistake, answerMistakes: (words) => (words.includes("rom") ? "may fail 0\n" : NO_MISTAKE_ANSWER) });
+  assert.deepEqual(mistakeResult.engine.mistakes.slice(1), ["code", "call", "return", "ram", "rom", "rdr", "wrr"]);
+  assert.deepEqual(kindsOf(mistakeResult.made), ["proved", "proved", "proved", "proved", "found", "proved", "proved"]);
   // A report of the prover that the bench does not confirm is not a counterexample.
-  const answerMistakes = (words) => (words.includes("wrr") ? "may fail 0\n" : NO_MISTAKE);
-  const unconfirmed = await runProofs(() => "", { ...none, answerMistakes });
-  assert.equal(unconfirmed.made[6].verdict.words, "the bench does not confirm the counterexample that was found");
+  const answerMistakes = (words) => (words.includes("wrr") ? "may fail 0\n" : NO_MISTAKE_ANSWER);
+  const unconfirmedResult = await runProofs(() => "", { ...noProperties, answerMistakes });
+  assert.equal(unconfirmedResult.made[6].verdict.words, "the bench does not confirm the counterexample that was found");
 });
 
-test("sets of states prove that no mistake is made, and what the search does not decide", async () => {
+test("sets of states prove the absence of mistakes, and properties that the search does not decide", async () => {
   const words = "code call return ram rom rdr wrr";
   const proved = { kind: "proved", states: 5, bySets: true, leftOut: "" };
-  const all = await runProofs(() => "too many\n", { answerSets: () => "holds 5\n" });
-  assert.deepEqual(all.engine.mistakes, []);
-  assert.deepEqual(all.made.map(({ verdict }) => verdict), Array.from({ length: 7 }, () => proved));
-  assert.deepEqual(all.all.map(({ verdict }) => verdict), Array.from({ length: 3 }, () => proved));
+  const allResult = await runProofs(() => "too many\n", { answerSets: () => "holds 5\n" });
+  assert.deepEqual(allResult.engine.mistakes, []);
+  assert.deepEqual(allResult.made.map(({ verdict }) => verdict), Array.from({ length: 7 }, () => proved));
+  assert.deepEqual(allResult.all.map(({ verdict }) => verdict), Array.from({ length: 3 }, () => proved));
   // The combined question is not decided, but one of the single questions is.
-  const some = await runProofs(() => "", { propertiesText: "", answerMistakes: () => "too many\n",
+  const someResult = await runProofs(() => "", { propertiesText: "", answerMistakes: () => "too many\n",
     answerSets: (asked) => (asked === "call" ? "holds 5\n" : "gave up\n") });
-  assert.deepEqual(some.engine.bySets, [words, ...words.split(" ")]);
-  assert.deepEqual(some.engine.mistakes, [words, words, words, words]);
-  assert.deepEqual(kinds(some.made), ["open", "proved", "open", "open", "open", "open", "open"]);
-  assert.match(some.made[0].verdict.words, /more than/);
+  assert.deepEqual(someResult.engine.bySets, [words, ...words.split(" ")]);
+  assert.deepEqual(someResult.engine.mistakes, [words, words, words, words]);
+  assert.deepEqual(kindsOf(someResult.made), ["open", "proved", "open", "open", "open", "open", "open"]);
+  assert.match(someResult.made[0].verdict.words, /more than/);
 });
 
-test("a time is asked alone, and never by sets of states", async () => {
+test("each property with a stopwatch is proved separately, and never with sets of states", async () => {
   const propertiesText = "test\nnever lamp 1 on\nnever lamp lit on for 9\nevery 1 ms @look\n@look to @put within 5\n";
   const { all, engine } = await runProofs(() => "holds 3\n", { propertiesText, most: 20000, answerSets: () => "holds 5\n",
     answerTimes: (within) => ({ 9: "may fail 0 0 0\n", 93: "holds 7\n", 5: "too many\n" })[within] });
   assert.deepEqual(engine.times, [9, 93, 5, 5]);
   assert.deepEqual(engine.asked, [[10000, 1]]);
-  assert.deepEqual(kinds(all), ["proved", "found", "proved", "open"]);
+  assert.deepEqual(kindsOf(all), ["proved", "found", "proved", "open"]);
   assert.deepEqual(all[2].verdict, { kind: "proved", states: 7, bySets: false, leftOut: "" });
   const { text } = all[1].verdict.found;
   assert.match(text, /^test never lamp lit on for 9\n {2}press WALK\n {2}run \d+\n {2}until not lamp lit on within 9\n$/);
 });
 
-test("a counterexample has the lines after which one step breaks the property", async () => {
-  const { all: [{ verdict: { found } }], engine } = await runProofs(() => LIGHTS, { propertiesText: "test\nnever lamp lit on\n" });
+test("a counterexample contains the lines after which one step breaks the property", async () => {
+  const { all: [{ verdict: { found } }], engine } = await runProofs(() => LAMP_ON_ANSWER, { propertiesText: "test\nnever lamp lit on\n" });
   assert.ok(found.isTest && found.isAllowed);
   const file = engine.begin();
-  const lamps = (lines) => engine.ask(file, `${lines}lamps\n`).answers.slice(-1)[0];
+  const lampsAfter = (lines) => engine.ask(file, `${lines}lamps\n`).answers.slice(-1)[0];
   engine.serve(file, `wire\n${texts.boardText}.\nasm\n${texts.programText}.\n`, file);
-  assert.match(lamps(found.before), /^lamps \.\.$/);
-  assert.match(lamps(`${found.before}step\n`), /^lamps \*\.$/);
+  assert.match(lampsAfter(found.before), /^lamps \.\.$/);
+  assert.match(lampsAfter(`${found.before}step\n`), /^lamps \*\.$/);
 });
 
-test("a way that is not one, or a prover that says nothing, proves nothing", async () => {
-  const wrong = await runProofs(() => "may fail 1\n", { propertiesText: "test\nnever lamp 1 on\n" });
-  assert.deepEqual(wrong.all[0].verdict, { kind: "open", words: "the bench does not confirm the counterexample that was found" });
+test("an unconfirmed counterexample leaves a property undecided, and an unexpected answer is an error", async () => {
+  const wrongResult = await runProofs(() => "may fail 1\n", { propertiesText: "test\nnever lamp 1 on\n" });
+  assert.deepEqual(wrongResult.all[0].verdict, { kind: "open", words: "the bench does not confirm the counterexample that was found" });
   await assert.rejects(runProofs(() => "no 25\n"), /ended without an answer: no 25/);
   const { faults } = await runProofs(() => "holds 1\n", { propertiesText: "never lamp purple on\n" });
   assert.deepEqual(faults.map(({ line }) => line), [1]);
 });
 
-test("a verdict stands while its property, the program and the board are the same", () => {
+test("a verdict remains valid while its property, the program and the board are unchanged", () => {
   const proved = { text: "never lamp 1 on", line: 2, isGoal: false, verdict: { kind: "proved", states: 3, bySets: false, leftOut: "" } };
   const open = { ...proved, verdict: { kind: "open", words: "why" } };
-  const now = (change) => ({ ...texts, ...change });
-  const properties = (text) => now({ propertiesText: text });
+  const changeTexts = (change) => ({ ...texts, ...change });
+  const changeProperties = (text) => changeTexts({ propertiesText: text });
   assert.ok(isStillValid(proved, texts, texts));
-  assert.ok(!isStillValid(proved, texts, now({ programText: `${texts.programText};` })));
-  assert.ok(!isStillValid(proved, texts, now({ boardText: `${texts.boardText}#` })));
-  assert.ok(!isStillValid(proved, texts, properties(texts.propertiesText.replace("lamp 1 on", "lamp 1 off"))));
-  assert.ok(isStillValid(proved, texts, properties(`# more\n\n  never  lamp 1 on\nnever lamp lit off\ntest`)));
+  assert.ok(!isStillValid(proved, texts, changeTexts({ programText: `${texts.programText};` })));
+  assert.ok(!isStillValid(proved, texts, changeTexts({ boardText: `${texts.boardText}#` })));
+  assert.ok(!isStillValid(proved, texts, changeProperties(texts.propertiesText.replace("lamp 1 on", "lamp 1 off"))));
+  assert.ok(isStillValid(proved, texts, changeProperties(`# more\n\n  never  lamp 1 on\nnever lamp lit off\ntest`)));
   // A proof covers all inputs from power-on, whatever inputs the text lists. The reason why a verdict is open can depend on the listed
   // inputs.
-  assert.ok(isStillValid(proved, texts, properties("never lamp 1 on")));
-  assert.ok(!isStillValid(open, texts, properties("never lamp 1 on")));
-  assert.ok(!isStillValid(proved, texts, properties(`from dark\n${texts.propertiesText}`)));
+  assert.ok(isStillValid(proved, texts, changeProperties("never lamp 1 on")));
+  assert.ok(!isStillValid(open, texts, changeProperties("never lamp 1 on")));
+  assert.ok(!isStillValid(proved, texts, changeProperties(`from dark\n${texts.propertiesText}`)));
   const mistake = { ...proved, text: "no fourth nested call", line: 0 };
-  assert.ok(isStillValid(mistake, texts, properties("never lamp lit off")));
-  assert.ok(!isStillValid(mistake, texts, now({ boardText: `${texts.boardText}#` })));
+  assert.ok(isStillValid(mistake, texts, changeProperties("never lamp lit off")));
+  assert.ok(!isStillValid(mistake, texts, changeTexts({ boardText: `${texts.boardText}#` })));
   assert.equal(findPropertyLine("never lamp 1 on", "# a\n\n never   lamp 1 on\n"), 3);
   assert.equal(findPropertyLine("never lamp 1 on", "never lamp 1 off\n"), 0);
 });
 
 /** Returns a stand-in for a worker. It works in this thread and can be terminated. */
-function fakeWorker(engine) {
+function createFakeWorker(engine) {
   const listeners = [];
   const addEventListener = (kind, listen) => kind === "message" && listeners.push(listen);
   const worker = { isEnded: false, postMessage: () => {}, terminate: () => {}, addEventListener };
@@ -235,42 +236,43 @@ function fakeWorker(engine) {
 function createProver(engine) {
   const { setInterval } = globalThis;
   globalThis.setInterval = () => 0;
-  const prover = new Prover(() => new Bench(() => fakeWorker(engine), new ArrayBuffer(0), []));
+  const prover = new Prover(() => new Bench(() => createFakeWorker(engine), new ArrayBuffer(0), []));
   void prover.bench;
   globalThis.setInterval = setInterval;
   return prover;
 }
 
-test("the page receives each verdict, and the states so far", async () => {
-  const engine = new RecordingEngine((bound, nevers) => (nevers.length === 1 ? LIGHTS : bound < 20000 ? "too many\n" : "holds 12345\n"));
-  const posted = [];
+test("the page receives each verdict and the number of states so far", async () => {
+  const engine = new RecordingEngine((bound,
+    nevers) => (nevers.length === 1 ? LAMP_ON_ANSWER : bound < 20000 ? "too many\n" : "holds 12345\n"));
+  const reports = [];
   const { faults, isStopped } = await createProver(engine).prove(texts, 50000, new AbortController().signal,
-    ({ judged: all, count, states }) => posted.push([all.length, count, states]));
+    ({ judged: all, count, states }) => reports.push([all.length, count, states]));
   assert.deepEqual([faults, isStopped], [[], false]);
-  assert.deepEqual(posted[0], [0, 10, 0]);
-  assert.ok(posted.some(([, , states]) => states === 10000));
-  assert.deepEqual(posted[posted.length - 1], [10, 10, 0]);
+  assert.deepEqual(reports[0], [0, 10, 0]);
+  assert.ok(reports.some(([, , states]) => states === 10000));
+  assert.deepEqual(reports[reports.length - 1], [10, 10, 0]);
 });
 
-test("cancelling ends the worker at once; a worker that is silent is not dead", async () => {
+test("cancelling ends the worker at once; a silent worker is not ended", async () => {
   const engine = new RecordingEngine(() => "holds 3\n");
   const prover = createProver(engine);
   const controller = new AbortController();
-  const ended = await prover.prove(texts, 50000, controller.signal, () => controller.abort());
-  assert.deepEqual(ended, { faults: [], isStopped: true });
+  const result = await prover.prove(texts, 50000, controller.signal, () => controller.abort());
+  assert.deepEqual(result, { faults: [], isStopped: true });
   const { bench } = prover;
-  bench.worker = fakeWorker(engine);
+  bench.worker = createFakeWorker(engine);
   bench.pendingRequests.set(1, { done: () => {}, fail: () => {}, progress: () => {} });
-  for (let look = 0; look < 50; look++) bench.pingWorker();
+  for (let round = 0; round < 50; round++) bench.pingWorker();
   assert.notEqual(bench.worker, null);
 });
 
-test("verdicts in words", () => {
+test("verdicts are described", () => {
   const found = { steps: 2, cycles: 1204, isAllowed: true, isTest: true, text: "", before: "" };
   const proved = { kind: "proved", states: 96937, bySets: false, leftOut: '"once"' };
   const verdicts = [{ ...proved, states: 1, bySets: true, leftOut: "" }, proved, { kind: "found", found }, { kind: "open", words: "why" }];
   const all = verdicts.map((verdict, at) => ({ text: `p${at}`, line: at + 1, isGoal: false, verdict }));
-  const goals = all.map((each) => ({ ...each, isGoal: true }));
+  const goals = all.map((propertyVerdict) => ({ ...propertyVerdict, isGoal: true }));
   assert.deepEqual(all.map(markOf), ["proved", "proved", "can fail", "not decided"]);
   assert.deepEqual(goals.map(markOf), ["never reached", "never reached", "reached", "not decided"]);
   assert.deepEqual(all.map(describeVerdict), [

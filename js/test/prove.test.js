@@ -64,7 +64,7 @@ const subject = createSubject(engine, BOARD, PROGRAM);
 const { board } = subject.names;
 
 /** For each kind of cell in a question, a function that reads its value from the bench's answers. */
-const CELLS = {
+const PLACE_BY_CELL = {
   register: (index) => [`r${index}`],
   character: (index) => [`ram.${Math.floor(index / 256)}.${index % 256}`],
   status: (index) => [`st.${Math.floor(index / 64)}.${Math.floor(index / 4) % 16}.${index % 4}`],
@@ -77,7 +77,7 @@ const CELLS = {
 /** @type {(state: Uint8Array, comparison: string) => boolean} */
 function isMet(state, comparison) {
   const [way, list, index, part, low, high] = comparison.split(" ");
-  const [place] = CELLS[list](Number(index));
+  const [place] = PLACE_BY_CELL[list](Number(index));
   let value;
   if (place === "owed") value = Number(engine.ask(state, "regs\n").answers[0].split(" ")[7]);
   else value = parseInt(engine.ask(state, `trace 1 ${place}\n`).answers[0].split(" ").pop(), 16);
@@ -89,15 +89,17 @@ function isMet(state, comparison) {
 }
 
 /** Yields states of the bench in which every place that a condition can read has a random value. */
-function* randomStates() {
+function* generateRandomStates() {
   const random = createRandom(5);
-  const upTo = (most) => Math.floor(random() * (most + 1));
-  for (let at = 0; at < 25; at++) {
+  const randomUpTo = (maximum) => Math.floor(random() * (maximum + 1));
+  for (let round = 0; round < 25; round++) {
     const file = subject.file.slice();
-    const before = [...[5, 6, 7, 8].map((register) => `poke r${register} ${upTo(15)}`), `poke acc ${upTo(15)}`, `poke cy ${upTo(1)}`,
-      `poke ram.0.${upTo(3)} ${upTo(15)}`, "press 0 0", `run ${1 + upTo(120)}`, `poke st.0.1.2 ${upTo(15)}`, `poke r5 ${upTo(2)}`,
-      `poke dcl ${upTo(7)}`];
-    engine.serve(file, before.map((line) => `${line}\n`).join(""), file);
+    const lines = [...[5, 6, 7, 8].map((register) => `poke r${register} ${randomUpTo(15)}`), `poke acc ${randomUpTo(15)}`,
+      `poke cy ${randomUpTo(1)}`,
+      `poke ram.0.${randomUpTo(3)} ${randomUpTo(15)}`, "press 0 0", `run ${1 + randomUpTo(120)}`, `poke st.0.1.2 ${randomUpTo(15)}`,
+        `poke r5 ${randomUpTo(2)}`,
+      `poke dcl ${randomUpTo(7)}`];
+    engine.serve(file, lines.map((line) => `${line}\n`).join(""), file);
     yield file;
   }
 }
@@ -109,29 +111,29 @@ const CONDITIONS = [
   "r5 - r7 = 0", "r5 & 3 = 1", "r5 >= 0",
 ];
 
-const questionOf = (text, own = subject) => (
-  createQuestion(readCampaign(`press A\n${text}`, own).campaign.properties[0], { from: null }, own));
+const questionOf = (text, usedSubject = subject) => (
+  createQuestion(readCampaign(`press A\n${text}`, usedSubject).campaign.properties[0], { from: null }, usedSubject));
 
-test("comparisons mean what their condition means", () => {
-  const all = [...randomStates()];
+test("comparisons have the same meaning as their condition", () => {
+  const states = [...generateRandomStates()];
   for (const text of CONDITIONS) {
     const { condition, fault } = compileTracedCondition(text, subject.names);
     assert.ok(condition, `${text}: ${fault}`);
-    for (const wanted of [true, false]) {
-      const lists = listComparisons(condition, wanted, board);
-      for (const state of all) {
+    for (const expected of [true, false]) {
+      const lists = listComparisons(condition, expected, board);
+      for (const state of states) {
         const values = condition.places.map((place) => engine.ask(state, `trace 1 ${place}\n`).answers[0].split(" ").slice(6).join(" "));
         const owed = engine.ask(state, "regs\n").answers[0].split(" ")[7];
         const holds = condition.holds(values, { test: "", owed, keys: "", cycles: 0, seen: [], printed: [] });
         const isBroken = lists.some((comparisons) => comparisons.every((comparison) => isMet(state, comparison)));
-        assert.equal(isBroken, holds === wanted, `${text}, ${wanted}: ${JSON.stringify(lists)} ${values}`);
+        assert.equal(isBroken, holds === expected, `${text}, ${expected}: ${JSON.stringify(lists)} ${values}`);
       }
     }
   }
 });
 
-test("conditions are short questions", () => {
-  const listsOf = (text, wanted = true) => listComparisons(compileTracedCondition(text, subject.names).condition, wanted, board);
+test("conditions become few comparisons", () => {
+  const listsOf = (text, expected = true) => listComparisons(compileTracedCondition(text, subject.names).condition, expected, board);
   assert.deepEqual(listsOf("r5 > 3"), [["in register 5 whole 4 15"]]);
   assert.deepEqual(listsOf("lamp on on and r5 = 2"), [["in ramport 0 line0 1 1", "in register 5 whole 2 2"]]);
   assert.deepEqual(listsOf("lamp on on and r5 = 2", false).length, 3);
@@ -140,7 +142,7 @@ test("conditions are short questions", () => {
   assert.deepEqual(listsOf("@look"), [["in counter 3 whole 0 0", "in counter 4 whole 0 0", "in counter 5 whole 9 9"]]);
 });
 
-test("what a display shows is a question about its lamps", () => {
+test("a condition about a display becomes comparisons of its lamps", () => {
   const lamps = [3, 2, 1, 0].map((line) => `{ line = "ram0.0.${line}" }`);
   const text = `# display 0: 1 digit\nlamp = [${lamps}]\nrom = [{ chip = 0, port = "0000" }]\nram = [{ bank = 0, chips = 1 }]\n`;
   const { names } = createSubject(engine, text, "loop:   JUN loop\n");
@@ -150,7 +152,7 @@ test("what a display shows is a question about its lamps", () => {
   assert.deepEqual(listsOf("display 12"), []);
 });
 
-test("conditions that look at inputs, or at too much, are refused with the reason", () => {
+test("conditions that use inputs, or too many places, are rejected with a reason", () => {
   assert.deepEqual(questionOf("never rom1 in 3"), { question: null, words: "its condition uses rom1, an input" });
   assert.deepEqual(questionOf("never rom1.1 = 1 for 1 ms"), { question: null, words: "its condition uses rom1.1, an input" });
   assert.match(questionOf("never r0 + r1 + r2 + r3 + r4 = 9").words, /uses too many places/);
@@ -159,98 +161,98 @@ test("conditions that look at inputs, or at too much, are refused with the reaso
   assert.equal(questionOf("while r0 = 2, never r1 = 1").question.nevers.length, 1);
 });
 
-const AT_START = ["in counter 3 whole 0 0", "in counter 4 whole 0 0", "in counter 5 whole 0 0"];
-const AT_LOOK = [...AT_START.slice(0, 2), "in counter 5 whole 9 9"];
-const AT_LIT = [...AT_START.slice(0, 2), "in counter 5 whole 22 22"];
+const AT_ADDRESS_0 = ["in counter 3 whole 0 0", "in counter 4 whole 0 0", "in counter 5 whole 0 0"];
+const AT_LOOK = [...AT_ADDRESS_0.slice(0, 2), "in counter 5 whole 9 9"];
+const AT_LIT = [...AT_ADDRESS_0.slice(0, 2), "in counter 5 whole 22 22"];
 
-test("a time is a question about a stopwatch, with exactly its limit in cycles", () => {
-  const stopwatch = (text) => questionOf(text).question.stopwatch;
+test("a property with a time becomes a question about a stopwatch with the same limit in cycles", () => {
+  const stopwatchOf = (text) => questionOf(text).question.stopwatch;
   const [on, off] = [[["in ramport 0 line0 1 1"]], [["in ramport 0 line0 0 0"]]];
-  assert.deepEqual(stopwatch("never lamp on on for 93"), { begins: on, ends: off, within: 93 });
-  assert.deepEqual(stopwatch("never lamp on on for 1 ms"), { begins: on, ends: off, within: 93 });
-  assert.deepEqual(stopwatch("every 20 @look"), { begins: [AT_START, AT_LOOK], ends: [AT_LOOK], within: 20 });
-  assert.deepEqual(stopwatch("@look to @lit within 7"), { begins: [AT_LOOK], ends: [AT_LIT], within: 7 });
-  assert.deepEqual(stopwatch("@look to @look within 7"), { begins: [AT_LOOK], ends: [AT_LOOK], within: 7 });
+  assert.deepEqual(stopwatchOf("never lamp on on for 93"), { begins: on, ends: off, within: 93 });
+  assert.deepEqual(stopwatchOf("never lamp on on for 1 ms"), { begins: on, ends: off, within: 93 });
+  assert.deepEqual(stopwatchOf("every 20 @look"), { begins: [AT_ADDRESS_0, AT_LOOK], ends: [AT_LOOK], within: 20 });
+  assert.deepEqual(stopwatchOf("@look to @lit within 7"), { begins: [AT_LOOK], ends: [AT_LIT], within: 7 });
+  assert.deepEqual(stopwatchOf("@look to @look within 7"), { begins: [AT_LOOK], ends: [AT_LOOK], within: 7 });
   // A guard is part of the condition.
-  assert.deepEqual(stopwatch("while r5 = 2, never lamp on on for 93").begins, [["in register 5 whole 2 2", "in ramport 0 line0 1 1"]]);
-  assert.equal(stopwatch("while r5 = 2, never lamp on on for 93").ends.length, 3);
-  assert.equal(stopwatch("never lamp on on"), null);
+  assert.deepEqual(stopwatchOf("while r5 = 2, never lamp on on for 93").begins, [["in register 5 whole 2 2", "in ramport 0 line0 1 1"]]);
+  assert.equal(stopwatchOf("while r5 = 2, never lamp on on for 93").ends.length, 3);
+  assert.equal(stopwatchOf("never lamp on on"), null);
 });
 
-test("a condition for a time is judged between the two cycles of an instruction as after them", () => {
+test("a condition with a time is also evaluated between the two cycles of an instruction", () => {
   const { begins, ends } = questionOf("never @look for 9").question.stopwatch;
   assert.deepEqual(begins, [AT_LOOK.slice(1)]);
   assert.ok(ends.flat().every((comparison) => !comparison.startsWith("in counter 3 ")));
 });
 
-test("a condition that always holds, or never, has both lists, too", () => {
+test("a condition that is always true, or never, also has both lists", () => {
   const { stopwatch: always } = questionOf("never r5 >= 0 for 9").question;
   assert.deepEqual(always, { begins: [[]], ends: [["in register 0 whole 1 0"]], within: 9 });
   const { stopwatch: never } = questionOf("never r5 > 15 for 9").question;
   assert.deepEqual(never, { begins: [["in register 0 whole 1 0"]], ends: [[]], within: 9 });
 });
 
-test("presses are a question about the keys of the matrix, by their rows and columns", () => {
-  const presses = (text) => questionOf(text).question.presses;
+test("key presses become a question about the rows and columns of the key matrix", () => {
+  const pressesOf = (text) => questionOf(text).question.presses;
   const on = [["in ramport 0 line0 1 1"]];
   const [a, c] = [{ kind: "matrix", row: 0, column: 0 }, { kind: "matrix", row: 0, column: 2 }];
-  assert.deepEqual(presses("lamp on on only after press A, press C, press A"), { opens: on, keys: [a, c, a] });
-  assert.deepEqual(presses("@lit only after press C"), { opens: [AT_LIT], keys: [c] });
+  assert.deepEqual(pressesOf("lamp on on only after press A, press C, press A"), { opens: on, keys: [a, c, a] });
+  assert.deepEqual(pressesOf("@lit only after press C"), { opens: [AT_LIT], keys: [c] });
   // A condition is evaluated between the two cycles of an instruction as well as after them. A label is reached only when an instruction
   // begins.
-  assert.deepEqual(presses("@lit or @look only after press C").opens, [AT_LOOK.slice(1), AT_LIT.slice(1)]);
-  assert.deepEqual(presses("r5 > 15 only after press C").opens, [["in register 0 whole 1 0"]]);
-  assert.equal(presses("never lamp on on"), null);
+  assert.deepEqual(pressesOf("@lit or @look only after press C").opens, [AT_LOOK.slice(1), AT_LIT.slice(1)]);
+  assert.deepEqual(pressesOf("r5 > 15 only after press C").opens, [["in register 0 whole 1 0"]]);
+  assert.equal(pressesOf("never lamp on on"), null);
 });
 
-test("presses that the prover cannot count are refused with the reason", () => {
-  const words = (text, own) => questionOf(text, own).words;
-  assert.match(words("lamp on on only after press A, press WALK"), /^WALK is at the TEST pin/);
-  assert.match(words("rom1 in 3 only after press A"), /^its condition uses rom1, an input/);
-  const presses = (count) => questionOf(`lamp on on only after ${Array(count).fill("press A").join(", ")}`);
-  assert.equal(presses(MAX_PRESSES).question.presses.keys.length, 100);
-  assert.match(presses(MAX_PRESSES + 1).words, /^it names more than 100 presses/);
+test("key presses that the prover cannot count are rejected with a reason", () => {
+  const refusalOf = (text, usedSubject) => questionOf(text, usedSubject).words;
+  assert.match(refusalOf("lamp on on only after press A, press WALK"), /^WALK is at the TEST pin/);
+  assert.match(refusalOf("rom1 in 3 only after press A"), /^its condition uses rom1, an input/);
+  const questionWithPresses = (count) => questionOf(`lamp on on only after ${Array(count).fill("press A").join(", ")}`);
+  assert.equal(questionWithPresses(MAX_PRESSES).question.presses.keys.length, 100);
+  assert.match(questionWithPresses(MAX_PRESSES + 1).words, /^it names more than 100 presses/);
   // A one-cycle instruction at `same` is followed by another instruction that begins at `same`.
-  for (const [code, isAsked] of [["JIN P0", false], ["BBL 0", false], ["FIN P0", true], ["JUN same", true]]) {
-    const own = createSubject(engine, BOARD, `        FIM P0, 2\nsame:   ${code}\n        NOP\n`);
-    assert.equal(questionOf("@same only after press A", own).question !== null, isAsked, code);
-    assert.notEqual(questionOf("@same or r5 = 1 only after press A", own).question, null, code);
+  for (const [code, isAllowed] of [["JIN P0", false], ["BBL 0", false], ["FIN P0", true], ["JUN same", true]]) {
+    const jumpSubject = createSubject(engine, BOARD, `        FIM P0, 2\nsame:   ${code}\n        NOP\n`);
+    assert.equal(questionOf("@same only after press A", jumpSubject).question !== null, isAllowed, code);
+    assert.notEqual(questionOf("@same or r5 = 1 only after press A", jumpSubject).question, null, code);
   }
 });
 
-test("a time that the stopwatch cannot count is refused with the reason", () => {
+test("a time that is too long for the stopwatch is rejected with a reason", () => {
   assert.equal(questionOf(`every ${MAX_STOPWATCH_CYCLES} @look`).question.stopwatch.within, MAX_STOPWATCH_CYCLES);
   assert.deepEqual(questionOf(`every ${MAX_STOPWATCH_CYCLES + 1} @look`),
     { question: null, words: "its time is longer than 16,777,214 cycles" });
 });
 
-test("a stopwatch has its lines after the texts", () => {
+test("the lines of a stopwatch follow the texts", () => {
   const stopwatch = { begins: [["in register 1 whole 0 3"], []], ends: [["out counter 1 whole 0 0"]], within: 5 };
   const lines = questionText({ board: "rom = []\n", program: "NOP" }, { ...neverQuestion([]), stopwatch }, { most: 77 }).split("\n");
   assert.deepEqual(lines.slice(8),
     ["within 5", "begin", "in register 1 whole 0 3", "begin", "end", "out counter 1 whole 0 0", "prove", ""]);
 });
 
-test("presses have their lines after the conditions that they open", () => {
+test("the lines of key presses follow the conditions that they enable", () => {
   const presses = { opens: [["in register 1 whole 0 3"], []], keys: [matrixKey(0, 2), matrixKey(1, 0)] };
   const lines = questionText({ board: "rom = []\n", program: "NOP" }, { ...neverQuestion([]), presses }, { most: 77 }).split("\n");
   assert.deepEqual(lines.slice(8), ["open", "in register 1 whole 0 3", "open", "up 0 2", "down 0 2", "up 1 0", "down 1 0", "prove", ""]);
 });
 
-test("a question has its limits, both texts and what must never be", () => {
+test("a question contains its limits, both texts and the forbidden conditions", () => {
   const nevers = [["in register 1 whole 0 3", "out counter 1 whole 0 0"], []];
   const question = questionText({ board: "rom = []\n", program: "NOP" }, neverQuestion(nevers), { most: 77 });
   assert.deepEqual(question.split("\n"), ["most 77", "pause 1000000", "wire", "rom = []", ".", "asm", "NOP", ".", "never",
     "in register 1 whole 0 3", "out counter 1 whole 0 0", "never", "prove", ""]);
 });
 
-test("a question may have a limit of memory, and of sets", () => {
-  const linesWith = (limits) => questionText({ board: "rom = []\n", program: "NOP" }, neverQuestion([[]]), limits).split("\n");
-  assert.deepEqual(linesWith({ most: 77, memory: 5 }).slice(0, 4), ["most 77", "memory 5", "pause 1000000", "wire"]);
-  assert.deepEqual(linesWith({ most: 0, sets: 9 }).slice(0, 4), ["most 0", "sets 9", "pause 1000000", "wire"]);
+test("a question can have a limit of memory, and of sets", () => {
+  const questionLines = (limits) => questionText({ board: "rom = []\n", program: "NOP" }, neverQuestion([[]]), limits).split("\n");
+  assert.deepEqual(questionLines({ most: 77, memory: 5 }).slice(0, 4), ["most 77", "memory 5", "pause 1000000", "wire"]);
+  assert.deepEqual(questionLines({ most: 0, sets: 9 }).slice(0, 4), ["most 0", "sets 9", "pause 1000000", "wire"]);
 });
 
-test("mistakes are one more thing that must never be", () => {
+test("mistakes are another forbidden condition", () => {
   const question = { ...mistakeQuestion(["code", "ram"]), nevers: [["in register 1 whole 0 3"]] };
   const lines = questionText({ board: "rom = []\n", program: "NOP" }, question, { most: 77 }).split("\n");
   assert.deepEqual(lines.slice(8), ["never", "in register 1 whole 0 3", "never", "mistake code ram", "prove", ""]);
@@ -258,7 +260,7 @@ test("mistakes are one more thing that must never be", () => {
     ["code code", "call calls", "return returns", "ram mistake", "rom mistake", "rdr mistake", "wrr mistake"]);
 });
 
-test("answers", () => {
+test("the prover's answers are parsed", () => {
   assert.deepEqual(readAnswer("holds 12\n"), { kind: "holds", states: 12 });
   assert.deepEqual(readAnswer("may fail\n"), { kind: "fails", values: [] });
   assert.deepEqual(readAnswer("may fail 0 15 1\n"), { kind: "fails", values: [0, 15, 1] });
@@ -266,20 +268,20 @@ test("answers", () => {
   assert.deepEqual(readAnswer("gave up\n"), { kind: "lost" });
   assert.deepEqual(readAnswer("no 90\n"), { kind: "full", states: 0 });
   assert.deepEqual(readAnswer("no room 12\n"), { kind: "full", states: 12 });
-  const others = ["", "no 25\n", "no 30 12\n", "wrong line 3\n", "no question\n", "holds\n", "may fail x\n"];
-  for (const other of others) assert.equal(readAnswer(other), null);
+  const invalidAnswers = ["", "no 25\n", "no 30 12\n", "wrong line 3\n", "no question\n", "holds\n", "may fail x\n"];
+  for (const answer of invalidAnswers) assert.equal(readAnswer(answer), null);
 });
 
 /** The values that the program reads until the lamp is on: first 0, then 16 times the value for key A down. */
-const LIGHTS = [0, ...Array(16).fill(3)];
+const LAMP_ON_VALUES = [0, ...Array(16).fill(3)];
 
-async function counterexample(properties, values, at = 0) {
+async function findCounterexample(properties, values, index = 0) {
   const { campaign } = readCampaign(properties, subject);
-  return { campaign, found: await replayCounterexample(subject, campaign, at, values, async () => {}) };
+  return { campaign, found: await replayCounterexample(subject, campaign, index, values, async () => {}) };
 }
 
-test("what was read becomes keys, and a test that fails", async () => {
-  const { found } = await counterexample("press A\nnever lamp on on", LIGHTS);
+test("the values of a run become key presses and a failing test", async () => {
+  const { found } = await findCounterexample("press A\nnever lamp on on", LAMP_ON_VALUES);
   assert.equal(found.isTest, true);
   assert.equal(found.isAllowed, true);
   assert.match(found.text, /^test never lamp on on\n {2}run \d+\n {2}press A\n {2}run \d+\n {2}expect not lamp on on\n$/);
@@ -288,78 +290,80 @@ test("what was read becomes keys, and a test that fails", async () => {
   assert.equal(outcomes[0].failure.line, 5);
 });
 
-test("a way that the bench does not confirm is none", async () => {
-  assert.equal((await counterexample("press A\nnever lamp on on", LIGHTS.slice(0, 9))).found, null);
-  assert.equal((await counterexample("press A\nnever r8 = 99 or r5 = 9", [0, 0, 0])).found, null);
+test("a run that the bench does not confirm is not a counterexample", async () => {
+  assert.equal((await findCounterexample("press A\nnever lamp on on", LAMP_ON_VALUES.slice(0, 9))).found, null);
+  assert.equal((await findCounterexample("press A\nnever r8 = 99 or r5 = 9", [0, 0, 0])).found, null);
 });
 
-test("inputs that the text of properties excludes are known as such", async () => {
-  assert.equal((await counterexample("press B\nnever lamp on on", LIGHTS)).found.isAllowed, false);
-  assert.equal((await counterexample("press A\nheld at most 20\nnever lamp on on", LIGHTS)).found.isAllowed, false);
-  assert.equal((await counterexample("press A\nbegin after 1 s\nnever lamp on on", LIGHTS)).found.isAllowed, false);
+test("inputs that the properties exclude are marked", async () => {
+  assert.equal((await findCounterexample("press B\nnever lamp on on", LAMP_ON_VALUES)).found.isAllowed, false);
+  assert.equal((await findCounterexample("press A\nheld at most 20\nnever lamp on on", LAMP_ON_VALUES)).found.isAllowed, false);
+  assert.equal((await findCounterexample("press A\nbegin after 1 s\nnever lamp on on", LAMP_ON_VALUES)).found.isAllowed, false);
 });
 
 /** Resolves to true if the test of a counterexample fails. */
-async function fails({ text }, programText = PROGRAM) {
+async function doesTestFail({ text }, programText = PROGRAM) {
   const { outcomes } = await runTests(engine, { boardText: BOARD, programText, sources: [{ name: "found", text }] }, async () => true,
     { Counting: NullRecorder });
   return outcomes[0].failure !== null;
 }
 
-test("what takes too long becomes a test that fails, and nothing that is in time does", async () => {
+test("an exceeded time becomes a failing test, and a kept time does not", async () => {
   // While A is up, the program takes 10 cycles from one arrival at `look` to the next.
-  const up = [0, ...Array(30).fill(1)];
-  const late = [["never lamp on on for 1 ms", LIGHTS, /press A\n {2}run \d+\n {2}until not lamp on on within 93\n$/],
-    ["every 9 @look", up, /\n {2}run 9\n {2}until @look within 9\n$/], ["@look to @look within 9", up, /\n {2}until @look within 9\n$/],
-    ["@look to @lit within 250", up, /\n {2}run 9\n {2}until @lit within 250\n$/],
-    ["every 300 @look", LIGHTS, /press A\n {2}run \d+\n {2}until @look within 300\n$/]];
-  for (const [text, values, wanted] of late) {
-    const { found } = await counterexample(`press A\nwait 1 to 1000\n${text}`, values);
+  const valuesWithKeysUp = [0, ...Array(30).fill(1)];
+  const cases = [["never lamp on on for 1 ms", LAMP_ON_VALUES, /press A\n {2}run \d+\n {2}until not lamp on on within 93\n$/],
+    ["every 9 @look", valuesWithKeysUp, /\n {2}run 9\n {2}until @look within 9\n$/],
+      ["@look to @look within 9", valuesWithKeysUp, /\n {2}until @look within 9\n$/],
+    ["@look to @lit within 250", valuesWithKeysUp, /\n {2}run 9\n {2}until @lit within 250\n$/],
+    ["every 300 @look", LAMP_ON_VALUES, /press A\n {2}run \d+\n {2}until @look within 300\n$/]];
+  for (const [text, values, pattern] of cases) {
+    const { found } = await findCounterexample(`press A\nwait 1 to 1000\n${text}`, values);
     assert.ok(found, text);
-    assert.match(found.text, wanted);
-    assert.ok(found.isAllowed && await fails(found), text);
+    assert.match(found.text, pattern);
+    assert.ok(found.isAllowed && await doesTestFail(found), text);
   }
   for (const text of ["every 10 @look", "@look to @look within 10", "never lamp on on for 93", "@lit to @look within 9"]) {
-    assert.equal((await counterexample(`press A\n${text}`, up)).found, null, text);
+    assert.equal((await findCounterexample(`press A\n${text}`, valuesWithKeysUp)).found, null, text);
   }
 });
 
 // Each row: a condition, the instruction that makes it true, the instruction that makes it false, and the number of cycles for which it is
 // true with two more cycles in between.
-const SPANS = [["r5 > 0", "FIM P2, 0x05", "FIM P2, 0", 4], ["r5 > 0", "INC R5", "FIM P2, 0", 3], ["r5 > 0", "FIM P2, 0x0F", "INC R5", 4],
+const TRUE_CYCLES = [["r5 > 0", "FIM P2, 0x05", "FIM P2, 0", 4], ["r5 > 0", "INC R5", "FIM P2, 0", 3],
+  ["r5 > 0", "FIM P2, 0x0F", "INC R5", 4],
   ["cy = 1", "STC", "CLB", 3]];
 
-test("a condition may hold for exactly its time, whatever instruction changes it", async () => {
-  for (const [condition, begin, end, span] of SPANS) {
-    const program = `loop:   ${begin}\n        NOP\n        NOP\n        ${end}\n        JUN loop\n`;
-    const own = createSubject(engine, BOARD, program);
-    const campaignFor = (cycles) => readCampaign(`test\nnever ${condition} for ${cycles}`, own).campaign;
-    const findOf = (cycles) => replayCounterexample(own, campaignFor(cycles), 0, [0], async () => {});
-    const found = await findOf(span - 1);
-    assert.ok(found && await fails(found, program), `${begin}, ${end}`);
-    assert.equal(await findOf(span), null, `${begin}, ${end}`);
+test("a condition can be true for exactly its time, whichever instruction changes it", async () => {
+  for (const [condition, first, end, cycleCount] of TRUE_CYCLES) {
+    const program = `loop:   ${first}\n        NOP\n        NOP\n        ${end}\n        JUN loop\n`;
+    const loopSubject = createSubject(engine, BOARD, program);
+    const campaignFor = (cycles) => readCampaign(`test\nnever ${condition} for ${cycles}`, loopSubject).campaign;
+    const findFor = (cycles) => replayCounterexample(loopSubject, campaignFor(cycles), 0, [0], async () => {});
+    const found = await findFor(cycleCount - 1);
+    assert.ok(found && await doesTestFail(found, program), `${first}, ${end}`);
+    assert.equal(await findFor(cycleCount), null, `${first}, ${end}`);
   }
 });
 
-test("a press that comes too early, or not at all, becomes a test that fails", async () => {
-  const { found } = await counterexample("press A B\nlamp on on only after press B", LIGHTS);
-  assert.ok(found.isAllowed && await fails(found));
+test("a press that is too late, or missing, becomes a failing test", async () => {
+  const { found } = await findCounterexample("press A B\nlamp on on only after press B", LAMP_ON_VALUES);
+  assert.ok(found.isAllowed && await doesTestFail(found));
   assert.match(found.text, /^test lamp on on only after press B\n {2}run \d+\n {2}press A\n {2}run \d+\n {2}expect not lamp on on\n$/);
   // Key B is pressed too early or too late.
-  const withB = [0, 5, ...LIGHTS.slice(1)];
+  const valuesWithKeyB = [0, 5, ...LAMP_ON_VALUES.slice(1)];
   const keys = "press A B C\ntogether 3\n";
-  assert.ok(await fails((await counterexample(`${keys}lamp on on only after press A, press B`, withB)).found));
-  assert.equal((await counterexample(`${keys}lamp on on only after press B, press A`, withB)).found, null);
-  assert.ok((await counterexample(`${keys}@lit only after press A, press B`, withB)).found);
+  assert.ok(await doesTestFail((await findCounterexample(`${keys}lamp on on only after press A, press B`, valuesWithKeyB)).found));
+  assert.equal((await findCounterexample(`${keys}lamp on on only after press B, press A`, valuesWithKeyB)).found, null);
+  assert.ok((await findCounterexample(`${keys}@lit only after press A, press B`, valuesWithKeyB)).found);
   // Two keys can be pressed at the same moment.
-  const together = [0, 13, ...LIGHTS.slice(1)];
-  assert.equal((await counterexample(`${keys}lamp on on only after press B, press C, press A`, together)).found, null);
-  assert.ok((await counterexample(`${keys}lamp on on only after press C, press A, press B`, together)).found);
+  const valuesWithTwoKeys = [0, 13, ...LAMP_ON_VALUES.slice(1)];
+  assert.equal((await findCounterexample(`${keys}lamp on on only after press B, press C, press A`, valuesWithTwoKeys)).found, null);
+  assert.ok((await findCounterexample(`${keys}lamp on on only after press C, press A, press B`, valuesWithTwoKeys)).found);
 });
 
-test("keys that change together are on the way to what takes too long", async () => {
-  const { found } = await counterexample("press A B C\nnever lamp on on for 20", [0, 13, ...LIGHTS.slice(1)]);
-  assert.ok(found && await fails(found));
+test("simultaneous key changes can be part of a counterexample with a time", async () => {
+  const { found } = await findCounterexample("press A B C\nnever lamp on on for 20", [0, 13, ...LAMP_ON_VALUES.slice(1)]);
+  assert.ok(found && await doesTestFail(found));
 });
 
 // Programs for the board above. `made` has the common mistakes of each program: the number of cycles before the mistake, by the mistake's
@@ -374,26 +378,29 @@ const PROGRAMS_WITH_MISTAKES = [
   { program: "FIM P1, 0x10\nSRC P1\nWRR\nRDR", made: {} },
 ];
 
-test("mistakes are seen before the instruction that makes them", () => {
+test("mistakes are detected before the instruction that makes them", () => {
   for (const { program, made } of PROGRAMS_WITH_MISTAKES) {
-    const own = createSubject(engine, BOARD, `${program}\n${program.includes("ORG") ? "" : "end: JUN end\n"}`);
+    const mistakeSubject = createSubject(engine, BOARD, `${program}\n${program.includes("ORG") ? "" : "end: JUN end\n"}`);
     for (const word of ["ram", "rom", "rdr", "wrr"]) {
-      assert.equal(cyclesToMistake(own, own.file, word, 20), made[word] === undefined ? -1 : made[word], `${program}: ${word}`);
-      if (made[word] > 0) assert.equal(cyclesToMistake(own, own.file, word, made[word] - 1), -1, `${program}: ${word}, too late`);
+      assert.equal(cyclesToMistake(mistakeSubject, mistakeSubject.file, word, 20), made[word] === undefined ? -1 : made[word],
+        `${program}: ${word}`);
+      if (!(made[word] > 0)) continue;
+      assert.equal(cyclesToMistake(mistakeSubject, mistakeSubject.file, word, made[word] - 1), -1, `${program}: ${word}, too late`);
     }
   }
 });
 
-test("verdicts are TAP, and decide the exit status", () => {
+test("verdicts are printed as TAP, and determine the exit status", () => {
   const property = { text: "never # on", isGoal: false, line: 3 };
   const goal = { ...property, text: "reach it", isGoal: true };
-  const proved = { kind: "proved", states: 96937, bySets: false, leftOut: "" };
-  const bySets = { kind: "proved", states: 23, bySets: true, leftOut: '"once" and "after press"' };
-  const open = { kind: "open", words: "why" };
-  const found = { kind: "found", found: { steps: 1, cycles: 1200, isAllowed: true, isTest: true, text: "test x\n  run 1\n" } };
-  const all = [{ property, verdict: proved }, { property, verdict: open }, { property: goal, verdict: found },
-    { property: goal, verdict: proved }, { property, verdict: bySets }, { property: goal, verdict: bySets }];
-  assert.equal(tapHead(all.length) + all.map((each, at) => formatJudgedTap(each, at, "p")).join(""), `TAP version 13
+  const provedVerdict = { kind: "proved", states: 96937, bySets: false, leftOut: "" };
+  const setVerdict = { kind: "proved", states: 23, bySets: true, leftOut: '"once" and "after press"' };
+  const openVerdict = { kind: "open", words: "why" };
+  const foundVerdict = { kind: "found", found: { steps: 1, cycles: 1200, isAllowed: true, isTest: true, text: "test x\n  run 1\n" } };
+  const verdicts = [{ property, verdict: provedVerdict }, { property, verdict: openVerdict }, { property: goal, verdict: foundVerdict },
+    { property: goal, verdict: provedVerdict }, { property, verdict: setVerdict }, { property: goal, verdict: setVerdict }];
+  assert.equal(tapHead(verdicts.length) + verdicts.map((propertyVerdict, at) => formatJudgedTap(propertyVerdict, at, "p")).join(""),
+    `TAP version 13
 1..6
 ok 1 - never \\# on # proved for all inputs (96,937 states)
 not ok 2 - never \\# on # TODO not decided: why
@@ -409,8 +416,8 @@ not ok 4 - reach it # never reached, for all inputs (96,937 states)
 ok 5 - never \\# on # proved for all inputs (23 sets of states), even without "once" and "after press"
 not ok 6 - reach it # never reached, for all inputs (23 sets of states), even without "once" and "after press"
 `);
-  assert.equal(exitStatus([{ property, verdict: proved }, { property: goal, verdict: found }]), 0);
-  assert.equal(exitStatus([{ property, verdict: proved }, { property, verdict: open }]), 3);
-  assert.equal(exitStatus([{ property, verdict: found }, { property, verdict: open }]), 1);
-  assert.equal(exitStatus([{ property: goal, verdict: proved }]), 1);
+  assert.equal(exitStatus([{ property, verdict: provedVerdict }, { property: goal, verdict: foundVerdict }]), 0);
+  assert.equal(exitStatus([{ property, verdict: provedVerdict }, { property, verdict: openVerdict }]), 3);
+  assert.equal(exitStatus([{ property, verdict: foundVerdict }, { property, verdict: openVerdict }]), 1);
+  assert.equal(exitStatus([{ property: goal, verdict: provedVerdict }]), 1);
 });

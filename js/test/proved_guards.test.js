@@ -66,9 +66,9 @@ class FixedAnswerEngine extends Engine {
 }
 
 /** Returns the verdicts on the properties of a text. */
-async function verdictsOn(propertiesText, own = engine, programText = PROGRAM) {
+async function findVerdicts(propertiesText, usedEngine = engine, programText = PROGRAM) {
   const texts = { boardText: BOARD, programText, testText: "", propertiesText };
-  const { proving, faults } = beginProving(own, texts, 100000, { seen: async () => {}, yieldToMessages: async () => {} });
+  const { proving, faults } = beginProving(usedEngine, texts, 100000, { seen: async () => {}, yieldToMessages: async () => {} });
   assert.deepEqual(faults, []);
   return (await proving.judgeAll()).filter(({ property: { line } }) => line > 0).map(({ verdict }) => verdict);
 }
@@ -78,7 +78,7 @@ const WITHOUT_PRESS = 'without "after press", which a proof leaves out';
 // Each form of property with guards, and its verdict. The prover examines the property without its guards. `proved`: the property holds
 // without the guards, so it also holds with them; for a goal, no run reaches it. `found`: a run violates the property (or reaches the goal)
 // while the guards are open. Any other text is the reason why the verdict is open: the guard is closed in that run.
-const TABLE = [
+const GUARDED_PROPERTIES = [
   ["once lamp go on, never lamp waiting on and lamp go on", "proved"],
   ["once lamp go on, never lamp foul on", `it can fail ${WITHOUT_ONCE}`],
   ["after press START, never lamp foul on", "found"],
@@ -105,50 +105,51 @@ const TABLE = [
     'it can fail without "once" and "after press", which a proof leaves out'],
 ];
 
-test("a property is asked without guards that depend on the past", () => {
+test("the question about a property omits guards that depend on the past", () => {
   const subject = createSubject(engine, BOARD, PROGRAM);
   const propertyOf = (text) => readCampaign(text, subject).campaign.properties[0];
-  const askedAs = (text) => createQuestion(propertyOf(text), { from: null }, subject);
-  for (const [text] of TABLE) {
-    const left = text.replace(/(once|after press) [^,]*, /g, "");
-    assert.deepEqual(askedAs(text), askedAs(left), text);
+  const questionOf = (text) => createQuestion(propertyOf(text), { from: null }, subject);
+  for (const [text] of GUARDED_PROPERTIES) {
+    const textWithoutGuards = text.replace(/(once|after press) [^,]*, /g, "");
+    assert.deepEqual(questionOf(text), questionOf(textWithoutGuards), text);
   }
   assert.equal(omittedGuards(propertyOf("once r0 = 1, after press START within 9, once r0 = 2, never r1 = 1")), '"once" and "after press"');
   assert.equal(omittedGuards(propertyOf("while r0 = 1, never r1 = 1")), "");
   // The cells that a guard reads do not matter, because the prover ignores the guard.
-  assert.notEqual(askedAs("once rom1 in 8, never r1 = 1").question, null);
-  assert.equal(askedAs("while rom1 in 8, never r1 = 1").question, null);
+  assert.notEqual(questionOf("once rom1 in 8, never r1 = 1").question, null);
+  assert.equal(questionOf("while rom1 in 8, never r1 = 1").question, null);
 });
 
-test("what is proved without a guard is proved with it, and a way must break it with the guard", async () => {
-  const verdicts = await verdictsOn(TABLE.map(([text]) => `${text}\n`).join(""));
-  TABLE.forEach(([text, wanted], at) => {
+test("a proof without a guard is also a proof with it; a counterexample must respect the guard", async () => {
+  const verdicts = await findVerdicts(GUARDED_PROPERTIES.map(([text]) => `${text}\n`).join(""));
+  GUARDED_PROPERTIES.forEach(([text, expected], at) => {
     const verdict = verdicts[at];
-    assert.equal(verdict.kind === "open" ? verdict.words : verdict.kind, wanted, text);
+    assert.equal(verdict.kind === "open" ? verdict.words : verdict.kind, expected, text);
     if (verdict.kind === "proved") assert.match(verdict.leftOut, text.includes("once") ? /^"once"$/ : /^"after press"$/);
   });
 });
 
-test("a property with such a guard is asked alone, also before a search", () => {
+test("a property with such a guard has its own question, also before a search", () => {
   const subject = createSubject(engine, BOARD, PROGRAM);
   const text = "never r15 = 1\nonce lamp go on, never lamp foul on\nnever r14 = 1\n@go only after press START\n";
   const { campaign } = readCampaign(text, subject);
-  const [joint, ...alone] = new InitialProof(subject, campaign, 1000).questions.map(({ properties }) => properties);
-  assert.deepEqual([joint.includes(0), joint.includes(1), joint.includes(2), joint.includes(3)], [true, false, true, false]);
-  assert.ok([0, 1, 2, 3].every((at) => alone.some((each) => each.length === 1 && each[0] === at)));
+  const [jointQuestion, ...singleQuestions] = new InitialProof(subject, campaign, 1000).questions.map(({ properties }) => properties);
+  assert.deepEqual([jointQuestion.includes(0), jointQuestion.includes(1), jointQuestion.includes(2), jointQuestion.includes(3)],
+    [true, false, true, false]);
+  assert.ok([0, 1, 2, 3].every((at) => singleQuestions.some((question) => question.length === 1 && question[0] === at)));
 });
 
-test("presses that no read sees are no counterexample", async () => {
+test("presses that no read detects are not a counterexample", async () => {
   // The first read already finds START down. The key was pressed before that read, so no read sees it go down.
   const text = "lamp waiting on only after press START\n";
-  const [open] = await verdictsOn(text, new FixedAnswerEngine("may fail 0 8\n"));
+  const [open] = await findVerdicts(text, new FixedAnswerEngine("may fail 0 8\n"));
   assert.deepEqual(open, { kind: "open", words: "it can become true before the program has read each key up and then down" });
-  const [proved] = await verdictsOn(text, new FixedAnswerEngine("holds 12\n"));
+  const [proved] = await findVerdicts(text, new FixedAnswerEngine("holds 12\n"));
   assert.deepEqual(proved, { kind: "proved", states: 12, bySets: false, leftOut: "" });
-  const [found] = await verdictsOn("lamp go on only after press START, press START\n",
+  const [found] = await findVerdicts("lamp go on only after press START, press START\n",
     new FixedAnswerEngine(`may fail 0 8${" 1".repeat(16)}\n`));
   assert.equal(found.kind, "found");
   assert.match(found.found.text, /\n {2}press START\n {2}run \d+\n {2}expect not lamp go on\n$/);
-  const [pin] = await verdictsOn("lamp foul on only after press PRESS\n");
+  const [pin] = await findVerdicts("lamp foul on only after press PRESS\n");
   assert.match(pin.words, /^PRESS is at the TEST pin/);
 });

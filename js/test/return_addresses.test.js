@@ -9,13 +9,13 @@ const TEXT = "go: JMS one\n\tJUN go\none: FIM P0, 0x50\n\tBBL 0\n\tNOP\n";
 const MAP = new SourceMap(["map lines 5 names 2", "line 1 000 2", "line 2 002 2", "line 3 004 2", "line 4 006 1", "line 5 007 1",
   "name go 000", "name one 004"], TEXT);
 
-test("an address that no call left is left over, and so is all below it", () => {
+test("a return address without a call is stale, and so are all older ones", () => {
   assert.deepEqual(findLiveReturns([2, 2, 0], ["50", "50", "00"], null), [true, true, false]);
   assert.deepEqual(findLiveReturns([6, 2, 0], ["20", "50", "00"], null), [false, false, false]);
   assert.deepEqual(findLiveReturns([2, 2, 2], ["50", "50", "50"], null), [true, true, true]);
 });
 
-test("a byte that looks like a JMS, but is none in the program", () => {
+test("a byte that looks like a JMS does not count if the program has none there", () => {
   // The address after the BBL at 006 is 007. The byte at 005 is the second byte of FIM, 50.
   assert.deepEqual(findLiveReturns([7, 0, 0], ["50", "00", "00"], null), [true, false, false]);
   assert.deepEqual(findLiveReturns([7, 0, 0], ["50", "00", "00"], MAP), [false, false, false]);
@@ -24,11 +24,11 @@ test("a byte that looks like a JMS, but is none in the program", () => {
   assert.deepEqual(findLiveReturns([0x102, 0, 0], ["5F", "00", "00"], MAP), [true, false, false]);
 });
 
-test("the call before an address, also round the end", () => {
+test("the address of the call before a return address, also across the end of ROM", () => {
   assert.deepEqual([2, 1, 0].map(callAddress), [0, 0xFFF, 0xFFE]);
 });
 
-test("what the addresses are, in words", () => {
+test("the counter and return addresses are described", () => {
   assert.deepEqual(describeCounter(5, MAP), { isLive: true, words: "one + 1, line 3", title: "one: FIM P0, 0x50" });
   assert.equal(describeCounter(9, MAP).words, "");
   assert.equal(describeCounter(5, null).words, "");

@@ -24,22 +24,22 @@ four = 4
         LDM four
 `.split("\n");
 const routines = new Routines(TEXT);
-const named = (calls) => calls.map(({ routine, places }) => `${routine.name} ${places.map(({ line }) => line).join(",")}`);
+const describeCalls = (calls) => calls.map(({ routine, places }) => `${routine.name} ${places.map(({ line }) => line).join(",")}`);
 
-test("routines begin with the program and with what is called", () => {
+test("routines begin at the start of the program and at called labels", () => {
   assert.deepEqual(routines.routines.map(({ name, line, last }) => [name, line, last]), [["", 2, 2], ["show", 8, 9], ["read", 12, 15]]);
 });
 
-test("what a routine calls, and by what it is called", () => {
-  assert.deepEqual(named(routines.findCalledRoutines(routines.routines[0])), ["show 4", "read 5"]);
-  assert.deepEqual(named(routines.findCalledRoutines(routines.getByName("read"))), ["show 14"]);
-  assert.deepEqual(named(routines.findCallers(routines.getByName("show"))), [" 4", "read 14"]);
-  assert.deepEqual(named(routines.findCallers(routines.getByName("read"))), [" 5", "other 10"],
-    "a call that no jump reaches is in its label");
-  assert.deepEqual(named(routines.findCallers(routines.getByName("unused"))), []);
+test("the called routines and the callers of a routine are found", () => {
+  assert.deepEqual(describeCalls(routines.findCalledRoutines(routines.routines[0])), ["show 4", "read 5"]);
+  assert.deepEqual(describeCalls(routines.findCalledRoutines(routines.getByName("read"))), ["show 14"]);
+  assert.deepEqual(describeCalls(routines.findCallers(routines.getByName("show"))), [" 4", "read 14"]);
+  assert.deepEqual(describeCalls(routines.findCallers(routines.getByName("read"))), [" 5", "other 10"],
+    "an unreachable call belongs to the label before it");
+  assert.deepEqual(describeCalls(routines.findCallers(routines.getByName("unused"))), []);
 });
 
-test("the routine at a line, and how often labels are named", () => {
+test("the routine at a line, and the number of references to labels", () => {
   assert.equal(routines.routineAt(13).name, "read");
   assert.equal(routines.routineAt(4).name, "");
   assert.equal(routines.routineAt(10), null);
@@ -50,8 +50,8 @@ test("the routine at a line, and how often labels are named", () => {
     [{ calls: 2, others: 0 }, { calls: 0, others: 1 }, { calls: 0, others: 0 }, false]);
 });
 
-test("texts without statements, and of one instruction", () => {
+test("texts without statements or with one instruction", () => {
   assert.deepEqual(new Routines([""]).routines, []);
   assert.deepEqual(new Routines(["a: JMS a"]).routines.map(({ name }) => name), ["a"]);
-  assert.deepEqual(named(new Routines(["a: JMS a"]).findCallers(new Routines(["a: JMS a"]).routines[0])), ["a 0"]);
+  assert.deepEqual(describeCalls(new Routines(["a: JMS a"]).findCallers(new Routines(["a: JMS a"]).routines[0])), ["a 0"]);
 });

@@ -1,4 +1,4 @@
-// A language server that runs in the test's own process, and its client.
+// A language server that runs in the test's own process, and a client that sends requests to it.
 import { Connection } from "../core/server/connection.js";
 import { MessageReader, frameMessage } from "../core/server/framing.js";
 import { LanguageServer } from "../core/server/language_server.js";
@@ -9,32 +9,35 @@ import { pageModule } from "./page_session.js";
 const engine = new Engine(new globalThis.WebAssembly.Module(pageModule));
 export const bytesOf = (text) => new TextEncoder().encode(text);
 
-/** Returns a server with a client. `files` are the files that the server can read, and the server calls `pause` between pieces of work. */
+/** Returns a server and its client. `files` are the texts that the server can read,
+  by URI. The server calls `pause` between pieces of work. */
 export function startServer(files = {}, pause = async () => {}) {
   const reader = new MessageReader();
   const messages = [];
-  let status = null;
+  let exitCode = null;
   const connection = new Connection((bytes) => {
     // Output after the server's end is ignored.
-    if (status === null) messages.push(...[...reader.take(bytes)].map(({ text }) => JSON.parse(text)));
-  }, (ended) => {
-    status = ended;
+    if (exitCode === null) messages.push(...[...reader.take(bytes)].map(({ text }) => JSON.parse(text)));
+  }, (exitStatus) => {
+    exitCode = exitStatus;
   });
   const host = { readFile: (uri) => files[uri] || null, pause };
   const server = new LanguageServer(connection, engine, readPageData(), host);
-  const answer = async (method, params, id = messages.length + 1) => {
+  const getResponse = async (method, params, id = messages.length + 1) => {
     connection.take(frameMessage({ jsonrpc: "2.0", id, method, params }));
-    for (let turns = 0; turns < 200 && !messages.some((each) => each.id === id); turns++) await new Promise(setImmediate);
-    return messages.find((each) => each.id === id);
+    for (let turn = 0; turn < 200 && !messages.some((message) => message.id === id); turn++) await new Promise(setImmediate);
+    return messages.find((message) => message.id === id);
   };
-  const ask = async (method, params) => (await answer(method, params)).result;
-  const open = async (uri, text, languageId = "asm") => {
+  const request = async (method, params) => (await getResponse(method, params)).result;
+  const openText = async (uri, text, languageId = "asm") => {
     const textDocument = { uri, languageId, version: 1, text };
     connection.take(frameMessage({ jsonrpc: "2.0", method: "textDocument/didOpen", params: { textDocument } }));
-    const begin = { line: 0, character: 0 };
-    await ask("textDocument/codeAction", { textDocument: { uri }, range: { start: begin, end: begin } });
-    return messages.filter((each) => each.method === "textDocument/publishDiagnostics" && each.params.uri === uri).pop().params.diagnostics;
+    const start = { line: 0, character: 0 };
+    await request("textDocument/codeAction", { textDocument: { uri }, range: { start, end: start } });
+    return messages.filter((message) => message.method === "textDocument/publishDiagnostics"
+      && message.params.uri === uri).pop().params.diagnostics;
   };
-  const at = (uri, line, character) => ({ textDocument: { uri }, position: { line, character } });
-  return { server, connection, messages, answer, ask, open, at, begin: (params = {}) => ask("initialize", params), status: () => status };
+  const positionIn = (uri, line, character) => ({ textDocument: { uri }, position: { line, character } });
+  const initialize = (params = {}) => request("initialize", params);
+  return { server, connection, messages, getResponse, request, openText, positionIn, initialize, getExitStatus: () => exitCode };
 }

@@ -8,20 +8,22 @@ import { startServer } from "./server_client.js";
 const BOARD = readFileSync(new URL("../../examples/lock/board.toml", import.meta.url), "utf8");
 const FILES = { "file:///h/board.toml": BOARD, "file:///h/x.asm": "start: JUN start\n" };
 const MAX_LENGTH = 65536;
-const repeated = (text) => text.repeat(Math.floor(MAX_LENGTH / text.length));
+const repeatToLimit = (text) => text.repeat(Math.floor(MAX_LENGTH / text.length));
 const TEXTS = {
-  "letters": repeated("a"), "blanks": `${repeated(" ").slice(2)}x`, "a letter, blanks and a letter": `a${repeated(" ").slice(2)}b`,
-  "colons": repeated(":"), "commas": `DB ${repeated(",").slice(9)}`, "brackets": repeated("["), "open quotes": repeated("\""),
-  "comments": repeated("; "), "marks": repeated(" # "), "empty lines": repeated("\n"), "labels": repeated("a:\n"),
-  "jumps": repeated("a: JMS a\n"),
-  "keys": repeated("k=1\n"), "tests": repeated("test a\n"), "repeats": `test a\n${repeated("repeat 2\n").slice(20)}`,
-  "presses": `test a\n  press ${repeated("1 ").slice(20)}`,
-  "a long condition": `test a\n  expect ${repeated("lamp open on or ").slice(40)}lamp open on`,
-  "deep brackets": `never ${repeated("(").slice(20)}`,
-  "many only after": repeated("lamp open on only after press 1\n"), "nots": `never ${repeated("not ").slice(20)}`,
+  "letters": repeatToLimit("a"), "blanks": `${repeatToLimit(" ").slice(2)}x`,
+    "a letter, blanks and a letter": `a${repeatToLimit(" ").slice(2)}b`,
+  "colons": repeatToLimit(":"), "commas": `DB ${repeatToLimit(",").slice(9)}`, "brackets": repeatToLimit("["),
+    "open quotes": repeatToLimit("\""),
+  "comments": repeatToLimit("; "), "marks": repeatToLimit(" # "), "empty lines": repeatToLimit("\n"), "labels": repeatToLimit("a:\n"),
+  "jumps": repeatToLimit("a: JMS a\n"),
+  "keys": repeatToLimit("k=1\n"), "tests": repeatToLimit("test a\n"), "repeats": `test a\n${repeatToLimit("repeat 2\n").slice(20)}`,
+  "presses": `test a\n  press ${repeatToLimit("1 ").slice(20)}`,
+  "a long condition": `test a\n  expect ${repeatToLimit("lamp open on or ").slice(40)}lamp open on`,
+  "deep brackets": `never ${repeatToLimit("(").slice(20)}`,
+  "many only after": repeatToLimit("lamp open on only after press 1\n"), "nots": `never ${repeatToLimit("not ").slice(20)}`,
   "binary": [...Array(MAX_LENGTH).keys()].map((at) => String.fromCharCode((at * 7919) % 256)).join(""),
-  "lone surrogates": repeated("\ud800"), "directions": repeated("\u202e\u0000"), "tables": repeated("[[rom]]\n"),
-  "columns": `[keys]\ncolumns = [${repeated("\"a\",").slice(50)}`,
+  "lone surrogates": repeatToLimit("\ud800"), "directions": repeatToLimit("\u202e\u0000"), "tables": repeatToLimit("[[rom]]\n"),
+  "columns": `[keys]\ncolumns = [${repeatToLimit("\"a\",").slice(50)}`,
 };
 const WHOLE_RANGE = { start: { line: 0, character: 0 }, end: { line: MAX_LENGTH, character: MAX_LENGTH } };
 const POSITION_REQUESTS = [
@@ -30,15 +32,15 @@ const POSITION_REQUESTS = [
 const DOCUMENT_REQUESTS = ["documentSymbol", "codeLens", "documentLink", "foldingRange", "semanticTokens/full", "diagnostic"];
 /** The time limit for an answer, in milliseconds of processor time, so that other processes do not matter. */
 const MAX_ANSWER_MS = 2000;
-const processorTime = () => process.cpuUsage().user / 1000;
+const getProcessorTime = () => process.cpuUsage().user / 1000;
 
 /** Sends every kind of request about a text. Returns the method that took longest. */
-async function askAll({ answer, at }, uri, lines) {
+async function sendAllRequests({ getResponse, positionIn }, uri, lines) {
   const last = lines.length - 1;
   const middle = Math.floor(lines[0].length / 2);
   const requests = [
     ...POSITION_REQUESTS.flatMap((name) => [[0, middle], [last, lines[last].length]].map(([line, character]) => (
-      [name, { ...at(uri, line, character), context: { includeDeclaration: true } }]))),
+      [name, { ...positionIn(uri, line, character), context: { includeDeclaration: true } }]))),
     ...DOCUMENT_REQUESTS.map((name) => [name, { textDocument: { uri } }]),
     ["formatting", { textDocument: { uri }, options: { tabSize: 4, insertSpaces: true } }],
     ["inlayHint", { textDocument: { uri }, range: WHOLE_RANGE }], ["codeAction", { textDocument: { uri }, range: WHOLE_RANGE }],
@@ -47,10 +49,10 @@ async function askAll({ answer, at }, uri, lines) {
   ];
   const longest = { name: "", time: 0 };
   for (const [name, params] of requests) {
-    const begun = processorTime();
-    const reply = await answer(`textDocument/${name}`, params);
+    const startTime = getProcessorTime();
+    const reply = await getResponse(`textDocument/${name}`, params);
     assert.ok(reply && ("result" in reply || "error" in reply), `${name} is answered`);
-    const time = processorTime() - begun;
+    const time = getProcessorTime() - startTime;
     if (time > longest.time) Object.assign(longest, { name, time });
   }
   return longest;
@@ -59,23 +61,23 @@ async function askAll({ answer, at }, uri, lines) {
 for (const [name, text] of Object.entries(TEXTS)) {
   test(`a text of 64 KB: ${name}`, async () => {
     const server = startServer(FILES);
-    await server.begin();
+    await server.initialize();
     for (const file of ["x.asm", "board.toml", "x.test", "x.props", "mcs4.toml"]) {
       const uri = `file:///h/${file}`;
-      const begun = processorTime();
-      await server.open(uri, text);
-      const opened = processorTime() - begun;
-      const { name: method, time } = await askAll(server, uri, text.split("\n"));
-      assert.ok(opened < MAX_ANSWER_MS && time < MAX_ANSWER_MS,
-        `${file}: ${opened.toFixed(0)} ms until its faults, ${method} ${time.toFixed(0)} ms`);
+      const startTime = getProcessorTime();
+      await server.openText(uri, text);
+      const openingTime = getProcessorTime() - startTime;
+      const { name: method, time } = await sendAllRequests(server, uri, text.split("\n"));
+      assert.ok(openingTime < MAX_ANSWER_MS && time < MAX_ANSWER_MS,
+        `${file}: ${openingTime.toFixed(0)} ms until its diagnostics, ${method} ${time.toFixed(0)} ms`);
     }
   });
 }
 
-test("more than the longest text, and a text of one character more", async () => {
-  const { open, ask, begin } = startServer();
-  await begin();
-  const faults = await open("file:///long.asm", `${repeated("a")}a`);
-  assert.match(faults[0].message, /^a text has at most 65,536 characters/);
-  assert.equal(await ask("textDocument/foldingRange", { textDocument: { uri: "file:///long.asm" } }), null);
+test("a text that is longer than the maximum is rejected", async () => {
+  const { openText, request, initialize } = startServer();
+  await initialize();
+  const diagnostics = await openText("file:///long.asm", `${repeatToLimit("a")}a`);
+  assert.match(diagnostics[0].message, /^a text has at most 65,536 characters/);
+  assert.equal(await request("textDocument/foldingRange", { textDocument: { uri: "file:///long.asm" } }), null);
 });

@@ -33,37 +33,37 @@ columns = ["rom0.0", "rom0.1"]
  * Returns a prompt for a new session with files, and a function that returns its output since the last call. Messages other than answers
  * are in parentheses.
  */
-function prompted(files = {}) {
+function createPrompt(files = {}) {
   const state = engine.begin();
-  let out = [];
+  let output = [];
   const prompt = new SessionPrompt({
     serve: async (input) => {
       const { answers } = engine.serve(state, input, state);
-      out.push(...answers);
+      output.push(...answers);
       return answers[0] || "";
     },
     ask: async (line) => engine.ask(state, `${line}\n`).answers,
-    print: (words) => out.push(...words.split("\n").map((line) => `(${line})`)),
-    complain: (words) => out.push(...words.split("\n").map((line) => `(${line})`)),
+    print: (text) => output.push(...text.split("\n").map((line) => `(${line})`)),
+    complain: (text) => output.push(...text.split("\n").map((line) => `(${line})`)),
     read: (name) => {
       if (files[name] === undefined) throw new Error(`cannot read ${name}: there is no such file`);
       return files[name];
     },
-    files: (begin) => Object.keys(files).filter((name) => name.startsWith(begin)),
+    files: (prefix) => Object.keys(files).filter((name) => name.startsWith(prefix)),
     errorsOf: (word, text, board) => findTextErrors(word, text, board, { manual, wordsOf: describeRefusal }),
     wordsOf: describeRefusal,
     manual: () => manual,
   });
   const ask = async (...lines) => {
-    out = [];
+    output = [];
     for (const line of lines) await prompt.take(line);
-    return out;
+    return output;
   };
   return { prompt, ask };
 }
 
-test("lines, typed texts, and what is wrong with them", async () => {
-  const { prompt, ask } = prompted();
+test("lines and typed texts are served, and their errors explained", async () => {
+  const { prompt, ask } = createPrompt();
   assert.deepEqual(await ask("", "   ", "seq", "test 1"), ["seq 0", "ok 1"]);
   assert.equal(prompt.label, "mcs4> ");
   assert.deepEqual(await ask("wire"), []);
@@ -78,12 +78,12 @@ test("lines, typed texts, and what is wrong with them", async () => {
     "no 30 line 1", "(line 1: JMP is not an instruction; JUN?)", "(    a: JMP b)", "(line 2: LDN is not an instruction; LD or LDM?)",
     "(    b: LDN 17)",
   ]);
-  const [, why] = await ask("asm", "; \u00e9", ".");
-  assert.match(why, /a byte that is neither a tab nor a printable ASCII character/);
+  const [, message] = await ask("asm", "; \u00e9", ".");
+  assert.match(message, /a byte that is neither a tab nor a printable ASCII character/);
 });
 
-test("a text that is dropped, and the end of input within one", async () => {
-  const { prompt, ask } = prompted();
+test("an unfinished text can be dropped", async () => {
+  const { prompt, ask } = createPrompt();
   await ask("asm", " NOP");
   assert.equal(prompt.unfinishedText, "asm\n NOP\n");
   assert.equal(prompt.drop(), "the text of asm is dropped");
@@ -92,8 +92,8 @@ test("a text that is dropped, and the end of input within one", async () => {
   assert.equal(prompt.isEnded, true);
 });
 
-test("files in the place of typed texts, without their comments", async () => {
-  const { ask } = prompted({
+test("files can replace typed texts, without their comments", async () => {
+  const { ask } = createPrompt({
     "b.toml": `# \u00e9\n${BOARD}`, "p.asm": "; \u00e9\nloop: JUN loop ; again\n", "bad.asm": "\n JMP 3\n",
     "bad.toml": "\n\n[[lamp]]\nline = 'led'\n", "far.asm": " ORG 0x300\n NOP\n",
   });
@@ -112,8 +112,8 @@ test("files in the place of typed texts, without their comments", async () => {
   assert.deepEqual(await ask("asm none"), ["(cannot read none: there is no such file)"]);
 });
 
-test("lines of a file, up to an error", async () => {
-  const { prompt, ask } = prompted({
+test("lines of a file are served up to an error", async () => {
+  const { prompt, ask } = createPrompt({
     one: "test 1\nsource two\nseq\n", two: "seq\nasm\n NOP\n.\npress 1\nseq\n", cut: "asm\n NOP\n", itself: "source itself\n",
     leave: "seq\nquit\nseq\n",
   });
@@ -130,10 +130,10 @@ test("lines of a file, up to an error", async () => {
   assert.equal(prompt.isEnded, true);
 });
 
-test("help of lines, places and refusals", async () => {
-  const { ask } = prompted();
-  const all = await ask("help");
-  assert.ok(all.every((line) => line.length < 82), "a line is too long");
+test("help about lines, places and refusals", async () => {
+  const { ask } = createPrompt();
+  const helpLines = await ask("help");
+  assert.ok(helpLines.every((line) => line.length < 82), "a line is too long");
   assert.deepEqual(await ask("help press"),
     ["(press r c: presses or releases the key in row r and column c, even if it is already down or up)"]);
   assert.deepEqual(await ask("help 44"), ["(no 44: a run of no cycle, or of more than 100,000)"]);
@@ -144,7 +144,7 @@ test("help of lines, places and refusals", async () => {
 });
 
 test("completion of commands, places, keys, and files", async () => {
-  const { prompt, ask } = prompted({ "board.toml": BOARD, "p.asm": "" });
+  const { prompt, ask } = createPrompt({ "board.toml": BOARD, "p.asm": "" });
   await ask("wire board.toml", "break 3", "watch 0 0x12");
   for (const [line, words, end] of [
     ["pre", ["press "], "pre"], ["so", ["source "], "so"], ["press ", ["0", "1"], ""], ["press 0 1", ["1"], "1"], ["press 0 0 ", [], ""],
@@ -156,7 +156,7 @@ test("completion of commands, places, keys, and files", async () => {
   assert.deepEqual(await prompt.complete("NOP"), [["\t"], ""]);
 });
 
-test("folding at words", () => {
+test("texts are wrapped at words", () => {
   assert.equal(wrapText(" one  two three ", 8), "one two\nthree");
   assert.deepEqual([wrapText("one two", 7), wrapText("one two", 6)], ["one two", "one\ntwo"]);
   assert.equal(wrapText("a verylongword b", 6, "- ", "  "), "- a\n  verylongword\n  b");

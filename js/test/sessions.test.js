@@ -8,10 +8,10 @@ import { Persistence } from "../page/session/persistence.js";
 import { MemoryStore } from "../page/session/store.js";
 import { TextsController, formatLineCount } from "../page/session/texts_controller.js";
 
-const record = (name = "die") => newRecord(name, Uint8Array.of(1, 2), { boardText: "# b", programText: "; p" });
-const freeLocks = { acquire: async () => () => {} };
+const createRecord = (name = "die") => newRecord(name, Uint8Array.of(1, 2), { boardText: "# b", programText: "; p" });
+const AVAILABLE_LOCKS = { acquire: async () => () => {} };
 
-test("what an address names", () => {
+test("addresses are formatted and parsed", () => {
   for (const [kind, value] of [["session", "m1-2-x"], ["example", "traffic light"], ["link", "1.abc-_"], ["example", "50 % \u00fc"]]) {
     assert.deepEqual(readAddress(formatAddress(kind, value)), { kind, value });
   }
@@ -20,20 +20,20 @@ test("what an address names", () => {
     assert.deepEqual(readAddress(`#link=1.abc-_${blanks}`), { kind: "link", value: "1.abc-_" });
     assert.deepEqual(readAddress(`#example=traffic%20light${blanks}`), { kind: "example", value: "traffic light" });
   }
-  for (const other of ["", "#", "#help", "#sessions=1", "#link"]) assert.deepEqual(readAddress(other), { kind: "", value: "" });
+  for (const address of ["", "#", "#help", "#sessions=1", "#link"]) assert.deepEqual(readAddress(address), { kind: "", value: "" });
 });
 
-test("breakpoints and values go into a new session, where there are some", () => {
+test("breakpoints and watches are stored in a new session, if there are any", () => {
   const texts = { boardText: "", programText: "" };
   const breakpoints = [{ line: 2, address: -1, isOn: true, condition: "r4 = 7", from: 1, note: "" }];
-  const made = newRecord("die", Uint8Array.of(1), { ...texts, breakpoints, watched: ["count = R5"] });
-  assert.deepEqual([made.breakpoints, made.watched], [breakpoints, ["count = R5"]]);
+  const newSession = newRecord("die", Uint8Array.of(1), { ...texts, breakpoints, watched: ["count = R5"] });
+  assert.deepEqual([newSession.breakpoints, newSession.watched], [breakpoints, ["count = R5"]]);
   assert.deepEqual(["breakpoints", "watched"].filter((key) => key in newRecord("die", Uint8Array.of(1), texts)), []);
 });
 
-test("a session of an example is not kept before something is done in it", async () => {
+test("a session of an example is not saved before it is changed", async () => {
   const store = new MemoryStore();
-  const session = new OpenSession(store, record(), () => {}, "die");
+  const session = new OpenSession(store, createRecord(), () => {}, "die");
   assert.equal(await session.save(), "");
   assert.equal(await session.saveNow(), "");
   assert.deepEqual(await store.all(), []);
@@ -42,57 +42,57 @@ test("a session of an example is not kept before something is done in it", async
   assert.equal((await store.all()).length, 1);
 });
 
-test("sessions are deleted several at once, and brought back as they were", async () => {
+test("several sessions can be deleted at once, and restored unchanged", async () => {
   const store = new MemoryStore();
-  const records = [record("one"), record("two"), record("three")];
-  for (const each of records) await store.put(each);
-  const refused = [];
-  const bin = new Trash(store, freeLocks, (words) => refused.push(words));
-  const [one, two] = await store.all();
-  assert.deepEqual(await bin.remove([one, two]), [one, two]);
+  const records = [createRecord("one"), createRecord("two"), createRecord("three")];
+  for (const storedRecord of records) await store.put(storedRecord);
+  const messages = [];
+  const trash = new Trash(store, AVAILABLE_LOCKS, (words) => messages.push(words));
+  const [first, second] = await store.all();
+  assert.deepEqual(await trash.remove([first, second]), [first, second]);
   assert.deepEqual((await store.all()).map(({ name }) => name), ["three"]);
-  assert.deepEqual(bin.deleted, [one, two]);
-  await bin.restoreSessions([one, two]);
-  await bin.restoreSessions([one]);
+  assert.deepEqual(trash.deleted, [first, second]);
+  await trash.restoreSessions([first, second]);
+  await trash.restoreSessions([first]);
   assert.deepEqual((await store.all()).map(({ name, programText }) => name + programText), ["three; p", "one; p", "two; p"]);
-  assert.deepEqual([bin.deleted, refused], [[], []]);
-  assert.deepEqual([formatNames([one]), formatNames([one, two])], ['"one"', "2 sessions"]);
+  assert.deepEqual([trash.deleted, messages], [[], []]);
+  assert.deepEqual([formatNames([first]), formatNames([first, second])], ['"one"', "2 sessions"]);
 });
 
-test("what another tab has open is not deleted, and what the store refuses can be brought back later", async () => {
+test("a session that is open in another tab is not deleted; a failed restoration can be repeated", async () => {
   const store = new MemoryStore();
-  const [one, two] = [record("one"), record("two")];
-  await store.put(one);
-  await store.put(two);
-  const refused = [];
-  const bin = new Trash(store, { acquire: async (id) => (id === two.id ? null : () => {}) }, (words) => refused.push(words));
-  assert.deepEqual(await bin.remove([one, two]), [one]);
+  const [first, second] = [createRecord("one"), createRecord("two")];
+  await store.put(first);
+  await store.put(second);
+  const messages = [];
+  const trash = new Trash(store, { acquire: async (id) => (id === second.id ? null : () => {}) }, (words) => messages.push(words));
+  assert.deepEqual(await trash.remove([first, second]), [first]);
   store.put = async () => { throw new DOMException("", "QuotaExceededError"); };
-  await bin.restoreSessions([one]);
-  assert.deepEqual(bin.deleted, [one]);
-  assert.deepEqual(refused, ['The session "two" is open in another tab, so it was not deleted.',
+  await trash.restoreSessions([first]);
+  assert.deepEqual(trash.deleted, [first]);
+  assert.deepEqual(messages, ['The session "two" is open in another tab, so it was not deleted.',
     'The session "one" was not restored: the browser has no more space for this page.']);
 });
 
-test("the browser is asked once to keep what it keeps", async () => {
-  let asked = 0;
-  const one = new Persistence({ persist: async () => { asked += 1; return true; } });
-  assert.equal(one.isPromised, false);
-  await one.ask();
-  await one.ask();
-  assert.deepEqual([asked, one.isPromised], [1, true]);
-  const other = new Persistence({ persist: async () => { throw new Error("blocked"); } });
-  await other.ask();
-  assert.equal(other.isPromised, false);
+test("the browser is asked once for persistent storage", async () => {
+  let requestCount = 0;
+  const persistence = new Persistence({ persist: async () => { requestCount += 1; return true; } });
+  assert.equal(persistence.isPromised, false);
+  await persistence.ask();
+  await persistence.ask();
+  assert.deepEqual([requestCount, persistence.isPromised], [1, true]);
+  const blockedPersistence = new Persistence({ persist: async () => { throw new Error("blocked"); } });
+  await blockedPersistence.ask();
+  assert.equal(blockedPersistence.isPromised, false);
   await new Persistence(null).ask();
 });
 
-test("lines in words", () => {
+test("line counts are formatted", () => {
   assert.deepEqual(["", "a", "a\n", "a\nb", "\n"].map(formatLineCount), ["0 lines", "1 line", "1 line", "2 lines", "1 line"]);
 });
 
 /** Returns a texts controller with stand-ins for its editors. `answers` are the user's answers to its questions. */
-function controller(answers, programText, found) {
+function createController(answers, programText, found) {
   const seen = { asked: 0, notices: [], kept: 0 };
   const session = { record: { id: "1", name: "one", boardText: "", programText } };
   const shown = { session };
@@ -118,8 +118,8 @@ function controller(answers, programText, found) {
   return { made, seen, shown, session };
 }
 
-test("a source that is replaced is asked for, and can be brought back", async () => {
-  const { made, seen, session } = controller([false, true], "; mine", "\tNOP\n");
+test("replacing a source needs a confirmation, and can be undone", async () => {
+  const { made, seen, session } = createController([false, true], "; mine", "\tNOP\n");
   await made.disassembleRom();
   assert.deepEqual([made.program.text, seen.notices.length], ["; mine", 0]);
   await made.disassembleRom();
@@ -131,8 +131,8 @@ test("a source that is replaced is asked for, and can be brought back", async ()
   clearTimeout(made.saveTimer);
 });
 
-test("Undo goes the editor's way while nothing was typed since, and else puts the old text in", async () => {
-  const { made, seen } = controller([true, true], "; mine", "\tNOP\n");
+test("Undo uses the editor's history if nothing was typed since, and otherwise inserts the old text", async () => {
+  const { made, seen } = createController([true, true], "; mine", "\tNOP\n");
   await made.disassembleRom();
   seen.notices.pop().action.act();
   assert.deepEqual([made.program.text, made.program.past], ["; mine", []]);
@@ -144,8 +144,8 @@ test("Undo goes the editor's way while nothing was typed since, and else puts th
   clearTimeout(made.saveTimer);
 });
 
-test("an empty source is replaced at once, and the same one not at all", async () => {
-  const { made, seen } = controller([], " \n", "\tNOP\n");
+test("an empty source is replaced at once, and an identical source is not replaced", async () => {
+  const { made, seen } = createController([], " \n", "\tNOP\n");
   await made.disassembleRom();
   assert.equal(made.program.text, "\tNOP\n");
   await made.disassembleRom();
@@ -154,8 +154,8 @@ test("an empty source is replaced at once, and the same one not at all", async (
   clearTimeout(made.saveTimer);
 });
 
-test("a source of another session is not brought back into this one", async () => {
-  const { made, seen, shown, session } = controller([true], "; mine", "\tNOP\n");
+test("a source is not restored into another session", async () => {
+  const { made, seen, shown, session } = createController([true], "; mine", "\tNOP\n");
   await made.disassembleRom();
   shown.session = { record: { id: "2", name: "two", boardText: "", programText: "; two" } };
   made.show(shown.session.record);
@@ -170,8 +170,8 @@ test("a source of another session is not brought back into this one", async () =
 
 const FROM_FILE = { board: null, program: "some prose\n", tests: null, properties: null, lines: "" };
 
-test("a file that is perhaps no program is asked for before it replaces the source", async () => {
-  const { made, seen, session } = controller([false, true], "; mine", "");
+test("a file that is perhaps not a program needs a confirmation before it replaces the source", async () => {
+  const { made, seen, session } = createController([false, true], "; mine", "");
   await made.open("notes", { ...FROM_FILE, isGuess: true });
   assert.deepEqual([made.program.text, seen.asked, seen.notices.length], ["; mine", 1, 0]);
   await made.open("notes", { ...FROM_FILE, isGuess: true });
@@ -179,17 +179,17 @@ test("a file that is perhaps no program is asked for before it replaces the sour
   clearTimeout(made.saveTimer);
 });
 
-test("a file with the name of a program, or with a line that is right, is not asked for", async () => {
+test("a file with a program's name, or with a valid line, needs no confirmation", async () => {
   for (const [name, texts] of [["notes.asm", FROM_FILE], ["notes", { ...FROM_FILE, program: " NOP\n", isGuess: true }]]) {
-    const { made, seen } = controller([], "; mine", "");
+    const { made, seen } = createController([], "; mine", "");
     await made.open(name, texts);
     assert.deepEqual([made.program.text, seen.asked], [texts.program, 0]);
     clearTimeout(made.saveTimer);
   }
 });
 
-test("a file makes one notice, which undoes all that the file has replaced", async () => {
-  const { made, seen } = controller([], "; mine", "");
+test("an opened file has one notice, which can undo all replacements", async () => {
+  const { made, seen } = createController([], "; mine", "");
   await made.open("both.txt", { ...FROM_FILE, board: "# new", program: "\tNOP\n" });
   assert.deepEqual([made.board.text, made.program.text, seen.notices.length], ["# new", "\tNOP\n", 1]);
   const [{ words, kind, action }] = seen.notices;
@@ -202,8 +202,8 @@ test("a file makes one notice, which undoes all that the file has replaced", asy
   clearTimeout(made.saveTimer);
 });
 
-test("where a file replaces nothing, its notice offers nothing to undo", async () => {
-  const { made, seen } = controller([], " \n", "");
+test("if a file replaces nothing, its notice has no Undo", async () => {
+  const { made, seen } = createController([], " \n", "");
   await made.open("a.asm", { ...FROM_FILE, program: "\tNOP\n" });
   assert.deepEqual(seen.notices.map(({ kind, action }) => [kind, action]), [["file", undefined]]);
   clearTimeout(made.saveTimer);

@@ -5,12 +5,12 @@ import { SourceSync } from "../core/machine/source_sync.js";
 const TEXT = "on = 12\ngo: JMS put\n\nput: BBL 0\n";
 const MAP = ["map lines 4 names 3", "line 1 000 0", "line 2 000 2", "line 3 002 0", "line 4 002 1", "name on 00C", "name go 000",
   "name put 002"];
-const FITS = { map: MAP, refusal: null, difference: null };
+const MATCHING_CHECK = { map: MAP, refusal: null, difference: null };
 
 /** Returns a `SourceSync` with stand-ins for the editor and the bench. The test sets the bench's answers. */
-function begin(text, checked) {
+function createSync(text, checkResult) {
   const seen = { next: [], addresses: [], revealed: [], changed: [], checks: 0 };
-  const now = { text, checked };
+  const now = { text, checked: checkResult };
   const sync = new SourceSync({
     text: () => now.text,
     check: async () => {
@@ -28,8 +28,8 @@ function begin(text, checked) {
   return { sync, seen, now };
 }
 
-test("a text that stands in ROM: its next line, and none while time runs", async () => {
-  const { sync, seen } = begin(TEXT, FITS);
+test("if ROM matches the source, the next line is shown while paused", async () => {
+  const { sync, seen } = createSync(TEXT, MATCHING_CHECK);
   await sync.check();
   assert.deepEqual(seen.changed, [[true, ""]]);
   assert.deepEqual(seen.addresses, [["", "000", "", "002"]]);
@@ -39,16 +39,16 @@ test("a text that stands in ROM: its next line, and none while time runs", async
   assert.deepEqual(seen.next, [2, 4, 0, 2, 0]);
 });
 
-test("the line of an address is brought into view", async () => {
-  const { sync, seen } = begin(TEXT, FITS);
+test("the line of an address is scrolled into view", async () => {
+  const { sync, seen } = createSync(TEXT, MATCHING_CHECK);
   sync.reveal(2);
   await sync.check();
   for (const address of [2, 9, 0]) sync.reveal(address);
   assert.deepEqual(seen.revealed, [4, 2]);
 });
 
-test("another text in the editor is shown anew, also where it is the same one", async () => {
-  const { sync, seen } = begin(TEXT, FITS);
+test("after the editor gets another text, the marks are shown again, even for the same text", async () => {
+  const { sync, seen } = createSync(TEXT, MATCHING_CHECK);
   await sync.check();
   sync.showNext(0, false);
   sync.forget();
@@ -58,24 +58,24 @@ test("another text in the editor is shown anew, also where it is the same one", 
   assert.deepEqual([seen.addresses.length, seen.next], [2, [2, 2]]);
 });
 
-test("what is reported again is not shown again", async () => {
-  const { sync, seen } = begin(TEXT, FITS);
+test("an unchanged result is not shown again", async () => {
+  const { sync, seen } = createSync(TEXT, MATCHING_CHECK);
   await sync.check();
   await sync.check();
   assert.equal(seen.changed.length, 1);
 });
 
-test("a text that differs from ROM says where", async () => {
-  const { sync, seen } = begin(TEXT, { map: MAP, refusal: null, difference: { address: 2, hasRom: true } });
+test("the first difference between the source and ROM is reported", async () => {
+  const { sync, seen } = createSync(TEXT, { map: MAP, refusal: null, difference: { address: 2, hasRom: true } });
   await sync.check();
-  const words = "Source and ROM differ from line 4 (0x002). Assemble to update.";
-  assert.deepEqual(seen.changed, [[false, words]]);
+  const message = "Source and ROM differ from line 4 (0x002). Assemble to update.";
+  assert.deepEqual(seen.changed, [[false, message]]);
   sync.showNext(0, false);
   assert.deepEqual(seen.next, []);
 });
 
-test("a text that is refused, or has no ROM to stand in, says so", async () => {
-  const { sync, seen, now } = begin("NOP x\n", { map: [], refusal: { number: 30, line: 1 }, difference: null });
+test("a source with errors, or without a ROM for its bytes, is reported", async () => {
+  const { sync, seen, now } = createSync("NOP x\n", { map: [], refusal: { number: 30, line: 1 }, difference: null });
   await sync.check();
   now.checked = { map: [], refusal: { number: 13, line: 0 }, difference: null };
   await sync.check();
@@ -89,24 +89,25 @@ test("a text that is refused, or has no ROM to stand in, says so", async () => {
     "The board has no ROM at 0x002, where line 4 of the source goes."]);
 });
 
-test("a text that was edited is looked at where that is wanted", async () => {
-  const { sync, seen, now } = begin(TEXT, FITS);
+test("an edited source is checked again on request", async () => {
+  const { sync, seen, now } = createSync(TEXT, MATCHING_CHECK);
   await sync.waitForCheck();
   await sync.waitForCheck();
   now.text = `\n${TEXT}`;
-  now.checked = { ...FITS, map: ["map lines 5 names 0", "line 1 000 0", "line 2 000 0", "line 3 000 2", "line 4 002 0", "line 5 002 1"] };
+  now.checked = { ...MATCHING_CHECK,
+    map: ["map lines 5 names 0", "line 1 000 0", "line 2 000 0", "line 3 000 2", "line 4 002 0", "line 5 002 1"] };
   await sync.waitForCheck();
   assert.deepEqual([seen.checks, sync.map.addressOf(5)], [2, 2]);
 });
 
-test("an empty text is no program", async () => {
-  const { sync, seen } = begin("", { map: ["map lines 0 names 0"], refusal: null, difference: null });
+test("an empty source is not a program", async () => {
+  const { sync, seen } = createSync("", { map: ["map lines 0 names 0"], refusal: null, difference: null });
   await sync.check();
   assert.deepEqual(seen.changed, [[false, ""]]);
 });
 
-test("what names mean", async () => {
-  const { sync } = begin(TEXT, FITS);
+test("names have a description", async () => {
+  const { sync } = createSync(TEXT, MATCHING_CHECK);
   assert.equal(sync.meaningOf("on"), "");
   await sync.check();
   assert.deepEqual(["on", "put", "JMS", "constructor"].map((word) => sync.meaningOf(word)), ["on = 0x0C, 12", "put: address 0x002, line 4",

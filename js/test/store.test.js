@@ -34,7 +34,7 @@ class FakeBase {
         change.onabort();
         return;
       }
-      change.wanted.forEach((act) => act());
+      change.wanted.forEach((apply) => apply());
       if (change.oncomplete) change.oncomplete();
     }));
     return change;
@@ -50,49 +50,49 @@ class FakeBase {
   }
 }
 
-const record = () => newRecord("calculator", Uint8Array.of(1, 2), { boardText: "# b", programText: "; p" });
+const createRecord = () => newRecord("calculator", Uint8Array.of(1, 2), { boardText: "# b", programText: "; p" });
 
-test("a record is asked for whole, and is there when the promise is kept", async () => {
+test("a record is stored as it is at the call, before the promise resolves", async () => {
   const base = new FakeBase();
   const store = new Store(base, true);
-  const one = record();
-  const put = store.put(one);
+  const record = createRecord();
+  const promise = store.put(record);
   assert.deepEqual(base.log, ["commit"]);
-  one.file = Uint8Array.of(9, 9);
-  await put;
-  assert.deepEqual([...(await store.get(one.id)).file], [1, 2]);
+  record.file = Uint8Array.of(9, 9);
+  await promise;
+  assert.deepEqual([...(await store.get(record.id)).file], [1, 2]);
   assert.equal((await store.all()).length, 1);
-  await store.remove(one.id);
+  await store.remove(record.id);
   assert.deepEqual(await store.all(), []);
 });
 
-test("without locks a record that is not the successor of what is there is refused", async () => {
+test("without locks, a record with an outdated revision is rejected", async () => {
   const store = new Store(new FakeBase(), false);
-  const mine = record();
-  await store.put(mine);
-  const other = structuredClone(mine);
-  await store.put(other);
-  await assert.rejects(store.put(mine), new StoreError("another tab has changed or deleted this session"));
-  assert.equal(mine.revision, 1);
-  await store.put(other);
-  await store.remove(other.id);
-  await assert.rejects(store.put(other), StoreError);
+  const ownRecord = createRecord();
+  await store.put(ownRecord);
+  const otherRecord = structuredClone(ownRecord);
+  await store.put(otherRecord);
+  await assert.rejects(store.put(ownRecord), new StoreError("another tab has changed or deleted this session"));
+  assert.equal(ownRecord.revision, 1);
+  await store.put(otherRecord);
+  await store.remove(otherRecord.id);
+  await assert.rejects(store.put(otherRecord), StoreError);
 });
 
-test("writes of a session: calls that come while one is under way share the next", async () => {
+test("save calls during a write share the next write", async () => {
   const base = new FakeBase();
-  const session = new OpenSession(new Store(base, true), record(), () => {});
-  const first = session.save();
+  const session = new OpenSession(new Store(base, true), createRecord(), () => {});
+  const firstSave = session.save();
   await Promise.resolve();
   await Promise.resolve();
-  const all = [first, session.save(), session.save(), session.save()];
-  assert.deepEqual(await Promise.all(all), ["", "", "", ""]);
+  const saves = [firstSave, session.save(), session.save(), session.save()];
+  assert.deepEqual(await Promise.all(saves), ["", "", "", ""]);
   assert.equal(base.log.length, 2);
 });
 
-test("a store that refuses: in words, and the session is as it was", async () => {
+test("a failure of the store is reported, and the session stays unchanged", async () => {
   const base = new FakeBase();
-  const session = new OpenSession(new Store(base, true), record(), () => {});
+  const session = new OpenSession(new Store(base, true), createRecord(), () => {});
   base.fault = new DOMException("", "QuotaExceededError");
   assert.equal(await session.save(), "the browser has no more space for this page");
   base.fault = new DOMException("", "UnknownError");
@@ -102,52 +102,52 @@ test("a store that refuses: in words, and the session is as it was", async () =>
   assert.deepEqual([...base.records.get(session.record.id).file], [1, 2]);
 });
 
-test("a store that does not answer is reported after a while, and no page waits for it", async (context) => {
+test("a store that does not answer is reported after a time limit", async (context) => {
   context.mock.timers.enable({ apis: ["setTimeout"] });
   const base = new FakeBase();
   base.transaction = () => ({ objectStore: () => ({ put: () => {}, getAll: () => ({}), get: () => ({}) }), commit: () => {} });
   const store = new Store(base, true);
   const session = new OpenSession(store, newRecord("one", Uint8Array.of(1), { boardText: "", programText: "" }), () => {});
   const results = [session.save(), session.save(), store.all().catch(describeStoreError), store.get("one").catch(describeStoreError)];
-  for (let turns = 0; turns < 5; turns++) await Promise.resolve();
+  for (let turn = 0; turn < 5; turn++) await Promise.resolve();
   context.mock.timers.tick(10000);
   assert.deepEqual(new Set(await Promise.all(results)), new Set(["the browser's store does not answer"]));
 });
 
-test("a page that goes away writes at once, but where a write needs an answer in between: there it begins none", async () => {
+test("a page that is left writes at once, unless the write needs an answer first", async () => {
   const base = new FakeBase();
-  const session = new OpenSession(new Store(base, true), record(), () => {});
+  const session = new OpenSession(new Store(base, true), createRecord(), () => {});
   session.save();
   session.saveNow();
   assert.equal(base.log.length, 1);
-  const shared = new FakeBase();
-  const careful = new OpenSession(new Store(shared, false), record(), () => {});
-  assert.equal(await careful.save(), "");
-  const written = shared.log.length;
-  assert.equal(await careful.saveNow(), "");
-  assert.equal(shared.log.length, written);
+  const baseWithoutLocks = new FakeBase();
+  const sessionWithoutLocks = new OpenSession(new Store(baseWithoutLocks, false), createRecord(), () => {});
+  assert.equal(await sessionWithoutLocks.save(), "");
+  const commitCount = baseWithoutLocks.log.length;
+  assert.equal(await sessionWithoutLocks.saveNow(), "");
+  assert.equal(baseWithoutLocks.log.length, commitCount);
 });
 
-test("the file of a session goes in, and the array of the old one comes out", () => {
-  const session = new OpenSession(new MemoryStore(), record(), () => {});
-  const old = session.record.file.buffer;
-  const next = Uint8Array.of(7).buffer;
-  assert.equal(session.replaceFile(next), old);
-  assert.equal(session.record.file.buffer, next);
+test("replacing the file of a session returns the old buffer", () => {
+  const session = new OpenSession(new MemoryStore(), createRecord(), () => {});
+  const oldBuffer = session.record.file.buffer;
+  const newBuffer = Uint8Array.of(7).buffer;
+  assert.equal(session.replaceFile(newBuffer), oldBuffer);
+  assert.equal(session.record.file.buffer, newBuffer);
 });
 
-test("a browser without a store forgets, but not while the page is open", async () => {
+test("without a store, sessions are kept while the page is open", async () => {
   const store = new MemoryStore();
-  const one = record();
-  await store.put(one);
-  one.file[0] = 9;
-  assert.equal((await store.get(one.id)).file[0], 1);
+  const record = createRecord();
+  await store.put(record);
+  record.file[0] = 9;
+  assert.equal((await store.get(record.id)).file[0], 1);
   assert.equal(store.isPersistent, false);
-  await store.remove(one.id);
+  await store.remove(record.id);
   assert.deepEqual(await store.all(), []);
 });
 
-test("records have names of their own", () => {
-  assert.notEqual(record().id, record().id);
+test("each record has a unique id", () => {
+  assert.notEqual(createRecord().id, createRecord().id);
   assert.equal(describeStoreError(undefined), "the browser's store failed (for an unknown reason)");
 });

@@ -2,39 +2,39 @@
 import assert from "node:assert/strict";
 import { test } from "node:test";
 import { StoredHistory } from "../page/session/stored_history.js";
-import { begin } from "./page_session.js";
+import { openExample } from "./page_session.js";
 
-const ALL = "state\nram 0\nlist 0 256\n";
+const ALL_QUERIES = "state\nram 0\nlist 0 256\n";
 
 /** Returns a stand-in for the browser's session storage that holds at most `room` characters. */
-function storeOf(room = 5000000) {
-  const kept = new Map();
+function createStore(maximum = 5000000) {
+  const items = new Map();
   return {
-    kept,
-    getItem: (key) => (kept.has(key) ? kept.get(key) : null),
+    kept: items,
+    getItem: (key) => (items.has(key) ? items.get(key) : null),
     setItem: (key, value) => {
-      if (value.length > room) throw new Error("no room");
-      kept.set(key, value);
+      if (value.length > maximum) throw new Error("no room");
+      items.set(key, value);
     },
-    removeItem: (key) => kept.delete(key),
+    removeItem: (key) => items.delete(key),
   };
 }
 
 /** Adds the report of a call to the history, as the page does. */
-function addReport(past, calls, shown = calls.bench.snapshotReport([], false)) {
-  past.addReport(shown.past, { file: calls.bench.session.file.slice(), total: shown.total, reset: shown.reset });
+function addReport(past, calls, report = calls.bench.snapshotReport([], false)) {
+  past.addReport(report.past, { file: calls.bench.session.file.slice(), total: report.total, reset: report.reset });
 }
 
 /** Executes lines on a page, which the user then leaves. Resolves to the page's calls, with the state after each line. */
 async function leavePage(store, lines) {
-  const calls = await begin("three lamps");
+  const calls = await openExample("three lamps");
   const past = new StoredHistory(store);
   past.begin("one");
   addReport(past, calls);
-  const states = [calls.ask(ALL)];
-  for (const some of lines) {
-    addReport(past, calls, await calls.serve(some));
-    states.push(calls.ask(ALL));
+  const states = [calls.ask(ALL_QUERIES)];
+  for (const sessionLines of lines) {
+    addReport(past, calls, await calls.serve(sessionLines));
+    states.push(calls.ask(ALL_QUERIES));
   }
   past.saveOnLeave();
   return { calls, states };
@@ -42,7 +42,7 @@ async function leavePage(store, lines) {
 
 /** Resolves to the calls of another page that has reopened the session. */
 async function reopenPage(store, { bench: { session: { file, count } } }, name = "one") {
-  const calls = await begin("three lamps");
+  const calls = await openExample("three lamps");
   const past = new StoredHistory(store);
   past.begin(name);
   addReport(past, calls, calls.open(file.slice(), count.total, count.reset));
@@ -56,101 +56,101 @@ function recall(calls, storedSegments) {
 
 const LINES = ["run 1000\n", "poke r5 9\npoke r6 3\n", "break 0x010\nrun 50000\n", "press 0 0\nrun 7\n", "step\n"];
 
-test("going back leads through the reload, to each stop", async () => {
-  const store = storeOf();
-  const { calls: before, states } = await leavePage(store, LINES);
-  const { calls, past, storedSegments } = await reopenPage(store, before);
+test("going back reaches each stop from before a reload", async () => {
+  const store = createStore();
+  const { calls: callsBefore, states } = await leavePage(store, LINES);
+  const { calls, past, storedSegments } = await reopenPage(store, callsBefore);
   assert.equal(storedSegments.length, 1);
   assert.ok(recall(calls, storedSegments) >= 0);
   past.continueFrom(storedSegments, storedSegments[0].entries.length);
   addReport(past, calls, await calls.serve("run 20\n"));
   for (const state of states.slice().reverse()) {
     assert.equal((await calls.goBack({ kind: "stop" })).isDone, true);
-    assert.deepEqual(calls.ask(ALL), state);
+    assert.deepEqual(calls.ask(ALL_QUERIES), state);
   }
   assert.equal((await calls.goBack({ kind: "stop" })).why, "short");
   assert.equal(calls.bench.session.count.total, 0);
 });
 
-test("also through two reloads, and by instructions and changes", async () => {
-  const store = storeOf();
-  const { calls: before, states } = await leavePage(store, LINES);
-  const second = await reopenPage(store, before);
-  recall(second.calls, second.storedSegments);
-  second.past.continueFrom(second.storedSegments, second.storedSegments[0].entries.length);
-  addReport(second.past, second.calls, await second.calls.serve("run 3\n"));
-  second.past.saveOnLeave();
-  const third = await reopenPage(store, second.calls);
-  assert.ok(recall(third.calls, third.storedSegments) >= 0);
-  assert.equal((await third.calls.lastChange("r5")).isFound, true);
-  assert.equal((await third.calls.goBack({ kind: "stop" })).isDone, true);
-  assert.deepEqual(third.calls.ask(ALL), states[states.length - 1]);
-  assert.equal((await third.calls.goBack({ kind: "instruction" })).isDone, true);
+test("going back works across two reloads, also by instructions and to changes", async () => {
+  const store = createStore();
+  const { calls: callsBefore, states } = await leavePage(store, LINES);
+  const secondPage = await reopenPage(store, callsBefore);
+  recall(secondPage.calls, secondPage.storedSegments);
+  secondPage.past.continueFrom(secondPage.storedSegments, secondPage.storedSegments[0].entries.length);
+  addReport(secondPage.past, secondPage.calls, await secondPage.calls.serve("run 3\n"));
+  secondPage.past.saveOnLeave();
+  const thirdPage = await reopenPage(store, secondPage.calls);
+  assert.ok(recall(thirdPage.calls, thirdPage.storedSegments) >= 0);
+  assert.equal((await thirdPage.calls.lastChange("r5")).isFound, true);
+  assert.equal((await thirdPage.calls.goBack({ kind: "stop" })).isDone, true);
+  assert.deepEqual(thirdPage.calls.ask(ALL_QUERIES), states[states.length - 1]);
+  assert.equal((await thirdPage.calls.goBack({ kind: "instruction" })).isDone, true);
 });
 
-test("after going back only what is left of the past is kept", async () => {
-  const store = storeOf();
+test("after going back, only the remaining past is stored", async () => {
+  const store = createStore();
   const { calls } = await leavePage(store, LINES);
   const past = new StoredHistory(store);
   past.begin("one");
   addReport(past, calls, await calls.goBack({ kind: "stop" }));
   addReport(past, calls, await calls.serve("run 5\n"));
   past.saveOnLeave();
-  const { calls: after, storedSegments } = await reopenPage(store, calls);
+  const { calls: callsAfter, storedSegments } = await reopenPage(store, calls);
   assert.deepEqual(storedSegments.map(({ entries }) => entries.map(({ line }) => line)), [["run 5"]]);
-  assert.ok(recall(after, storedSegments) >= 0);
+  assert.ok(recall(callsAfter, storedSegments) >= 0);
 });
 
-test("what is of another session, another moment, damaged or has no room is not taken", async () => {
-  const store = storeOf();
-  const { calls: before } = await leavePage(store, LINES);
+test("a history of another session or moment, a damaged one, or one that is too large is not used", async () => {
+  const store = createStore();
+  const { calls: callsBefore } = await leavePage(store, LINES);
   const text = store.kept.get("fethsaim.past");
-  assert.deepEqual((await reopenPage(store, before, "two")).storedSegments, []);
+  assert.deepEqual((await reopenPage(store, callsBefore, "two")).storedSegments, []);
   store.setItem("fethsaim.past", text);
-  const { storedSegments, calls } = await reopenPage(store, before);
+  const { storedSegments, calls } = await reopenPage(store, callsBefore);
   assert.equal(store.kept.size, 0);
-  await before.serve("poke r1 7\n");
-  const later = await reopenPage(storeOf(), before);
-  assert.equal(recall(later.calls, storedSegments), -1);
+  await callsBefore.serve("poke r1 7\n");
+  const laterPage = await reopenPage(createStore(), callsBefore);
+  assert.equal(recall(laterPage.calls, storedSegments), -1);
   assert.equal(recall(calls, [{ ...storedSegments[0], file: storedSegments[0].file.map((byte) => byte ^ 1) }]), -1);
   assert.equal(recall(calls, []), -1);
-  const wrong = [text.replace(/"entries":/, '"entry":'), text.replace(/"cycles":\d+/, '"cycles":"9"')];
-  for (const damaged of [text.slice(0, 500), "{}", "null", ...wrong]) {
-    store.setItem("fethsaim.past", damaged);
-    assert.deepEqual((await reopenPage(store, before)).storedSegments, []);
+  const damagedTexts = [text.replace(/"entries":/, '"entry":'), text.replace(/"cycles":\d+/, '"cycles":"9"')];
+  for (const damagedText of [text.slice(0, 500), "{}", "null", ...damagedTexts]) {
+    store.setItem("fethsaim.past", damagedText);
+    assert.deepEqual((await reopenPage(store, callsBefore)).storedSegments, []);
   }
-  const small = storeOf(1000);
-  await leavePage(small, LINES);
-  assert.equal(small.kept.size, 0);
+  const smallStore = createStore(1000);
+  await leavePage(smallStore, LINES);
+  assert.equal(smallStore.kept.size, 0);
   new StoredHistory(null).saveOnLeave();
 });
 
-test("a session that was kept before the last of it goes back as far as it was kept", async () => {
-  const store = storeOf();
-  const { calls: before, states } = await leavePage(store, LINES.slice(0, 3));
-  const { calls, storedSegments } = await reopenPage(store, before);
+test("if the saved session is older than the history, the later entries are ignored", async () => {
+  const store = createStore();
+  const { calls: callsBefore, states } = await leavePage(store, LINES.slice(0, 3));
+  const { calls, storedSegments } = await reopenPage(store, callsBefore);
   const poke = { line: "poke r1 7", cycles: 0, resets: false, isStop: true };
-  const later = [{ ...poke, line: "run 50", cycles: 50 }, poke];
+  const missingEntries = [{ ...poke, line: "run 50", cycles: 50 }, poke];
   const count = storedSegments[0].entries.length;
-  storedSegments[0].entries.push({ ...poke, line: "poke r2 9" }, ...later);
+  storedSegments[0].entries.push({ ...poke, line: "poke r2 9" }, ...missingEntries);
   assert.equal(recall(calls, storedSegments), count);
   for (const state of states.slice(0, -1).reverse()) {
     assert.equal((await calls.goBack({ kind: "stop" })).isDone, true);
-    assert.deepEqual(calls.ask(ALL), state);
+    assert.deepEqual(calls.ask(ALL_QUERIES), state);
   }
 });
 
-test("of a long past the last two files are kept", async () => {
-  const calls = await begin("three lamps");
-  const past = new StoredHistory(storeOf());
+test("the last two files of a long past are stored", async () => {
+  const calls = await openExample("three lamps");
+  const past = new StoredHistory(createStore());
   past.begin("one");
   addReport(past, calls);
-  for (let piece = 0; piece < 25; piece++) addReport(past, calls, await calls.serve("run 100000\n".repeat(5)));
+  for (let round = 0; round < 25; round++) addReport(past, calls, await calls.serve("run 100000\n".repeat(5)));
   assert.equal(past.segments.length, 2);
   const cycles = past.segments.map(({ entries }) => entries.reduce((sum, entry) => sum + entry.cycles, 0));
   assert.deepEqual([past.segments[0].total, cycles], [8000000, [4000000, 500000]]);
-  const next = await begin("three lamps");
-  next.open(calls.bench.session.file.slice(), calls.bench.session.count.total, 0);
-  assert.ok(recall(next, past.segments) >= 0);
-  assert.equal((await next.goBack({ kind: "stop" })).cycles, 500000);
+  const nextCalls = await openExample("three lamps");
+  nextCalls.open(calls.bench.session.file.slice(), calls.bench.session.count.total, 0);
+  assert.ok(recall(nextCalls, past.segments) >= 0);
+  assert.equal((await nextCalls.goBack({ kind: "stop" })).cycles, 500000);
 });

@@ -11,12 +11,12 @@ import { requestedStory } from "../page/session/address.js";
 
 const EXAMPLES = new URL("../../examples/", import.meta.url);
 const stories = readdirSync(EXAMPLES, { recursive: true }).filter((name) => name.endsWith(".story"));
-const read = (name) => readFileSync(new URL(name, EXAMPLES), "utf8");
-const actsOf = (steps) => steps.flatMap(({ words }) => words.flat()).filter((part) => typeof part !== "string").map(({ act }) => act);
+const readExample = (name) => readFileSync(new URL(name, EXAMPLES), "utf8");
+const actionsOf = (steps) => steps.flatMap(({ words }) => words.flat()).filter((part) => typeof part !== "string").map(({ act }) => act);
 
-test("a text becomes steps, paragraphs and places", () => {
-  const one = "## One\n\nPress [5](press 5)\nand [go\non](run to add_up).\n\nThen [?](fly), [x](show nothing).\n\n";
-  const steps = parseStory(`# All\n\n${one}## Two\n`);
+test("a story is parsed into steps, paragraphs and links", () => {
+  const firstStep = "## One\n\nPress [5](press 5)\nand [go\non](run to add_up).\n\nThen [?](fly), [x](show nothing).\n\n";
+  const steps = parseStory(`# All\n\n${firstStep}## Two\n`);
   assert.deepEqual(steps.map(({ title, words }) => [title, words]), [
     ["One", [
       [
@@ -31,15 +31,15 @@ test("a text becomes steps, paragraphs and places", () => {
 });
 
 for (const name of stories) {
-  test(`each place of ${name} is there`, () => {
-    const text = read(name);
+  test(`each link of ${name} is valid`, () => {
+    const text = readExample(name);
     const folder = name.slice(0, name.lastIndexOf("/") + 1);
-    const program = read(name.replace(/story$/, "asm"));
-    const keys = [...new Face(read(`${folder}board.toml`)).keys.values()].map((each) => each.text);
-    const acts = actsOf(parseStory(text));
+    const program = readExample(name.replace(/story$/, "asm"));
+    const keys = [...new Face(readExample(`${folder}board.toml`)).keys.values()].map((keyText) => keyText.text);
+    const actions = actionsOf(parseStory(text));
     // Each `](` belongs to a valid link.
-    assert.equal(acts.length, text.split("](").length - 1);
-    for (const { name: act, argument } of acts) {
+    assert.equal(actions.length, text.split("](").length - 1);
+    for (const { name: act, argument } of actions) {
       if (act === "go to" || act === "run to") assert.match(program, new RegExp(`^${argument}:`, "m"));
       if (act === "press" || act === "release") assert.ok(keys.includes(argument), argument);
       if (act === "back to") assert.ok(parsePlace(argument), argument);
@@ -47,44 +47,46 @@ for (const name of stories) {
   });
 }
 
-test("an act calls the page, and says why it cannot", async () => {
-  const done = [];
-  const note = (name) => (...words) => {
-    done.push([name, ...words]);
+test("an action calls the page, or returns the reason why it cannot", async () => {
+  const recordedCalls = [];
+  const recordCall = (name) => (...words) => {
+    recordedCalls.push([name, ...words]);
   };
   const key = { legend: "7", key: matrixKey(0, 0) };
   let isDown = false;
   let isRunning = false;
   const calls = {
     isDown: () => isDown, isRunning: () => isRunning,
-    addressOf: (label) => ({ turn: 2 })[label], keys: () => [key], run: note("run"), pause: note("pause"), goOn: note("goOn"),
-    goBack: note("goBack"), goForward: note("goForward"), goTo: note("goTo"), press: note("press"), showText: note("showText"),
-    showPanel: note("showPanel"),
+    addressOf: (label) => ({ turn: 2 })[label], keys: () => [key], run: recordCall("run"), pause: recordCall("pause"),
+      goOn: recordCall("goOn"),
+    goBack: recordCall("goBack"), goForward: recordCall("goForward"), goTo: recordCall("goTo"), press: recordCall("press"),
+      showText: recordCall("showText"),
+    showPanel: recordCall("showPanel"),
   };
   for (const [name, argument = ""] of [
     ["run"], ["stop"], ["back"], ["forward"], ["go to", "turn"], ["run to", "turn"], ["back to", "r11"], ["press", "7"],
     ["show", "waves"], ["show", "memory"],
   ]) assert.equal(await runAction({ name, argument }, calls), "");
-  assert.deepEqual(done, [
+  assert.deepEqual(recordedCalls, [
     ["run"], ["pause"], ["goBack", { kind: "stop" }], ["goForward"], ["goTo", 2], ["goOn", { kind: "here", address: 2 }],
     ["goBack", { kind: "change", place: "r11" }], ["press", key], ["showText", "waves"], ["showPanel", "memory"],
   ]);
-  done.length = 0;
+  recordedCalls.length = 0;
   assert.match(await runAction({ name: "run to", argument: "nowhere" }, calls), /no label nowhere/);
   assert.match(await runAction({ name: "press", argument: "8" }, calls), /no key 8/);
   assert.match(await runAction({ name: "release", argument: "8" }, calls), /no key 8/);
-  // While time is paused, `release` has no effect on a key that is up, and `press` has none on a key that is down.
+  // While the machine is paused, `release` has no effect on a key that is up, and `press` has none on a key that is down.
   await runAction({ name: "release", argument: "7" }, calls);
   isDown = true;
   await runAction({ name: "press", argument: "7" }, calls);
-  assert.deepEqual(done, []);
+  assert.deepEqual(recordedCalls, []);
   await runAction({ name: "release", argument: "7" }, calls);
   isRunning = true;
   await runAction({ name: "press", argument: "7" }, calls);
-  assert.deepEqual(done, [["press", key], ["press", key]]);
+  assert.deepEqual(recordedCalls, [["press", key], ["press", key]]);
 });
 
-test("the story that an address names", () => {
+test("the story is read from an address", () => {
   assert.equal(requestedStory("?story=printing%20calculator"), "printing calculator");
   assert.equal(requestedStory("?story=printing_calculator"), "printing calculator");
   assert.equal(requestedStory("?other=1"), "");

@@ -17,31 +17,31 @@ const manual = [{ title: "The lines of a test", tables: [
 ] }, { title: "Inputs", tables: [table(["`press KEY ..`", "these keys may go down"])],
 }, { title: "Properties", tables: [table(["`never C`", "the condition never holds"], ["`at @LABEL C`", "it holds there"])] }];
 const forms = testForms(manual);
-const completed = (line) => completeTest([line], 0, line.length, names, forms).list.map(({ text }) => text);
+const completeLine = (line) => completeTest([line], 0, line.length, names, forms).list.map(({ text }) => text);
 const help = (line, at) => helpForTest([line], 0, at, forms);
 
-test("shared steps that stand before a line are completed", () => {
+test("shared steps that are defined before a line are completed", () => {
   const lines = ["steps unlock", "  keys 1", " steps  lock", "test a", "  do ", "steps later"];
-  const names_ = (line) => completeTest(lines, line, lines[line].length, names, forms).list.map(({ text }) => text);
-  assert.deepEqual([names_(4), completed("do ")], [["unlock", "lock"], []]);
+  const complete = (line) => completeTest(lines, line, lines[line].length, names, forms).list.map(({ text }) => text);
+  assert.deepEqual([complete(4), completeLine("do ")], [["unlock", "lock"], []]);
 });
 
 test("words of tests are completed with the names of board and program", () => {
-  assert.deepEqual(completed("  e"), ["expect"]);
-  assert.deepEqual(completed("re"), ["release", "reset"]);
-  assert.deepEqual(completed("press "), ["1", "2", "ENTER"]);
-  assert.deepEqual(completed("keys 1 E"), ["ENTER"]);
-  assert.deepEqual(completed("until @st"), ["@start", "@stop"]);
-  assert.deepEqual(completed("expect not lamp r"), ["red"]);
-  assert.deepEqual(completed("expect lamp red o"), ["on", "off", "or"]);
-  assert.deepEqual(completed("expect acc 3 and (lamp gr"), ["green"]);
-  assert.deepEqual(completed("until not key E"), ["ENTER"]);
-  assert.deepEqual(completed("until lamps gr"), ["green"]);
-  assert.ok(completed("expect ").includes("acc") && completed("expect ").includes("@stop"));
-  assert.deepEqual([completed("# e"), completed("run 1"), completed("test e")], [[], [], []]);
+  assert.deepEqual(completeLine("  e"), ["expect"]);
+  assert.deepEqual(completeLine("re"), ["release", "reset"]);
+  assert.deepEqual(completeLine("press "), ["1", "2", "ENTER"]);
+  assert.deepEqual(completeLine("keys 1 E"), ["ENTER"]);
+  assert.deepEqual(completeLine("until @st"), ["@start", "@stop"]);
+  assert.deepEqual(completeLine("expect not lamp r"), ["red"]);
+  assert.deepEqual(completeLine("expect lamp red o"), ["on", "off", "or"]);
+  assert.deepEqual(completeLine("expect acc 3 and (lamp gr"), ["green"]);
+  assert.deepEqual(completeLine("until not key E"), ["ENTER"]);
+  assert.deepEqual(completeLine("until lamps gr"), ["green"]);
+  assert.ok(completeLine("expect ").includes("acc") && completeLine("expect ").includes("@stop"));
+  assert.deepEqual([completeLine("# e"), completeLine("run 1"), completeLine("test e")], [[], [], []]);
 });
 
-test("what a word means is said, as the manual says it", () => {
+test("words have the help of the manual", () => {
   assert.equal(help("  run 20 ms", 3), "run TIME: runs for that long");
   assert.equal(help("release 3", 3), "release KEY ..: keys go down, or up");
   assert.equal(help("expect lamps red", 9), "lamps NAME ..: these lamps are lit");
@@ -50,7 +50,7 @@ test("what a word means is said, as the manual says it", () => {
   assert.deepEqual([help("# run", 3), help("", 0), help("keys run", 6)], ["", "", ""]);
 });
 
-test("results in words", () => {
+test("test results are described", () => {
   const outcome = (failure) => ({ name: "one", line: 1, cycles: 92593, failure });
   assert.equal(testsSummary([outcome(null)]), "The test passed.");
   assert.equal(testsSummary([outcome(null), outcome(null)]), "All 2 tests passed.");
@@ -69,14 +69,14 @@ test("results in words", () => {
   assert.equal(coverageMessage({ coverage: null }), "");
 });
 
-test("counts of lines", () => {
+test("line counts are formatted", () => {
   const line = (count, isJump = false, taken = 0) => ({ line: 1, count, isJump, taken });
   assert.deepEqual([line(0), line(4), line(976, true, 912)].map(formatCount), ["never", "4", "976 912/64"]);
   assert.deepEqual([line(0), line(1), line(976, true, 912), line(1200, true, 1200)].map(describeCount), ["no test runs it", "run once",
     "run 976 times; it jumped 912 times and continued 64 times", "run 1,200 times; it jumped 1,200 times and continued never"]);
 });
 
-test("the words of properties: what they become, and what the manual says of them", () => {
+test("words of properties are completed, and have the help of the manual", () => {
   const listedForms = propertyForms(manual);
   const list = (line) => completeProperty([line], 0, line.length, names, listedForms).list.map(({ text }) => text);
   assert.deepEqual(list("ne"), ["never"]);

@@ -25,7 +25,7 @@ before(async () => {
   engine = await Engine.load(pageModule);
 });
 
-test("tests pass, and what they have run is counted", async () => {
+test("tests pass, and their coverage and profile are counted", async () => {
   const { faults, outcomes, coverage, profile } = await runTests(engine, texts(example("three_lamps.test")), always);
   assert.deepEqual(faults, []);
   assert.deepEqual(outcomes.map(({ failure, cycles }) => [failure, cycles]), [[null, 1621], [null, 538]]);
@@ -36,7 +36,7 @@ test("tests pass, and what they have run is counted", async () => {
   assert.deepEqual(profile.rows[2].calls, { times: 4, withCalls: 2092, longest: 523 });
 });
 
-test("a test that fails reports its line, its trace, and gives the session as it is there", async () => {
+test("a failing test reports its line and its trace, and provides the session at the failure", async () => {
   const quick = programText.replace("0x0C", "0x0D");
   const { outcomes } = await runTests(engine, texts(example("three_lamps.test"), quick), always);
   const { failure } = outcomes[1];
@@ -47,7 +47,7 @@ test("a test that fails reports its line, its trace, and gives the session as it
   assert.match(engine.ask(failure.file, "regs\n").answers[0], /^acc 2 cy 1 pc 007 owed 0 /);
 });
 
-test("a test whose state was never saved was not begun", async () => {
+test("a test whose start state was never saved is not run", async () => {
   const text = "test one\n expect acc 1\n save there\ntest two\n from there\n run 1\n";
   const { outcomes } = await runTests(engine, texts(text), always);
   assert.equal(outcomes[0].failure.words, "acc is 0, but must be 1");
@@ -55,7 +55,7 @@ test("a test whose state was never saved was not begun", async () => {
   assert.equal(outcomes[1].failure.file, null);
 });
 
-test("a comment may stand behind a line, where no key has its mark as its name", async () => {
+test("a comment can follow a line unless its mark is the name of a key", async () => {
   const text = "test a # 1 ; 2\n run 5   # a moment\n mark ;\n run 10 us ; # ;\n expect cycles 1 #\n expect lamps #none\n";
   const { faults } = parseTestedTexts(engine, texts(text));
   assert.deepEqual(faults.map(({ line, words }) => `${line}: ${words.slice(0, 26)}`), ["6: the board has no lamp #non"]);
@@ -67,7 +67,7 @@ test("a comment may stand behind a line, where no key has its mark as its name",
   assert.deepEqual([fault.line, more], [5, []]);
 });
 
-test("what is repeated, shared steps, and the label that was passed last", async () => {
+test("failures in `repeat` and shared steps have their iteration and the last passed label", async () => {
   const text = [
     "steps wait", " run 538",
     "test a", " run 7", " repeat 3", "  expect lamps right", "  repeat 3", "   do wait", "  end", " end",
@@ -82,14 +82,14 @@ test("what is repeated, shared steps, and the label that was passed last", async
     + "the last label passed is turn, 2 cycles ago; @first was passed last 10 cycles ago");
 });
 
-test("a test that repeats for long can be left", async () => {
+test("a test with many repetitions can be cancelled", async () => {
   const text = "test a\n repeat 100000\n  run 100000\n end\n";
   let asked = 0;
   await assert.rejects(() => runTests(engine, texts(text), async () => ++asked < 3), CancelledError);
   assert.equal(asked, 3);
 });
 
-test("faults of the texts are reported, and nothing is run", async () => {
+test("if the texts have errors, they are reported and no test is run", async () => {
   const report = await runTests(engine, texts("test a\n  until lamps green within 10 ms\n  press x\n  run 10 years\n"), always);
   assert.deepEqual(report.faults.map(({ text, line, words }) => `${text}:${line}: ${words}`), [
     "tests:2: the board has no lamp green; it has: left middle right (column 9)",
@@ -115,7 +115,7 @@ test("long work is cancelled between pieces", async () => {
   assert.equal(asked, 3);
 });
 
-test("bytes of ROM that a test sets are in the counts of its own run alone", async () => {
+test("ROM bytes that a test sets are counted only in its own run", async () => {
   // With NOP instead of ISZ R3, the instruction takes one cycle.
   const text = "test a\n set rom.0x016 0\n set rom.0x017 0\n run 20\n save s\ntest b\n from s\n run 20\ntest c\n run 20\n";
   const { outcomes, profile } = await runTests(engine, texts(text), always);
@@ -123,7 +123,7 @@ test("bytes of ROM that a test sets are in the counts of its own run alone", asy
   assert.equal(profile.total, profile.rows.reduce((sum, { own }) => sum + own, 0) + profile.earlierInstructionCycles);
 });
 
-test("a number halfway between two tenths has the even one, as by printf", () => {
+test("tenths are rounded half to even, as by printf", () => {
   const printed = [0, 6.25, 93.75, 0.05, 33.3333, 99.96, 0.75, 20.25].map(formatTenths);
   assert.deepEqual(printed, ["0.0", "6.2", "93.8", "0.1", "33.3", "100.0", "0.8", "20.2"]);
 });
@@ -144,7 +144,7 @@ test("the sample test presses the first key and expects what the bench shows the
   assert.deepEqual(await sampleOf({ boardText: "", programText: "" }), ["test 50 ms after power-on", "run 50 ms", "expect lamps none"]);
 });
 
-test("the sample test of texts with errors, or of a program that stops, expects its cycles alone", async () => {
+test("the sample test for texts with errors, or for a program that stops, expects only its cycles", async () => {
   for (const program of [" what", " DB 0x01"]) {
     const [, , ...lines] = (await sampleTest(engine, { boardText, programText: program })).trimEnd().split("\n");
     assert.deepEqual(lines, ["test it has run for 100 cycles", "  run 100", "  expect cycles 100"]);

@@ -5,13 +5,13 @@ import { hex, parseNumber, indices } from "../core/bench/numbers.js";
 import { RunLog, formatRuns } from "../core/bench/run_log.js";
 import { ErrorMessages } from "../core/bench/error_messages.js";
 
-test("numbers", () => {
+test("numbers are parsed and formatted", () => {
   assert.deepEqual(["12", "0x1E", "0XFF", "1E", "", "-1", "1.5"].map(parseNumber), [12, 30, 255, NaN, NaN, NaN, NaN]);
   assert.equal(hex(30, 3), "01E");
   assert.deepEqual(indices(3), [0, 1, 2]);
 });
 
-test("faults keep their kind from the worker to the page", () => {
+test("errors keep their class on the way from the worker to the page", () => {
   const there = (fault) => unpackError(JSON.parse(JSON.stringify(packError(fault))));
   assert.equal(there(new BenchRefusal(90)).number, 90);
   assert.ok(there(new BenchTrap("unreachable")) instanceof BenchTrap);
@@ -20,7 +20,7 @@ test("faults keep their kind from the worker to the page", () => {
   assert.equal(there("a word").message, "a word");
 });
 
-test("faults in words", () => {
+test("errors have messages", () => {
   const words = new ErrorMessages({ 90: "there was no memory" });
   const noMemory = words.failureMessage(new BenchRefusal(90));
   assert.equal(noMemory, "It was not done: no 90: there was no memory. The session is as it was before.");
@@ -32,7 +32,7 @@ test("faults in words", () => {
   assert.match(words.refusalMeaning(99), /the manual lists them/);
 });
 
-test("what time has done: runs together, keys one by one", () => {
+test("the run log joins consecutive runs, but not keys", () => {
   const ran = new RunLog();
   const run = (cycles) => ({ line: `run ${cycles}`, answer: `ok ran ${cycles}`, runs: 1, cycles });
   ran.add([run(1543), run(1544)]);

@@ -25,7 +25,7 @@ test("a second of frames is 92,593 cycles, whatever their length", () => {
   }
 });
 
-test("a slow frame owes little, and clocks that go back owe nothing", () => {
+test("the cycles of a slow frame are limited, and a clock that goes back gives no cycles", () => {
   const time = new RealTime(0, 0);
   assert.equal(time.takeDueCycles(900), MAX_CYCLES_PER_FRAME);
   assert.equal(time.takeDueCycles(900), 0);
@@ -33,7 +33,7 @@ test("a slow frame owes little, and clocks that go back owe nothing", () => {
   assert.equal(time.takeDueCycles(910), 925);
 });
 
-test("after an hour in the background nothing is owed, and the gap is reported", () => {
+test("after an hour in the background no cycles are due, and the gap is reported", () => {
   const time = new RealTime(0, 0);
   time.hide();
   assert.deepEqual(time.skipGap(3600000, 3600000), { gap: 3600000, wasHidden: true });
@@ -42,7 +42,7 @@ test("after an hour in the background nothing is owed, and the gap is reported",
   assert.equal(time.takeDueCycles(3600010), 925);
 });
 
-test("a page that was held up or asleep stood still, though the clock of the frames may not have gone on", () => {
+test("a gap is also detected if only the wall clock has advanced", () => {
   const time = new RealTime(0, 0);
   assert.equal(time.skipGap(999, 999), null);
   assert.deepEqual(time.skipGap(1000, 8000), { gap: 7001, wasHidden: false });
@@ -69,7 +69,7 @@ function cyclesOf(frame, keys) {
   return sum;
 }
 
-test("a second has as many cycles with keys as without, and no moment is more than a frame ahead", () => {
+test("key presses do not change the number of cycles in a second, and time is at most a frame ahead", () => {
   for (const frame of [1000 / 60, 1000 / 144, 7, 100]) {
     const sum = cyclesOf(frame, []);
     for (const keys of [[3], [3, 4, 5], [100, 130, 160.5, 700], Array.from({ length: 500 }, (_, at) => 1.7 * at)]) {
@@ -78,7 +78,7 @@ test("a second has as many cycles with keys as without, and no moment is more th
   }
 });
 
-test("a key is served at once, and frames then wait until it is paid back", () => {
+test("a key press simulates cycles early, and later frames simulate fewer", () => {
   const time = new RealTime(0, 0);
   assert.equal(time.takeDueCycles(10), 925);
   assert.equal(time.takeDueCycles(15, MAX_EARLY_MS), 464 + 1543);
@@ -88,7 +88,7 @@ test("a key is served at once, and frames then wait until it is paid back", () =
   assert.equal(time.takeDueCycles(40), Math.floor(40 * CYCLES_PER_SECOND / 1000) - 925 - 464 - 1543);
 });
 
-test("what was lent is forgotten where time stands still", () => {
+test("cycles that were simulated early are forgotten after a pause or a gap", () => {
   const time = new RealTime(0, 0);
   assert.equal(time.takeDueCycles(0, MAX_EARLY_MS), 1543);
   time.hide();
@@ -110,12 +110,12 @@ test("the rate is reported every half second", () => {
   assert.equal(rate.perSecond, 1000);
 });
 
-test("times in words", () => {
+test("durations are formatted", () => {
   assert.deepEqual([1000, 2400, 62000, 3600000, 3723000, 7200000].map(formatDuration),
     ["1 second", "2 seconds", "1 minute 2 seconds", "1 hour", "1 hour 2 minutes", "2 hours"]);
 });
 
-test("a place that is unknown is answered in the status bar with some examples", () => {
+test("the status bar answers an unknown place with some examples", () => {
   assert.equal(cannotSearchFor(`nonsense: no such place; ${PLACES_ARE} (column 1)`),
     "Nothing was done: nonsense: no such place; enter something such as r5, lamp 3 or rom0.2 (column 1).");
 });

@@ -8,7 +8,7 @@ const watchAt = (at) => {
   return watch;
 };
 
-test("the lamp: the first one must be lit", () => {
+test("the lamp step is done when the first lamp is lit", () => {
   const watch = watchAt(0);
   watch.recordLamps("....");
   watch.recordLamps(".*..");
@@ -19,7 +19,7 @@ test("the lamp: the first one must be lit", () => {
   assert.equal(watch.isDone, true);
 });
 
-test("the count: four different numbers", () => {
+test("the count step is done after four different numbers", () => {
   const watch = watchAt(1);
   for (const lamps of ["....", "*...", ".*..", "*..."]) watch.recordLamps(lamps);
   assert.equal(watch.isDone, false);
@@ -27,7 +27,7 @@ test("the count: four different numbers", () => {
   assert.equal(watch.isDone, true);
 });
 
-test("the key: a lamp is lit while one is down", () => {
+test("the key step is done when a lamp is lit while a key is down", () => {
   const watch = watchAt(2);
   watch.recordLamps("..*.");
   assert.equal(watch.isDone, false);
@@ -35,7 +35,7 @@ test("the key: a lamp is lit while one is down", () => {
   assert.equal(watch.isDone, true);
 });
 
-test("the breakpoint and the watch: by what has ended a run, in this step", () => {
+test("the breakpoint and watch steps are done when a run ends with such a stop", () => {
   const watch = watchAt(3);
   watch.recordEnd("watch");
   assert.equal(watch.isDone, false);

@@ -2,7 +2,7 @@
 import assert from "node:assert/strict";
 import { test } from "node:test";
 import { CancelledError } from "../core/bench/bench_errors.js";
-import { begin } from "./page_session.js";
+import { openExample } from "./page_session.js";
 
 const BOARD = "[[rom]]\nchip = 0\nport = \"0000\"\n";
 const PROGRAM = "loop:   INC R9\n        NOP\n        JUN loop\n";
@@ -11,10 +11,10 @@ const NOP = 1;
 
 /**
  * Resolves to a session that is ready to run this program, with a breakpoint at NOP.
- * @param {object} more further properties of the breakpoint
+ * @param {object} more the breakpoint's properties that differ from the defaults
  */
 async function createSession(more) {
-  const calls = await begin("three lamps");
+  const calls = await openExample("three lamps");
   await calls.serve(`wire\n${BOARD}.\nasm\n${PROGRAM}.\nreset\n`);
   const placed = { id: 7, address: NOP, condition: "", from: 1, note: "", hits: 0, ...more };
   await calls.setBreakpoints([placed], { board: BOARD, program: PROGRAM });
@@ -28,7 +28,7 @@ async function serveTypedLines(calls, lines) {
     notes: tally.notes };
 }
 
-test("a run ends where the condition holds", async () => {
+test("a run ends when the condition holds", async () => {
   const calls = await createSession({ condition: "r9 = 3" });
   const { lines, id, cut, cycles, hits } = await serveTypedLines(calls, "run 1000\n");
   assert.deepEqual([lines, id, cut, cycles, hits], [["run 9: ran 9 end"], 7, "run 1000", 9, [[7, 1]]]);
@@ -37,7 +37,7 @@ test("a run ends where the condition holds", async () => {
   assert.deepEqual([next.lines, next.cut], [["run 64: ran 64 end"], "run 1000"]);
 });
 
-test("each run of several lines does, and the lines after it are done", async () => {
+test("each run ends when the condition holds, and later lines are still served", async () => {
   const calls = await createSession({ condition: "r9 = 3" });
   const { lines, id, cut, cycles, hits } = await serveTypedLines(calls, "poke r9 1\n\n  run 0x20 \npoke r9 0\nrun 5\nseq\n");
   assert.deepEqual(lines.slice(0, 4), ["poke r9 1: ", "run 5: ran 5 end", "poke r9 0: ", "run 5: ran 5 end"]);
@@ -45,7 +45,7 @@ test("each run of several lines does, and the lines after it are done", async ()
   assert.deepEqual([id, cut, cycles, hits], [0, "", 10, [[7, 1]]]);
 });
 
-test("counts go on from line to line, and notes are logged", async () => {
+test("hits are counted across lines, and log messages are reported", async () => {
   const counted = await createSession({ from: 3 });
   assert.deepEqual((await serveTypedLines(counted, "run 4\nrun 4\n")).lines, ["run 4: ran 4 end", "run 4: ran 4 end"]);
   assert.deepEqual((await serveTypedLines(counted, "run 9\n")).lines, ["run 1: ran 1 end"]);
@@ -55,14 +55,14 @@ test("counts go on from line to line, and notes are logged", async () => {
   assert.deepEqual(notes.map(({ cycles, words }) => [cycles, words]), [[1, "R9 is 1"], [5, "R9 is 2"], [9, "R9 is 3"]]);
 });
 
-test("what is refused, a step, and a text stay as they are; a breakpoint that always stops ends a run before", async () => {
+test("rejected lines, steps and texts are served unchanged; an unconditional breakpoint ends a run", async () => {
   const calls = await createSession({ condition: "r9 = 3" });
   const { lines } = await serveTypedLines(calls, "run 0\nrun x\nrun 5 5\nstep\nbreak 2\nasm\nrun 5\n.\nrun 5\n");
   const wanted = ["run 0: no 44", "run x: no 11", "run 5 5: no 10", "step: ran 1 end", "break 2: ", "asm: no 30 line 1"];
   assert.deepEqual(lines, [...wanted, "run 5: ran 1 break"]);
 });
 
-test("where they are cancelled nothing was done, and nothing was counted", async () => {
+test("cancelled lines change nothing, and no hits are counted", async () => {
   const calls = await createSession({ from: 2 });
   const before = calls.ask("seq\nstate\n");
   let asked = 0;

@@ -16,7 +16,7 @@ const storage = (items = new Map()) => ({
 const recordOf = (programText, revision) => (
   { ...newRecord("one", Uint8Array.of(1), { boardText: "# b", programText }), id: "one", revision });
 
-test("texts that the store lacks are there at each opening until the store has a later revision", () => {
+test("texts that the store lacks are restored at each opening until the store has a later revision", () => {
   const store = storage();
   const left = new UnsavedTexts(store);
   left.markStored(recordOf("; old", 3));
@@ -56,7 +56,7 @@ test("texts of a write that was completed, or of another session, change nothing
   assert.equal(newer.programText, "; later");
 });
 
-test("what the store has is not kept twice", () => {
+test("texts that are in the store are not saved again", () => {
   const store = storage();
   const left = new UnsavedTexts(store);
   left.markStored(recordOf("; same", 3));

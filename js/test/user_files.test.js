@@ -55,7 +55,7 @@ test("devices and FIFOs are rejected without a wait", () => {
   }
 });
 
-test("links that lead out of a folder are found", () => {
+test("links that lead out of a folder are detected", () => {
   const place = folder("links");
   mkdirSync(join(place, "in"));
   writeFileSync(join(place, "out"), "");
@@ -65,7 +65,7 @@ test("links that lead out of a folder are found", () => {
   assert.deepEqual(["own", "link", "away"].map((name) => isInside(join(place, "in", name), join(place, "in"))), [true, true, false]);
 });
 
-test("a file that is replaced keeps its mode, and links are followed", () => {
+test("a replaced file keeps its mode, and links are followed", () => {
   const place = folder("write");
   const [file, link, dangling] = ["file", "link", "dangling"].map((name) => join(place, name));
   writeUserFile(file, "new");
@@ -88,7 +88,7 @@ test("a file of another user keeps its owner", { skip: process.getuid() !== 0 },
   assert.deepEqual([statSync(file).uid, statSync(file).gid, readFileSync(file, "utf8")], [12345, 23456, "new"]);
 });
 
-test("what cannot be written is rejected, and stays as it is", () => {
+test("a file that cannot be written stays unchanged", () => {
   const place = folder("refused");
   const file = join(place, "file");
   writeFileSync(file, "old");
@@ -101,7 +101,7 @@ test("what cannot be written is rejected, and stays as it is", () => {
   assert.throws(() => writeUserFile(join(place, "round"), "new"), /: too many symbolic links$/);
 });
 
-test("where a file does not fit, nothing of it is left", () => {
+test("a file that exceeds the size limit leaves no partial file", () => {
   const place = folder("full");
   const file = join(place, "file");
   writeFileSync(file, "old");
@@ -110,7 +110,7 @@ test("where a file does not fit, nothing of it is left", () => {
   assert.deepEqual([readFileSync(file, "utf8"), readdirSync(place)], ["old", ["file"]]);
 });
 
-test("a file that waits to be put into its place is new, and goes with its process", () => {
+test("a prepared replacement is a new file, and is removed with its process", () => {
   const place = folder("pending");
   const file = join(place, "file");
   writeFileSync(file, "old");

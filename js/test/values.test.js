@@ -58,7 +58,7 @@ function piecesOf(line, word, { session, map }) {
   return valuesAt(line, line.indexOf(word), standingOf(session), { nameOf, describeInstruction: (each) => DOES.get(each) || "" });
 }
 
-test("a register, a pair, and what SRC would select by it", async () => {
+test("values of a register and a pair, with what SRC would select", async () => {
   const opened = await open();
   assert.deepEqual(piecesOf("  LD R4", "R4", opened), ["R4 = ", { place: "r4", name: "R4", value: "6" }]);
   assert.equal(joinPieces(piecesOf("  INC r5 ; R4", "r5", opened)), "R5 = 0");
@@ -72,7 +72,7 @@ test("a register, a pair, and what SRC would select by it", async () => {
   assert.deepEqual(piecesOf("  INC r5 ; R4", "R4", opened), []);
 });
 
-test("what an instruction reads or writes by SRC", async () => {
+test("values that an instruction reads or writes through SRC", async () => {
   const opened = await open();
   const here = "bank 0, chip 0, register 1";
   assert.equal(joinPieces(piecesOf("  WRM", "WRM", opened)), `${here}, character 2 = 7; acc 5, cy 1`);
@@ -87,7 +87,7 @@ test("what an instruction reads or writes by SRC", async () => {
   assert.equal(joinPieces(piecesOf("  RDM", "RDM", none)), "bank 1, where the board has no RAM; acc 0, cy 0");
 });
 
-test("numbers and names", async () => {
+test("values of numbers and names", async () => {
   const opened = await open();
   assert.equal(joinPieces(piecesOf("  LDM 6", "6", opened)), "6 = 0x6, 0110");
   assert.equal(joinPieces(piecesOf("  FIM P0, k", "k", opened)),
@@ -96,14 +96,14 @@ test("numbers and names", async () => {
   assert.deepEqual(piecesOf("  JUN other", "other", opened), []);
 });
 
-test("what is read of a bank is what it holds, also where it is not the first", async () => {
+test("values are read from the right bank, also if it is not the first", async () => {
   const { session } = await open("poke ram.2.0x41 4\npoke st.2.4.3 6\n");
   const machineState = standingOf(session);
   assert.deepEqual([machineState.character(2, 0x41), machineState.status(2, 4, 3), machineState.ramPort(2, 1)], ["4", "6", "0"]);
   assert.equal(machineState.character(0, 0x41), "");
 });
 
-test("what a line has changed: an instruction, a call that was stepped over; no other run", async () => {
+test("the changes by a line are known after a step and a step over, but not after other runs", async () => {
   const program = "        LDM 9\n        IAC\n        JMS put\nend:    JUN end\nput:    FIM P1, 0x34\n        SRC P1\n"
     + "        WRM\n        BBL 2\n";
   const opened = new DebugSession(engine, { board: BOARD, program });
@@ -134,7 +134,7 @@ test("what a line has changed: an instruction, a call that was stepped over; no 
   assert.deepEqual([...changes.lines], []);
 });
 
-test("what a look says of places is what trace answers", async () => {
+test("values from a snapshot are those in the answers of `trace`", async () => {
   const random = createRandom(4);
   const upTo = (most) => Math.floor(random() * most);
   const text = `rom = [{ chip = 0, port = "0000" }, { chip = 1, port = "1i0i" }, { chip = 3, port = "i100" }]
@@ -164,7 +164,7 @@ keys = { chain = 0, first = 0, rows = 2, columns = ["rom1.0", "rom1.2"] }
   }
 });
 
-test("watched expressions have names of the user's own, and what cannot be read is reported", async () => {
+test("watched expressions can have names, and invalid expressions are reported", async () => {
   const { session, map } = await open();
   const machineState = standingOf(session);
   const names = namesIn(session, map);

@@ -19,7 +19,7 @@ function move(rows, at, to, chosen = ALL) {
   return rowsOf(rows, chosen);
 }
 
-test("rows are in the order of the board until somebody moves one; others stay beside those that they were beside", () => {
+test("rows have the order of the board until the user moves one; the other rows keep their order", () => {
   const rows = new WaveRows();
   assert.equal(rowsOf(rows), "a b c d e");
   assert.equal(move(rows, 0, 2), "b c a d e");
@@ -30,7 +30,7 @@ test("rows are in the order of the board until somebody moves one; others stay b
   assert.equal(move(rows, 0, 9), rowsOf(rows));
 });
 
-test("a group is where its first row is; it folds, and moves as a whole", () => {
+test("a group has the position of its first row, can be folded, and moves as a whole", () => {
   const rows = new WaveRows();
   for (const name of ["b", "e"]) rows.change(name, { group: "g" });
   assert.equal(rowsOf(rows), "a [g b e c d");
@@ -43,7 +43,7 @@ test("a group is where its first row is; it folds, and moves as a whole", () => 
   assert.equal(move(rows, 0, 1), "[g b e a c d");
 });
 
-test("a row that comes into a group is part of it, and leaves it", () => {
+test("a row can be moved into a group and out of it", () => {
   const rows = new WaveRows({ looks: { b: { group: "g" }, c: { group: "g" } } });
   assert.equal(rowsOf(rows), "a [g b c d e");
   assert.equal(move(rows, 0, 1), "[g a b c d e");
@@ -58,7 +58,7 @@ test("a row that comes into a group is part of it, and leaves it", () => {
   assert.equal(rows.groupOf("c"), "g");
 });
 
-test("names and colours are kept by the names of lines", () => {
+test("names and colours are stored by line name", () => {
   const rows = new WaveRows();
   rows.change("b", { title: "clock" });
   rows.change("b", { colour: "red" });
@@ -78,7 +78,7 @@ function wavesWith(changes, kind = "test", width = 1) {
   });
 }
 
-test("a bit is measured from edge to edge, and to the next edge of its kind", () => {
+test("a bit has a pulse width and a period", () => {
   const waves = wavesWith([100, 400, 700]);
   assert.deepEqual(measureAt(waves, 0, 100), { from: 100, to: 400, isWhole: true, period: 600 });
   assert.deepEqual(measureAt(waves, 0, 399), measureAt(waves, 0, 100));
@@ -91,11 +91,11 @@ test("a bit is measured from edge to edge, and to the next edge of its kind", ()
   assert.match(describeMeasurement("1", { from: 0, to: 1, isWhole: true, period: 2 }), /, 46\.30 kHz$/);
 });
 
-test("of a number there is no period", () => {
+test("a number has no period", () => {
   assert.deepEqual(measureAt(wavesWith([100, 400, 700], "value", 4), 0, 100), { from: 100, to: 400, isWhole: true, period: 0 });
 });
 
-test("a picture as a file has all rows with their names, and what stands in it is no markup", () => {
+test("a saved picture has all rows with their names, and escapes markup", () => {
   const view = new WaveWindow(1000);
   view.width = 400;
   const names = ["ink", "faint", "grid", "sheet", "chosen", "first", "second", "measured", "red"];

@@ -4,7 +4,7 @@ import { test } from "node:test";
 import { Waves } from "../core/waves/wave_recording.js";
 import { find, readSearch } from "../core/waves/wave_search.js";
 import { findLineByName } from "../core/waves/trigger.js";
-import { begin, examplesOfPage } from "./page_session.js";
+import { openExample, examplesOfPage } from "./page_session.js";
 
 const line = (name, kind, rest = {}) => ({ name, title: "", group: "", kind, places: [], members: [], width: 1, columns: 0, ...rest });
 const LINES = [
@@ -26,7 +26,7 @@ function wavesOf() {
   });
 }
 
-test("lines by what people call them", () => {
+test("lines are found by their common names", () => {
   const named = (text) => LINES[findLineByName(text, LINES)]?.name;
   assert.deepEqual(["rom0.1", "ROM0 1", "rom0", "to the chain"].map(named), ["rom0.1", "rom0.1", "rom0[1:0]", "rom0[1:0]"]);
   assert.deepEqual(["lamp 0", "minus", "lamp minus"].map(named), Array(3).fill("lamp.minus"));
@@ -35,7 +35,7 @@ test("lines by what people call them", () => {
   assert.deepEqual(["lamp 2", "rom1", "", "r"].map(named), [undefined, undefined, undefined, undefined]);
 });
 
-test("what is looked for is found, in both directions", () => {
+test("values and edges are found in both directions", () => {
   const waves = wavesOf();
   const marked = 6;
   const all = (text, isForward = true) => {
@@ -56,7 +56,7 @@ test("what is looked for is found, in both directions", () => {
   assert.deepEqual(all("@begin", false), [0]);
 });
 
-test("what cannot be looked for, in words", () => {
+test("invalid searches are rejected with a reason", () => {
   const waves = wavesOf();
   const fault = (text, marked = 6) => readSearch(text, waves, marked).fault;
   assert.match(fault(""), /^Enter a search: a value of the marked line/);
@@ -69,9 +69,9 @@ test("what cannot be looked for, in words", () => {
   assert.equal(fault("3", -1), "No line is marked.");
 });
 
-test("in two million cycles what is found is what the bench reports", async () => {
+test("an edge found in two million cycles is the one that the bench reports", async () => {
   const { board, program } = examplesOfPage.find((each) => each.name === "stopwatch");
-  const calls = await begin("stopwatch", "test 0\n");
+  const calls = await openExample("stopwatch", "test 0\n");
   const waves = new Waves(await calls.record(2000000, false, { board, program, values: ["r4"] }));
   const found = (text, moment, isForward) => find(waves, readSearch(text, waves, -1).search, moment, isForward);
   const first = found("lamp15 rises", 0, true);

@@ -35,7 +35,7 @@ function numberOf(lines, name) {
   return lines.findIndex((line) => line.name === name);
 }
 
-test("the lines of a board have the names of the manual, and those of the board's text", () => {
+test("the lines of a board have names from the manual and from the board's text", () => {
   const names = linesWith(true).map(({ name }) => name);
   assert.deepEqual(names.slice(0, 12), [0, 1, 2].flatMap((rom) => [0, 1, 2, 3].map((line) => `rom${rom}.${line}`)));
   assert.deepEqual(names.slice(12, 20), [0, 1].flatMap((bank) => [0, 1, 2, 3].map((line) => `ram${bank}.0.${line}`)));
@@ -47,7 +47,7 @@ test("the lines of a board have the names of the manual, and those of the board'
   assert.equal(names.length, 12 + 8 + 10 + 3 + 80 + 3 + 6 + 2);
 });
 
-test("what each line is asked for by: a lamp by the line that it is at, a key by its place", () => {
+test("each line has a place: a lamp's is its output line, and a key's its row and column", () => {
   const places = (wanted) => linesWith().filter(({ kind }) => kind === wanted).map(({ places: [place] }) => place);
   assert.deepEqual(places("level").slice(-3), ["chain0.0", "chain0.1", "ram0.0.3"]);
   assert.deepEqual(places("key").slice(0, 9), ["0.0", "0.1", "0.2", "0.3", "0.4", "0.5", "0.6", "0.7", "1.0"]);
@@ -56,7 +56,7 @@ test("what each line is asked for by: a lamp by the line that it is at, a key by
     [...["rom3", "rom12"].flatMap((rom) => [0, 1, 2, 3].map((line) => `${rom}.${line}`)), "test", "rom3[3:0]", "rom12[3:0]", "pc"]);
 });
 
-test("ports and chains are asked for as wholes, sixteen places at once, each one once", () => {
+test("ports and chains are requested as a whole, once each, at most sixteen places in a query", () => {
   const asked = new WaveBuilder(linesWith()).queries(100).split("\n");
   assert.deepEqual(asked, ["trace 100", "trace 100 rom0 rom1 rom2 ram0.0 ram1.0 chain0", ""]);
   const more = new WaveBuilder(linesWith(false, ["p2", "r4", ...[..."0123456789"].map((at) => `ram.0.0x0${at}`)])).queries(7).split("\n");
@@ -65,7 +65,7 @@ test("ports and chains are asked for as wholes, sixteen places at once, each one
   assert.equal(more[2], `trace 7 r4 r5 ${characters}`);
 });
 
-test("values by their names, and what a board lacks", () => {
+test("value lines are created by name, unless the board lacks the place", () => {
   const read = (text) => {
     const line = createValueLine(text, BOARD);
     return line && [line.name, line.places.join(" "), line.width, line.group];
@@ -82,14 +82,14 @@ test("values by their names, and what a board lacks", () => {
   assert.deepEqual(linesWith(false, ["r5", "r16", "p2"]).slice(-3).map(({ name }) => name), ["r5", "p2", "pc"]);
 });
 
-test("titles are what the board's text says of ports, and of names that no file can have", () => {
+test("titles come from the board's text for ports, and for names that a file cannot contain", () => {
   const lines = createBoardLines(BOARD, `${TEXT}# port rom1: keys here\n`, false);
   const titles = Object.fromEntries(lines.map(({ name, title }) => [name, title]));
   assert.deepEqual([titles["rom1.2"], titles["rom1[3:0]"], titles["rom0.2"]], ["keys here, line 2", "keys here", ""]);
   assert.deepEqual([titles.lamp2, titles["key0.2"], titles["lamp.minus"]], ["over.flow", "=", ""]);
 });
 
-test("what is offered, by words", () => {
+test("recordable lines are found by words", () => {
   const offered = listRecordableLines(BOARD, TEXT);
   const named = (text, chosen = []) => searchLines(offered, text, new Set(chosen)).lines.map(({ name }) => name);
   assert.ok(named("").includes("r5") && named("").includes("rom0[3:0]") && !named("").includes("ram.0.0x12"));
@@ -163,7 +163,7 @@ function wavesOf(taking, program = null) {
   return new Waves({ ...taking.take(), lines: taking.lines, listing: LISTING, program });
 }
 
-test("changes stand at the moment after their instruction", () => {
+test("changes are at the moment after their instruction", () => {
   const waves = wavesOf(record(100));
   const of = (name) => [...waves.changesOf(numberOf(waves.lines, name))];
   assert.deepEqual([of("rom0.1"), of("lamp2"), of("ram0.0.3"), of("test"), of("rom0.0")], [[1, 5], [2], [2], [], []]);
@@ -171,19 +171,19 @@ test("changes stand at the moment after their instruction", () => {
   assert.deepEqual([waves.cycles, waves.isStuck], [5, true]);
 });
 
-test("a recording ends at its last cycle, inside an instruction too", () => {
+test("a recording ends at its last cycle, even inside an instruction", () => {
   const waves = wavesOf(record(3));
   assert.deepEqual([waves.cycles, waves.isStuck], [3, false]);
   assert.deepEqual([...waves.changesOf(numberOf(waves.lines, "pc"))], [1, 2]);
   assert.equal(wavesOf(record(4)).counterAt(4), 0x00a);
 });
 
-test("a bench that refuses is reported", () => {
+test("a refusal by the bench is an error", () => {
   assert.throws(() => begin().takeRun(new ForecastAnswers(["no 90"])), /no 90/);
   assert.throws(() => run(begin(), LEVELS, [], "no 46", {}), /no 46/);
 });
 
-test("an instruction of two cycles is one, and commands between cycles take no time", () => {
+test("a two-cycle instruction is recorded once, and commands between cycles take no time", () => {
   const taking = begin();
   run(taking, LEVELS, [[0, "00A", {}]], "ok 9 ran 1 end", { pc: "020", owed: "1" });
   taking.takeState(stateWith({ pc: "020", owed: "1", keys: "0.1" }));
@@ -199,7 +199,7 @@ test("an instruction of two cycles is one, and commands between cycles take no t
   assert.deepEqual([0, 1, 2, 3].map((moment) => waves.counterAt(moment)), [0x00a, 0x00a, 0x030, 0x031]);
 });
 
-test("values and edges", () => {
+test("the value at a moment and the edges around it", () => {
   const waves = wavesOf(record(100));
   const data = numberOf(waves.lines, "rom0.1");
   assert.deepEqual([0, 1, 4, 5].map((moment) => waves.valueAt(data, moment)), ["1", "0", "0", "1"]);
@@ -211,7 +211,7 @@ test("values and edges", () => {
   assert.deepEqual([0, 2, 3, 4].map((moment) => waves.valueAt(numberOf(waves.lines, "pc"), moment)), ["00A", "00C", "00C", "00A"]);
 });
 
-test("a port as a number, in three ways", () => {
+test("a port is shown as a number in three bases", () => {
   const waves = wavesOf(record(100));
   const [port, chain] = ["rom0[3:0]", "chain0[9:0]"].map((name) => numberOf(waves.lines, name));
   assert.deepEqual([...waves.changesOf(port)], [1, 5]);
@@ -224,7 +224,7 @@ test("a port as a number, in three ways", () => {
   assert.deepEqual([waves.changeAfter(port, 1), waves.changeBefore(port, 5)], [5, 1]);
 });
 
-test("registers, pairs and characters", () => {
+test("registers, pairs and RAM characters are recorded", () => {
   const taking = begin(STATE, ["r5", "p2", "ram.0.0x12"]);
   const values = { r4: "0", r5: "7", "ram.0.0x12": "9" };
   run(taking, LEVELS, [[0, "00A", values], [1, "00B", { r4: "A", r5: "0" }], [2, "00C", { r5: "F" }]], "ok 9 ran 4 end", { pc: "00A" });
@@ -236,7 +236,7 @@ test("registers, pairs and characters", () => {
   assert.deepEqual([of("r5"), of("p2"), of("ram.0.0x12")], [["1 7", "2 0", "3 F"], ["1 07", "2 A0", "3 AF"], ["1 9"]]);
 });
 
-test("a recording becomes longer, and forgets its beginning and its end", () => {
+test("a recording can be extended, and cut at both ends", () => {
   const whole = wavesOf(record(4));
   const taking = begin();
   run(taking, LEVELS, PROGRAM.slice(0, 1), "ok 9 ran 1 end", { pc: "00B" });
@@ -256,7 +256,7 @@ test("a recording becomes longer, and forgets its beginning and its end", () => 
   assert.deepEqual([parts.cycles, [...parts.changesOf(pc)], parts.counterAt(3)], [3, [], 0x00c]);
 });
 
-test("the instruction at a moment, in both its cycles", () => {
+test("the instruction at a moment is found in both of its cycles", () => {
   const waves = wavesOf(record(100), {
     text: "stop: NOP\n  JUN go ; on", lines: new Uint16Array(4096).fill(2, 0x00c, 0x00e), labels: [{ address: 0x00b, name: "stop" }],
   });
@@ -268,7 +268,7 @@ test("the instruction at a moment, in both its cycles", () => {
   assert.deepEqual([waves.labelAt(0), waves.labelAt(1), waves.labelAt(3)], ["", "stop", "stop"]);
 });
 
-test("the first sample may be the second cycle of an instruction", () => {
+test("the first sample can be the second cycle of an instruction", () => {
   const taking = run(begin(stateWith({ owed: "1" })), LEVELS, [], "ok 9 ran 1 end", {});
   assert.deepEqual([wavesOf(taking).instructionAt(0).isSecond, wavesOf(taking).instructionAt(1).isSecond], [true, false]);
 });
@@ -321,6 +321,6 @@ test("the short names of lines in the file differ", () => {
   assert.deepEqual([codes[0], codes[21], codes[22], codes[43], codes[44]], ["A", "Y", "AA", "AY", "CA"]);
 });
 
-test("how many of rising numbers are at most one of them", () => {
+test("counts how many sorted numbers are at most a limit", () => {
   assert.deepEqual([0, 1, 2, 5, 9].map((most) => countUpTo([1, 2, 5], most)), [0, 1, 2, 3, 3]);
 });

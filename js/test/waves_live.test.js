@@ -1,15 +1,15 @@
-// Tests recordings that grow while time is running, on the page's WebAssembly module. They must equal a recording made in one call.
+// Tests recordings that grow while the machine is running, on the page's WebAssembly module. They must equal a recording made in one call.
 import assert from "node:assert/strict";
 import { test } from "node:test";
 import { matrixKey } from "../core/board/key_place.js";
 import { LiveWaves } from "../core/waves/live_waves.js";
 import { vcdParts } from "../core/waves/vcd.js";
 import { Waves } from "../core/waves/wave_recording.js";
-import { begin, examplesOfPage } from "./page_session.js";
+import { openExample, examplesOfPage } from "./page_session.js";
 
 async function beginWith(name, lines = "") {
   const { board, program } = examplesOfPage.find((each) => each.name === name);
-  return { calls: await begin(name, lines), texts: { board, program, values: [] } };
+  return { calls: await openExample(name, lines), texts: { board, program, values: [] } };
 }
 
 const numberOf = (waves, name) => waves.lines.findIndex((line) => line.name === name);
@@ -23,7 +23,7 @@ function record(calls, texts, { most = 1000000, behind = 0, trigger = "", stopsT
   return { live, did: (shown) => live.take(shown.waves) };
 }
 
-test("frames, keys, lines and steps are recorded as they are recorded up to here", async () => {
+test("a live recording of frames, keys, lines and steps equals a recording of the past", async () => {
   const { calls, texts } = await beginWith("calculator", "run 30000\n");
   texts.values = ["r5", "p2", "ram.0.0x12"];
   const { live, did } = record(calls, texts);
@@ -57,7 +57,7 @@ test("the session is the same with and without a recording", async () => {
   assert.deepEqual(plain.calls.bench.session.file, recording.calls.bench.session.file);
 });
 
-test("only the last cycles are kept, and they are what they were", async () => {
+test("only the last cycles are kept, without changes", async () => {
   const { calls, texts } = await beginWith("stopwatch", "test 0\n");
   const { live, did } = record(calls, texts, { most: 5000 });
   live.waves.changesOf(numberOf(live.waves, "rom0[3:0]"));
@@ -67,7 +67,7 @@ test("only the last cycles are kept, and they are what they were", async () => {
   assert.equal(wholeText(live.waves), wholeText(whole));
 });
 
-test("a breakpoint stops time, and the recording stands with it", async () => {
+test("a breakpoint stops the machine and the recording", async () => {
   const { calls, texts } = await beginWith("three lamps", "break 0x00C\n");
   const { live, did } = record(calls, texts);
   const frame = calls.advance(100000);
@@ -88,7 +88,7 @@ const TRIGGERS = [
 ];
 
 for (const [trigger, recorded, wanted] of TRIGGERS) {
-  test(`a trigger, ${trigger}, with cycles before and behind it`, async () => {
+  test(`a trigger, ${trigger}, with cycles before and after it`, async () => {
     const { calls, texts } = await beginWith("stopwatch", "test 0\nrun 20000\n");
     texts.values = ["r3"];
     const { live, did } = record(calls, texts, { most: 3000, behind: 1000, trigger });
@@ -106,7 +106,7 @@ for (const [trigger, recorded, wanted] of TRIGGERS) {
   });
 }
 
-test("time stops where the cycles behind a trigger are recorded, at an instruction", async () => {
+test("the machine stops at an instruction once the cycles after a trigger are recorded", async () => {
   const { calls, texts } = await beginWith("stopwatch", "test 0\nrun 20000\n");
   const { live, did } = record(calls, texts, { most: 3000, behind: 10, trigger: "lamp15 changes", stopsTime: true });
   let frame = calls.advance(1);
@@ -122,7 +122,7 @@ test("time stops where the cycles behind a trigger are recorded, at an instructi
   assert.deepEqual([after.stop, after.cycles, after.waves], [null, 1543, null]);
 });
 
-test("a key is an edge, too", async () => {
+test("a key press can be a trigger", async () => {
   const { calls, texts } = await beginWith("calculator", "run 30000\n");
   const { live, did } = record(calls, texts, { most: 9000, behind: 3000, trigger: "key 1 rises" });
   did(calls.advance(1543));
@@ -132,7 +132,7 @@ test("a key is an edge, too", async () => {
   assert.deepEqual([live.triggerMoment, live.endReason], [1543, "trigger"]);
 });
 
-test("what ends a recording, in words", async () => {
+test("the reason for the end of a recording is reported", async () => {
   const ends = async (act) => {
     const { calls, texts } = await beginWith("three lamps", "run 500\n");
     const { live, did } = record(calls, texts);
@@ -148,7 +148,7 @@ test("what ends a recording, in words", async () => {
   assert.equal(await ends((calls) => calls.serve("run 100000\n".repeat(30))), "It ended at lines that did more than it can follow.");
 });
 
-test("a trigger that is not understood is reported, and nothing is recorded", async () => {
+test("an invalid trigger is reported, and nothing is recorded", async () => {
   const { calls, texts } = await beginWith("calculator");
   const faultOf = (trigger) => calls.recordLive(texts, { trigger, behind: 0, stopsTime: false });
   const faults = {

@@ -25,7 +25,7 @@ function wholeText(waves) {
   return [...vcdParts(waves, waves.lines.map((_, line) => line))].join("");
 }
 
-test("the stopwatch counts every 926 cycles, and its session is as it was", async () => {
+test("the stopwatch counts every 926 cycles, and recording leaves its session unchanged", async () => {
   const { calls, texts } = await begin("stopwatch");
   await calls.serve("test 0\n");
   const before = calls.bench.session.file.slice();
@@ -38,7 +38,7 @@ test("the stopwatch counts every 926 cycles, and its session is as it was", asyn
   assert.match(waves.instructionAt(lamp[3] - 1).source, /^WMP/);
 });
 
-test("what was recorded up to here is what is recorded from there on", async () => {
+test("recordings of the past and of the future are equal", async () => {
   const { calls, texts } = await begin("stopwatch");
   await calls.serve("test 0\nrun 1001\n");
   const later = new Waves(await calls.record(4000, false, texts));
@@ -57,7 +57,7 @@ test("what was recorded up to here is what is recorded from there on", async () 
   assert.deepEqual(calls.bench.session.file, before);
 });
 
-test("keys that were pressed stand in the past, and it ends as it is here", async () => {
+test("a recording of the past contains key presses, and ends in the current state", async () => {
   const { calls, texts } = await begin("calculator");
   await calls.serve("run 30000\npress 2 0\nrun 4000\nrelease 2 0\nstep\nstep\n");
   const waves = new Waves(await calls.record(5000, true, texts));
@@ -71,7 +71,7 @@ test("keys that were pressed stand in the past, and it ends as it is here", asyn
   assert.equal(shown, lamps);
 });
 
-test("the past begins with the board, and where nothing was done nothing is recorded", async () => {
+test("the recorded past begins with the board, and is empty for a new session", async () => {
   const { calls, texts } = await begin("three lamps");
   assert.equal((await calls.record(100, true, texts)).cycles, 0);
   await calls.serve("run 500\nwire\n[[rom]]\nchip = 0\nport = \"0000\"\n.\nrun 30\n");
@@ -80,7 +80,7 @@ test("the past begins with the board, and where nothing was done nothing is reco
   assert.deepEqual([recorded.cycles, recorded.lines.map(({ name }) => name)], [30, names]);
 });
 
-test("a code that is not an instruction ends a recording, and it is reported", async () => {
+test("a code that is not an instruction ends a recording, and is reported", async () => {
   const { calls, texts } = await begin("three lamps");
   await calls.serve("poke rom.0x018 0xFF\npoke rom.0x014 0xFF\n");
   const recorded = await calls.record(100, false, texts);
@@ -88,7 +88,7 @@ test("a code that is not an instruction ends a recording, and it is reported", a
   assert.ok(recorded.cycles < 100);
 });
 
-test("a recording goes through breakpoints and watches, which stay", async () => {
+test("a recording ignores breakpoints and watches, which stay", async () => {
   const { calls, texts } = await begin("three lamps");
   const plain = new Waves(await calls.record(3000, false, texts));
   await calls.serve("break 0x016\nbreak 0\nwatch 0 0\n");
@@ -108,12 +108,12 @@ test("a long recording in both directions has the same edges", async () => {
   assert.deepEqual(new Set([...lamp].slice(2).map((moment, at) => moment - lamp[at + 1])), new Set([926]));
 });
 
-test("a recording reports how far it is, and can be cancelled", async () => {
+test("a recording can be cancelled", async () => {
   const { calls, texts } = await begin("calculator", async () => false);
   await assert.rejects(calls.record(100000, false, texts), /cancelled/);
 });
 
-test("registers, pairs, characters and ports are what the bench reports at each cycle", async () => {
+test("recorded registers, pairs, characters and ports are those that the bench reports", async () => {
   const { calls, texts } = await begin("calculator");
   await calls.serve("run 30000\npress 2 0\n");
   const values = ["acc", "cy", "r5", "p2", "src", "dcl", "ram.0.0x12", "st.0.1.2"];
@@ -132,7 +132,7 @@ test("registers, pairs, characters and ports are what the bench reports at each 
   assert.equal(at("ram.0.0x12", 700), calls.ask("run 700\nram 0\n")[3].split(" ")[1][2]);
 });
 
-test("a recording that is written piece by piece is the same file, also of a few lines, a port and values", async () => {
+test("a recording in pieces gives the same VCD file, also for some lines, ports and values", async () => {
   const begun = [["stopwatch", "test 0\nrun 1001\n", ["acc", "p2"]], ["calculator", "press 0 1\nrun 7\nstep\n", ["r5"]]];
   for (const [name, lines, values] of begun) {
     const { calls, texts } = await begin(name);

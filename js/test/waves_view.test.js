@@ -25,12 +25,12 @@ function windowOf(cycles, width) {
   return view;
 }
 
-test("all is seen at first, and places are moments", () => {
+test("the whole recording is visible at first, and positions correspond to moments", () => {
   const view = windowOf(1000, 500);
   assert.deepEqual([view.xAt(0), view.xAt(1000), view.cyclesAt(250)], [0, 500, 500]);
 });
 
-test("what stands at a place stays there where it is zoomed", () => {
+test("the moment at the zoom position stays there", () => {
   const view = windowOf(1000, 500);
   view.zoom(4, 600);
   assert.deepEqual([view.span, view.xAt(600)], [250, 300]);
@@ -38,7 +38,7 @@ test("what stands at a place stays there where it is zoomed", () => {
   assert.deepEqual([view.from, view.span], [0, 1000]);
 });
 
-test("ten cycles are seen at least, and never more than there are", () => {
+test("at least ten cycles are visible, and at most the whole recording", () => {
   const view = windowOf(1000, 500);
   view.zoom(1e9, 995);
   assert.equal(view.span, 10);
@@ -51,7 +51,7 @@ test("ten cycles are seen at least, and never more than there are", () => {
   assert.deepEqual([view.from, view.span], [0, 1000]);
 });
 
-test("a cursor stays within the recording, and is brought into view", () => {
+test("a cursor stays within the recording, and is scrolled into view", () => {
   const view = windowOf(1000, 500);
   view.zoom(10, 0);
   view.move(700);
@@ -62,7 +62,7 @@ test("a cursor stays within the recording, and is brought into view", () => {
   assert.deepEqual([view.cursors, view.cursorDistance], [[1000, 0], 1000]);
 });
 
-test("a click means an edge that is near, else the cycle that is there", () => {
+test("a click selects a near edge, or else the cycle at its position", () => {
   const waves = wavesWith([100, 400], 1000);
   const view = windowOf(1000, 500);
   assert.deepEqual([47, 53, 60, 197, 204, 300].map((x) => view.momentAt(x, waves, 0)), [100, 100, 120, 400, 400, 600]);
@@ -71,7 +71,7 @@ test("a click means an edge that is near, else the cycle that is there", () => {
   assert.deepEqual([0, 49, 50, 499].map((x) => view.momentAt(x, waves, -1)), [0, 0, 1, 9]);
 });
 
-test("a window goes along with the end of a recording, where that was seen", () => {
+test("a window follows the end of a recording if the end was visible", () => {
   const view = windowOf(1000, 500);
   view.zoom(4, 1000);
   view.extendRange(500, 2000);
@@ -81,7 +81,7 @@ test("a window goes along with the end of a recording, where that was seen", () 
   assert.deepEqual([view.from, view.span], [700, 250]);
 });
 
-test("a recording that goes on is seen whole as long as it is short, then its last part", () => {
+test("a growing recording is visible as a whole while it is short, and then its last part", () => {
   const view = windowOf(0, 500);
   view.extendRange(0, 3000);
   assert.deepEqual([view.from, view.to, view.cursors], [0, 3000, [3000, 3000]]);
@@ -95,14 +95,14 @@ test("a recording that goes on is seen whole as long as it is short, then its la
   assert.deepEqual([view.from, view.to, view.cursors[0]], [10000, 30000, 20000]);
 });
 
-test("a recording of no cycle has a window, too", () => {
+test("an empty recording also has a window", () => {
   const view = windowOf(0, 500);
   view.zoom(2, 0);
   view.move(3);
   assert.deepEqual([view.from, view.moment, tickMoments(view, 90)], [0, 0, [0, 1]]);
 });
 
-test("the numbers of moments have room", () => {
+test("the tick labels do not overlap", () => {
   assert.deepEqual(tickMoments(windowOf(1000, 500), 90), [0, 200, 400, 600, 800, 1000]);
   const view = windowOf(100000, 500);
   view.zoom(10000, 50000);
@@ -110,12 +110,12 @@ test("the numbers of moments have room", () => {
   assert.ok(ticks.length >= 4 && ticks.every((tick) => Number.isInteger(tick)));
 });
 
-test("times: a cycle is 10.8 microseconds", () => {
+test("cycles and times are formatted; a cycle takes 10.8 microseconds", () => {
   assert.deepEqual([cyclesText(1), cyclesText(92593)], ["1 cycle", "92,593 cycles"]);
   assert.equal(describeDistance(926), "A to B: 926 cycles, 10.001 ms");
 });
 
-test("what is at a cursor, in words", () => {
+test("the instruction and value at a cursor are described", () => {
   const waves = wavesWith([2], 3);
   assert.equal(describeCursor("A", 0, waves), "A: cycle 0, 0.000 ms: 000 D5 LDM 5");
   assert.equal(describeCursor("B", 3, waves), "B: cycle 3, 0.032 ms: next: 002 00 NOP");
@@ -126,7 +126,7 @@ test("what is at a cursor, in words", () => {
   assert.equal(instructionText({ ...row, isSecond: true }), "the second cycle of an instruction");
 });
 
-test("what was recorded, in words", () => {
+test("a recording is described", () => {
   const waves = wavesWith([2], 3);
   assert.equal(describeRecording(waves, 3, false), "3 cycles recorded, 0.032 ms.");
   assert.equal(describeRecording(waves, 9, true), "3 cycles recorded, 0.032 ms. The remembered past reaches no further back.");
@@ -135,18 +135,18 @@ test("what was recorded, in words", () => {
   assert.match(describeRecording(wavesWith([], 0), 9, true), /^Nothing was recorded/);
 });
 
-test("a value in three ways", () => {
+test("values are formatted in three bases", () => {
   assert.deepEqual(["hex", "decimal", "binary"].map((base) => valueText(10, 4, base)), ["A", "10", "1010"]);
   assert.deepEqual(["hex", "decimal", "binary"].map((base) => valueText(1, 1, base)), ["1", "1", "1"]);
   assert.equal(valueText(3, 10, "hex"), "003");
 });
 
-test("how many cycles are wanted", () => {
+test("the typed number of cycles is parsed", () => {
   assert.deepEqual(["1", " 10,000 ", "10,000,000"].map(readCycles), [1, 10000, 10000000]);
   assert.deepEqual(["0", "10000001", "", "x", "1.5", "-1", "999999999"].map(readCycles), [0, 0, 0, 0, 0, 0, 0]);
 });
 
-test("a recording that stands still is seen as a whole, unless a part of it was chosen", () => {
+test("a finished recording is shown as a whole unless the user has zoomed", () => {
   const view = windowOf(0, 500);
   view.extendRange(0, 154363);
   assert.equal(view.from > 0, true);
@@ -161,11 +161,11 @@ test("a recording that stands still is seen as a whole, unless a part of it was 
   assert.equal(view.from, 1000);
 });
 
-test("the flag of a cursor is within the picture", () => {
+test("the flag of a cursor stays within the picture", () => {
   assert.deepEqual([flagLeft(300.5, 500), flagLeft(500.5, 500), flagLeft(498.5, 500)], [293.5, 486, 486]);
 });
 
-test("cursors that nobody has moved come to the first edges once a recording ends", () => {
+test("cursors that the user has not moved are placed at edges when a recording ends", () => {
   const view = windowOf(0, 500);
   view.extendRange(0, 1000);
   assert.deepEqual(view.cursors, [1000, 1000]);

@@ -23,7 +23,7 @@ const SMALL = readBoard(["board", "[[rom]]", "chip = 1", 'port = "iiii"', "[[cha
   "[keys]", "chain = 0", "first = 0", "rows = 4", 'columns = ["rom1.0", "rom1.1"]']);
 
 for (const [name, board] of Object.entries({ "a small board": SMALL, "the largest board": largestBoard() })) {
-  test(`${name}: no wire runs below a part, and each comes to its pin`, () => {
+  test(`${name}: no wire is hidden by a part, and each wire ends at its pin`, () => {
     const { parts, wires } = layOutBoard(board);
     assert.ok(wires.length > 0);
     wires.forEach((wire, at) => {
@@ -44,7 +44,7 @@ function createRandom(seed) {
   };
 }
 
-test("where parts were dragged to and fro, with room between them, hardly a wire runs below a part", () => {
+test("after parts were moved at random, almost no wire is hidden by a part", () => {
   let [below, wouldBe] = [0, 0];
   for (let seed = 1; seed <= 40; seed++) {
     const chance = createRandom(seed);
@@ -67,7 +67,7 @@ test("where parts were dragged to and fro, with room between them, hardly a wire
   assert.ok(below <= 3 && wouldBe > 150, `${below} of ${wouldBe}`);
 });
 
-test("a wire with nothing between is one curve; where there is no room to turn, too", () => {
+test("a wire is one curve if nothing is in between, or if there is no space for bends", () => {
   const ends = { from: { x: 0, y: 0 }, to: { x: 100, y: 50 } };
   assert.equal(pathText(routeWire(ends, [], 0)), "M0 0C50 0 50 50 100 50");
   assert.equal(pathText(routeWire({ from: { x: 5, y: 0 }, to: { x: 5, y: 9 } }, [], 0)), "M5 0C17 0 17 9 5 9");

@@ -9,27 +9,27 @@ const ANSWERS = ["board", "[[rom]]", "chip = 0", "port = \"0000\""];
 const OTHER = ["board", "[[rom]]", "chip = 1", "port = \"0000\""];
 const MINE = { text: FACED, board: ANSWERS.join("\n") };
 
-test("a text that was typed since is not that of the board that is wired", () => {
+test("a text that was changed since does not describe the wired board", () => {
   for (const typed of [ROM.replace("chip = 0", "chip = 2"), `${ROM}[[lamp\n`, ""]) {
     assert.deepEqual(currentWiredText(ANSWERS, typed, [MINE]), MINE);
     assert.equal(describesBoard(typed, MINE), false);
   }
 });
 
-test("a text with other comments is", () => {
+test("a text with other comments still describes the wired board", () => {
   const renamed = FACED.replace("Mine", "Other");
   assert.equal(describesBoard(renamed, MINE), true);
   assert.deepEqual(currentWiredText(ANSWERS, renamed, [MINE]), { ...MINE, text: renamed });
 });
 
-test("a text that is read otherwise here is known by what was wired", () => {
+test("a text that the page reads differently is recognized as the wired text", () => {
   const dotted = { text: "# title: Dotted\nx.y = 1\n", board: ANSWERS.join("\n") };
   assert.deepEqual(currentWiredText(ANSWERS, "", [dotted]), dotted);
   assert.equal(describesBoard("# title: Again\nx.y = 1\n", dotted), true);
   assert.equal(describesBoard("x.y = 2\n", dotted), false);
 });
 
-test("a board that was wired before has its text again, and one of unknown text has none", () => {
+test("a board that was wired before gets its text again, and an unknown board has no text", () => {
   const other = { text: "# title: Other\n", board: OTHER.join("\n") };
   const kept = textsToStore(other, textsToStore(MINE));
   assert.deepEqual(kept, [other, MINE]);
@@ -38,6 +38,6 @@ test("a board that was wired before has its text again, and one of unknown text 
   assert.deepEqual(textsToStore({ ...MINE, text: ROM }, kept).map(({ text }) => text), [ROM, "# title: Other\n"]);
 });
 
-test("a session that has kept none has the face of its text", () => {
+test("a session without stored texts has the front panel of its current text", () => {
   assert.deepEqual(currentWiredText(ANSWERS, "# title: Old\n", undefined), { text: "# title: Old\n", board: ANSWERS.join("\n") });
 });

@@ -13,7 +13,7 @@ function startWorkerSession() {
   return { engine, session: new WorkerSession(engine, engine.begin()) };
 }
 
-test("cycles pass in one call, which looks as well", () => {
+test("`advance` runs the cycles and reads a snapshot in one call", () => {
   const { engine, session } = startWorkerSession();
   session.queue.press(matrixKey(0, 1));
   const frame = session.advance(5000);
@@ -24,7 +24,7 @@ test("cycles pass in one call, which looks as well", () => {
   assert.equal(session.file[0], 2);
 });
 
-test("a run that stops early: what came after it is not done", () => {
+test("after a run that stops early, the later steps are not executed", () => {
   const { engine, session } = startWorkerSession();
   engine.stopAt = 2;
   const frame = session.advance(300000);
@@ -33,17 +33,17 @@ test("a run that stops early: what came after it is not done", () => {
   assert.equal(session.file[0], 2);
 });
 
-test("a failed call changes nothing, and the keys wait on", () => {
+test("a failed call changes nothing, and the keys stay queued", () => {
   const { engine, session } = startWorkerSession();
   session.queue.press(matrixKey(0, 1));
-  engine.memory = 0;
+  engine.callLimit = 0;
   assert.throws(() => session.advance(10), /no 90/);
   assert.equal(session.file[0], 0);
-  engine.memory = Infinity;
+  engine.callLimit = Infinity;
   assert.equal(session.advance(10).ran[0].line, "press 0 1");
 });
 
-test("lines are served piece by piece, as if at once", async () => {
+test("lines in pieces have the same result as lines at once", async () => {
   const { session } = startWorkerSession();
   const result = await session.serve("step\n".repeat(3000), shouldContinue);
   assert.equal(session.file[0], 3000 % 256);
@@ -53,14 +53,14 @@ test("lines are served piece by piece, as if at once", async () => {
   assert.equal(result.snapshot.length, 2);
 });
 
-test("of long work nothing is done where a piece fails, or it is cancelled", async () => {
+test("if a piece of long work fails or is cancelled, nothing is changed", async () => {
   const { engine, session } = startWorkerSession();
   await assert.rejects(session.serve(`${"step\n".repeat(3000)}trap\n`, shouldContinue), /unreachable/);
   assert.equal(session.file[0], 0);
-  engine.memory = 2;
+  engine.callLimit = 2;
   await assert.rejects(session.serve("step\n".repeat(9000), shouldContinue), /no 90/);
   assert.equal(session.file[0], 0);
-  engine.memory = Infinity;
+  engine.callLimit = Infinity;
   let pieces = 0;
   await assert.rejects(session.serve("step\n".repeat(9000), async () => ++pieces < 2), /cancelled/);
   assert.equal(session.file[0], 0);
@@ -68,7 +68,7 @@ test("of long work nothing is done where a piece fails, or it is cancelled", asy
   assert.equal(session.file[0], 1);
 });
 
-test("what lines may have changed is reported", async () => {
+test("the effects of lines are reported", async () => {
   const { session } = startWorkerSession();
   const of = async (lines) => {
     const { hasChangedRom, wires } = await session.serve(lines, shouldContinue);
@@ -81,7 +81,7 @@ test("what lines may have changed is reported", async () => {
   assert.deepEqual(session.queue.plan(1).map(({ line }) => line), ["run 1"]);
 });
 
-test("full speed: batches are reported together, where the page has taken the last ones", () => {
+test("at full speed, batches are reported together once the page has accepted the last report", () => {
   const { engine, session } = startWorkerSession();
   const machine = new Debugger(session);
   const fullSpeed = new FullSpeed();
@@ -101,7 +101,7 @@ test("full speed: batches are reported together, where the page has taken the la
   assert.match(fullSpeed.takeReport().end, /break$/);
 });
 
-test("a hidden page gets a report once a second, and of keys at once", () => {
+test("a hidden page gets a report once a second, and after key presses at once", () => {
   const { session } = startWorkerSession();
   const machine = new Debugger(session);
   const fullSpeed = new FullSpeed();

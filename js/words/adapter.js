@@ -18,10 +18,10 @@ export const NO_REFERENCE = "this reference is unknown";
 export const NO_FRAME = "there is no such frame; frameId is one of stackTrace";
 export const NO_LINE = "text has no such line";
 export const ADDRESSES_ARE = "addresses are 0x000 to 0xFFF";
-/** @type {(most: number) => string} */
-export const instructionCountRange = (most) => `instructionCount is 0 to ${most}`;
-/** @type {(what: string) => string} */
-export const boardHasNo = (what) => `the board has no ${what}`;
+/** @type {(maximum: number) => string} */
+export const instructionCountRange = (maximum) => `instructionCount is 0 to ${maximum}`;
+/** @type {(part: string) => string} */
+export const boardHasNo = (part) => `the board has no ${part}`;
 export const COUNT_RANGE = "count is 0 or more";
 export const OUTSIDE_OF_MEMORY = "it is outside the memory";
 /** @type {(line: string, answer: string) => string} */
@@ -30,8 +30,8 @@ export const BASE_64_REQUIRED = "data must be in base 64";
 
 // --- adapter/client_breakpoints.js ---
 export const HIT_COUNT_SYNTAX = "a hit count is a number, as in 5: it stops from that hit on";
-/** @type {(most: number) => string} */
-export const tooManyEnabled = (most) => `at most ${most} breakpoints can be on`;
+/** @type {(maximum: number) => string} */
+export const tooManyEnabled = (maximum) => `at most ${maximum} breakpoints can be on`;
 /** @type {(place: string) => string} */
 export const notWatched = (place) => (
   `${place} cannot be watched; registers, pairs, ports, lines, lamps, chains and RAM characters that the board has can`);
@@ -39,17 +39,17 @@ export const ONLY_CHANGES = "only changes are watched (accessType write)";
 /** @type {(kind: string) => string} */
 export const noFilter = (kind) => `unknown exception filter: ${kind}`;
 /** @type {(place: string) => string} */
-export const changes = (place) => `${place} changes`;
+export const placeChanges = (place) => `${place} changes`;
 
 // --- adapter/console.js ---
 export const HELP = `Lines of the bench (regs, list @show 5, ram 0, poke r4 7, run 100, step, reset, ..), with @NAME for an address.
 press KEY, release KEY: a key goes down, or up; while running, press is a short press. keys KEYS: short presses, as time passes.
 until LABEL or ADDRESS, change PLACE: runs up to there. back, back PLACE: an instruction back, or before the last change. forward: returns.
 R4, P2, ram.0.0x12, rom1, lamps, display, a name, a condition (r9 = 9 or lamp open on): its current value. set PLACE = VALUE.`;
-/** @type {(most: number) => string} */
-export const tooLong = (most) => `a line has at most ${most} characters`;
-/** @type {(why: string) => string} */
-export const seeHelp = (why) => `${why}; help shows what a line can be`;
+/** @type {(maximum: number) => string} */
+export const tooLong = (maximum) => `a line has at most ${maximum} characters`;
+/** @type {(reason: string) => string} */
+export const seeHelp = (reason) => `${reason}; help shows what a line can be`;
 /** @type {(word: string) => string} */
 export const keySyntax = (word) => `write ${word} KEY`;
 /** @type {(count: number) => string} */
@@ -59,8 +59,8 @@ export const MACHINE_IS_RUNNING = "the machine is running: pause it first";
 export const placeSyntax = (syntax) => `write ${syntax}`;
 export const UNTIL_SYNTAX = "until LABEL, until ADDRESS or until CONDITION";
 export const CHANGE_SYNTAX = "change PLACE, as in change r4";
-/** @type {(most: number) => string} */
-export const tooManyLines = (most) => `at most ${most} lines are accepted at once`;
+/** @type {(maximum: number) => string} */
+export const tooManyLines = (maximum) => `at most ${maximum} lines are accepted at once`;
 /** @type {(word: string) => string} */
 export const noAddress = (word) => `${word} is neither a label of the program nor an address such as 0x00D`;
 export const ADDRESS_RANGE = "addresses are 0x000 to 0xFFF";
@@ -70,12 +70,12 @@ export const NOTHING_LAUNCHED = "nothing is launched yet";
 export const PATHS_ONLY = "files are named by paths here, not by addresses";
 export const EXCEPTION_CONDITION_HINT = "a condition, as in r5 > 8 and lamp open on: it pauses only if this holds before the instruction";
 export const RUNNING_LINES = "Running lines";
-/** @type {(done: number, all: number) => string} */
-export const charactersOf = (done, all) => `${done.toLocaleString("en")} of ${all.toLocaleString("en")} characters`;
+/** @type {(done: number, total: number) => string} */
+export const charactersOf = (done, total) => `${done.toLocaleString("en")} of ${total.toLocaleString("en")} characters`;
 export const CONFIGURED_ONCE = "configurationDone can be sent only once";
 export const LAUNCH_ONCE = "launch can be sent only once";
-/** @type {(why: string) => string} */
-export const sourceDiffers = (why) => `The source differs from ROM now: ${why}.`;
+/** @type {(reason: string) => string} */
+export const sourceDiffers = (reason) => `The source differs from ROM now: ${reason}.`;
 /** @type {(name: string) => string} */
 export const notInProgram = (name) => `it is not in the program that is debugged, ${name}`;
 export const NO_DEBUG = "this runs without a debugger (noDebug)";
@@ -94,8 +94,8 @@ export const STATES_DIFFER = "the session's file reached another state than the 
 // --- adapter/session_launch.js ---
 export const LAUNCH_NEEDS =
   "launch needs \"project\", a folder with mcs4.toml, or \"program\", a program's text, or \"session\", a session file";
-/** @type {(words: string) => string} */
-export const boardHint = (words) => `${words}; without "board" it is the project's, or board.toml next to the program`;
+/** @type {(error: string) => string} */
+export const boardHint = (error) => `${error}; without "board" it is the project's, or board.toml next to the program`;
 export const ONE_FILE = "program and session name the same file";
 /** @type {(file: string) => string} */
 export const noProjectFile = (file) => `there is no ${file}, which names the board and the program of a project`;
@@ -110,8 +110,8 @@ export const noSession = (session) => `there is no session file ${session}`;
 export const PROGRAM_HAS_ERRORS = "the program has errors";
 /** @type {(hasRom: boolean, address: string) => string} */
 export const romDiffers = (hasRom, address) => `ROM has ${hasRom ? "another byte" : "no chip"} at 0x${address}`;
-/** @type {(program: string, session: string, why: string) => string} */
-export const notInRomOf = (program, session, why) => `${program} differs from the ROM of ${session}: ${why}`;
+/** @type {(program: string, session: string, reason: string) => string} */
+export const notInRomOf = (program, session, reason) => `${program} differs from the ROM of ${session}: ${reason}`;
 /** @type {(difference: string) => string} */
 export const loadHint = (difference) => (
   `${difference}. "load": true puts it there; without "program" the source is disassembled from ROM`);
@@ -129,8 +129,8 @@ export const TEST_NEEDS_TESTS = "a test needs `tests`, the name of its text";
 export const noSuchTest = (name, file) => `${file} has no test ${name}`;
 /** @type {(name: string) => string} */
 export const testHasPassed = (name) => `The test passes: ${name}. This is its end; step back to see what led to it.`;
-/** @type {(file: string, line: number, words: string) => string} */
-export const testsHaveError = (file, line, words) => `${file}, line ${line}: ${words || "it has an error"}; no test is run`;
+/** @type {(file: string, line: number, error: string) => string} */
+export const testsHaveError = (file, line, error) => `${file}, line ${line}: ${error || "it has an error"}; no test is run`;
 
 // --- adapter/move_requests.js ---
 export const CONFIGURED_FIRST = "send configurationDone first";
@@ -143,11 +143,11 @@ export const FORMAT_OBJECT_SYNTAX = "format is an object, as { \"hex\": true }";
 
 // --- adapter/dap_protocol.js ---
 /** @type {(name: string) => string} */
-export const isWhole = (name) => `${name} is a whole number`;
+export const mustBeInteger = (name) => `${name} is a whole number`;
 /** @type {(name: string) => string} */
-export const isBoolean = (name) => `${name} is true or false`;
+export const mustBeBoolean = (name) => `${name} is true or false`;
 /** @type {(name: string) => string} */
-export const isList = (name) => `${name} is a list`;
+export const mustBeList = (name) => `${name} is a list`;
 
 // --- adapter/scopes.js ---
 /** @type {(chips: number, isSelected: boolean) => string} */
@@ -177,8 +177,8 @@ export const nothingSets = (name) => `${name} cannot be set: only the machine ch
 export const noNumber = (text) => `${text} is neither a number (10, 0x0A, 0b1010) nor a name`;
 export const NOTHING = "nothing";
 export const KEY_VALUE_SYNTAX = "a key is down or up";
-/** @type {(place: string, most: number) => string} */
-export const holds = (place, most) => `${place} holds 0 to ${most}`;
+/** @type {(place: string, maximum: number) => string} */
+export const valueRange = (place, maximum) => `${place} holds 0 to ${maximum}`;
 /** @type {(place: string, answer: string) => string} */
 export const cannotBeSet = (place, answer) => `${place} cannot be set: the bench answered ${answer}`;
 

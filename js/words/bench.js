@@ -2,18 +2,18 @@
 
 // --- bench/script_answers.js ---
 export const FIRST_IS_SESSION = "the first line of the answers must be `session N`";
-/** @type {(at: number, answer: string, line: number, input: string) => string} */
-export const noAnswer = (at, answer, line, input) => (
-  `line ${at} of the answers, \`${answer}\`, does not answer line ${line} of the script, \`${input}\``);
-/** @type {(words: string, commands: number) => string} */
-export const wrongCommandCount = (words, commands) => `${words}: ${commands} commands were accepted before it`;
-/** @type {(at: number, answer: string) => string} */
-export const afterLastAnswer = (at, answer) => (
-  `line ${at} of the answers, \`${answer}\`, comes after the answer to the last line of the script`);
+/** @type {(answerLine: number, answer: string, scriptLine: number, scriptText: string) => string} */
+export const noAnswer = (answerLine, answer, scriptLine, scriptText) => (
+  `line ${answerLine} of the answers, \`${answer}\`, does not answer line ${scriptLine} of the script, \`${scriptText}\``);
+/** @type {(mismatch: string, commands: number) => string} */
+export const wrongCommandCount = (mismatch, commands) => `${mismatch}: ${commands} commands were accepted before it`;
+/** @type {(answerLine: number, answer: string) => string} */
+export const afterLastAnswer = (answerLine, answer) => (
+  `line ${answerLine} of the answers, \`${answer}\`, comes after the answer to the last line of the script`);
 
 // --- bench/script_progress.js ---
-/** @type {(commands: number, most: number) => string} */
-export const acceptedMore = (commands, most) => `it has accepted ${commands} commands, but the whole script makes ${most}`;
+/** @type {(commands: number, maximum: number) => string} */
+export const acceptedMore = (commands, maximum) => `it has accepted ${commands} commands, but the whole script makes ${maximum}`;
 /** @type {(commands: number) => string} */
 export const answersDiffer = (commands) => `after ${commands} commands some answers differ`;
 
@@ -33,14 +33,14 @@ export const mergedRuns = (runs, cycles) => `run .. (${runs} lines, ${cycles} cy
 export const NO_BYTE = "it has no byte";
 /** @type {(bytes: string, room: string) => string} */
 export const tooManyBytes = (bytes, room) => `it has ${bytes} bytes, and ROM has ${room}`;
-/** @type {(bytes: string, room: string, from: string) => string} */
-export const tooManyFrom = (bytes, room, from) => `it has ${bytes} bytes, and only ${room} fit from the address ${from}`;
+/** @type {(bytes: string, room: string, first: string) => string} */
+export const tooManyFrom = (bytes, room, first) => `it has ${bytes} bytes, and only ${room} fit from the address ${first}`;
 export const BEGINS_WITH_COLON = "a record of Intel HEX begins with `:`";
 export const RECORD_SYNTAX = "a record has `:`, ten hexadecimal digits and two for each byte";
 /** @type {(count: number, bytes: number) => string} */
 export const wrongByteCount = (count, bytes) => `it announces ${count} bytes and has ${bytes}`;
-/** @type {(sum: string, right: string) => string} */
-export const wrongChecksum = (sum, right) => `the checksum is ${sum}, and ${right} would be right`;
+/** @type {(actual: string, expected: string) => string} */
+export const wrongChecksum = (actual, expected) => `the checksum is ${actual}, and ${expected} would be right`;
 export const PAST_LAST = "past the last address, FFF";
 /** @type {(address: string) => string} */
 export const duplicateAddress = (address) => `the address ${address}, which an earlier line has`;
@@ -51,8 +51,8 @@ export const wrongRecordSize = (type, size) => `a record of type ${type} has ${[
 /** @type {(type: string) => string} */
 export const noType = (type) => `type ${type}, which has no meaning for a 4004`;
 export const AFTER_LAST = "a record after the last one (type 01)";
-/** @type {(line: number, fault: string) => string} */
-export const imageLine = (line, fault) => `line ${line}: ${fault}`;
+/** @type {(line: number, error: string) => string} */
+export const imageLine = (line, error) => `line ${line}: ${error}`;
 export const NO_LAST_RECORD = "it has no last record (:00000001FF), so a part of it is missing";
 
 // --- bench/rom_formats.js ---
@@ -67,12 +67,12 @@ export const bnpfWithoutEnd = (word) => `a word without its end, \`F\`: ${word}`
 
 // --- bench/error_messages.js ---
 export const UNKNOWN_REFUSAL = "no refusal has this number; the manual lists them";
-/** @type {(fault: string) => string} */
-export const moduleStopped = (fault) => `the module stopped inside a call (${fault}) and was started again`;
-/** @type {(fault: string) => string} */
-export const startedAgain = (fault) => `${fault} and was started again`;
+/** @type {(error: string) => string} */
+export const moduleStopped = (error) => `the module stopped inside a call (${error}) and was started again`;
+/** @type {(error: string) => string} */
+export const startedAgain = (error) => `${error} and was started again`;
 export const WAS_CANCELLED = "It was cancelled. The session is as it was before.";
-/** @type {(why: string) => string} */
-export const wasNotDone = (why) => `It was not done: ${why}. The session is as it was before.`;
-/** @type {(why: string) => string} */
-export const pageFailed = (why) => `The page failed: ${why}. What was answered ok is kept.`;
+/** @type {(reason: string) => string} */
+export const wasNotDone = (reason) => `It was not done: ${reason}. The session is as it was before.`;
+/** @type {(reason: string) => string} */
+export const pageFailed = (reason) => `The page failed: ${reason}. What was answered ok is kept.`;

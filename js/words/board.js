@@ -26,20 +26,20 @@ export const LAMPS_AND_KEYS = "Lamps and keys";
 export const averagedBrightness = (milliseconds) => (
   `Brightness is averaged over ${milliseconds} ms, as by the eye.`);
 export const AT_INSTANT = "Paused: lamps show this instant.";
-/** @type {(line: number, words: string) => string} */
-export const lineOfBoard = (line, words) => `line ${line} of the board's text: ${words}`;
+/** @type {(line: number, error: string) => string} */
+export const lineOfBoard = (line, error) => `line ${line} of the board's text: ${error}`;
 
 // --- board/lamps_view.js ---
 /** @type {(name: string) => string} */
-export const lit = (name) => `${name}, lit`;
+export const litLamp = (name) => `${name}, lit`;
 /** @type {(name: string) => string} */
-export const dark = (name) => `${name}, dark`;
+export const darkLamp = (name) => `${name}, dark`;
 /** @type {(row: number, column: number) => string} */
 export const rowAndColumn = (row, column) => `row ${row}, column ${column}`;
 /** @type {(number: number, count: number) => string} */
 export const lampOfRow = (number, count) => `lamp ${number} of ${count}`;
 /** @type {(column: string, row: string) => string} */
-export const both = (column, row) => `${column} and ${row}`;
+export const columnAndRow = (column, row) => `${column} and ${row}`;
 export const LAMPS = "lamps";
 
 // --- board/sound.js ---
@@ -90,8 +90,8 @@ export const ramTitle = (bank, chip) => `RAM ${bank}.${chip} · 4002`;
 export const clockIs = (clock) => `its clock is ${clock}`;
 /** @type {(data: string) => string} */
 export const dataIs = (data) => `its data is ${data}`;
-/** @type {(at: number, chips: number) => string} */
-export const chainTitle = (at, chips) => `Chain ${at} · ${chips} × 4003`;
+/** @type {(chain: number, chips: number) => string} */
+export const chainTitle = (chain, chips) => `Chain ${chain} · ${chips} × 4003`;
 /** @type {(label: string, line: string) => string} */
 export const drivenBy = (label, line) => `${label} is driven by ${line}`;
 /** @type {(label: string, line: string) => string} */
@@ -115,7 +115,7 @@ export const pinOf = (number) => ` (pin ${number})`;
 export const wiredTo = (connections) => `wired to ${connections}`;
 export const NOT_WIRED = "not wired";
 /** @type {(line: string) => string} */
-export const at = (line) => `at ${line}`;
+export const wiredAt = (line) => `at ${line}`;
 
 // --- board/lamp_answers.js ---
 /** @type {(board: string) => string} */

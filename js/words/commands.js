@@ -632,24 +632,24 @@ export const noValue = (option) => `${option} takes no value`;
 /** @type {(option: string) => string} */
 export const optionTwice = (option) => `${option} is given twice`;
 /** @type {(word: string) => string} */
-export const oneTooMany = (word) => `'${word}' is one argument too many`;
+export const extraArgument = (word) => `'${word}' is one argument too many`;
 export const WAITS_FOR_EDITOR =
   "it waits for the messages of an editor on standard input; editors/README.md says how an editor starts it; Ctrl-C ends it";
 export const EMPTY_ARGUMENT = "an argument is empty; it names a file";
 /** @type {(names: string[], hasNoProject: boolean) => string} */
-export const missing = (names, hasNoProject) => {
+export const argumentsMissing = (names, hasNoProject) => {
   const [last, ...others] = [...names].reverse();
   const list = others.length > 0 ? `${others.reverse().join(", ")} and ${last} are` : `${last} is`;
   return `${list} missing${hasNoProject ? ", and there is no mcs4.toml here" : ""}`;
 };
-/** @type {(name: string, word: string, most: number) => string} */
-export const notInRange = (name, word, most) => `${name}: '${word}' is not a decimal number from 1 to ${most}`;
-/** @type {(file: string, what: string) => string} */
-export const projectLacks = (file, what) => `${file} names no ${what}; name some there, or after the command`;
+/** @type {(name: string, word: string, maximum: number) => string} */
+export const notInRange = (name, word, maximum) => `${name}: '${word}' is not a decimal number from 1 to ${maximum}`;
+/** @type {(file: string, kind: string) => string} */
+export const projectLacks = (file, kind) => `${file} names no ${kind}; name some there, or after the command`;
 /** @type {(version: string) => string} */
 export const oldNode = (version) => `it needs node 18 or later; this is ${version}`;
-/** @type {(one: string, other: string) => string} */
-export const excludeEachOther = (one, other) => `${one} and ${other} exclude each other`;
+/** @type {(first: string, second: string) => string} */
+export const excludeEachOther = (first, second) => `${first} and ${second} exclude each other`;
 
 // --- errors of several commands ---
 
@@ -657,25 +657,25 @@ export const excludeEachOther = (one, other) => `${one} and ${other} exclude eac
 export const inUse = (session) => `${session} is in use: it changed while it was read; end the program that uses it, or try again`;
 /** @type {(name: string) => string} */
 export const noNamedProver = (name) => `MCS4_PROVE names ${name}, which is not there; unset it, or name another program`;
-/** @type {(fault: string) => string} */
-export const noProver = (fault) => (
-  `the program that searches, shipped/mcs4-prove, could not be started: ${fault}; tools/build mcs4_prove proves and builds it`);
+/** @type {(error: string) => string} */
+export const noProver = (error) => (
+  `the program that searches, shipped/mcs4-prove, could not be started: ${error}; tools/build mcs4_prove proves and builds it`);
 export const NO_PROGRAM_IN_COPY = "this copy of the bench has no native program";
 /** @type {(platform: string, machine: string) => string} */
 export const notForSystem = (platform, machine) => `it is for Linux on x86-64, and this is ${platform} on ${machine}`;
-/** @type {(fault: string) => string} */
-export const needsProgram = (fault) => (
-  `a session file needs the native program, which is not started: ${fault}. Commands without a session file run here`);
-/** @type {(fault: string) => string} */
-export const runsOnModule = (fault) => (
-  `commands run on the proved module, more slowly, because the native program is not started: ${fault}. This message appears once`);
-/** @type {(session: string, number: number, words: string) => string} */
-export const sessionRefused = (session, number, words) => `the session ${session} was rejected: no ${number}: ${words}`;
+/** @type {(error: string) => string} */
+export const needsProgram = (error) => (
+  `a session file needs the native program, which is not started: ${error}. Commands without a session file run here`);
+/** @type {(error: string) => string} */
+export const runsOnModule = (error) => (
+  `commands run on the proved module, more slowly, because the native program is not started: ${error}. This message appears once`);
+/** @type {(session: string, number: number, meaning: string) => string} */
+export const sessionRefused = (session, number, meaning) => `the session ${session} was rejected: no ${number}: ${meaning}`;
 /** @type {(program: string, address: string, romByte: string, line: number, sourceByte: string) => string} */
 export const otherProgram = (program, address, romByte, line, sourceByte) => (
   `the session has another program than ${program}: ${address} has ${romByte}, and line ${line} makes ${sourceByte}`);
-/** @type {(cycles: number, why: string) => string} */
-export const sessionStopped = (cycles, why) => `the session stopped after ${cycles} cycles: ${why}`;
+/** @type {(cycles: number, reason: string) => string} */
+export const sessionStopped = (cycles, reason) => `the session stopped after ${cycles} cycles: ${reason}`;
 
 // --- the files of commands ---
 
@@ -684,8 +684,8 @@ export const NOT_AN_LCOV_FILE = "does not begin like an LCOV file (TN:)";
 export const isFolder = (name) => `${name} is a folder, not a file`;
 /** @type {(name: string) => string} */
 export const isInputFile = (name) => `${name} is an input of this command, so it is not written; name another file`;
-/** @type {(name: string, why: string) => string} */
-export const isOtherKind = (name, why) => `${name} exists, and ${why}; name another file, or move it away`;
+/** @type {(name: string, reason: string) => string} */
+export const isOtherKind = (name, reason) => `${name} exists, and ${reason}; name another file, or move it away`;
 /** @type {(name: string) => string} */
 export const noFolderToWrite = (name) => `cannot write ${name}: its folder does not exist or cannot be written`;
 
@@ -738,8 +738,8 @@ export const alreadyExists = (name) => `${name} already exists; name another fol
 export const LOAD_ASK_OR_SAVE = "load, ask or save is missing";
 /** @type {(word: string) => string} */
 export const noRomAction = (word) => `'${word}' is not load, ask or save`;
-/** @type {(action: string, form: string) => string} */
-export const unsupportedFormat = (action, form) => `rom ${action} takes no --${form}`;
+/** @type {(action: string, format: string) => string} */
+export const unsupportedFormat = (action, format) => `rom ${action} takes no --${format}`;
 export const ADDRESS_RANGE = "ADDRESS is 0 to 4095, decimal or with 0x";
 export const NUMBERS_OF_RANGE = "FIRST and COUNT are numbers, decimal or with 0x";
 export const BYTE_RANGE_SYNTAX = "FIRST is 0 to 4095, COUNT is at least 1, and 4096 is the address after the last one";
@@ -759,18 +759,18 @@ export const noAnswerShows = (address) => `no answer shows the byte at ${address
 export const noKeyOnBoard = (board, key) => `${board} has no key ${key}`;
 /** @type {(board: string) => string} */
 export const keysWithoutNames = (board) => `${board} has no comments \`# row R: NAME ..\` that name its keys`;
-/** @type {(answer: string, words: string) => string} */
-export const benchRejected = (answer, words) => `the bench answered: ${answer}: ${words}`;
+/** @type {(answer: string, meaning: string) => string} */
+export const benchRejected = (answer, meaning) => `the bench answered: ${answer}: ${meaning}`;
 
 // --- session_process.mjs ---
-/** @type {(words: string) => string} */
-export const programEnded = (words) => `the session has ended: ${words || "no answer"}`;
-/** @type {(session: string, words: string) => string} */
-export const sessionWasRefused = (session, words) => `the session ${session} was rejected: ${words}`;
+/** @type {(output: string) => string} */
+export const programEnded = (output) => `the session has ended: ${output || "no answer"}`;
+/** @type {(session: string, reason: string) => string} */
+export const sessionWasRefused = (session, reason) => `the session ${session} was rejected: ${reason}`;
 
 // --- names ---
-/** @type {(line: number, words: string) => string} */
-export const inLine = (line, words) => `line ${line}: ${words.replace(/\.$/, "")}`;
+/** @type {(line: number, message: string) => string} */
+export const inLine = (line, message) => `line ${line}: ${message.replace(/\.$/, "")}`;
 
 // --- answers on standard input ---
 /** @type {(command: string) => string} */
@@ -783,24 +783,25 @@ export const notALineNumber = (word) => `FIRST and LAST are numbers of lines, an
 export const FIRST_AND_LAST = "FIRST is at least 1, and LAST is not before it";
 
 // --- explain ---
-/** @type {(words: string) => string} */
-export const answersOfOtherScript = (words) => `these are not the answers to this script: ${words}`;
+/** @type {(mismatch: string) => string} */
+export const answersOfOtherScript = (mismatch) => `these are not the answers to this script: ${mismatch}`;
 /** @type {(character: string) => string} */
 export const characterHint = (character) => `: \`${character}\``;
 /** @type {(digits: string) => string} */
 export const byteHint = (digits) => `: the byte ${digits}`;
-/** @type {(line: number, number: number, at: number, words: string) => string} */
-export const rejectedLine = (line, number, at, words) => `line ${line}: no ${number}${at > 0 ? `, line ${at} of the text` : ""}: ${words}`;
-/** @type {(number: number, words: string) => string} */
-export const sessionWasRefusedBy = (number, words) => `the session was rejected: no ${number}: ${words}`;
+/** @type {(line: number, refusal: number, textLine: number, meaning: string) => string} */
+export const rejectedLine = (line, refusal, textLine, meaning) =>
+  `line ${line}: no ${refusal}${textLine > 0 ? `, line ${textLine} of the text` : ""}: ${meaning}`;
+/** @type {(number: number, meaning: string) => string} */
+export const sessionWasRefusedBy = (number, meaning) => `the session was rejected: no ${number}: ${meaning}`;
 /** @type {(line: number, isLast: boolean) => string} */
 export const notAnswered = (line, isLast) => `line ${line} ${isLast ? "was" : "and those after it were"} not answered`;
 
 // --- resume ---
-/** @type {(session: string, script: string, words: string, differing: string[]) => string} */
-export const scriptDoesNotMatch = (session, script, words, differing) => [
-  `${session} did not begin with ${script}: ${words}${differing.length > 0 ? ` (< ${session}, > what ${script} leads to)` : ""}`,
-  ...differing,
+/** @type {(session: string, script: string, mismatch: string, differences: string[]) => string} */
+export const scriptDoesNotMatch = (session, script, mismatch, differences) => [
+  `${session} did not begin with ${script}: ${mismatch}${differences.length > 0 ? ` (< ${session}, > what ${script} leads to)` : ""}`,
+  ...differences,
 ].join("\n");
 /** @type {(session: string) => string} */
 export const changedMeanwhile = (session) => `${session} is in use: it changed meanwhile; end the program that uses it, or try again`;
@@ -817,17 +818,17 @@ export const describeRemovableCommands = (commands, records) => {
   if (records === 1) return `session ${commands}: back by 1 command, to session ${commands - 1}`;
   return `session ${commands}: back by 1 to ${records} commands, to session ${commands - 1} to ${commands - records}`;
 };
-/** @type {(session: string, records: number, commands: number, count: number) => string} */
-export const logIsShorter = (session, records, commands, count) => (records === commands
-  ? `the log of ${session} has ${commands} commands, so it cannot go back by ${count}`
-  : `the log of ${session} has ${records} of its ${commands} commands, so it cannot go back by ${count}; `
+/** @type {(session: string, records: number, commands: number, steps: number) => string} */
+export const logIsShorter = (session, records, commands, steps) => (records === commands
+  ? `the log of ${session} has ${commands} commands, so it cannot go back by ${steps}`
+  : `the log of ${session} has ${records} of its ${commands} commands, so it cannot go back by ${steps}; `
     + "the earlier ones are in a snapshot");
-/** @type {(session: string, wanted: number, opened: string) => string} */
-export const wouldDiffer = (session, wanted, opened) => `${session} would not be session ${wanted} but ${opened}; nothing was changed`;
+/** @type {(session: string, expected: number, actual: string) => string} */
+export const wouldDiffer = (session, expected, actual) => `${session} would not be session ${expected} but ${actual}; nothing was changed`;
 
 // --- temporary_folders.mjs ---
-/** @type {(place: string) => string} */
-export const noFolderIn = (place) => `cannot make a folder in ${place}; TMPDIR names another place for temporary files`;
+/** @type {(parent: string) => string} */
+export const noFolderIn = (parent) => `cannot make a folder in ${parent}; TMPDIR names another place for temporary files`;
 
 // --- debug ---
 export const NOT_A_BREAKPOINTS_FILE = "does not begin like a file of breakpoints (# Breakpoints of mcs4 debug)";
@@ -840,8 +841,8 @@ export const nameOneFile = (file, names) => `${file} names ${names.length} texts
 /** @type {(properties: string, line: number, message: string, state: string) => string} */
 export const testsMustSave = (properties, line, message, state) => (
   `${properties}:${line}: ${message}; its tests must save the state ${state}`);
-/** @type {(how: string, words: string) => string} */
-export const modelEnded = (how, words) => `the model has ended with ${how}${words && `: ${words}`}`;
+/** @type {(status: string, output: string) => string} */
+export const modelEnded = (status, output) => `the model has ended with ${status}${output && `: ${output}`}`;
 /** @type {(lines: number, chains: number) => string} */
 export const modelPrinted = (lines, chains) => `the model has printed ${lines} lines for ${chains} lines of keys`;
 /** @type {(properties: string, line: number, command: string) => string} */

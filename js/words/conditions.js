@@ -9,8 +9,8 @@ export const NAMED_PLACES = "acc, cy, dcl, r0 to r15, ram.B.S, st.B.H.K, rom1.2,
 export const noLamp = (name, lampNames) => (
   `the board has no lamp ${name}; ${lampNames ? `it has: ${lampNames}` : "its text names no lamps (`# lamp 0: NAME ..`)"}`);
 export const LAMPS_SYNTAX = "write `lamps PATTERN`, or `lamps NAME ..`, or `lamps none`";
-/** @type {(wanted: number, count: number) => string} */
-export const wrongPatternLength = (wanted, count) => `a pattern of ${wanted} lamps; the board has ${count}`;
+/** @type {(length: number, count: number) => string} */
+export const wrongPatternLength = (length, count) => `a pattern of ${length} lamps; the board has ${count}`;
 /** @type {(names: string) => string} */
 export const litLamps = (names) => `; lit: ${names}`;
 export const LAMP_SYNTAX = "write `lamp NAME on` or `lamp NAME off`";
@@ -35,21 +35,21 @@ export const chainBits = (chain, bits) => `chain ${chain} has ${bits} bits, each
 export const NO_RAM_FOR_LAST = "the board has no RAM chip for the last of these characters";
 /** @type {(place: string) => string} */
 export const isOneValue = (place) => `${place} is one value`;
-/** @type {(place: string, most: number, word: string) => string} */
-export const holds = (place, most, word) => `${place} holds 0 to ${most}, not ${word}`;
+/** @type {(place: string, maximum: number, word: string) => string} */
+export const valueRange = (place, maximum, word) => `${place} holds 0 to ${maximum}, not ${word}`;
 
 // --- conditions/condition_language.js ---
 export const NO_CONDITION = "a condition is missing";
-/** @type {(what: string, actual: string, expected: string, isMany: boolean, isNot: boolean) => string} */
-export const mustBe = (what, actual, expected, isMany, isNot) => (
-  `${what} ${isMany ? "are" : "is"} ${actual || "dark"}, but must ${isNot ? "not " : ""}be ${expected}`);
-/** @type {(count: number, most: number) => string} */
-export const tooManyPlaces = (count, most) => `it reads ${count} places; at most ${most} are allowed`;
+/** @type {(subject: string, actual: string, expected: string, isMany: boolean, isNot: boolean) => string} */
+export const mustBe = (subject, actual, expected, isMany, isNot) => (
+  `${subject} ${isMany ? "are" : "is"} ${actual || "dark"}, but must ${isNot ? "not " : ""}be ${expected}`);
+/** @type {(count: number, maximum: number) => string} */
+export const tooManyPlaces = (count, maximum) => `it reads ${count} places; at most ${maximum} are allowed`;
 export const AT_SYNTAX = "write `at LABEL`";
 export const DIGITS_ARE_MULTIPLEXED = "the digits are multiplexed, so no instant shows a number: `display` is only for the lines of a test";
 export const LINE_BY_LINE = "printed text arrives line by line: `printed` is only for the lines of a test";
-/** @type {(what: string) => string} */
-export const onlyInTests = (what) => `no run changes ${what}, and no trace shows it: it is only for the lines of a test`;
+/** @type {(subject: string) => string} */
+export const onlyInTests = (subject) => `no run changes ${subject}, and no trace shows it: it is only for the lines of a test`;
 /** @type {(place: string) => string} */
 export const noTraceShows = (place) => `no run changes ${place}, and no trace shows it: ask for it at a breakpoint`;
 
@@ -61,10 +61,10 @@ export const unknownSign = (word) => `${word} has no meaning in a condition`;
 export const noNumeral = (text) => `${text} is not a number; numbers are 10, 0xA or 0b1010`;
 
 // --- conditions/parser.js ---
-/** @type {(most: number) => string} */
-export const tooLong = (most) => `a condition has at most ${most} characters`;
-/** @type {(most: number) => string} */
-export const tooDeep = (most) => `parentheses can be nested at most ${most} deep`;
+/** @type {(maximum: number) => string} */
+export const tooLong = (maximum) => `a condition has at most ${maximum} characters`;
+/** @type {(maximum: number) => string} */
+export const tooDeep = (maximum) => `parentheses can be nested at most ${maximum} deep`;
 export const NOT_CLOSED = "this parenthesis is not closed";
 /** @type {(word: string) => string} */
 export const notExpected = (word) => `${word}: a condition ends before this; join two by and, or`;
@@ -111,16 +111,16 @@ export const REGISTERS_ARE = "the registers are r0 to r15";
 export const CHARACTERS_ARE = "a place of RAM is ram.BANK.SRC or st.BANK.REGISTER.NUMBER";
 export const PORTS_ARE = "ports are rom1 and ram0.1, their lines rom1.0 to rom1.3";
 /** @type {(names: string) => string} */
-export const perhaps = (names) => `perhaps ${names}`;
+export const suggestion = (names) => `perhaps ${names}`;
 export const PLACES_ARE = "places are acc, cy, pc, dcl, test, r0 to r15, p0 to p7, ram.B.S, st.B.H.K, rom1, ram0.1, lamps, "
   + "and names of the source, of Watch and of lamps";
 
-/** @type {(name: string, most: number) => string} */
-export const namesTooDeep = (name, most) => `${name} uses names that use other names: at most ${most} levels are allowed`;
+/** @type {(name: string, maximum: number) => string} */
+export const namesTooDeep = (name, maximum) => `${name} uses names that use other names: at most ${maximum} levels are allowed`;
 /** @type {(name: string, text: string) => string} */
 export const isNoValue = (name, text) => `${name} is the condition ${text}, but a value is needed`;
-/** @type {(name: string, fault: string) => string} */
-export const inName = (name, fault) => `in ${name}: ${fault}`;
+/** @type {(name: string, error: string) => string} */
+export const errorInName = (name, error) => `in ${name}: ${error}`;
 /** @type {(text: string) => string} */
 export const noConstant = (text) => `${text} is neither a number nor a name of the program`;
 /** @type {(text: string) => string} */
@@ -139,5 +139,5 @@ export const valueIs = (text, value) => `${text} (${value})`;
 export const holdsButMustNot = (text) => `${text} holds, but must not`;
 
 // --- debug/soft_breakpoints.js, waves/trigger.js, adapter/expression_values.js ---
-/** @type {(fault: string, column: number) => string} */
-export const inColumn = (fault, column) => `${fault} (column ${column + 1})`;
+/** @type {(error: string, column: number) => string} */
+export const errorInColumn = (error, column) => `${error} (column ${column + 1})`;

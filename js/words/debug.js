@@ -1,13 +1,13 @@
 // Texts about debugging: breakpoints, watches, common mistakes, and values.
 
 // --- debug/breakpoint_manager.js ---
-/** @type {(most: number) => string} */
-export const tooManyEnabled = (most) => (
-  `${most} breakpoints are on, the most that the bench has. This one is off: disable another one first.`);
-/** @type {(why: string) => string} */
-export const inactiveUntilThen = (why) => `${why} Until then this breakpoint stops nothing.`;
-/** @type {(most: number) => string} */
-export const tooManyBreakpoints = (most) => `There can be at most ${most} breakpoints: remove one first.`;
+/** @type {(maximum: number) => string} */
+export const tooManyEnabled = (maximum) => (
+  `${maximum} breakpoints are on, the most that the bench has. This one is off: disable another one first.`);
+/** @type {(reason: string) => string} */
+export const inactiveUntilThen = (reason) => `${reason} Until then this breakpoint stops nothing.`;
+/** @type {(maximum: number) => string} */
+export const tooManyBreakpoints = (maximum) => `There can be at most ${maximum} breakpoints: remove one first.`;
 
 // --- debug/breakpoints.js ---
 /** @type {(line: number, next: number) => string} */
@@ -27,40 +27,41 @@ export const changedFrom = (place, from, to) => `${place} changed from ${from} t
 export const CHANGES_ALWAYS = "pc changes at each instruction";
 
 // --- debug/debug_session.js ---
-/** @type {(why: string, line: string) => string} */
-export const lineEnded = (why, line) => `${why} The line ${line} ended there.`;
+/** @type {(pause: string, line: string) => string} */
+export const lineEnded = (pause, line) => `${pause} The line ${line} ended there.`;
 
 // --- debug/line_changes.js ---
 /** @type {(more: number) => string} */
-export const andMore = (more) => ` and ${more} more`;
+export const moreItems = (more) => ` and ${more} more`;
 
 // --- debug/src_selection.js ---
 /** @type {(name: string, isWrite: boolean, chip: number) => string} */
 export const usesRom = (name, isWrite, chip) => `${name} ${isWrite ? "writes to" : "reads"} ROM ${chip}`;
-/** @type {(what: string, where: string) => string} */
-export const whichLacks = (what, where) => `${what}, which the board lacks${where}`;
-/** @type {(what: string, where: string) => string} */
-export const noOutputs = (what, where) => `${what}, whose port has no output line${where}`;
-/** @type {(what: string, where: string) => string} */
-export const noInputs = (what, where) => `${what}, whose port has no input line${where}`;
-/** @type {(what: string, before: number, last: string) => string} */
-export const selectedByEarlierSrc = (what, before, last) => `this ${what}, and before it used ROM ${before}: the last SRC${last}`;
+/** @type {(access: string, location: string) => string} */
+export const whichLacks = (access, location) => `${access}, which the board lacks${location}`;
+/** @type {(access: string, location: string) => string} */
+export const noOutputs = (access, location) => `${access}, whose port has no output line${location}`;
+/** @type {(access: string, location: string) => string} */
+export const noInputs = (access, location) => `${access}, whose port has no input line${location}`;
+/** @type {(instruction: string, earlierRom: number, lastSrc: string) => string} */
+export const selectedByEarlierSrc = (instruction, earlierRom, lastSrc) =>
+  `this ${instruction}, and before it used ROM ${earlierRom}: the last SRC${lastSrc}`;
 /** @type {(address: string) => string} */
 export const atAddress = (address) => `, at ${address},`;
-/** @type {(words: string, user: string) => string} */
-export const sourceWasFor = (words, user) => `${words} was for ${user === "RAM" ? user : `an ${user}`}; is an SRC missing?`;
+/** @type {(lastSrc: string, user: string) => string} */
+export const sourceWasFor = (lastSrc, user) => `${lastSrc} was for ${user === "RAM" ? user : `an ${user}`}; is an SRC missing?`;
 /** @type {(address: string) => string} */
 export const lastSource = (address) => `; the last SRC is at ${address}`;
 /** @type {(bank: number) => string} */
 export const bankWithoutRam = (bank) => `bank ${bank}, where the board has no RAM`;
 /** @type {(chip: number, bank: number, chips: number) => string} */
-export const chipOf = (chip, bank, chips) => `chip ${chip} of bank ${bank}, which has ${chips}`;
-/** @type {(name: string, where: string, last: string) => string} */
-export const writesTo = (name, where, last) => `${name} writes to ${where}${last}`;
+export const chipOfBank = (chip, bank, chips) => `chip ${chip} of bank ${bank}, which has ${chips}`;
+/** @type {(name: string, target: string, lastSrc: string) => string} */
+export const writesTo = (name, target, lastSrc) => `${name} writes to ${target}${lastSrc}`;
 
 // --- debug/soft_breakpoints.js ---
-/** @type {(part: string, fault: string) => string} */
-export const noteAsks = (part, fault) => `the note asks for ${part}: ${fault}`;
+/** @type {(part: string, error: string) => string} */
+export const noteAsks = (part, error) => `the note asks for ${part}: ${error}`;
 
 // --- debug/machine_state.js ---
 /** @type {(chip: number, register: number, character: number) => string} */
@@ -87,8 +88,8 @@ export const returnAddressLost = (address) => `4th nested JMS: return address ${
 // --- debug/word_values.js ---
 /** @type {(bank: number, character: string) => string} */
 export const inBank = (bank, character) => `bank ${bank}, ${character}`;
-/** @type {(what: string) => string} */
-export const boardLacks = (what) => `${what}, which the board lacks`;
+/** @type {(selection: string) => string} */
+export const boardLacks = (selection) => `${selection}, which the board lacks`;
 /** @type {(chip: number) => string} */
 export const romChip = (chip) => `ROM ${chip}`;
 export const NOTHING_THERE = "nothing that the board has";
@@ -104,14 +105,14 @@ export const statusAt = (bank, chip, register, character) => (
   `bank ${bank}, chip ${chip}, register ${register}, status character ${character}`);
 /** @type {(value: string, binary: string) => string} */
 export const bySource = (value, binary) => `${value}, ${binary}; by SRC it selects `;
-/** @type {(words: string) => string} */
-export const isNext = (words) => `${words}, and comes next`;
+/** @type {(description: string) => string} */
+export const comesNext = (description) => `${description}, and comes next`;
 
 // --- debug/watch_expressions.js ---
 /** @type {(out: string, read: string) => string} */
 export const outAndIn = (out, read) => `out ${out}, in ${read}`;
-/** @type {(most: number) => string} */
-export const tooLong = (most) => `It has more than ${most} characters.`;
+/** @type {(maximum: number) => string} */
+export const tooLong = (maximum) => `It has more than ${maximum} characters.`;
 export const NAME_SYNTAX = "A name has letters, digits and _, as in: count = R5.";
 export const EXPRESSION_MISSING = "An expression is missing, as in: count = R5, r4 + 1 > 9.";
 /** @type {(number: string, digits: string) => string} */

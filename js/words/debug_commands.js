@@ -5,8 +5,8 @@
  * @typedef {{ words: string, use: string, does: string, more: string }} CommandWords
  */
 
-/** @type {(words: string, use: string, does: string, more?: string) => CommandWords} */
-const command = (words, use, does, more = "") => ({ words, use, does, more: more.replace(/\s+/g, " ").trim() });
+/** @type {(names: string, use: string, does: string, more?: string) => CommandWords} */
+const command = (names, use, does, more = "") => ({ words: names, use, does, more: more.replace(/\s+/g, " ").trim() });
 
 export const COMMAND_WORDS = [
   command("break b br", "break [PLACE] [from N] [if CONDITION] [log \"NOTE\"]", "sets a breakpoint, before the instruction at PLACE", `

@@ -2,8 +2,8 @@
 
 // --- drawing/drawing_actions.js ---
 export const TEST_IN_USE = "TEST has its button or switch: delete that one first.";
-/** @type {(what: string) => string} */
-export const boardHasNo = (what) => `The board has no ${what}.`;
+/** @type {(part: string) => string} */
+export const boardHasNo = (part) => `The board has no ${part}.`;
 /** @type {(name: string, target: string) => string} */
 export const needsInput = (name, target) => `${name} is an output line: ${target} is read at an input line of a ROM.`;
 /** @type {(name: string, target: string) => string} */
@@ -31,8 +31,8 @@ export const displayAdded = (digits) => `A display of ${digits} was added`;
 export const copyAdded = (part, original) => `${part} was added, a copy of ${original}`;
 /** @type {(line: string, target: string) => string} */
 export const lineWired = (line, target) => `Line ${line} is wired to ${target}`;
-/** @type {(line: string, as: string) => string} */
-export const lineIs = (line, as) => `Line ${line} is an ${as}`;
+/** @type {(line: string, direction: string) => string} */
+export const lineIs = (line, direction) => `Line ${line} is an ${direction}`;
 export const INPUT = "input";
 /** @type {(level: string) => string} */
 export const outputReadsAs = (level) => `output that reads as ${level}`;
@@ -41,10 +41,10 @@ export const chainHas = (chain, chips) => `Chain ${chain} has ${chips}`;
 /** @type {(rows: string) => string} */
 export const keysHave = (rows) => `The keys have ${rows}`;
 export const MORE_COLUMNS = "The keys have one more column";
-/** @type {(words: string) => string} */
-export const andWithIt = (words) => `, and with it ${words}`;
+/** @type {(effect: string) => string} */
+export const andWithIt = (effect) => `, and with it ${effect}`;
 /** @type {(part: string, name: string) => string} */
-export const named = (part, name) => (name ? `${part} is called ${name}` : `${part} has no name`);
+export const partNamed = (part, name) => (name ? `${part} is called ${name}` : `${part} has no name`);
 /** @type {(lamp: number, colour: string) => string} */
 export const lampIs = (lamp, colour) => `Lamp ${lamp} is ${colour}`;
 export const USUAL_RED = "red, as usual";
@@ -52,12 +52,12 @@ export const FACE_UNREADABLE = "The front panel of the board could then not be r
 export const TEXT_HAS_ERRORS = "The board's text has errors: see Board.";
 /** @type {(parts: string) => string} */
 export const withAlso = (parts) => `, with ${parts}`;
-/** @type {(names: string[]) => string} */
-export const listOf = (names) => names.join(", ").replace(/, ([^,]*)$/, " and $1");
+/** @type {(items: string[]) => string} */
+export const listOf = (items) => items.join(", ").replace(/, ([^,]*)$/, " and $1");
 
 // --- drawing/part_addition.js ---
-/** @type {(most: number) => string} */
-export const maxRoms = (most) => `A board has at most ${most} ROMs.`;
+/** @type {(maximum: number) => string} */
+export const maxRoms = (maximum) => `A board has at most ${maximum} ROMs.`;
 /** @type {(banks: number, chips: number) => string} */
 export const maxRams = (banks, chips) => `A board has at most ${banks} banks of ${chips} RAM chips.`;
 export const AT_TEST = "what is at TEST";
@@ -65,32 +65,32 @@ export const THE_BOARD = "the board";
 /** @type {(part: string) => string} */
 export const thePart = (part) => `the ${part}`;
 export const THE_BUZZER = "the buzzer";
-/** @type {(most: number) => string} */
-export const maxChains = (most) => `A board has at most ${most} chains.`;
+/** @type {(maximum: number) => string} */
+export const maxChains = (maximum) => `A board has at most ${maximum} chains.`;
 export const ONE_MATRIX = "A board has one key matrix: give it more rows and columns.";
 export const NO_KEYS = "The board has no keys.";
-/** @type {(most: number) => string} */
-export const maxRows = (most) => `A key matrix has at most ${most} rows.`;
+/** @type {(maximum: number) => string} */
+export const maxRows = (maximum) => `A key matrix has at most ${maximum} rows.`;
 export const MIN_ROWS = "A key matrix has at least one row; or delete the keys.";
 /** @type {(chain: number) => string} */
 export const noBitForRow = (chain) => `Chain ${chain} has no bit for another row: give it another chip.`;
-/** @type {(most: number) => string} */
-export const maxColumns = (most) => `A key matrix has at most ${most} columns.`;
-/** @type {(most: number, count: number) => string} */
-export const maxLamps = (most, count) => `A board has at most ${most} lamps; it has ${count}.`;
+/** @type {(maximum: number) => string} */
+export const maxColumns = (maximum) => `A key matrix has at most ${maximum} columns.`;
+/** @type {(maximum: number, count: number) => string} */
+export const maxLamps = (maximum, count) => `A board has at most ${maximum} lamps; it has ${count}.`;
 export const ONE_BUZZER = "A board has one buzzer: delete that one first.";
 export const MIN_DIGITS = "A display has a whole number of digits, at least 1.";
-/** @type {(most: number) => string} */
-export const maxMultiplexed = (most) => `A multiplexed display has 1 to ${most} digits.`;
+/** @type {(maximum: number) => string} */
+export const maxMultiplexed = (maximum) => `A multiplexed display has 1 to ${maximum} digits.`;
 /** @type {(place: string) => string} */
 export const buzzerIsAt = (place) => `The buzzer is at ${place}: give it another line first.`;
 /** @type {(line: string) => string} */
 export const printerIsAt = (line) => `The printer is at ${line}: give it other lines first, in Board.`;
-/** @type {(most: number) => string} */
-export const maxChips = (most) => `A chain has at most ${most} chips.`;
+/** @type {(maximum: number) => string} */
+export const maxChips = (maximum) => `A chain has at most ${maximum} chips.`;
 export const MIN_CHIPS = "A chain has at least one chip; or delete the chain.";
 /** @type {(bit: string) => string} */
-export const inUse = (bit) => `${bit} is in use: wire the part there to another line first.`;
+export const bitInUse = (bit) => `${bit} is in use: wire the part there to another line first.`;
 
 // --- drawing/board_lines.js ---
 /** @type {(kind: string, number: number) => string} */
@@ -110,16 +110,16 @@ export const allLampsOf = (count) => `all ${count} lamps of its display`;
 
 // --- drawing/board_drawing.js ---
 export const CANNOT_READ = "The board's text is written in a way that the picture cannot change; change it in Board.";
-/** @type {(why: string) => string} */
-export const benchRefuses = (why) => `The bench rejects the board's text: ${why}. Board shows where.`;
+/** @type {(reason: string) => string} */
+export const benchRefuses = (reason) => `The bench rejects the board's text: ${reason}. Board shows where.`;
 /** @type {(name: string) => string} */
 export const lineOfBoard = (name) => `line ${name}`;
 /** @type {(pin: string, pins: string) => string} */
 export const wireBegins = (pin, pins) => `Wire from ${pin}: it can end at ${pins}.`;
 export const NO_WIRE = "No wire was drawn.";
 export const NO_CHANGE = "No change.";
-/** @type {(why: string) => string} */
-export const notDone = (why) => `It was not done. ${why}`;
+/** @type {(reason: string) => string} */
+export const notDone = (reason) => `It was not done. ${reason}`;
 export const UNDONE = "Undone.";
 export const REDONE = "Redone.";
 export const NOTHING_TO_UNDO = "There is nothing to undo.";

@@ -3,16 +3,16 @@
 // --- explore/start_state.js ---
 /** @type {(state: string) => string} */
 export const noTests = (state) => `there are no tests, so none saves the state ${state}`;
-/** @type {(line: number, words: string) => string} */
-export const testsFault = (line, words) => `its tests have an error in line ${line}: ${words}`;
+/** @type {(line: number, message: string) => string} */
+export const testsFault = (line, message) => `its tests have an error in line ${line}: ${message}`;
 /** @type {(state: string, states: string) => string} */
 export const noSuchState = (state, states) => `no test saves a state ${state}${states && `; there is: ${states}`}`;
-/** @type {(line: number, text: string, words: string) => string} */
-export const testFails = (line, text, words) => `line ${line} of its tests fails: ${text}: ${words}`;
+/** @type {(line: number, text: string, message: string) => string} */
+export const testFails = (line, text, message) => `line ${line} of its tests fails: ${text}: ${message}`;
 
 // --- explore/campaign.js ---
-export const FORMS = "press, test, reset, together, wait, held, apart, from, begin, note, pace, never, always, at, after press, every, "
-  + "reach, model, while, once, or are written as `C only after press K, press K ..`, `@LABEL at most once for each press` or "
+export const PROPERTY_FORMS = "press, test, reset, together, wait, held, apart, from, begin, note, pace, never, always, at, after press, "
+  + "every, reach, model, while, once, or are written as `C only after press K, press K ..`, `@LABEL at most once for each press` or "
   + "`@LABEL to @LABEL within TIME`";
 /** @type {(word: string) => string} */
 export const labelSyntax = (word) => `a label is written as @LABEL, not ${word}`;
@@ -28,8 +28,8 @@ export const FROM_TWICE = "an earlier line already says from which state it begi
 export const BEGIN_SYNTAX = "write `begin after TIME`: nothing before that is checked";
 export const PACE_SYNTAX = "write `pace TIME TIME`: how long a key is down for a model, and how long it is up";
 export const NOTE_SYNTAX = "write `note PLACE ..`: what makes a state new, as in: note lamps r10 ram.0.0x12";
-/** @type {(most: number) => string} */
-export const mostNoted = (most) => `at most ${most} places are noted`;
+/** @type {(maximum: number) => string} */
+export const tooManyNotes = (maximum) => `at most ${maximum} places are noted`;
 export const PC_NOT_ALLOWED = "pc changes at each instruction, so it cannot make a state new";
 /** @type {(word: string) => string} */
 export const noTrace = (word) => `no trace shows ${word}`;
@@ -39,8 +39,8 @@ export const AT_SYNTAX = "write `at @LABEL CONDITION`";
 export const AFTER_SYNTAX = "write `after press KEY within TIME CONDITION`, as in: after press # within 50 ms lamp open on";
 export const GUARD_SYNTAX = "a guard is written as `while CONDITION,`, `once CONDITION,`, `after press KEY,` or "
   + "`after press KEY within TIME,` before never, always, at, after press or reach";
-/** @type {(most: number) => string} */
-export const mostGuards = (most) => `at most ${most} guards are before a property`;
+/** @type {(maximum: number) => string} */
+export const tooManyGuards = (maximum) => `at most ${maximum} guards are before a property`;
 export const WITHIN_SYNTAX = "write `@LABEL to @LABEL within TIME`, as in: @scan to @shown within 20 ms";
 export const EVERY_SYNTAX = "write `every TIME @LABEL`, as in: every 20 ms @scan";
 /** @type {(line: string) => string} */
@@ -60,14 +60,14 @@ export const SECONDS_RANGE = "Seconds must be a number from 1 to 86,400.";
 export const SEED_RANGE = "The seed must be a number from 1 to 99,999,999.";
 export const STOP = "Stop";
 export const EXPLORE = "Search";
-export const BEGINS = "Starting.";
+export const STARTING = "Starting.";
 export const STOPPED_EARLY = "It was stopped before it started.";
 export const OTHER_SOURCE = "The source has changed since then: search again.";
 
 // --- explore/explore_view.js ---
 export const ITS_TEST = "Show as test";
 export const OPEN_AS_SESSION = "Open";
-export const AS_IT_IS_THERE = "a new session, with the board as it is there";
+export const NEW_SESSION_HINT = "a new session, with the board as it is there";
 export const ADD_TO_TESTS = "Add to tests";
 export const AT_END = "at the end of Tests";
 /** @type {(line: number) => string} */
@@ -93,11 +93,11 @@ export const NO_LONE_RETURN = "no BBL without a call";
 /** @type {(place: string, text: string) => string} the message about a model line that was not run; `place` is its location */
 export const notRun = (place, text) => `not run: ${text} (${place}): it runs a command of your shell; --allow-model allows it`;
 /** @type {(count: number, lines: string) => string} */
-export const linesAre = (count, lines) => `${count === 1 ? "line" : "lines"} ${lines}`;
-/** @type {(part: number, whole: number) => string} */
-export const partOf = (part, whole) => `${part} of ${whole}`;
+export const lineList = (count, lines) => `${count === 1 ? "line" : "lines"} ${lines}`;
+/** @type {(count: number, total: number) => string} */
+export const partOfTotal = (count, total) => `${count} of ${total}`;
 /** @type {(seeds: number[], steps: string, seconds: string, rate: string, states: string, isStopped: boolean) => string} */
-export const figures = (seeds, steps, seconds, rate, states, isStopped) => (
+export const statistics = (seeds, steps, seconds, rate, states, isStopped) => (
   `# ${seeds.length === 1 ? "seed" : "seeds"} ${seeds.join(" ")}: ${steps} steps in ${seconds} s of processor time${rate}; `
   + `${states} states${isStopped ? "; stopped" : ""}`);
 /** @type {(chains: string) => string} */
@@ -105,8 +105,8 @@ export const chainsOfKeys = (chains) => `${chains} chains of keys`;
 /** @type {(steps: string, states: string) => string} */
 export const stepsAndStates = (steps, states) => `${steps} steps, ${states} states`;
 export const NEVER_LOOKED_AT = "never checked";
-/** @type {(how: string, steps: string, cycles: string, seed: number) => string} */
-export const foundBy = (how, steps, cycles, seed) => `${how} by ${steps}, ${cycles} cycles (seed ${seed})`;
+/** @type {(verb: string, steps: string, cycles: string, seed: number) => string} */
+export const foundBy = (verb, steps, cycles, seed) => `${verb} by ${steps}, ${cycles} cycles (seed ${seed})`;
 /** @type {(run: string, ways: string) => string} */
 export const covered = (run, ways) => `${run} instructions were run, ${ways} branch directions`;
 /** @type {(lines: string) => string} */

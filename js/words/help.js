@@ -142,8 +142,8 @@ export const STEP_WATCH = {
 
 // --- help/tour_view.js ---
 export const LAST_DONE = "Done: that was the last step. Help has all instructions and lines.";
-/** @type {(at: number, count: number, title: string) => string} */
-export const stepOf = (at, count, title) => `${at} of ${count}: ${title}`;
-export const END = "Finish";
+/** @type {(number: number, count: number, title: string) => string} */
+export const stepOf = (number, count, title) => `${number} of ${count}: ${title}`;
+export const FINISH = "Finish";
 export const NEXT_STEP = "Next step";
 export const DONE = "Done.";

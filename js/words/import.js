@@ -1,15 +1,15 @@
 // Error messages for programs in the syntax of other assemblers.
 
 // --- import/source_lines.js ---
-/** @type {(most: number) => string} */
-export const longLine = (most) => `the line has more than ${most} bytes before its comment`;
+/** @type {(maximum: number) => string} */
+export const longLine = (maximum) => `the line has more than ${maximum} bytes before its comment`;
 
 // --- import/expressions.js ---
-/** @type {(rest: string) => string} */
-export const notUnderstood = (rest) => `\`${rest}\` is not understood`;
+/** @type {(text: string) => string} */
+export const notUnderstood = (text) => `\`${text}\` is not understood`;
 export const DIVISION_BY_0 = "a division by 0";
-/** @type {(most: number) => string} */
-export const tooDeep = (most) => `more than ${most} nested brackets or signs`;
+/** @type {(maximum: number) => string} */
+export const tooDeep = (maximum) => `more than ${maximum} nested brackets or signs`;
 /** @type {(text: string) => string} */
 export const noNumber = (text) => `\`${text}\` is not a number`;
 /** @type {(text: string) => string} */
@@ -33,7 +33,7 @@ export const oddPair = (text, number) => (
 export const noPair = (text) => `\`${text}\` is not a pair; pairs are 0P to 7P, or 0<, 2< to 14< by their first register`;
 export const NC_IS_AMBIGUOUS = "NC means no condition (0) for Intel, and no carry (10) for AS: write 0 or 10";
 /** @type {(word: string) => string} */
-export const of4040 = (word) => `${word} is an instruction of the 4040`;
+export const instructionOf4040 = (word) => `${word} is an instruction of the 4040`;
 export const NO_PROGRAM_RAM = "WPM writes program RAM, which a board here does not have";
 /** @type {(word: string) => string} */
 export const notSupported = (word) => `${word} is not supported; write the lines that it stands for`;

@@ -13,14 +13,14 @@ export const registersUsed = (registers) => `in R5; else it is 0. It uses R0, R1
 /** @type {(ports: string[]) => string} */
 export const writesPorts = (ports) => `It writes 0 to the other lines of ${ports.join(" and ")}.`;
 /** @type {(bank: number) => string} */
-export const designates = (bank) => `It designates bank ${bank}.`;
+export const designatesBank = (bank) => `It designates bank ${bank}.`;
 /** @type {(chip: number) => string} */
 export const romPort = (chip) => `the port of ROM ${chip}`;
 /** @type {(bank: number, chip: number) => string} */
 export const ramPort = (bank, chip) => `the port of RAM ${bank}.${chip}`;
 export const FIRST_ROW = "row 0 comes first";
 /** @type {(rows: number) => string} */
-export const counts = (rows) => `counts ${rows === 1 ? "1 row" : `${rows} rows`}`;
+export const countsRows = (rows) => `counts ${rows === 1 ? "1 row" : `${rows} rows`}`;
 export const ONE_ENTERS = "a single 1 enters the chain";
 /** @type {(bit: number) => string} */
 export const movesTo = (bit) => `it moves on to bit ${bit}`;
@@ -36,4 +36,4 @@ export const BIT_ENTERS = "the bit that enters the chain";
 export const CLOCK_LOW = "data, with the clock at 0";
 export const DATA = "data";
 export const CLOCK_RISES = "the clock rises: all bits move on";
-export const WAITS = "your own program continues here";
+export const PROGRAM_CONTINUES = "your own program continues here";

@@ -56,12 +56,12 @@ export const lineSyntax = (word) => `${word} is written as: ${FORM_BY_FIRST_WORD
 export const noPlace = (word, similarWords) => `${word} is not a place${didYouMean(similarWords) || "; help places shows the places"}`;
 /** @type {(word: string) => string} */
 export const noSuchPlace = (word) => `there is no place ${word}; help places shows the ranges of the numbers in it`;
-/** @type {(most: number) => string} */
-export const tooManyPlaces = (most) => `trace has at most ${most} places`;
+/** @type {(maximum: number) => string} */
+export const tooManyPlaces = (maximum) => `trace has at most ${maximum} places`;
 /** @type {(word: string, first: number, last: number) => string} */
 export const notInRange = (word, first, last) => `${word} is not a number from ${first} to ${last.toLocaleString("en")}`;
-/** @type {(most: number, length: number) => string} */
-export const tooLong = (most, length) => `the line has ${length} characters; a line has at most ${most}`;
+/** @type {(maximum: number, length: number) => string} */
+export const tooLong = (maximum, length) => `the line has ${length} characters; a line has at most ${maximum}`;
 /** @type {(character: string) => string} */
 export const invalidCharacter = (character) => {
   const code = /** @type {number} */ (character.codePointAt(0)).toString(16).toUpperCase();

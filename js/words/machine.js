@@ -8,21 +8,21 @@ export const fromHit = (from) => ` from hit ${from} on`;
 /** @type {(details: string) => string} */
 export const breakpointWith = (details) => `breakpoint${details && ` ${details}`}`;
 /** @type {(note: string) => string} */
-export const logs = (note) => `: logs "${note}" and continues`;
-/** @type {(words: string, fault: string) => string} */
-export const stopsAlwaysByError = (words, fault) => `${words}: it stops every time, because of an error: ${fault}`;
-/** @type {(words: string) => string} */
-export const isOff = (words) => `${words}: it is off`;
-/** @type {(words: string) => string} */
-export const stopsLater = (words) => `${words}: it stops once the source is assembled`;
+export const logsNote = (note) => `: logs "${note}" and continues`;
+/** @type {(breakpoint: string, error: string) => string} */
+export const stopsAlwaysByError = (breakpoint, error) => `${breakpoint}: it stops every time, because of an error: ${error}`;
+/** @type {(breakpoint: string) => string} */
+export const breakpointIsOff = (breakpoint) => `${breakpoint}: it is off`;
+/** @type {(breakpoint: string) => string} */
+export const stopsLater = (breakpoint) => `${breakpoint}: it stops once the source is assembled`;
 
 // --- machine/breakpoints_view.js ---
 export const ON = "on";
 /** @type {(time: string) => string} */
 export const loggedAt = (time) => `at ${time}`;
 export const EDIT = "Edit";
-/** @type {(where: string) => string} */
-export const editBreakpoint = (where) => `edit the breakpoint at ${where}`;
+/** @type {(address: string) => string} */
+export const editBreakpoint = (address) => `edit the breakpoint at ${address}`;
 export const REMOVE_BREAKPOINT = "remove this breakpoint";
 export const REMOVES_IT = "removes it";
 /** @type {(count: string) => string} */
@@ -31,8 +31,8 @@ export const moreNotes = (count) => `${count} more`;
 // --- machine/breakpoint_form.js ---
 export const BREAKPOINT_FIELDS = "Breakpoint";
 export const CONDITION = "Condition";
-/** @type {(fault: string) => string} */
-export const stopsEachTime = (fault) => `It stops every time, because of an error: ${fault}.`;
+/** @type {(error: string) => string} */
+export const stopsEachTime = (error) => `It stops every time, because of an error: ${error}.`;
 export const CONDITION_HINT = "stops if this is true, as in: R5 >= 8 and cy = 1, count = 9 or lamp 3 on, display 42";
 export const CONDITION_EXAMPLE = "such as r9 = 9";
 export const HIT_COUNT = "Hit count";
@@ -65,46 +65,48 @@ export const nothingToGoTo = (forms) => `Enter where to go: ${forms}.`;
 /** @type {(word: string, forms: string) => string} */
 export const noNameOrAddress = (word, forms) => `${word} is neither a name of the program nor an address: ${forms}.`;
 /** @type {(word: string, forms: string) => string} */
-export const noAddress = (word, forms) => `${word} is not an address: ${forms}. Names are known only while the source is the same as ROM.`;
+export const notAnAddress = (word, forms) =>
+  `${word} is not an address: ${forms}. Names are known only while the source is the same as ROM.`;
 
 // --- machine/heat_levels.js ---
 /** @type {(line: string) => string} */
 export const causeLine = (line) => `the line ${line}`;
-/** @type {(who: string) => string} */
-export const causedBy = (who) => `by ${who}`;
-/** @type {(who: string, time: string) => string} */
-export const causedByAgo = (who, time) => `by ${who}, ${time} ago`;
+/** @type {(cause: string) => string} */
+export const causedBy = (cause) => `by ${cause}`;
+/** @type {(cause: string, time: string) => string} */
+export const causedByAgo = (cause, time) => `by ${cause}, ${time} ago`;
 export const ONCE = "once";
 /** @type {(count: string) => string} */
 export const manyTimes = (count) => `${count} times`;
 export const LAST_CHANGE = ", last";
-/** @type {(times: string, who: string) => string} */
-export const changesSeenRunning = (times, who) => `${times} as seen while running, last seen by ${who}`;
+/** @type {(count: string, cause: string) => string} */
+export const changesSeenRunning = (count, cause) => `${count} as seen while running, last seen by ${cause}`;
 /** @type {(chips: number, isAll: boolean) => string} */
 export const heatCounted = (chips, isAll) => (
   `Counted while running${chips > 1 ? `, in one of ${chips} chips at a time` : ""}${isAll ? "" : ", at full speed in samples"}.`);
 export const NOTHING_EARLIER = "No earlier cycle is remembered.";
 /** @type {(time: string, isAll: boolean) => string} */
 export const inTheLast = (time, isAll) => `In the last ${time}${isAll ? "" : " (no more is remembered)"},`;
-/** @type {(reach: string) => string} */
-export const noneChanged = (reach) => `${reach} no character of RAM has changed.`;
-/** @type {(reach: string, name: string, how: string) => string} */
-export const oneChanged = (reach, name, how) => `${reach} one character has changed: ${name}, ${how}.`;
-/** @type {(name: string, times: string) => string} */
-export const mostOften = (name, times) => `most often ${name}, ${times}`;
-/** @type {(reach: string, count: number, often: string, last: string, how: string) => string} */
-export const manyChanged = (reach, count, often, last, how) => `${reach} ${count} characters have changed: ${often}; last ${last}, ${how}.`;
+/** @type {(period: string) => string} */
+export const nothingChanged = (period) => `${period} no character of RAM has changed.`;
+/** @type {(period: string, name: string, change: string) => string} */
+export const oneChanged = (period, name, change) => `${period} one character has changed: ${name}, ${change}.`;
+/** @type {(name: string, count: string) => string} */
+export const mostFrequentChange = (name, count) => `most often ${name}, ${count}`;
+/** @type {(period: string, count: number, mostChanged: string, lastChanged: string, change: string) => string} */
+export const manyChanged = (period, count, mostChanged, lastChanged, change) =>
+  `${period} ${count} characters have changed: ${mostChanged}; last ${lastChanged}, ${change}.`;
 
 // --- machine/heat_view.js ---
-/** @type {(most: string) => string} */
-export const cycleCountHint = (most) => `Enter a number of cycles, from 1 to ${most}.`;
+/** @type {(maximum: string) => string} */
+export const cycleCountHint = (maximum) => `Enter a number of cycles, from 1 to ${maximum}.`;
 export const SEARCHING_PAST = "Searching the past.";
-/** @type {(how: string) => string} */
-export const changedHow = (how) => `changed ${how}`;
+/** @type {(cause: string) => string} */
+export const changedBy = (cause) => `changed ${cause}`;
 
 // --- machine/listing_rows.js ---
 /** @type {(address: string) => string} */
-export const insideBreakpoint = (address) => (
+export const breakpointInsideInstruction = (address) => (
   `breakpoint at ${address}, inside this instruction: a run that gets here does not stop; click to clear it`);
 
 // --- machine/machine_view.js ---
@@ -149,8 +151,8 @@ export const inLine = (line) => `, line ${line}`;
 export const DOT_ENDS = "a line with only a dot ends the text";
 /** @type {(line: number) => string} */
 export const inSourceLine = (line) => ` in line ${line}`;
-/** @type {(where: string, what: string) => string} */
-export const sourceHasError = (where, what) => `The source has an error${where}: ${what}.`;
+/** @type {(location: string, error: string) => string} */
+export const sourceHasError = (location, error) => `The source has an error${location}: ${error}.`;
 /** @type {(address: string, line: number) => string} */
 export const noRomAt = (address, line) => `The board has no ROM at ${address}, where line ${line} of the source goes.`;
 /** @type {(address: string, line: number) => string} */
@@ -166,13 +168,13 @@ export const inSource = (address, line, code) => `${address}, line ${line}: ${co
 export const COUNTER_AND_RETURNS = "Counter and return addresses";
 
 // --- machine/mistakes_view.js ---
-/** @type {(fault: string) => string} */
-export const stopsBefore = (fault) => `pauses before ${fault}`;
+/** @type {(error: string) => string} */
+export const stopsBefore = (error) => `pauses before ${error}`;
 export const STOP_AT_THIS = " Break on this";
 
 // --- machine/watch_view.js ---
-/** @type {(most: number) => string} */
-export const maxWatched = (most) => `At most ${most}.`;
+/** @type {(maximum: number) => string} */
+export const maxWatched = (maximum) => `At most ${maximum}.`;
 /** @type {(name: string) => string} */
 export const stopWatching = (name) => `stop showing ${name}`;
 export const WHEN_PAUSED = "seen when paused";

@@ -6,15 +6,15 @@ export const LINES_HINT = "Enter runs, Shift+Enter adds a line, the up arrow rec
 // --- lines/log_view.js ---
 /** @type {(line: string, count: number) => string} */
 export const textLines = (line, count) => `${line} .. (${count} lines)`;
-/** @type {(fault: string) => string} */
-export const notKept = (fault) => `not kept: ${fault}`;
+/** @type {(error: string) => string} */
+export const notKept = (error) => `not kept: ${error}`;
 
 // --- lines/line_server.js ---
 export const SENDING_LINES = "Sending the lines.";
-export const LINES_TOO_LONG = "Not all lines were done: at most 16,777,216 bytes are read at once.";
+export const TOO_MANY_BYTES = "Not all lines were done: at most 16,777,216 bytes are read at once.";
 export const RESET_RUNNING = "Running. The board was reset.";
 /** @type {(counter: string) => string} */
-export const wasReset = (counter) => `The board was reset; it is at ${counter}.`;
+export const resetAt = (counter) => `The board was reset; it is at ${counter}.`;
 
 // --- ui/confirm_dialog.js ---
 export const YES = "Yes";
@@ -26,8 +26,8 @@ export const FOLDS = "folds or unfolds this panel";
 // --- ui/notice.js ---
 export const DISMISS = "Dismiss";
 export const DISMISS_NOTICE = "Dismiss the notice";
-/** @type {(word: string, words: string) => string} */
-export const ofNotice = (word, words) => `${word}: ${words}`;
+/** @type {(kind: string, text: string) => string} */
+export const noticeText = (kind, text) => `${kind}: ${text}`;
 
 // --- ui/notice_list.js ---
 export const NOTICES = "Notices";
@@ -41,8 +41,8 @@ export const RECORDING_LINES = "Recording the lines.";
 export const NOTHING_RECORDED = "It was cancelled, and nothing was recorded.";
 
 // --- snapshot_view.js ---
-/** @type {(why: string) => string} */
-export const notSet = (why) => `Not set: ${why}`;
+/** @type {(reason: string) => string} */
+export const notSet = (reason) => `Not set: ${reason}`;
 export const NOT_DONE = "It was not done.";
 
 // --- bench_page.js ---
@@ -54,10 +54,10 @@ export const NO_STORE = "This browser stores nothing for this page: its store (I
   + "not answer. Everything works, but save the session to a file before you leave.";
 export const BULK_MEMORY = "WebAssembly with bulk memory";
 export const BIG_INTEGERS = "integers of any size (BigInt)";
-/** @type {(what: string, needs: string) => string} */
-export const hasNo = (what, needs) => `This browser has no ${what}. ${needs}`;
-/** @type {(why: string, needs: string) => string} */
-export const cannotStart = (why, needs) => `The bench could not be started: ${why}. ${needs}`;
+/** @type {(feature: string, requirements: string) => string} */
+export const featureMissing = (feature, requirements) => `This browser has no ${feature}. ${requirements}`;
+/** @type {(reason: string, requirements: string) => string} */
+export const cannotStart = (reason, requirements) => `The bench could not be started: ${reason}. ${requirements}`;
 
 // --- ui/status_view.js ---
 export const ROM_MATCHES = "ROM matches source";
@@ -67,15 +67,15 @@ export const SAVED = { example: "Not saved", saved: "Saved in this browser", fai
 
 // --- print_view.js ---
 /** @type {(name: string) => string} */
-export const sourceOf = (name) => `${name}: source`;
+export const sourceTitle = (name) => `${name}: source`;
 /** @type {(name: string) => string} */
-export const boardOf = (name) => `${name}: board`;
+export const boardTitle = (name) => `${name}: board`;
 
 // --- recovery.js ---
 export const PAUSED = "Paused.";
 export const WORKER_RESTARTED = "The bench's worker stopped and was restarted. The session is unchanged.";
-/** @type {(why: string) => string} */
-export const cannotRestart = (why) => `The bench has stopped and could not be restarted: ${why}. Save the session to a file.`;
+/** @type {(reason: string) => string} */
+export const cannotRestart = (reason) => `The bench has stopped and could not be restarted: ${reason}. Save the session to a file.`;
 
 // --- compose_session.js ---
 export const DISASSEMBLE_ROM = "Disassemble ROM";

@@ -138,8 +138,8 @@ export const PANELS = {
 };
 
 // --- the reasons why a command cannot run now ---
-/** @type {(command: string, why: string) => string} */
-export const notDone = (command, why) => `${command}: ${why}.`;
+/** @type {(command: string, reason: string) => string} */
+export const notDone = (command, reason) => `${command}: ${reason}.`;
 export const NOT_NOW = "not possible now";
 export const NOTHING_UNDONE = "nothing was undone";
 export const NO_BUZZER = "the board has no buzzer";
@@ -188,8 +188,8 @@ export const TYPE_PLACE = "Type a label, an address, :line or the name of a text
 export const countOfCommands = (count) => (count === 1 ? "1 command" : `${count} commands`);
 /** @type {(count: number) => string} */
 export const countOfPlaces = (count) => (count === 1 ? "1 place" : `${count} places`);
-/** @type {(wanted: string) => string} */
-export const noneHas = (wanted) => `Nothing is named ${wanted}`;
+/** @type {(query: string) => string} */
+export const noneHas = (query) => `Nothing is named ${query}`;
 
 // --- commands/palette_places.js ---
 /** @type {(address: string) => string} */

@@ -1,8 +1,8 @@
 // Texts of `mcs4 panel`, the front panel in a terminal.
 
 // --- panel/terminal_panel.js ---
-/** @type {(line: string, answer: string, words: string) => string} */
-export const refused = (line, answer, words) => `${line} is rejected: ${answer}: ${words}`;
+/** @type {(line: string, answer: string, meaning: string) => string} */
+export const refused = (line, answer, meaning) => `${line} is rejected: ${answer}: ${meaning}`;
 export const NOTHING_HERE = "this key does nothing here; the last line lists the keys";
 /** @type {(key: string) => string} */
 export const noKey = (key) => `the board has no key ${key}`;
@@ -11,8 +11,8 @@ export const noKey = (key) => `the board has no key ${key}`;
 /** @type {(title: string, session: string, commands: string, state: string) => string} */
 export const headLine = (title, session, commands, state) => ` ${title && `${title}: `}${session}   ${commands} commands   ${state}`;
 export const RUNNING = "running";
-/** @type {(why: string) => string} */
-export const paused = (why) => `paused${why && ` ${why}`}`;
+/** @type {(reason: string) => string} */
+export const paused = (reason) => `paused${reason && ` ${reason}`}`;
 /** @type {(text: string) => string} */
 export const display = (text) => `display ${text}`;
 /** @type {(lamps: string) => string} */
@@ -30,8 +30,8 @@ export const keyLine = (test, hasMoreRam) => (
 export const TEST_PIN = "test";
 /** @type {(name: string) => string} */
 export const testKey = (name) => `${name}:^T`;
-/** @type {(line: number, words: string) => string} */
-export const noteOfBoard = (line, words) => `line ${line}: ${words}`;
+/** @type {(line: number, error: string) => string} */
+export const noteOfBoard = (line, error) => `line ${line}: ${error}`;
 
 // --- node/commands/panel.mjs, node/panel_terminal.mjs ---
 export const NO_TERMINAL = "standard input and output must be a terminal";

@@ -2,8 +2,8 @@
 
 // --- prompt/breakpoint_commands.js ---
 export const BREAKPOINT_NUMBER_MISSING = "which one? info breakpoints shows their numbers";
-/** @type {(id: number, where: string) => string} */
-export const breakpointAt = (id, where) => `Breakpoint ${id} at ${where}.`;
+/** @type {(id: number, address: string) => string} */
+export const breakpointAt = (id, address) => `Breakpoint ${id} at ${address}.`;
 /** @type {(word: string) => string} */
 export const noBreakpoint = (word) => `there is no breakpoint ${word}; info breakpoints shows their numbers`;
 /** @type {(place: string) => string} */
@@ -33,15 +33,15 @@ export const SAVED_HEAD = "# Breakpoints of mcs4 debug";
 export const TEMPORARY = ", temporary";
 /** @type {(id: number) => string} */
 export const stopsAlways = (id) => `Breakpoint ${id} has no condition now.`;
-/** @type {(most: string, text: string) => string} */
-export const ignoredIs = (most, text) => `a hit count is 0 to ${most}, not ${text}`;
+/** @type {(maximum: string, text: string) => string} */
+export const hitCountRange = (maximum, text) => `a hit count is 0 to ${maximum}, not ${text}`;
 /** @type {(id: number, count: number) => string} */
 export const breakpointWillIgnore = (id, count) => {
   if (count === 0) return `Breakpoint ${id} stops at its next hit.`;
   return `Breakpoint ${id} lets the next ${count === 1 ? "hit" : `${count.toLocaleString("en")} hits`} pass.`;
 };
-/** @type {(most: number) => string} */
-export const tooManyCommands = (most) => `a breakpoint has at most ${most} commands; these are dropped`;
+/** @type {(maximum: number) => string} */
+export const tooManyCommands = (maximum) => `a breakpoint has at most ${maximum} commands; these are dropped`;
 /** @type {(id: number) => string} */
 export const commandsDropped = (id) => `the commands of breakpoint ${id} are dropped`;
 /** @type {(id: number) => string} */
@@ -51,11 +51,11 @@ export const savedIn = (name, count) => `${count} ${count === 1 ? "breakpoint" :
 
 // --- prompt/formats.js ---
 /** @type {(address: string, name: string) => string} */
-export const addressIs = (address, name) => `0x${address}${name && ` <${name}>`}`;
+export const addressWithName = (address, name) => `0x${address}${name && ` <${name}>`}`;
 /** @type {(format: string, formats: string) => string} */
 export const noFormat = (format, formats) => `${format || "nothing"} is not a format; formats are ${formats}`;
-/** @type {(what: string) => string} */
-export const noNumberOf = (what) => `${what} is not a number, so it has no format`;
+/** @type {(value: string) => string} */
+export const noNumberOf = (value) => `${value} is not a number, so it has no format`;
 
 // --- prompt/change_commands.js ---
 export const BENCH_SYNTAX = "write bench LINE, as in bench state";
@@ -74,7 +74,7 @@ export const otherNames = (names) => ` Or: ${names}.`;
 export const NO_KEYS = "the board has no keys";
 export const NO_KEY_IS_DOWN = "none is down";
 /** @type {(keys: string) => string} */
-export const down = (keys) => `down: ${keys}`;
+export const keysDown = (keys) => `down: ${keys}`;
 /** @type {(command: string) => string} */
 export const keySyntax = (command) => `write ${command} KEY; info keys shows their names`;
 /** @type {(word: string, names: string) => string} */
@@ -103,7 +103,7 @@ export const infoTakesNoArgument = (kind) => `info ${kind} takes no argument`;
 export const SYMBOL_SYNTAX = "write info symbol PLACE, as in info symbol 0x00F";
 export const NO_LOCALS = "a 4004 has no local variables; info registers shows the registers, info names the names of the program";
 /** @type {(line: number, first: string, name: string, last: string) => string} */
-export const lineIs = (line, first, name, last) => (
+export const lineLocation = (line, first, name, last) => (
   `${line > 0 ? `Line ${line}` : "No line of the source"} is at 0x${first}${name && ` (${name})`}${last && ` and 0x${last}`}.`);
 
 // --- prompt/state_text.js ---
@@ -122,14 +122,14 @@ export const REVERSE_SYNTAX = "reverse-continue takes no argument; reverse-step 
 export const FINISH_SYNTAX = "finish takes no argument";
 export const CONTINUE_SYNTAX = "continue takes no argument; run TIME runs for a time";
 export const NOTHING_STOPS = "nothing would stop it: set a breakpoint, or run for a time, as in run 100 ms";
-/** @type {(words: string, left: string) => string} */
-export const notPressed = (words, left) => `${words} Not pressed: ${left}.`;
+/** @type {(message: string, keys: string) => string} */
+export const notPressed = (message, keys) => `${message} Not pressed: ${keys}.`;
 
 // --- prompt/prompt_moves.js ---
-/** @type {(where: string) => string} */
-export const backInSubroutine = (where) => `Back in the subroutine, at ${where}: the remembered past begins in it.`;
-/** @type {(where: string) => string} */
-export const backAt = (where) => `Back at ${where}: this instruction has not run yet.`;
+/** @type {(location: string) => string} */
+export const backInSubroutine = (location) => `Back in the subroutine, at ${location}: the remembered past begins in it.`;
+/** @type {(location: string) => string} */
+export const backAt = (location) => `Back at ${location}: this instruction has not run yet.`;
 
 // --- prompt/debugger_prompt.js ---
 /** The start of the message for a command that had no effect. */
@@ -147,8 +147,8 @@ export const FORMS_IN_PROGRAM = "a line of the source such as 12, a label such a
 export const noInstructionIn = (line) => `neither line ${line} of the source nor a line after it has an instruction`;
 /** @type {(text: string, forms: string) => string} */
 export const notInProgram = (text, forms) => `${text} is not a place in the program; write ${forms}`;
-/** @type {(most: string, text: string) => string} */
-export const countIs = (most, text) => `a count is 1 to ${most}, not ${text}`;
+/** @type {(maximum: string, text: string) => string} */
+export const countRange = (maximum, text) => `a count is 1 to ${maximum}, not ${text}`;
 /** @type {(text: string) => string} */
 export const noTime = (text) => `${text} is not a time; write a number of cycles such as 538, or 54 us, 20 ms, 1.5 s`;
 export const NOTHING = "nothing";

@@ -10,15 +10,15 @@ export const dependsOnInput = (place) => `its condition uses ${place}, an input`
 export const unprovableForm = (form) => `a property of the form "${form}" cannot be proved yet`;
 /** @type {(name: string) => string} */
 export const notInKeyMatrix = (name) => `${name} is at the TEST pin; only presses of keys of the matrix are counted`;
-/** @type {(most: number) => string} */
-export const tooManyPresses = (most) => `it names more than ${most} presses`;
+/** @type {(maximum: number) => string} */
+export const tooManyPresses = (maximum) => `it names more than ${maximum} presses`;
 export const LABEL_REPEATS = "the BBL or JIN at its label can lead to the same label in one cycle";
 /** The first words of guards, by their kinds. */
 const GUARDS = { press: "after press", once: "once", while: "while" };
 /** @type {(kinds: Iterable<keyof typeof GUARDS>) => string} */
 export const guardsNamed = (kinds) => [...kinds].map((kind) => `"${GUARDS[kind]}"`).join(" and ");
-/** @type {(most: string) => string} */
-export const timeTooLong = (most) => `its time is longer than ${most} cycles`;
+/** @type {(maximum: string) => string} */
+export const timeTooLong = (maximum) => `its time is longer than ${maximum} cycles`;
 export const STARTS_AFTER_POWER_ON = "a proof begins at power-on, but the text begins elsewhere (from)";
 
 // --- prove/mistakes.js ---
@@ -35,7 +35,7 @@ export const MISTAKES = {
 
 // --- prove/property_judge.js ---
 /** @type {(steps: string) => string} */
-export const excluded = (steps) => `so far, only inputs that the text excludes break it (${steps})`;
+export const onlyExcludedInputs = (steps) => `so far, only inputs that the text excludes break it (${steps})`;
 export const NOT_CONFIRMED = "the bench does not confirm the counterexample that was found";
 /** @type {(guards: string, isGoal: boolean) => string} */
 export const failsWithoutGuards = (guards, isGoal) =>
@@ -44,7 +44,7 @@ export const TRUE_BEFORE_KEYS_ARE_READ = "it can become true before the program 
 
 // --- prove/bounded_proof.js ---
 /** @type {(states: string) => string} */
-export const moreThan = (states) => `more than ${states} states; enter a larger number beside Prove to allow more`;
+export const moreStatesThan = (states) => `more than ${states} states; enter a larger number beside Prove to allow more`;
 /** @type {(states: string) => string} */
 export const memoryFullAfter = (states) => `memory has room for only ${states} states; mcs4 prove in a terminal can use more`;
 
@@ -52,8 +52,8 @@ export const memoryFullAfter = (states) => `memory has room for only ${states} s
 export const STATE = "state";
 export const SET = "set of states";
 export const SETS = "sets of states";
-/** @type {(words: string) => string} */
-export const notDecided = (words) => `TODO not decided: ${words}`;
+/** @type {(reason: string) => string} */
+export const notDecided = (reason) => `TODO not decided: ${reason}`;
 /** @type {(guards: string) => string} */
 const evenWithout = (guards) => (guards ? `, even without ${guards}` : "");
 /** @type {(states: string, leftOut: string) => string} `leftOut` are the guards that the proof leaves out, "" for none */
@@ -68,8 +68,8 @@ export const reachedBy = (steps) => `reached, ${steps}`;
 export const foundBy = (steps, cycles, isGoal) => `${isGoal ? "reached" : "broken"} by ${steps}, ${cycles} cycles`;
 
 // --- node/proof_search.mjs ---
-/** @type {(most: string) => string} */
-export const moreStates = (most) => `more than ${most} states; --most allows more`;
+/** @type {(maximum: string) => string} */
+export const moreStates = (maximum) => `more than ${maximum} states; --most allows more`;
 export const NO_MEMORY = "memory is full";
 /** @type {(states: string) => string} */
 export const noRoom = (states) => `memory has room for only ${states} states`;
@@ -78,8 +78,8 @@ export const noRoomIn = (states, megabytes) => `there is no room for more than $
 export const GAVE_UP = "the prover gave up";
 /** @type {(number: number, count: number, property: string, seconds: number) => string} */
 export const provingSoFar = (number, count, property, seconds) => `proving ${number} of ${count}, ${seconds} s: ${property}`;
-/** @type {(words: string) => string} */
-export const proverEnded = (words) => `the prover ended without an answer: ${words || "it printed nothing"}`;
+/** @type {(output: string) => string} */
+export const proverEnded = (output) => `the prover ended without an answer: ${output || "it printed nothing"}`;
 
 // --- page/prove/proofs.js ---
 export const PROVE = "Prove";
@@ -97,7 +97,7 @@ export const ITS_TEST = "Show as test";
 export const ITS_LINES = "Its lines";
 export const OPEN_FOUND = "Open counterexample";
 export const OPEN_WAY = "Open the way there";
-export const BEFORE_IT = "a new session, paused before the step that breaks it; you can step back from there";
+export const BEFORE_BREAK = "a new session, paused before the step that breaks it; you can step back from there";
 export const BEFORE_GOAL = "a new session, paused before the step that reaches it; you can step back from there";
 export const ADD_TO_TESTS = "Add to tests";
 export const AT_END = "at the end of Tests";

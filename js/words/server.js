@@ -31,26 +31,26 @@ export const INITIALIZE_ONCE = "initialize can be sent only once";
 /** @type {(method: string) => string} */
 export const noMethod = (method) => `there is no ${method} here`;
 /** @type {(id: number | string | null) => string} */
-export const idWaits = (id) => `a request with the id ${id} waits for its answer`;
+export const requestPending = (id) => `a request with the id ${id} waits for its answer`;
 
 // --- server/diagnostics.js ---
 export const MAY_BE_MORE = "There may be more errors.";
-/** @type {(most: string, size: string) => string} */
-export const textTooLong = (most, size) => `a text has at most ${most} characters; this one has ${size} and passes the limit here`;
+/** @type {(maximum: string, size: string) => string} */
+export const textTooLong = (maximum, size) => `a text has at most ${maximum} characters; this one has ${size} and passes the limit here`;
 /** @type {(text: string) => string} */
-export const write = (text) => `Write ${text}`;
+export const quickFixTitle = (text) => `Write ${text}`;
 
 // --- server/framing.js ---
 export const HEAD_SYNTAX = "a message begins with one line Content-Length: N, and an empty one after it";
-/** @type {(most: number) => string} */
-export const headTooLong = (most) => `the head of a message has more than ${most} bytes`;
+/** @type {(maximum: number) => string} */
+export const headTooLong = (maximum) => `the head of a message has more than ${maximum} bytes`;
 
-/** @type {(got: number, size: number) => string} */
-export const messageIncomplete = (got, size) => `only ${got} of the ${size} bytes that Content-Length announces have arrived`;
+/** @type {(received: number, size: number) => string} */
+export const messageIncomplete = (received, size) => `only ${received} of the ${size} bytes that Content-Length announces have arrived`;
 export const HEAD_INCOMPLETE = "only a part of the head of a message has arrived";
 
-/** @type {(size: number, most: number) => string} */
-export const sizeTooLarge = (size, most) => `Content-Length: ${size} is more than a message can have (${most} bytes)`;
+/** @type {(size: number, maximum: number) => string} */
+export const sizeTooLarge = (size, maximum) => `Content-Length: ${size} is more than a message can have (${maximum} bytes)`;
 
 // --- server/inlay_hints.js ---
 /** @type {(address: string, cycles: string) => string} */
@@ -67,21 +67,22 @@ export const noFile = (key, path) => `${key}: there is no file ${path}`;
 export const notOpen = (uri) => `${uri} is not open`;
 export const CONTENT_CHANGES_SYNTAX = "contentChanges is a list";
 export const TEXT_OF_CHANGE = "the text of a change";
-/** @type {(uri: string, why: string) => string} */
-export const faultsOf = (uri, why) => `the errors of ${uri}: ${why}`;
+/** @type {(uri: string, errors: string) => string} */
+export const faultsOf = (uri, errors) => `the errors of ${uri}: ${errors}`;
 
 // --- server/program_calls.js ---
 export const PROGRAM_BEGIN = "(start of the program)";
-/** @type {(count: number, what: string) => string} */
-const countOf = (count, what) => `${count} ${what}${count === 1 ? "" : "s"}`;
-/** @type {(calls: number, others: number) => string} */
-export const usesOf = (calls, others) => (
-  calls === 0 ? countOf(others, "reference") : `${countOf(calls, "call")}${others === 0 ? "" : `, ${countOf(others, "other reference")}`}`);
+/** @type {(count: number, noun: string) => string} */
+const countOf = (count, noun) => `${count} ${noun}${count === 1 ? "" : "s"}`;
+/** @type {(calls: number, otherReferences: number) => string} */
+export const usesOf = (calls, otherReferences) => (
+  calls === 0 ? countOf(otherReferences, "reference")
+    : `${countOf(calls, "call")}${otherReferences === 0 ? "" : `, ${countOf(otherReferences, "other reference")}`}`);
 
 // --- server/program_hover.js ---
 export const HEAD_OF_INSTRUCTIONS = ["Instruction", "Code", "Words", "Cycles", "What it does"];
-/** @type {(value: number, words: string) => string} */
-export const conditionIs = (value, words) => `condition ${value}: ${words}`;
+/** @type {(value: number, meaning: string) => string} */
+export const conditionIs = (value, meaning) => `condition ${value}: ${meaning}`;
 
 // --- server/program_language.js ---
 /** @type {(cycles: string) => string} */
@@ -91,13 +92,13 @@ export const lineAt = (line, address, codes, cycles) => `line ${line}: address 0
 export const NO_NAME_HERE = "There is no name of the program here.";
 
 // --- server/lsp_protocol.js ---
-/** @type {(what: string) => string} */
-export const isText = (what) => `${what} is a text`;
+/** @type {(name: string) => string} */
+export const mustBeText = (name) => `${name} is a text`;
 export const POSITION_IS = "a position has a line and a character, whole numbers from 0";
 
 // --- server/requests.js ---
-/** @type {(what: string) => string} */
-export const isList = (what) => `${what} is a list`;
+/** @type {(name: string) => string} */
+export const mustBeList = (name) => `${name} is a list`;
 /** @type {(command: string) => string} */
 export const noCommand = (command) => `there is no command ${command} here`;
 
@@ -111,15 +112,15 @@ export const missingDependency = (file) => `There is no ${file}, so nothing was 
 export const noTest = (name) => `There is no test ${name}.`;
 /** @type {(name: string) => string} */
 export const testPassed = (name) => `The test ${name} passed.`;
-/** @type {(name: string, line: number, words: string) => string} */
-export const testFailed = (name, line, words) => `The test ${name} failed in line ${line}: ${words}.`;
-/** @type {(file: string, line: number, words: string) => string} */
-export const notRun = (file, line, words) => `Nothing was run: ${file}${line > 0 ? `:${line}` : ""}: ${words}.`;
+/** @type {(name: string, line: number, message: string) => string} */
+export const testFailed = (name, line, message) => `The test ${name} failed in line ${line}: ${message}.`;
+/** @type {(file: string, line: number, message: string) => string} */
+export const notRun = (file, line, message) => `Nothing was run: ${file}${line > 0 ? `:${line}` : ""}: ${message}.`;
 
 // --- project/project_folder.js ---
-export const EMPTY = "it is empty; it should name the project's files, as in board = \"board.toml\"";
-/** @type {(size: number, most: number) => string} */
-export const tooLong = (size, most) => `it has ${size} bytes, more than a project file can have (${most})`;
+export const PROJECT_FILE_IS_EMPTY = "it is empty; it should name the project's files, as in board = \"board.toml\"";
+/** @type {(size: number, maximum: number) => string} */
+export const tooLong = (size, maximum) => `it has ${size} bytes, more than a project file can have (${maximum})`;
 export const CONTAINS_NUL = "it contains NUL bytes, so it is not a text";
 
 /** @type {(path: string) => string} */
@@ -132,12 +133,12 @@ export const TESTS_ARE = "tests is a list of paths: tests = [\"program.test\"]";
 export const PROPERTIES_ARE = "properties is a list of paths: properties = [\"program.props\"]";
 /** @type {(names: string, last: string) => string} */
 export const speedIs = (names, last) => `speed is one of ${names} or ${last}`;
-/** @type {(key: string, form: string | undefined) => string} */
-export const emptyPath = (key, form) => `${key} has an empty path; ${form}`;
+/** @type {(key: string, syntax: string | undefined) => string} */
+export const emptyPath = (key, syntax) => `${key} has an empty path; ${syntax}`;
 /** @type {(key: string) => string} */
-export const controlCharacter = (key) => `a path of ${key} has a control character`;
+export const pathHasControlCharacter = (key) => `a path of ${key} has a control character`;
 /** @type {(key: string) => string} */
-export const backslash = (key) => `a path of ${key} has a \\; separate folders by /`;
+export const pathHasBackslash = (key) => `a path of ${key} has a \\; separate folders by /`;
 /** @type {(path: string, key: string) => string} */
 export const noPath = (path, key) => `${path} is not a path from the project's folder; ${key} names files in it`;
 /** @type {(path: string, key: string) => string} */
@@ -145,7 +146,7 @@ export const outOfFolder = (path, key) => `${path} leads out of the project's fo
 /** @type {(name: string) => string} */
 export const noKey = (name) => `a project has no key ${name}; it has board, program, tests, properties and speed`;
 /** @type {(name: string, line: number) => string} */
-export const alreadyIn = (name, line) => `${name} is already in line ${line}`;
+export const keyRepeated = (name, line) => `${name} is already in line ${line}`;
 export const NO_TABLES = "a project has no tables; each of its keys begins a line";
-/** @type {(name: string, form: string | undefined) => string} */
-export const missing = (name, form) => `${name} is missing; ${form}`;
+/** @type {(name: string, syntax: string | undefined) => string} */
+export const keyMissing = (name, syntax) => `${name} is missing; ${syntax}`;

@@ -5,17 +5,17 @@
 export const manySessions = (count) => `${count} sessions`;
 /** @type {(name: string) => string} */
 export const openElsewhere = (name) => `The session "${name}" is open in another tab, so it was not deleted.`;
-/** @type {(name: string, why: string) => string} */
-export const notDeleted = (name, why) => `The session "${name}" was not deleted: ${why}.`;
-/** @type {(name: string, why: string) => string} */
-export const notRestored = (name, why) => `The session "${name}" was not restored: ${why}.`;
+/** @type {(name: string, reason: string) => string} */
+export const notDeleted = (name, reason) => `The session "${name}" was not deleted: ${reason}.`;
+/** @type {(name: string, reason: string) => string} */
+export const notRestored = (name, reason) => `The session "${name}" was not restored: ${reason}.`;
 
 // --- session/current_session.js ---
 export const PAUSED = "Paused.";
 /** @type {(name: string) => string} */
 export const titleOfPage = (name) => `${name} - Fethsaim`;
-/** @type {(why: string) => string} */
-export const notKept = (why) => `This session is not kept: ${why}. It is still in this page; save it to a file.`;
+/** @type {(reason: string) => string} */
+export const notKept = (reason) => `This session is not kept: ${reason}. It is still in this page; save it to a file.`;
 
 // --- session/session_summary.js ---
 /** The kinds of parts that a session's summary counts, in the singular. */
@@ -32,14 +32,14 @@ export const HEX_FILE = "the contents of ROM in Intel HEX, for an EPROM programm
 export const BIN_FILE = "the contents of ROM, byte by byte from 000";
 /** @type {(ending: string) => string} */
 export const saveAs = (ending) => `Save ${ending}`;
-/** @type {(what: string) => string} */
-export const nothingSaved = (what) => `Nothing was saved: there is nothing in it (${what}).`;
+/** @type {(file: string) => string} */
+export const nothingSaved = (file) => `Nothing was saved: there is nothing in it (${file}).`;
 
 // --- session/folder_project.js ---
 /** @type {(path: string, kind: string) => string} */
 export const noText = (path, kind) => `${path} has no text of ${kind}`;
 /** @type {(paths: string, isOne: boolean) => string} */
-export const leftOut = (paths, isOne) => `The page has one text of each kind: ${paths} ${isOne ? "is" : "are"} left out.`;
+export const textsOmitted = (paths, isOne) => `The page has one text of each kind: ${paths} ${isOne ? "is" : "are"} left out.`;
 export const NO_PROJECT_FILE = "there is no such file; it names the files of a project";
 /** @type {(path: string) => string} */
 export const noFile = (path) => `there is no file ${path}`;
@@ -67,21 +67,21 @@ export const restoreNamed = (name) => `restore ${name}`;
 export const withCycles = (cycles) => `, ${cycles} cycles`;
 
 // --- session/stored_history.js ---
-export const NO_PAST = "it is not a recorded past";
+export const NOT_A_HISTORY = "it is not a recorded past";
 
 // --- session/offered_lines.js ---
 export const OTHER_LINES = "Other lines have replaced the lines that you had not sent.";
 export const UNDO = "Undo";
 
 // --- session/opened_file.js ---
-/** @type {(why: string) => string} */
-export const opens = (why) => (
-  `${why}; supported are projects (.mcsp), sessions (.mcs), programs (.asm), boards (.toml), tests (.test), `
+/** @type {(reason: string) => string} */
+export const supportedFiles = (reason) => (
+  `${reason}; supported are projects (.mcsp), sessions (.mcs), programs (.asm), boards (.toml), tests (.test), `
   + "properties (.props), lines (.txt) and ROM (.hex, .bin)");
 export const NAMES_FILES = "it names files of a project: drop its folder on the page, or choose all of them";
 export const NOT_A_KIND = "not a kind of text that the bench has";
-/** @type {(size: string, most: string) => string} */
-export const tooLong = (size, most) => `a text of ${size} characters; at most ${most} are accepted`;
+/** @type {(size: string, maximum: string) => string} */
+export const tooLong = (size, maximum) => `a text of ${size} characters; at most ${maximum} are accepted`;
 export const NOT_A_TEXT = "not a text, a session or a project";
 export const EMPTY = "it is empty";
 
@@ -89,22 +89,22 @@ export const EMPTY = "it is empty";
 /** The second line of a project file. */
 export const ABOUT_PROJECT =
   "# A board, its program and a session of the bench Fethsaim. Its page opens this file; mcs4 project splits it.";
-export const ONE_OF_HEAD = "a line of the head: `name`, `unended`, `break`, `value`, `#`, or `wire`, which starts the board's text";
+export const HEAD_LINE = "a line of the head: `name`, `unended`, `break`, `value`, `#`, or `wire`, which starts the board's text";
 export const BOARD_TEXT = "the board's text";
 export const SOURCE_TEXT = "the source";
 export const TESTS_TEXT = "the tests' text";
 export const PROPERTIES_TEXT = "the properties' text";
-/** @type {(what: string, size: string, most: string) => string} */
-export const textTooLong = (what, size, most) => `${what} has ${size} characters; at most ${most} are accepted`;
-/** @type {(line: number, wanted: string) => string} */
-export const lineMustBe = (line, wanted) => `line ${line} of the project must be ${wanted}`;
+/** @type {(text: string, size: string, maximum: string) => string} */
+export const textTooLong = (text, size, maximum) => `${text} has ${size} characters; at most ${maximum} are accepted`;
+/** @type {(line: number, expected: string) => string} */
+export const lineMustBe = (line, expected) => `line ${line} of the project must be ${expected}`;
 /** @type {(word: string) => string} */
 export const noEnd = (word) => `the text after \`${word}\` has no end, a line with only a dot`;
 export const NO_PROJECT = "not a project of Fethsaim";
 /** @type {(version: string) => string} */
 export const otherVersion = (version) => `a project of version ${version}, which is unknown here`;
 /** @type {(line: string) => string} */
-export const cutOff = (line) => `the project is cut off: its last line, \`${line}\`, is missing`;
+export const projectCutOff = (line) => `the project is cut off: its last line, \`${line}\`, is missing`;
 export const OTHER_CHECKSUM = "the project is damaged or was edited: its checksum is wrong. "
   + "After editing a project, delete its line `cksum`";
 /** @type {(line: number) => string} */
@@ -121,8 +121,8 @@ export const ABOUT_PROJECT_FILE = "# The project of this folder: commands, edito
 export const UNNAMED = "session";
 /** @type {(line: number) => string} */
 export const noBreakpoint = (line) => `line ${line} is not a breakpoint such as \`break line 14\` or \`break at 0x00F\``;
-/** @type {(count: number, most: number) => string} */
-export const tooManyBreakpoints = (count, most) => `it has ${count} breakpoints, more than a project can have (${most})`;
+/** @type {(count: number, maximum: number) => string} */
+export const tooManyBreakpoints = (count, maximum) => `it has ${count} breakpoints, more than a project can have (${maximum})`;
 /** @type {(line: number) => string} */
 export const emptyValue = (line) => `line ${line} is empty; a value is a line such as \`count = R5\``;
 
@@ -137,21 +137,21 @@ export const bytesInRom = (bytes, name, isOne, first) => (
 // --- session/session_manager.js ---
 export const IN_ANOTHER_TAB = "This session is open in another tab. Continue there, close that tab, or open a copy of it.";
 export const OPEN_A_COPY = "Open a copy";
-/** @type {(why: string) => string} */
-export const cannotReadKept = (why) => `The saved sessions could not be read: ${why}.`;
+/** @type {(reason: string) => string} */
+export const cannotReadKept = (reason) => `The saved sessions could not be read: ${reason}.`;
 export const NO_LONGER_KEPT = "it is no longer saved here";
-/** @type {(why: string) => string} */
-export const notOpened = (why) => `Cannot open the session: ${why}.`;
-/** @type {(why: string) => string} */
-export const notMade = (why) => `No session was made: ${why}.`;
+/** @type {(reason: string) => string} */
+export const notOpened = (reason) => `Cannot open the session: ${reason}.`;
+/** @type {(reason: string) => string} */
+export const notMade = (reason) => `No session was made: ${reason}.`;
 /** @type {(name: string) => string} */
-export const aCopy = (name) => `${name}, a copy`;
-/** @type {(name: string, why: string) => string} */
-export const fileNotOpened = (name, why) => `Cannot open ${name}: ${why}. The session shown is unchanged.`;
+export const copyName = (name) => `${name}, a copy`;
+/** @type {(name: string, reason: string) => string} */
+export const fileNotOpened = (name, reason) => `Cannot open ${name}: ${reason}. The session shown is unchanged.`;
 export const THE_FOLDER = "the folder";
-/** @type {(why: string) => string} */
-export const noProjectSaved = (why) => (
-  `No project was saved: ${why}. Shorten it first; "Save session for mcs4" saves the session without its texts.`);
+/** @type {(reason: string) => string} */
+export const noProjectSaved = (reason) => (
+  `No project was saved: ${reason}. Shorten it first; "Save session for mcs4" saves the session without its texts.`);
 
 // --- session/sessions_controller.js ---
 export const SAVED_IN_BROWSER_ONLY = "They are saved in this browser only. Download a copy to be safe. "
@@ -168,7 +168,7 @@ export const noSuchExample = (name) => `The address names an example, "${name}",
 export const namesNothing = (hash) => (
   `The address ends with ${hash}, which names nothing here. It can end with #example= and a name, or with a link that *Share* has made.`);
 /** @type {(names: string) => string} */
-export const deleted = (names) => `Deleted ${names}.`;
+export const sessionsDeleted = (names) => `Deleted ${names}.`;
 /** @type {(name: string) => string} */
 export const notOpenedAutomatically = (name) => (
   `The session "${name}" was not opened automatically: the last time, opening it did not finish.`);
@@ -198,16 +198,16 @@ export const linkContains = (parts, last) => `It holds ${parts} and ${last}, not
 export const LINK_FROM_FILE = " This page was opened from a file, so the link works only on this machine. Others append the part that "
   + "begins with # to the address of their own page.";
 export const LONG = "Some messaging programs cut a link of more than 8,000 characters; a project file is safer.";
-/** @type {(why: string) => string} */
-export const noLink = (why) => `No link was made: ${why}. Shorten it first.`;
+/** @type {(reason: string) => string} */
+export const noLink = (reason) => `No link was made: ${reason}. Shorten it first.`;
 /** @type {(count: string) => string} */
 export const characters = (count) => `${count} characters`;
 /** @type {(size: string, warning: string) => string} */
 export const linkCopied = (size, warning) => `A link of ${size} was copied. ${warning}`;
 export const TOO_LONG_LINK = "Too long for a link";
-/** @type {(size: string, most: string) => string} */
-export const longLink = (size, most) => (
-  `These texts would make a link of ${size}; browsers show at most ${most}. A project file has no such limit.`);
+/** @type {(size: string, maximum: string) => string} */
+export const longLink = (size, maximum) => (
+  `These texts would make a link of ${size}; browsers show at most ${maximum}. A project file has no such limit.`);
 export const SAVE_PROJECT = "Save a project";
 export const LEAVE_IT = "Leave it";
 export const THE_LINK = "The link";
@@ -216,11 +216,11 @@ export const COPY_MANUALLY = "The browser does not let the page copy. Copy the l
 /** @type {(name: string) => string} */
 export const openFromLink = (name) => `Open "${name}" from a link?`;
 export const OPEN_AS_NEW = "Open it as a new session";
-/** @type {(why: string) => string} */
-export const linkNotOpened = (why) => `Cannot open the link: ${why}. Nothing was changed.`;
-/** @type {(isBoard: boolean, why: string) => string} */
-export const benchRefusesText = (isBoard, why) => (
-  `The bench rejects its ${isBoard ? "board" : "source"} (${why}). The text is opened anyway.`);
+/** @type {(reason: string) => string} */
+export const linkNotOpened = (reason) => `Cannot open the link: ${reason}. Nothing was changed.`;
+/** @type {(isBoard: boolean, reason: string) => string} */
+export const benchRefusesText = (isBoard, reason) => (
+  `The bench rejects its ${isBoard ? "board" : "source"} (${reason}). The text is opened anyway.`);
 /** @type {(board: string, source: string, tests: string, properties: string) => string} */
 export const sizesOfTexts = (board, source, tests, properties) => (
   `The board's text has ${board}, the source ${source}${tests && `, the text of tests ${tests}`}${
@@ -253,22 +253,23 @@ export const ASSEMBLES = "Assemble and run puts it into ROM";
 export const BOARD = "Board";
 export const WIRES = "Apply board puts it on the bench";
 export const BOARD_AND_SOURCE = "Board and Source";
-/** @type {(name: string, where: string, what: string, then: string) => string} */
-export const textIsIn = (name, where, what, then) => `${name} is in ${where}. ${what}${then}.`;
+/** @type {(name: string, tab: string, action: string, nextAction: string) => string} */
+export const textIsIn = (name, tab, action, nextAction) => `${name} is in ${tab}. ${action}${nextAction}.`;
 export const THEN_ASSEMBLE = ", then Assemble and run";
 export const SAME_AS_ROM = "The source is already the same as ROM.";
 export const DISASSEMBLED = "The source was disassembled from ROM.";
 export const REPLACE_SOURCE = "Replace the source?";
-/** @type {(old: string, found: string) => string} */
-export const sizesOfSources = (old, found) => `The source has ${old}. The disassembly of ROM has ${found}, without comments and names.`;
+/** @type {(oldSize: string, newSize: string) => string} */
+export const sizesOfSources = (oldSize, newSize) =>
+  `The source has ${oldSize}. The disassembly of ROM has ${newSize}, without comments and names.`;
 /** @type {(name: string) => string} */
 export const replaceByProbableNonProgram = (name) => `Replace the source by ${name}?`;
 /** @type {(name: string) => string} */
 export const eachLineWrong = (name) => `Each line of ${name} has an error, so it is probably not a program.`;
 export const REPLACE_IT = "Replace it";
 export const LEAVE_AS_IS = "Leave it unchanged";
-/** @type {(what: string) => string} */
-export const textRestored = (what) => `${what} is restored.`;
+/** @type {(text: string) => string} */
+export const textRestored = (text) => `${text} is restored.`;
 export const TEXTS_RESTORED = "The board's text and the source are restored.";
 /** @type {(name: string) => string} */
 export const inOtherSession = (name) => `That was in the session "${name}". Open it first; then you can undo this.`;

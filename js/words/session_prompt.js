@@ -1,10 +1,10 @@
 // Texts of the `mcs4 new` and `mcs4 open` prompt. They complement the bench's answers.
 
 // --- prompt/bench_prompt.js ---
-export const BEGINNING = "help shows the lines, quit leaves.";
-export const OWN_TITLE = "At this prompt:";
+export const GREETING = "help shows the lines, quit leaves.";
+export const PROMPT_LINES_TITLE = "At this prompt:";
 /** @type {[string, string][]} the lines that only the prompt accepts, with their effects */
-export const OWN_LINES = [
+export const PROMPT_LINES = [
   ["wire FILE, asm FILE", "reads the text of the board, or program, in a file"],
   ["map FILE", "shows the addresses of the program in a file"],
   ["wiring FILE, errors FILE", "shows what is wrong with the text in a file"],
@@ -12,18 +12,18 @@ export const OWN_LINES = [
   ["help LINE", "explains a line; also help places, help 41"],
   ["quit", "leaves; so does Ctrl-D"],
 ];
-export const KEYS_OF_PROMPT = "Tab completes a line, Up recalls earlier ones, Ctrl-C drops what is typed.";
+export const PROMPT_KEYS = "Tab completes a line, Up recalls earlier ones, Ctrl-C drops what is typed.";
 /** The title of the manual section about places. */
 export const PLACES_TITLE = "Places";
 /** @type {(word: string) => string} */
 export const textDropped = (word) => `the text of ${word} is dropped`;
-/** @type {(name: string, line: number, words: string) => string} */
-export const inFile = (name, line, words) => `${name}: line ${line}: ${words}`;
-/** @type {(name: string, line: number, words: string) => string} */
-export const inText = (name, line, words) => `${name && `${name}: `}${line > 0 ? `line ${line}: ` : ""}${words}`;
+/** @type {(name: string, line: number, message: string) => string} */
+export const errorInFile = (name, line, message) => `${name}: line ${line}: ${message}`;
+/** @type {(name: string, line: number, message: string) => string} */
+export const errorInText = (name, line, message) => `${name && `${name}: `}${line > 0 ? `line ${line}: ` : ""}${message}`;
 export const SOURCE_SYNTAX = "source is written as: source FILE";
-/** @type {(most: number) => string} */
-export const tooDeep = (most) => `source files can be nested at most ${most} deep`;
+/** @type {(maximum: number) => string} */
+export const sourcesTooDeep = (maximum) => `source files can be nested at most ${maximum} deep`;
 /** @type {(name: string, dropped: string) => string} */
 export const endsTooSoon = (name, dropped) => `${name} ends too soon; ${dropped}`;
 /** @type {(key: string, row: number, column: number) => string} */
@@ -31,4 +31,4 @@ export const noKey = (key, row, column) => `the board has no key ${key}; its row
 /** @type {(place: string) => string} */
 export const noRomAt = (place) => `the board has no ROM with the address of ${place}; board shows its chips`;
 /** @type {(cycles: string) => string} */
-export const noRun = (cycles) => `a run takes 1 to 100,000 cycles, not ${cycles}`;
+export const invalidRunLength = (cycles) => `a run takes 1 to 100,000 cycles, not ${cycles}`;

@@ -157,8 +157,8 @@ export function describeBreakpointCondition(breakpoint, fault = "") {
   return (condition.trim() ? `, when ${condition.trim()}` : "") + (from > 1 ? `, at hit ${hits.toLocaleString("en")}` : "");
 }
 
-/** @type {(where: string) => string} */
-export const stoppedAt = (where) => `Paused at ${where}.`;
+/** @type {(address: string) => string} */
+export const stoppedAt = (address) => `Paused at ${address}.`;
 
 /**
  * Returns the message when the user pauses the session before it reaches its goal.

@@ -25,8 +25,8 @@ export const nextInstructionLine = (row) => `${row}comes next`;
 export const cyclesAgo = (cycles) => `${cycles} cycle${cycles === 1 ? "" : "s"} ago`;
 /** @type {(label: string, ago: string) => string} */
 export const lastLabel = (label, ago) => `; the last label passed is ${label}, ${ago}`;
-/** @type {(last: string, what: string, when: string) => string} */
-export const lastLabelAndCondition = (last, what, when) => `${last}; ${what} was ${when}`;
+/** @type {(label: string, place: string, time: string) => string} */
+export const lastLabelAndCondition = (label, place, time) => `${label}; ${place} was ${time}`;
 /** @type {(ago: string) => string} */
 export const lastPassedAgo = (ago) => `passed last ${ago}`;
 export const NOT_PASSED = "not passed in this test";
@@ -61,22 +61,22 @@ export const stateMissing = (state, test) => `the state ${state} is missing, bec
 const placeOf = (line, file) => (file ? `${file}:${line}` : `line ${line}`);
 /** @type {(name: string, line: number, file: string) => string} */
 export const describeSharedSteps = (name, line, file) => `the steps ${name} of ${placeOf(line, file)}`;
-/** @type {(turn: number, times: number, line: number) => string} */
-export const describeTurn = (turn, times, line) => `turn ${turn} of ${times} of line ${line}`;
-/** @type {(cycles: number, why: string) => string} */
-export const runStopped = (cycles, why) => `the run stopped after ${cycles} cycles ${why}`;
+/** @type {(iteration: number, count: number, line: number) => string} */
+export const describeTurn = (iteration, count, line) => `turn ${iteration} of ${count} of line ${line}`;
+/** @type {(cycles: number, reason: string) => string} */
+export const runStopped = (cycles, reason) => `the run stopped after ${cycles} cycles ${reason}`;
 /** @type {(address: string) => string} */
 export const beforeInvalidOpcode = (address) => `before a code that is not an instruction, at ${address}`;
 /** @type {(place: string, value: number) => string} */
 export const placeHasValue = (place, value) => `${place} is ${value}, and `;
-/** @type {(what: string, word: string, keys: string) => string} */
-export const valueHasKeys = (what, word, keys) => `${what}${word} has ${keys}`;
-/** @type {(what: string, key: number, digit: string) => string} */
-export const valueHasNoKey = (what, key, digit) => `${what}the board has no key ${key}${digit}`;
+/** @type {(prefix: string, word: string, keys: string) => string} */
+export const valueHasKeys = (prefix, word, keys) => `${prefix}${word} has ${keys}`;
+/** @type {(prefix: string, key: number, digit: string) => string} */
+export const valueHasNoKey = (prefix, key, digit) => `${prefix}the board has no key ${key}${digit}`;
 /** @type {(digit: string | number) => string} */
 export const orDigitKey = (digit) => `, nor ${digit}`;
-/** @type {(cycles: number, why: string, message: string) => string} */
-export const runStoppedAt = (cycles, why, message) => `the run stopped after ${cycles} cycles ${why}; ${message}`;
+/** @type {(cycles: number, reason: string, message: string) => string} */
+export const runStoppedAt = (cycles, reason, message) => `the run stopped after ${cycles} cycles ${reason}; ${message}`;
 /** @type {(cycles: number, message: string, passed: string) => string} */
 export const notReached = (cycles, message, passed) => `it did not become true within ${cycles} cycles: ${message}${passed}`;
 
@@ -128,9 +128,9 @@ export const OWN_STATE = "a test cannot begin with a state that it saves itself"
 export const keysSyntax = (word, areMany) => `write \`${word} ${areMany ? "KEYS" : "KEY .."}\``;
 /** @type {(name: string, word: string) => string} */
 export const nameNorWord = (name, word) => `${name}, nor ${word}`;
-/** @type {(what: string, keyNames: string) => string} */
-export const noKey = (what, keyNames) => (
-  `the board has no key ${what}; ${keyNames ? `it has: ${keyNames}` : "its text names no keys (`# row 0: NAME ..`)"}`);
+/** @type {(key: string, keyNames: string) => string} */
+export const noKey = (key, keyNames) => (
+  `the board has no key ${key}; ${keyNames ? `it has: ${keyNames}` : "its text names no keys (`# row 0: NAME ..`)"}`);
 export const UNTIL_SYNTAX = "write `until CONDITION within TIME`";
 export const WITHIN_SYNTAX = "it ends with `within TIME`, as in: within 500, within 20 ms, within 1.5 s";
 export const CYCLES_NOT_ALLOWED = "`until` cannot ask for cycles; use `run` or `expect`";

@@ -2,9 +2,9 @@
 
 // --- text/similar_words.js ---
 export const OR = " or ";
-/** @type {(words: string[], end?: string) => string} the end of an error message about a mistyped word: similar words, then `end` */
-export const didYouMean = (words, end = "") => (
-  words.length > 0 ? `; did you mean ${words.join(OR)}?${end && ` ${end}`}` : end && `; ${end}`);
+/** @type {(similarWords: string[], end?: string) => string} the end of an error message about a mistyped word: similar words, then `end` */
+export const didYouMean = (similarWords, end = "") => (
+  similarWords.length > 0 ? `; did you mean ${similarWords.join(OR)}?${end && ` ${end}`}` : end && `; ${end}`);
 
 // --- text/asm_texts.js ---
 /** @type {(bytes: string, isOne: boolean, first: string) => string} */
@@ -43,16 +43,16 @@ export const noValue = (text) => `a value is needed here, not ${text}`;
 export const hasLeadingZero = (text) => `a number has no leading zero; write a text in quotes: "${text}"`;
 /** @type {(text: string) => string} */
 export const needsQuotes = (text) => `${text} is a text: write it in quotes: "${text}"`;
-/** @type {(most: number) => string} */
-export const tooDeep = (most) => `more than ${most} brackets and braces are open here`;
+/** @type {(maximum: number) => string} */
+export const tooDeep = (maximum) => `more than ${maximum} brackets and braces are open here`;
 export const NO_BRACKET = "the closing ] is missing";
-export const COMMA_OF_VALUES = "write a comma between two values, ] after the last";
+export const VALUE_COMMA_MISSING = "write a comma between two values, ] after the last";
 export const NO_BRACE = "the closing } is missing in this line";
-export const COMMA_OF_KEYS = "write a comma between two keys, } after the last";
+export const KEY_COMMA_MISSING = "write a comma between two keys, } after the last";
 
 // --- text/board_error.js ---
-/** @type {(name: string, before: number) => string} */
-export const alreadyThere = (name, before) => `${name} is already in line ${before}`;
+/** @type {(name: string, line: number) => string} */
+export const alreadyThere = (name, line) => `${name} is already in line ${line}`;
 /** @type {(line: string, chip: string) => string} */
 export const noSuchRom = (line, chip) => `the board has no line ${line}: no [[rom]] has chip = ${chip}`;
 /** @type {(line: string, bank: string) => string} */
@@ -65,8 +65,9 @@ export const noBitInChain = (line, chain, last) => `the board has no line ${line
 /** @type {(chain: string, chains: number) => string} */
 export const noChain = (chain, chains) => (
   `the board has no chain ${chain}: it has ${["no [[chain]]", "only chain 0"][chains] || `chains 0 to ${chains - 1}`}`);
-/** @type {(first: number, last: number, chain: number, end: number) => string} */
-export const rowsNeed = (first, last, chain, end) => `the rows need bits ${first} to ${last} of chain ${chain}, which has bits 0 to ${end}`;
+/** @type {(firstBit: number, lastBit: number, chain: number, highestBit: number) => string} */
+export const rowsNeed = (firstBit, lastBit, chain, highestBit) =>
+  `the rows need bits ${firstBit} to ${lastBit} of chain ${chain}, which has bits 0 to ${highestBit}`;
 /** @type {(line: string) => string} */
 export const needsInput = (line) => `${line} is not an input line; a column needs a line of a ROM that is i in its port`;
 /** @type {(key: string, line: string, isBit: boolean) => string} */
@@ -77,10 +78,10 @@ export const needsOutput = (key, line, isBit) => (
 export const noLineName = (name) => `${name} is not the name of a line; names are like "rom1.0", "ram0.0.3" and "chain0.5"`;
 /** @type {(key: string, number: string) => string} */
 export const withoutQuotes = (key, number) => `${key} is a number: write ${number} without quotes`;
-/** @type {(most: number, table: string) => string} */
-export const mostTables = (most, table) => `a board has at most ${most} [[${table}]]`;
-/** @type {(most: number) => string} */
-export const mostColumns = (most) => `a key matrix has at most ${most} columns`;
+/** @type {(maximum: number, table: string) => string} */
+export const tooManyTables = (maximum, table) => `a board has at most ${maximum} [[${table}]]`;
+/** @type {(maximum: number) => string} */
+export const tooManyColumns = (maximum) => `a key matrix has at most ${maximum} columns`;
 /** @type {(key: string, values: string) => string} */
 export const keyMustBe = (key, values) => `${key} must be ${values}`;
 /** @type {(section: string) => string} */
@@ -101,17 +102,18 @@ export const lacksKeys = (kind, keys) => `this ${kind} lacks ${keys}`;
 /** @type {(number: number) => string} */
 export const countText = (number) => ["never", "once"][number] || `${number.toLocaleString("en")} times`;
 export const NO_TEST_RUNS = "no test runs it";
-/** @type {(times: string) => string} */
-export const ran = (times) => `run ${times}`;
-/** @type {(taken: string, left: string) => string} */
-export const jumped = (taken, left) => `; it jumped ${taken} and continued ${left}`;
+/** @type {(count: string) => string} */
+export const runCount = (count) => `run ${count}`;
+/** @type {(taken: string, notTaken: string) => string} */
+export const jumpCounts = (taken, notTaken) => `; it jumped ${taken} and continued ${notTaken}`;
 
 // --- text/text_editor_view.js ---
-export const FAULTS = "Errors";
-/** @type {(size: string, most: string) => string} */
-export const notInserted = (size, most) => `It was not inserted: the text would have ${size} characters; at most ${most} are accepted.`;
-/** @type {(size: string, most: string, unit: string) => string} */
-export const sizeOf = (size, most, unit) => `${size} of ${most} ${unit}`;
+export const ERRORS = "Errors";
+/** @type {(size: string, maximum: string) => string} */
+export const notInserted = (size, maximum) =>
+  `It was not inserted: the text would have ${size} characters; at most ${maximum} are accepted.`;
+/** @type {(size: string, maximum: string, unit: string) => string} */
+export const textSize = (size, maximum, unit) => `${size} of ${maximum} ${unit}`;
 
 // --- text/editors.js ---
 export const MAY_BE_MORE = "There may be more.";
@@ -123,8 +125,8 @@ const TEXTS = { program: "Source", board: "Board", tests: "Tests", properties: "
 export const problemAt = (name, line) => `${TEXTS[name]}, line ${line}: `;
 export const BOARD_WIRED = "Board applied.";
 export const FIRST_BOARD = "The first board's text is in Board.";
-/** @type {(line: number, words: string, more: number) => string} */
-export const firstFault = (line, words, more) => `line ${line}: ${words}${more > 0 ? `, and ${more} more` : ""}`;
+/** @type {(line: number, message: string, others: number) => string} */
+export const firstFault = (line, message, others) => `line ${line}: ${message}${others > 0 ? `, and ${others} more` : ""}`;
 
 // --- text/field_bar.js ---
 export const GO = "Go";
@@ -138,7 +140,7 @@ export const CHANGES_BY_LINE = "what this line has changed";
 
 // --- text/meaning_view.js ---
 /** @type {(name: string) => string} */
-export const edits = (name) => `${name}: a double click or Enter edits it`;
+export const editHint = (name) => `${name}: a double click or Enter edits it`;
 
 // --- text/name_view.js ---
 export const NO_NAME = "There is no name of this text at the caret.";
@@ -150,8 +152,8 @@ export const lineOfName = (line, isDefinition) => `line ${line}${isDefinition ? 
 /** @type {(name: string) => string} */
 export const otherName = (name) => `Another name for ${name}`;
 export const RENAME = "Rename";
-/** @type {(name: string, wanted: string, places: string) => string} */
-export const renamed = (name, wanted, places) => `${name} is now ${wanted}, at ${places}.`;
+/** @type {(oldName: string, newName: string, places: string) => string} */
+export const renamed = (oldName, newName, places) => `${oldName} is now ${newName}, at ${places}.`;
 /** @type {(last: string) => string} */
 export const lineOfText = (last) => `Line, 1 to ${last}`;
 /** @type {(last: string) => string} */
@@ -163,8 +165,8 @@ export const noRomForLine = (chip, address) => (
   `this line is at ${address}, and the board has no ROM ${chip}: wire a [[rom]] with chip = ${chip}`);
 
 // --- text/program_format.js ---
-/** @type {(most: string, size: string) => string} */
-export const layoutTooLong = (most, size) => `in columns the program would have ${size} characters; at most ${most} are accepted`;
+/** @type {(maximum: string, size: string) => string} */
+export const layoutTooLong = (maximum, size) => `in columns the program would have ${size} characters; at most ${maximum} are accepted`;
 
 // --- text/program_words.js ---
 /** The terms of other assemblers, each with its replacement in the bench's syntax. */
@@ -189,10 +191,10 @@ export const isLetter = (letter, number) => `characters are not supported; the c
 export const withoutNumberSign = (number) => `without #: ${number}`;
 export const NO_NEGATIVES = "there are no negative numbers";
 export const NO_EXPRESSIONS = "there are no expressions: write one number or one name";
-export const COMMA_OF_OPERANDS = "write a comma between two operands";
+export const OPERAND_COMMA_MISSING = "write a comma between two operands";
 export const NUMBER_SYNTAX = "a number is decimal digits, or 0x and hexadecimal digits";
-/** @type {(most: number, length: number) => string} */
-export const nameTooLong = (most, length) => `a name has at most ${most} characters; this has ${length}`;
+/** @type {(maximum: number, length: number) => string} */
+export const nameTooLong = (maximum, length) => `a name has at most ${maximum} characters; this has ${length}`;
 export const NAME_SYNTAX = "a name has letters, digits and _, and does not begin with a digit";
 /** @type {(name: string) => string} */
 export const isInstruction = (name) => `${name} is an instruction, so it cannot be a name`;
@@ -200,10 +202,10 @@ export const isInstruction = (name) => `${name} is an instruction, so it cannot 
 export const cannotBeName = (name) => `${name} cannot be a name`;
 /** @type {(name: string) => string} */
 export const isRegister = (name) => `${name} is a register, so it cannot be a name`;
-/** @type {(head: string, what: string) => string} */
-export const takes = (head, what) => `${head} takes ${what}`;
-/** @type {(head: string, what: string) => string} */
-export const takesAfterComma = (head, what) => `${head} takes ${what}, after the comma`;
+/** @type {(instruction: string, operands: string) => string} */
+export const takes = (instruction, operands) => `${instruction} takes ${operands}`;
+/** @type {(instruction: string, operand: string) => string} */
+export const takesAfterComma = (instruction, operand) => `${instruction} takes ${operand}, after the comma`;
 export const NO_WPM = "this bench has no WPM: a program cannot write its ROM";
 /** @type {(name: string, number: string) => string} */
 export const nameGetsNumber = (name, number) => `define a name with =: ${name} = ${number}`;
@@ -220,14 +222,14 @@ export const COLON_SYNTAX = "a name is missing before the colon";
 /** @type {(name: string) => string} */
 export const takesNothing = (name) => `${name} takes no operand`;
 export const AND_AFTER = ", and ";
-/** @type {(name: string, what: string, isMore: boolean) => string} */
-export const takesNoMore = (name, what, isMore) => `${name} takes ${what}${isMore ? ", no more" : ""}`;
+/** @type {(name: string, operands: string, isMore: boolean) => string} */
+export const takesNoMore = (name, operands, isMore) => `${name} takes ${operands}${isMore ? ", no more" : ""}`;
 export const NAME_VALUE_RANGE = "the number of a name is 0 to 4095";
 export const ORG_ADDRESS = "an address, 0 to 4095";
-/** @type {(name: string, what: string, more: string) => string} */
-export const takesOperands = (name, what, more) => `${name} takes ${what}${more}`;
-/** @type {(word: string) => string} */
-export const extraOperandNote = (word) => `; ${word} is more`;
+/** @type {(name: string, operands: string, extra: string) => string} */
+export const takesOperands = (name, operands, extra) => `${name} takes ${operands}${extra}`;
+/** @type {(operand: string) => string} */
+export const extraOperandNote = (operand) => `; ${operand} is more`;
 /** @type {(name: string, suggestion: string) => string} */
 export const notDefined = (name, suggestion) => `${name} is not defined${suggestion}`;
 /** @type {(name: string, line: number|undefined) => string} */
@@ -246,13 +248,13 @@ export const FIRST_PROPERTIES = "# Properties that hold whatever is pressed, at 
   + "Ctrl+Space completes them.\n\n";
 
 // --- text/references.js ---
-export const NAME_IS = "A name has ASCII letters, digits and _, and does not begin with a digit.";
-/** @type {(most: number, length: number) => string} */
-export const nameHasMost = (most, length) => `A name has at most ${most} characters; this has ${length}.`;
+export const NAME_RULE = "A name has ASCII letters, digits and _, and does not begin with a digit.";
+/** @type {(maximum: number, length: number) => string} */
+export const nameHasMost = (maximum, length) => `A name has at most ${maximum} characters; this has ${length}.`;
 /** @type {(name: string) => string} */
-export const isAnInstruction = (name) => `${name} is an instruction.`;
+export const nameIsInstruction = (name) => `${name} is an instruction.`;
 /** @type {(name: string) => string} */
-export const isARegister = (name) => `${name} is a register.`;
+export const nameIsRegister = (name) => `${name} is a register.`;
 /** @type {(name: string, line: number) => string} */
 export const isDefined = (name, line) => `${name} is already defined in line ${line}.`;
 
@@ -270,8 +272,8 @@ export const REPLACE_ALL = "Replace all";
 export const NOT_FOUND = "not found";
 /** @type {(count: string) => string} */
 export const replaced = (count) => `${count} replaced`;
-/** @type {(at: number, count: number) => string} */
-export const foundOf = (at, count) => `${at} of ${count}`;
+/** @type {(number: number, count: number) => string} */
+export const matchPosition = (number, count) => `${number} of ${count}`;
 
 // --- testing/sample_test.js ---
 const ABOUT_TESTS = "# Tests, line by line. F1 lists the words; Ctrl+Space completes them.\n\n";
@@ -301,11 +303,11 @@ export const CONTROL_CHARACTER = "a control character; only tabs and printable A
 /** @type {(character: string) => string} */
 export const otherCharacter = (character) => `${character} is not an ASCII character; it can be only in comments`;
 export const DOT_ENDS = "a line with only a dot would end the text here";
-/** @type {(most: number, length: number) => string} */
-export const lineTooLong = (most, length) => `a line has at most ${most} characters without its comment; this has ${length}`;
-/** @type {(most: string, size: string) => string} */
-export const textTooLong = (most, size) => (
-  `a text has at most ${most} bytes without its comments; this one has ${size} and passes the limit here`);
+/** @type {(maximum: number, length: number) => string} */
+export const lineTooLong = (maximum, length) => `a line has at most ${maximum} characters without its comment; this has ${length}`;
+/** @type {(maximum: string, size: string) => string} */
+export const textTooLong = (maximum, size) => (
+  `a text has at most ${maximum} bytes without its comments; this one has ${size} and passes the limit here`);
 
 // --- text/text_help.js ---
 export const CARRY_UNCHANGED = ". The carry stays";

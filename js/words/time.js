@@ -34,11 +34,11 @@ export const SINCE_MARK = "Since the mark ";
 export const BETWEEN_MARKS = "Between the marks ";
 
 // --- time/history_view.js ---
-/** @type {(most: string) => string} */
-export const enterCount = (most) => `Nothing was done: give a number of instructions, 1 to ${most}.`;
+/** @type {(maximum: string) => string} */
+export const enterCount = (maximum) => `Nothing was done: give a number of instructions, 1 to ${maximum}.`;
 export const ENTER_CHANGE = "Nothing was done: enter a place such as r5, lamp 3 or rom0.2, or a condition such as r5 > 8.";
-/** @type {(fault: string) => string} the error for the status bar; gives a few example places instead of the list of all places */
-export const cannotSearchFor = (fault) => `Nothing was done: ${fault.replace(PLACES_ARE, EXAMPLE_PLACES)}.`;
+/** @type {(error: string) => string} the error for the status bar; gives a few example places instead of the list of all places */
+export const cannotSearchFor = (error) => `Nothing was done: ${error.replace(PLACES_ARE, EXAMPLE_PLACES)}.`;
 const EXAMPLE_PLACES = "enter something such as r5, lamp 3 or rom0.2";
 
 // --- time/run_controller.js ---
@@ -52,8 +52,8 @@ const errorsIn = (errors) => (
 /** @type {(time: string, isHidden: boolean) => string} */
 export const wasPausedFor = (time, isHidden) => (
   `Running. Paused for ${time} while ${isHidden ? "the page was hidden" : "the tab was busy"}.`);
-/** @type {(answer: string, why: string) => string} */
-export const stoppedBy = (answer, why) => `Paused: ${answer}: ${why}.`;
+/** @type {(answer: string, reason: string) => string} */
+export const stoppedBy = (answer, reason) => `Paused: ${answer}: ${reason}.`;
 
 // --- time/speeds.js ---
 export const REAL_TIME = "real time";

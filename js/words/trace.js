@@ -4,5 +4,5 @@
 export const SECOND_CYCLE = "(the second cycle)";
 
 // --- trace/session_trace.js ---
-/** @type {(why: string) => string} the reason why the session stops before the next instruction */
-export const stopsBefore = (why) => `stops before it: ${why === "code" ? "no instruction" : why}`;
+/** @type {(reason: string) => string} the reason why the session stops before the next instruction */
+export const stopsBefore = (reason) => `stops before it: ${reason === "code" ? "no instruction" : reason}`;

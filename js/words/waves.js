@@ -13,10 +13,10 @@ export const END_REASONS = {
 };
 /** @type {(cycle: string) => string} */
 export const triggerWasAt = (cycle) => ` The trigger was at cycle ${cycle}.`;
-/** @type {(what: string, trigger: string) => string} */
-export const recorded = (what, trigger) => `Recorded ${what}.${trigger}`;
-/** @type {(what: string, end: string, trigger: string) => string} */
-export const recordedUntil = (what, end, trigger) => `Recorded ${what}. ${end}${trigger}`;
+/** @type {(duration: string, trigger: string) => string} */
+export const recordedDuration = (duration, trigger) => `Recorded ${duration}.${trigger}`;
+/** @type {(duration: string, endReason: string, trigger: string) => string} */
+export const recordedUntil = (duration, endReason, trigger) => `Recorded ${duration}. ${endReason}${trigger}`;
 export const NOTHING = "nothing";
 /** @type {(trigger: string) => string} */
 export const recordsAfter = (trigger) => `Recording the cycles after the trigger.${trigger}`;
@@ -27,15 +27,15 @@ export const waitsFor = (trigger) => ` Waiting for ${trigger}.`;
 
 // --- waves/scope.js ---
 export const RECORD = "Record";
-/** @type {(least: number, most: string) => string} */
-export const howManyCycles = (least, most) => `Enter a number of cycles, from ${least} to ${most}.`;
-/** @type {(most: string) => string} */
-export const maxAfter = (most) => `${most} cycles are kept: at most that many can follow the trigger.`;
-/** @type {(fault: string) => string} */
-export const triggerFault = (fault) => `The trigger is not understood: ${fault}.`;
+/** @type {(minimum: number, maximum: string) => string} */
+export const howManyCycles = (minimum, maximum) => `Enter a number of cycles, from ${minimum} to ${maximum}.`;
+/** @type {(maximum: string) => string} */
+export const maxAfter = (maximum) => `${maximum} cycles are kept: at most that many can follow the trigger.`;
+/** @type {(error: string) => string} */
+export const triggerFault = (error) => `The trigger is not understood: ${error}.`;
 export const STOP_RECORDING = "Stop recording";
-/** @type {(what: string, isForward: boolean, cycle: string) => string} */
-export const notFound = (what, isForward, cycle) => `${what}: not ${isForward ? "after" : "before"} cycle ${cycle} of this recording.`;
+/** @type {(query: string, isForward: boolean, cycle: string) => string} */
+export const notFound = (query, isForward, cycle) => `${query}: not ${isForward ? "after" : "before"} cycle ${cycle} of this recording.`;
 export const NO_LINE_CHOSEN = "No line is chosen: choose the lines for the file.";
 
 // --- waves/trigger.js ---
@@ -100,7 +100,7 @@ export const RAM_GROUP = "RAM, ";
 
 // --- waves/decoders.js ---
 /** @type {(value: string) => string} the text for a shift register's value between shifts */
-export const atRest = (value) => `= ${value}`;
+export const valueAtRest = (value) => `= ${value}`;
 export const NO_ROW = "-";
 /** @type {(rows: number[]) => string} */
 export const rowsDriven = (rows) => `${rows.length === 1 ? "row" : "rows"} ${rows.join("+")}`;
@@ -137,8 +137,9 @@ export const isDecoded = (name) => `${name} is decoded: search for its next chan
 export const isNumber = (name) => `${name} is a number: search for a change, or for a value such as = 5.`;
 /** @type {(value: string, forms: string) => string} */
 export const noNumber = (value, forms) => `${value} is not a number such as 10, 0x0A or 0b1010. Forms: ${forms}.`;
-/** @type {(name: string, width: number, most: number) => string} */
-export const valueTooLarge = (name, width, most) => `${name} has ${width === 1 ? "1 bit" : `${width} bits`}: its value is at most ${most}.`;
+/** @type {(name: string, width: number, maximum: number) => string} */
+export const valueTooLarge = (name, width, maximum) =>
+  `${name} has ${width === 1 ? "1 bit" : `${width} bits`}: its value is at most ${maximum}.`;
 
 // --- waves/wave_words.js ---
 /** @type {(span: string) => string} */

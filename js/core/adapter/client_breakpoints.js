@@ -14,7 +14,7 @@ import { MAX_PIECE_CYCLES } from "../debug/debug_session.js";
 import { MAX_CYCLES_PER_CALL } from "../debug/common_mistakes.js";
 import { optionalList, needNumber, needText, optionalText, errorMessage } from "./dap_protocol.js";
 import * as say from "../../words/adapter.js";
-import { inColumn, noLabel } from "../../words/conditions.js";
+import { errorInColumn, noLabel } from "../../words/conditions.js";
 import { KINDS } from "../../words/debug.js";
 import { stopsEachTime } from "../../words/machine.js";
 
@@ -331,7 +331,7 @@ export class ClientBreakpoints {
       const { condition, fault, column } = isAlways ? { condition: null, fault: "", column: -1 } : compileCondition(text, session.names);
       commonMistakes.stoppingKinds.add(mistake);
       if (condition) commonMistakes.conditions.set(mistake, condition);
-      return fault ? { verified: false, message: stopsEachTime(inColumn(fault, column)) } : { verified: true };
+      return fault ? { verified: false, message: stopsEachTime(errorInColumn(fault, column)) } : { verified: true };
     });
     // The debugger checks every instruction only in pieces of at most MAX_CYCLES_PER_CALL cycles.
     if (session.maxPieceCycles >= MAX_CYCLES_PER_CALL) {
@@ -386,5 +386,5 @@ export function watchOperand(name) {
  */
 export function describeDataBreakpoint(name, session) {
   const place = watchablePlace(name, session.debugger.session.statusQueries.board);
-  return place ? { dataId: place.name, description: say.changes(place.name), canPersist: true } : null;
+  return place ? { dataId: place.name, description: say.placeChanges(place.name), canPersist: true } : null;
 }

@@ -8,7 +8,7 @@ import { joinPieces, valuesAt } from "../debug/word_values.js";
 import { convertToBase, formatInBase } from "./number_format.js";
 import { AdapterError } from "./dap_protocol.js";
 import * as say from "../../words/adapter.js";
-import { inColumn } from "../../words/conditions.js";
+import { errorInColumn } from "../../words/conditions.js";
 
 /**
  * @typedef {import("../debug/debug_session.js").DebugSession} DebugSession
@@ -93,7 +93,7 @@ export function evaluateExpression(text, context, base = "usual") {
     || placeValue(trimmed, context, base);
   if (value) return value;
   const { expression, fault, column } = compileExpression(trimmed, session.names);
-  if (!expression) throw new AdapterError(inColumn(fault, column));
+  if (!expression) throw new AdapterError(errorInColumn(fault, column));
   const answers = session.debugger.readPlaces(expression.places);
   return expression.number && base !== "usual" ? formatInBase(expression.number(answers), base) : expression.textOf(answers);
 }

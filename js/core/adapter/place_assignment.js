@@ -9,7 +9,7 @@ import { parseKey, keyLine, formatKey } from "../board/key_place.js";
 import { AdapterError } from "./dap_protocol.js";
 import * as say from "../../words/adapter.js";
 import { listNamedKeys } from "../testing/test_text.js";
-import { cannotBeSet, inColumn } from "../../words/conditions.js";
+import { cannotBeSet, errorInColumn } from "../../words/conditions.js";
 
 /** @typedef {import("../debug/debug_session.js").DebugSession} DebugSession */
 
@@ -24,7 +24,7 @@ export function evaluateNumber(text, session, begin = 0) {
   const valueText = text.trim().replace(/^(\w+),.*$/, "$1");
   if (valueText === "") throw new AdapterError(say.noNumber(say.NOTHING));
   const { expression, fault, column } = compileExpression(valueText, session.names);
-  if (!expression) throw new AdapterError(inColumn(fault, begin + column));
+  if (!expression) throw new AdapterError(errorInColumn(fault, begin + column));
   if (!expression.number) throw new AdapterError(say.noNumber(valueText));
   return expression.number(session.debugger.readPlaces(expression.places));
 }
@@ -44,7 +44,7 @@ function assignmentLines(place, text, session, begin = 0) {
     return `${keyLine(word === say.DOWN ? "press" : "release", key)}\n`;
   }
   const value = evaluateNumber(text, session, begin);
-  if (value < 0 || value > maxPlaceValue(place)) throw new AdapterError(say.holds(place, maxPlaceValue(place)));
+  if (value < 0 || value > maxPlaceValue(place)) throw new AdapterError(say.valueRange(place, maxPlaceValue(place)));
   return settingLines(place, value);
 }
 
@@ -58,7 +58,7 @@ export function compileSetLine(text, session) {
     const { place, value } = parseSetting(text);
     return assignmentLines(place, value.text, session, value.column);
   } catch (fault) {
-    throw fault instanceof ConditionError ? new AdapterError(inColumn(fault.message, Math.max(0, fault.column))) : fault;
+    throw fault instanceof ConditionError ? new AdapterError(errorInColumn(fault.message, Math.max(0, fault.column))) : fault;
   }
 }
 

@@ -5,7 +5,7 @@ import { readSetting } from "../conditions/set_command.js";
 import { opensText, stripCarriageReturn } from "./inputs.js";
 import { hex } from "./numbers.js";
 import * as say from "../../words/bench.js";
-import { inColumn } from "../../words/conditions.js";
+import { errorInColumn } from "../../words/conditions.js";
 
 /**
  * @typedef {import("../machine/source_map.js").SourceMap} SourceMap
@@ -36,7 +36,7 @@ export function replaceNames(lines, map) {
     const setMatch = SET_LINE.exec(text);
     if (!setMatch) return replaceNamesIn(text, at);
     const { lines: settingLines, fault, column } = readSetting(setMatch[1], map);
-    reportError(fault && `${inColumn(fault, column + text.length - setMatch[1].length)}.`, at);
+    reportError(fault && `${errorInColumn(fault, column + text.length - setMatch[1].length)}.`, at);
     return settingLines.trimEnd();
   };
   /** @type {(text: string, at: number) => string} */

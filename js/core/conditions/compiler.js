@@ -68,7 +68,7 @@ function checkRange(value, node, required) {
   if (value.isConstant || !required.isConstant) return;
   const number = required.read([]);
   if (number <= value.maxValue) return;
-  fail(say.holds(value.name, value.maxValue, node.kind === "number" ? node.text : say.valueIs(node.text, number)), node.column);
+  fail(say.valueRange(value.name, value.maxValue, node.kind === "number" ? node.text : say.valueIs(node.text, number)), node.column);
 }
 
 /**

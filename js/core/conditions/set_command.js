@@ -82,7 +82,7 @@ export function readSetting(text, map, board = null) {
     const found = parsePlace(place);
     if (board && found && found.probesOn(board).length === 0) fail(say.boardLacks(place), 0);
     const number = evaluateConstant(value, map);
-    if (number < 0 || number > maxPlaceValue(place)) fail(say.holds(place, maxPlaceValue(place), value.text), value.column);
+    if (number < 0 || number > maxPlaceValue(place)) fail(say.valueRange(place, maxPlaceValue(place), value.text), value.column);
     return { place, lines: settingLines(place, number), fault: "", column: -1 };
   } catch (fault) {
     if (fault instanceof ConditionError) return { place: "", lines: "", fault: fault.message, column: Math.max(0, fault.column) };

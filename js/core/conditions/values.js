@@ -232,7 +232,7 @@ function suggestionFor(text, { map, watched, face }) {
   if (hint) return hint;
   const knownNames = [...(map ? map.names.keys() : []), ...(watched ? watched.keys() : []), ...face.lampNumbers.keys()];
   const similarNames = findSimilarWords(text, knownNames);
-  return similarNames.length > 0 ? say.perhaps(similarNames.join(" ")) : say.PLACES_ARE;
+  return similarNames.length > 0 ? say.suggestion(similarNames.join(" ")) : say.PLACES_ARE;
 }
 
 /**
@@ -262,7 +262,7 @@ function watchNameValue(name, text, names, dependencies) {
     return { ...compileValue(node, names, dependencies), name };
   } catch (fault) {
     // The column of the error is relative to the expression, not to the condition.
-    throw fault instanceof ConditionError ? new ConditionError(say.inName(name, fault.message)) : fault;
+    throw fault instanceof ConditionError ? new ConditionError(say.errorInName(name, fault.message)) : fault;
   } finally {
     dependencies.depth -= 1;
   }

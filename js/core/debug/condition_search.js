@@ -3,7 +3,7 @@
 import { compileExpression, compileTracedCondition } from "../conditions/condition_language.js";
 import { parsePlace } from "../conditions/places.js";
 import { rowValues } from "../engine/forecast_answers.js";
-import { inColumn } from "../../words/conditions.js";
+import { errorInColumn } from "../../words/conditions.js";
 import * as say from "../../words/debug.js";
 
 /**
@@ -25,7 +25,7 @@ export function compileSearchCondition(text, names) {
     // If the text is not a valid expression either, for example an unknown name, the expression's error is more specific.
     const value = compileExpression(text, names);
     const { fault, column } = value.expression ? conditionError : value;
-    return { searchCondition: null, fault: inColumn(fault, column) };
+    return { searchCondition: null, fault: errorInColumn(fault, column) };
   }
   return condition.places.length > 0 ? { searchCondition: condition, fault: "" } : { searchCondition: null, fault: say.NEVER_CHANGES };
 }

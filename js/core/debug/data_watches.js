@@ -10,7 +10,7 @@ import { LastChangeFinder } from "../engine/past_search.js";
 import { instructionCycles } from "../engine/rom_codes.js";
 import { ForecastAnswers, parseTraceLine, rowValues } from "../engine/forecast_answers.js";
 import { plannedCycles, truncateLines } from "./goal_search.js";
-import { boardLacks, inColumn, tooManyPlaces } from "../../words/conditions.js";
+import { boardLacks, errorInColumn, tooManyPlaces } from "../../words/conditions.js";
 import { changedFrom, CHANGES_ALWAYS } from "../../words/debug.js";
 
 /**
@@ -57,7 +57,7 @@ export function compileWatches(requestedWatches, names) {
     const { condition, fault, column } = isUnconditional ? { condition: null, fault: "", column: -1 } : compileTracedCondition(text, names);
     const allPlaces = new Set([...places, ...probes, ...(condition ? condition.places : [])]);
     const placeError = !place || probes.length === 0 ? boardLacks(name)
-      : name === UNWATCHABLE_PLACE ? CHANGES_ALWAYS : fault && inColumn(fault, column);
+      : name === UNWATCHABLE_PLACE ? CHANGES_ALWAYS : fault && errorInColumn(fault, column);
     const message = placeError || (allPlaces.size > MAX_PLACES ? tooManyPlaces(allPlaces.size, MAX_PLACES) : "");
     if (message) faults.set(id, message);
     if (message || !place) return [];

@@ -27,7 +27,7 @@ export function describeChanges(before, after) {
   const changedValues = [...after.allValues()].filter(([name, value]) => oldValues.get(name) !== value);
   const descriptions = changedValues.map(([name, value]) => `${name} ${value}`);
   const omittedCount = descriptions.length - MAX_CHANGES;
-  return descriptions.slice(0, MAX_CHANGES).join(" ") + (omittedCount > 0 ? say.andMore(omittedCount) : "");
+  return descriptions.slice(0, MAX_CHANGES).join(" ") + (omittedCount > 0 ? say.moreItems(omittedCount) : "");
 }
 
 /**

@@ -2,7 +2,7 @@
 
 import { compileCondition, compileExpression } from "../conditions/condition_language.js";
 import { parsePlace } from "../conditions/places.js";
-import { boardLacks, inColumn } from "../../words/conditions.js";
+import { boardLacks, errorInColumn } from "../../words/conditions.js";
 import * as say from "../../words/debug.js";
 
 /**
@@ -61,7 +61,7 @@ export function compileNote(text, names) {
     if (!found) return () => piece;
     const { note, fault: bracesError, column } = compileBracedText(found[1], names);
     if (!note) {
-      fault = fault || inColumn(say.noteAsks(piece, bracesError), pieceStart + 1 + column);
+      fault = fault || errorInColumn(say.noteAsks(piece, bracesError), pieceStart + 1 + column);
       return () => piece;
     }
     const from = places.length;
@@ -82,7 +82,7 @@ export function compileBreakpoint(placed, names) {
   const isAlways = placed.condition.trim() === "";
   const { condition, fault, column } = isAlways ? { condition: null, fault: "", column: -1 } : compileCondition(placed.condition, names);
   const compiledNote = placed.note.trim() === "" ? null : compileNote(placed.note, names);
-  const errorMessage = fault ? inColumn(fault, column) : compiledNote ? compiledNote.fault : "";
+  const errorMessage = fault ? errorInColumn(fault, column) : compiledNote ? compiledNote.fault : "";
   if (errorMessage) return { soft: { id, address, from: 1, hits, places: [], holds: () => true, words: null }, fault: errorMessage };
   const conditionPlaces = condition ? condition.places : [];
   const note = compiledNote && compiledNote.note;

@@ -128,7 +128,7 @@ export class SrcSelection {
     const chips = this.chipCounts.get(bank) || 0;
     const chip = (this.latchedBytes.get(bank) || 0) >> 6;
     if (chip < chips) return null;
-    const chipText = chips === 0 ? say.bankWithoutRam(bank) : say.chipOf(chip, bank, chips);
+    const chipText = chips === 0 ? say.bankWithoutRam(bank) : say.chipOfBank(chip, bank, chips);
     return { kind: "chip", words: say.writesTo(name, chipText, this.description) };
   }
 }

@@ -7,7 +7,7 @@ import { compileExpression } from "../conditions/condition_language.js";
 import { KEYWORDS, parseExpression } from "../conditions/parser.js";
 import { parsePlace } from "../conditions/places.js";
 import { ConditionError, parseNumeral } from "../conditions/scanner.js";
-import { inColumn } from "../../words/conditions.js";
+import { errorInColumn } from "../../words/conditions.js";
 import { readPlaceValue } from "./snapshot_values.js";
 import { NAME } from "../text/assembly.js";
 import * as say from "../../words/debug.js";
@@ -149,13 +149,13 @@ function splitWatchExpression(text) {
 function expressionError(value, begin, names) {
   if (names) {
     const { fault, column } = compileExpression(value, names);
-    return fault && inColumn(fault, begin + column);
+    return fault && errorInColumn(fault, begin + column);
   }
   try {
     parseExpression(value);
     return "";
   } catch (fault) {
-    if (fault instanceof ConditionError) return inColumn(fault.message, begin + Math.max(0, fault.column));
+    if (fault instanceof ConditionError) return errorInColumn(fault.message, begin + Math.max(0, fault.column));
     throw fault;
   }
 }

@@ -195,5 +195,5 @@ export function valuesAt(text, at, machineState, { nameOf, describeInstruction }
   const name = nameOf(word.text);
   if (!name) return [];
   if (!name.isLabel) return numberPieces(name.words, name.value, parts, machineState);
-  return [machineState.registers.counter === hex(name.value, 3) ? say.isNext(name.words) : name.words];
+  return [machineState.registers.counter === hex(name.value, 3) ? say.comesNext(name.words) : name.words];
 }

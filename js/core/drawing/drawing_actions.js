@@ -261,7 +261,7 @@ function perform(editedBoard, action) {
     }
     case "name":
       renamePart(editedBoard, action.part, action.name);
-      return [action.part, say.named(capitalize(displayedPartName(action.part)), action.name.trim())];
+      return [action.part, say.partNamed(capitalize(displayedPartName(action.part)), action.name.trim())];
     case "colour":
       setColour(editedBoard, action.lamp, action.colour);
       return [`lamp ${action.lamp}`, say.lampIs(action.lamp, action.colour || say.USUAL_RED)];

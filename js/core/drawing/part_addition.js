@@ -357,7 +357,7 @@ export function setChips(editedBoard, chain, chips) {
   const isBeyond = (line) => line.startsWith(`chain${chain}.`) && parseChainBit(line).bit >= BITS_PER_CHIP * chips;
   checkFrontPanelOutputs(editedBoard, isBeyond);
   const lostLine = [...inputLines(editedBoard.board).values()].find(isBeyond);
-  if (lostLine) throw new ImpossibleAction(say.inUse(lostLine));
+  if (lostLine) throw new ImpossibleAction(say.bitInUse(lostLine));
   editedBoard.edit([setValue(editedBoard.draft, editedBoard.draft.requirePart("chain", chain), "chips", chips)]);
   return `chain ${chain}`;
 }

@@ -152,7 +152,7 @@ function headerLines({ chain, first, rows, columns }, clock, data, labels) {
   return [
     say.scansKeys(rows, first, chain, readPorts), say.callUsage(labels.labelFor("scan")),
     say.registersUsed(first > REGISTER_VALUES ? "R9" : first > 0 ? "R8" : "R7"), say.writesPorts(writtenPorts),
-    ...banks.map(say.designates),
+    ...banks.map(say.designatesBank),
   ].map((words) => `; ${words}`);
 }
 
@@ -169,11 +169,11 @@ export function keyScanSource({ matrix, chains }, text) {
   const labels = new Labels(text);
   const [scan, row, shift, out] = ["scan", "row", "shift", "out"].map((suffix) => labels.labelFor(suffix));
   /** @type {Line[]} */
-  const callingProgram = /^\s*[^\s;]/m.test(text) ? [] : [["start", ["JMS", scan], say.WAITS], ["", ["JUN", "start"]]];
+  const callingProgram = /^\s*[^\s;]/m.test(text) ? [] : [["start", ["JMS", scan], say.PROGRAM_CONTINUES], ["", ["JUN", "start"]]];
   /** @type {Line[]} */
   const lines = [
     [scan, ["LDM", "0"]], ["", ["XCH", "R4"], say.FIRST_ROW],
-    ["", ["LDM", String(REGISTER_VALUES - rows)]], ["", ["XCH", "R7"], say.counts(rows)],
+    ["", ["LDM", String(REGISTER_VALUES - rows)]], ["", ["XCH", "R7"], say.countsRows(rows)],
     ["", ["LDM", String(data.bit)]], ["", ["JMS", shift], say.ONE_ENTERS], ...firstRowLines(first, labels),
     ...columnLines(columns, labels).map((line, at) => /** @type {Line} */ (at === 0 ? [row, line[1], line[2]] : line)),
     ["", ["LDM", "0"]], ["", ["JMS", shift], say.NEXT_ROW], ["", ["INC", "R4"]], ["", ["ISZ", "R7,", row]], ["", ["BBL", "0"], say.NO_KEY],

@@ -13,7 +13,7 @@ import {
   GUARDABLE_FORMS, afterPressProperty, alwaysProperty, atProperty, everyProperty, guardedProperty, modelProperty, neverForProperty,
   neverProperty, oncePerPressProperty, onlyAfterProperty, reachAddressProperty, reachProperty, standardProperties, withinProperty,
 } from "./properties.js";
-import { NO_DISPLAY, boardLacks, inColumn, noLabel } from "../../words/conditions.js";
+import { NO_DISPLAY, boardLacks, errorInColumn, noLabel } from "../../words/conditions.js";
 import * as say from "../../words/explore.js";
 import { noKey } from "../../words/testing.js";
 
@@ -231,7 +231,7 @@ const SETTING_PARSERS = {
   note: (reader, words) => {
     if (words.length === 0) fail(say.NOTE_SYNTAX);
     for (const word of words) reader.notes.push(...findNotePlaces(reader, word));
-    if (reader.notes.length > MAX_NOTES) fail(say.mostNoted(MAX_NOTES));
+    if (reader.notes.length > MAX_NOTES) fail(say.tooManyNotes(MAX_NOTES));
   },
 };
 
@@ -360,7 +360,7 @@ function parseGuardedLine(reader, text, firstGuard) {
     reader.searchStart = text.length - (unguardedText || text).length;
     ({ rest: unguardedText } = next);
     count += 1;
-    if (count > MAX_GUARDS) fail(say.mostGuards(MAX_GUARDS));
+    if (count > MAX_GUARDS) fail(say.tooManyGuards(MAX_GUARDS));
     const [, condition] = /^while (.+)$/.exec(next.guard) || [];
     if (condition === undefined) guards.push(parseGuard(reader, next.guard));
     else reader.whileCondition = `${reader.whileCondition && `${reader.whileCondition} and `}(${reader.parseCondition(condition).text})`;
@@ -417,7 +417,7 @@ function parseUnguardedLine(reader, text) {
   if (start) return withinProperty(text, reader.parseLabel(start), reader.parseLabel(target), reader.parseTime(time, say.WITHIN_SYNTAX));
   const [kind, ...words] = text.split(" ");
   if (Object.prototype.hasOwnProperty.call(PROPERTY_PARSERS, kind)) return PROPERTY_PARSERS[kind](reader, words.join(" "), text);
-  if (!Object.prototype.hasOwnProperty.call(SETTING_PARSERS, kind)) fail(say.unknownFirstWord(kind.slice(0, 30), say.FORMS));
+  if (!Object.prototype.hasOwnProperty.call(SETTING_PARSERS, kind)) fail(say.unknownFirstWord(kind.slice(0, 30), say.PROPERTY_FORMS));
   SETTING_PARSERS[kind](reader, words);
   return null;
 }
@@ -469,7 +469,7 @@ export function readCampaign(text, subject, needsInputs = true) {
     } catch (fault) {
       if (!(fault instanceof ConditionError)) throw fault;
       const column = fault.column < 0 ? -1 : columnInLine(originalLine, fault.column);
-      faults.push({ line: index + 1, column, words: column < 0 ? fault.message : inColumn(fault.message, column) });
+      faults.push({ line: index + 1, column, words: column < 0 ? fault.message : errorInColumn(fault.message, column) });
     }
   });
   const last = Math.max(1, text.trimEnd().split("\n").length);

@@ -4,7 +4,7 @@
 import { formatQuantity } from "../bench/numbers.js";
 import { TAP_HEAD, tapDescription, yamlString } from "../testing/tap.js";
 import { Coverage } from "./search_coverage.js";
-import { andMore } from "../../words/debug.js";
+import { moreItems } from "../../words/debug.js";
 import * as say from "../../words/explore.js";
 import { neverReached, proved } from "../../words/prove.js";
 
@@ -129,7 +129,7 @@ const MAX_LISTED_LINES = 40;
 /** @param {number[]} lines */
 function formatLineNumbers(lines) {
   const more = lines.length - MAX_LISTED_LINES;
-  return `${say.linesAre(lines.length, lines.slice(0, MAX_LISTED_LINES).join(" "))}${more > 0 ? andMore(more) : ""}`;
+  return `${say.lineList(lines.length, lines.slice(0, MAX_LISTED_LINES).join(" "))}${more > 0 ? moreItems(more) : ""}`;
 }
 
 /**
@@ -138,7 +138,7 @@ function formatLineNumbers(lines) {
  */
 export function coverageLines({ covered, instructions }) {
   const { run, all, ways, allWays, left, oneWay } = new Coverage(covered).summary(instructions);
-  const lines = [say.covered(say.partOf(run, all), say.partOf(ways, allWays))];
+  const lines = [say.covered(say.partOfTotal(run, all), say.partOfTotal(ways, allWays))];
   if (left.length > 0) lines.push(say.neverRun(formatLineNumbers(left)));
   if (oneWay.length > 0) lines.push(say.alwaysOneWay(formatLineNumbers(oneWay)));
   return lines;
@@ -158,7 +158,7 @@ export function formatTap(report) {
   }
   const rate = seconds > 0 ? say.stepsPerSecond(formatNumber(steps / seconds)) : "";
   lines.push(...coverageLines(report).map((line) => `# ${line}`));
-  lines.push(say.figures(seeds, formatNumber(steps), seconds.toFixed(1), rate, formatNumber(states), isStopped));
+  lines.push(say.statistics(seeds, formatNumber(steps), seconds.toFixed(1), rate, formatNumber(states), isStopped));
   return `${lines.join("\n")}\n`;
 }
 

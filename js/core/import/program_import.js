@@ -231,7 +231,7 @@ class ProgramImport {
       if (word !== "") this.originalTexts = [trimBlanks(`${word} ${operand}`)];
       return "";
     }
-    if (INSTRUCTIONS_OF_4040.has(word)) throw new LineError(say.of4040(word));
+    if (INSTRUCTIONS_OF_4040.has(word)) throw new LineError(say.instructionOf4040(word));
     if (word === PROGRAM_RAM_MNEMONIC) throw new LineError(say.NO_PROGRAM_RAM);
     if (UNSUPPORTED_DIRECTIVES.has(word)) throw new LineError(say.notSupported(word));
     if (word === "ORG") return `ORG ${this.operandText(operand, { to: LAST_ADDRESS, isNumber: true })}`;

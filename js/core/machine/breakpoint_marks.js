@@ -20,7 +20,7 @@ const NEVER_STOPS_MARK = "\u25CB";
 export function describeDetails({ condition, from, note }) {
   const conditionText = condition.trim() ? say.ifCondition(condition.trim()) : "";
   const hitText = from > 1 ? say.fromHit(from) : "";
-  return `${conditionText}${hitText}${note.trim() && say.logs(note.trim())}`.replace(/^:? /, "");
+  return `${conditionText}${hitText}${note.trim() && say.logsNote(note.trim())}`.replace(/^:? /, "");
 }
 
 /**
@@ -40,7 +40,7 @@ export function describeBreakpoint(breakpoint) {
 export function breakpointMark(breakpoint, fault) {
   const description = describeBreakpoint(breakpoint);
   if (fault) return { mark: ALWAYS_STOPS_MARK, words: say.stopsAlwaysByError(description, fault) };
-  if (!breakpoint.isOn) return { mark: NEVER_STOPS_MARK, words: say.isOff(description) };
+  if (!breakpoint.isOn) return { mark: NEVER_STOPS_MARK, words: say.breakpointIsOff(description) };
   if (breakpoint.address < 0) return { mark: NEVER_STOPS_MARK, words: say.stopsLater(description) };
   if (breakpoint.note.trim()) return { mark: LOG_MARK, words: description };
   return { mark: breakpoint.condition.trim() || breakpoint.from > 1 ? CONDITION_MARK : ALWAYS_STOPS_MARK, words: description };

@@ -41,5 +41,5 @@ export function parseGoal(text, map) {
   if (!Number.isNaN(parseNumber(word))) return targetError(say.beyondLast(word));
   if (word === "") return targetError(say.nothingToGoTo(say.ADDRESS_FORMS));
   if (map) return targetError(say.noNameOrAddress(word, say.ADDRESS_FORMS));
-  return targetError(say.noAddress(word, say.ADDRESS_FORMS));
+  return targetError(say.notAnAddress(word, say.ADDRESS_FORMS));
 }

@@ -159,10 +159,10 @@ export function describeHeatStatus({ chips }, isAll) {
 export function describeHeat({ cycles, cells }, requestedCycles, nameOf, map) {
   if (cycles === 0) return say.NOTHING_EARLIER;
   const period = say.inTheLast(formatCycles(cycles), cycles >= requestedCycles);
-  if (cells.length === 0) return say.noneChanged(period);
+  if (cells.length === 0) return say.nothingChanged(period);
   const mostChanged = cells.reduce((one, other) => (other.count > one.count ? other : one));
   if (cells.length === 1) return say.oneChanged(period, nameOf(mostChanged.place), describeChanges(mostChanged, map));
   const lastChanged = cells.reduce((one, other) => (other.ago < one.ago ? other : one));
-  const often = say.mostOften(nameOf(mostChanged.place), formatTimes(mostChanged.count));
+  const often = say.mostFrequentChange(nameOf(mostChanged.place), formatTimes(mostChanged.count));
   return say.manyChanged(period, cells.length, often, nameOf(lastChanged.place), describeLastChange(lastChanged, map));
 }

@@ -33,7 +33,7 @@ export class ProjectError extends Error {
  * @param {Uint8Array} bytes
  */
 function bytesError(bytes) {
-  if (bytes.length === 0) return say.EMPTY;
+  if (bytes.length === 0) return say.PROJECT_FILE_IS_EMPTY;
   const { length } = bytes;
   if (length > MAX_PROJECT_TOML_BYTES) return say.tooLong(length, MAX_PROJECT_TOML_BYTES);
   return bytes.includes(0) ? say.CONTAINS_NUL : "";

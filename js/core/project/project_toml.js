@@ -51,8 +51,8 @@ function errorAt({ line, from, to }, words) {
 function pathError(key, path) {
   if (path === "") return say.emptyPath(key, KEY_TEXTS.get(key));
   // eslint-disable-next-line no-control-regex
-  if (/[\u0000-\u001f\u007f]/.test(path)) return say.controlCharacter(key);
-  if (path.includes("\\")) return say.backslash(key);
+  if (/[\u0000-\u001f\u007f]/.test(path)) return say.pathHasControlCharacter(key);
+  if (path.includes("\\")) return say.pathHasBackslash(key);
   if (path.startsWith("/")) return say.noPath(path, key);
   if (path.split("/").includes("..")) return say.outOfFolder(path, key);
   return "";
@@ -88,7 +88,7 @@ function duplicateErrors(keys) {
   return keys.flatMap((key) => {
     const firstLine = lines.get(key.name);
     if (firstLine === undefined) lines.set(key.name, key.line);
-    return firstLine === undefined || !KEY_TEXTS.has(key.name) ? [] : [errorAt(key, say.alreadyIn(key.name, firstLine))];
+    return firstLine === undefined || !KEY_TEXTS.has(key.name) ? [] : [errorAt(key, say.keyRepeated(key.name, firstLine))];
   });
 }
 
@@ -122,7 +122,7 @@ export function readProjectToml(text) {
   ];
   if (errors.length === 0) {
     const missingKeys = REQUIRED_KEYS.filter((name) => !keys.some((key) => key.name === name));
-    errors.push(...missingKeys.map((name) => errorAt({ line: 1, from: 0, to: 0 }, say.missing(name, KEY_TEXTS.get(name)))));
+    errors.push(...missingKeys.map((name) => errorAt({ line: 1, from: 0, to: 0 }, say.keyMissing(name, KEY_TEXTS.get(name)))));
   }
   if (errors.length > 0) return { names: null, faults: errors.sort((one, other) => one.line - other.line) };
   const [[board], [program], tests, properties] = ["board", "program", ...LIST_KEYS].map((name) => filesForKey(keys, name));

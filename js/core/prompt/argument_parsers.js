@@ -64,7 +64,7 @@ export function findInstruction(text, session) {
  */
 export function parseCountArgument(text, maxCount) {
   const count = text.trim() === "" ? 1 : Number(text);
-  if (!/^\s*\d*\s*$/.test(text) || count < 1 || count > maxCount) rejectCommand(say.countIs(maxCount.toLocaleString("en"), text.trim()));
+  if (!/^\s*\d*\s*$/.test(text) || count < 1 || count > maxCount) rejectCommand(say.countRange(maxCount.toLocaleString("en"), text.trim()));
   return count;
 }
 

@@ -216,7 +216,7 @@ export class SessionPrompt {
     const lines = text.split("\n");
     this.calls.complain(errors.flatMap(({ line, words }) => {
       const shown = line > 0 ? [`    ${(lines[line - 1] || "").slice(0, MAX_SHOWN_CHARACTERS)}`] : [];
-      return [say.inText(name, line > 0 ? line + before : 0, words), ...shown];
+      return [say.errorInText(name, line > 0 ? line + before : 0, words), ...shown];
     }).join("\n"));
     return false;
   }
@@ -270,7 +270,7 @@ export class SessionPrompt {
     }
     if (number === NO_ROM_ERROR) return say.noRomAt(words[0]);
     if (number === NO_RAM_ERROR) return noRamAt(word === "poke" ? words[0] : words.join(" "));
-    return number === NO_RUN_ERROR ? say.noRun(words[0]) : this.calls.wordsOf(number);
+    return number === NO_RUN_ERROR ? say.invalidRunLength(words[0]) : this.calls.wordsOf(number);
   }
 
   // --- help ---
@@ -296,7 +296,7 @@ export class SessionPrompt {
     const manual = this.calls.manual();
     const places = sectionRows(manual, say.PLACES_TITLE).map((row) => `  ${row.map(cellText).join(", ").replace(", ", ": ")}`);
     if (word === "places") return places.join("\n");
-    const promptLines = say.OWN_LINES.filter(([form]) => form.split(/[ ,]+/).includes(word)).map(([form, does]) => `${form}: ${does}`);
+    const promptLines = say.PROMPT_LINES.filter(([form]) => form.split(/[ ,]+/).includes(word)).map(([form, does]) => `${form}: ${does}`);
     const lines = matchLines(readLineForms(manual), `${word} `).map(({ form, does }) => `${form}: ${does}`);
     return [...lines, ...(word === "poke" ? places : []), ...promptLines].join("\n");
   }
@@ -316,7 +316,7 @@ export class SessionPrompt {
 
 /** Returns the list of all lines that the user can type, with descriptions. */
 function listAllLines() {
-  const groups = [...LINES_BY_GROUPS, { title: say.OWN_TITLE, lines: say.OWN_LINES }];
+  const groups = [...LINES_BY_GROUPS, { title: say.PROMPT_LINES_TITLE, lines: say.PROMPT_LINES }];
   const shown = groups.map(({ title, lines }) => `${title}\n${lines.map(([form, does]) => `  ${form.padEnd(24)} ${does}`).join("\n")}`);
-  return [...shown, say.KEYS_OF_PROMPT].join("\n");
+  return [...shown, say.PROMPT_KEYS].join("\n");
 }

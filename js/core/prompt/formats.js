@@ -4,7 +4,7 @@ import { compileExpression } from "../conditions/condition_language.js";
 import { evaluateExpression } from "../adapter/expression_values.js";
 import { hex } from "../bench/numbers.js";
 import { rejectCommand } from "./argument_parsers.js";
-import { inColumn } from "../../words/conditions.js";
+import { errorInColumn } from "../../words/conditions.js";
 import * as say from "../../words/prompt.js";
 
 /**
@@ -22,7 +22,7 @@ const FORMATS = {
   o: createFormatter(8, "0"),
   t: createFormatter(2, "0b"),
   b: createFormatter(2, "0b"),
-  a: (value, { map }) => (value < 0 ? createFormatter(16, "0x")(value) : say.addressIs(hex(value, 3), map.nameOf(value) || "")),
+  a: (value, { map }) => (value < 0 ? createFormatter(16, "0x")(value) : say.addressWithName(hex(value, 3), map.nameOf(value) || "")),
 };
 
 /**
@@ -33,7 +33,7 @@ const FORMATS = {
  */
 function evaluateNumber(text, session) {
   const { expression, fault, column } = compileExpression(text, session.names);
-  if (!expression) return rejectCommand(inColumn(fault, column));
+  if (!expression) return rejectCommand(errorInColumn(fault, column));
   const values = session.debugger.readPlaces(expression.places);
   if (expression.number) return expression.number(values);
   return expression.textOf(values) === "true" ? 1 : 0;

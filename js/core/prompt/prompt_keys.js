@@ -39,7 +39,7 @@ export class PromptKeys {
     const down = pressedKeys(this.session);
     const { names } = this;
     if (names.length === 0) return say.NO_KEYS;
-    return `${names.join(" ")}\n${down.length > 0 ? say.down(down.join(" ")) : say.NO_KEY_IS_DOWN}`;
+    return `${names.join(" ")}\n${down.length > 0 ? say.keysDown(down.join(" ")) : say.NO_KEY_IS_DOWN}`;
   }
 
   /**

@@ -35,7 +35,7 @@ export class SourceCommand {
    * @param {string} words
    */
   complain(words) {
-    this.calls.complain(this.file ? say.inFile(this.file.name, this.file.at, words) : words);
+    this.calls.complain(this.file ? say.errorInFile(this.file.name, this.file.at, words) : words);
   }
 
   /**
@@ -45,7 +45,7 @@ export class SourceCommand {
    */
   async serve(name) {
     if (name === "") throw new Error(say.SOURCE_SYNTAX);
-    if (this.files.length === MAX_NESTING) throw new Error(say.tooDeep(MAX_NESTING));
+    if (this.files.length === MAX_NESTING) throw new Error(say.sourcesTooDeep(MAX_NESTING));
     const lines = this.calls.read(name).replace(/\n$/, "").split("\n");
     const file = { name, at: 0 };
     this.files.push(file);

@@ -153,7 +153,7 @@ export function addressText(session, address) {
 export function lineText(session, { line, address }) {
   const [{ bytes = "" } = {}] = listInstructionRows(session, address, 0, 1);
   const last = address + Math.max(1, bytes.split(" ").filter(Boolean).length) - 1;
-  return say.lineIs(line, hex(address, 3), session.map.nameOf(address) || "", last > address ? hex(last, 3) : "");
+  return say.lineLocation(line, hex(address, 3), session.map.nameOf(address) || "", last > address ? hex(last, 3) : "");
 }
 
 /**

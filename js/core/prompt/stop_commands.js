@@ -106,7 +106,7 @@ export class StopCommands {
   async ignoreHits(argumentText) {
     const { breakpoint: { id, hits }, more } = this.parseBreakpoint(argumentText, say.IGNORE_SYNTAX);
     const count = /^\d{1,9}$/.test(more) ? Number(more) : -1;
-    if (count < 0) rejectCommand(say.ignoredIs(MAX_IGNORED_HITS.toLocaleString("en"), more || say.NOTHING));
+    if (count < 0) rejectCommand(say.hitCountRange(MAX_IGNORED_HITS.toLocaleString("en"), more || say.NOTHING));
     await this.prompt.breakpoints.change(id, { from: count === 0 ? 1 : hits + count + 1 });
     this.prompt.calls.print(say.breakpointWillIgnore(id, count));
   }

@@ -175,6 +175,6 @@ export class View {
     const shown = machine.frontPanelText.currentText();
     const displays = inspectCommands.displays.slice(0, MAX_DISPLAYS)
       .map((expression) => `${expression} = ${inspectCommands.evaluateOrExplain(expression)}`);
-    return [shown, keys && say.down(keys), ...displays].filter(Boolean).map((line) => cutText(line, columns));
+    return [shown, keys && say.keysDown(keys), ...displays].filter(Boolean).map((line) => cutText(line, columns));
   }
 }

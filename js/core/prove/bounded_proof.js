@@ -93,7 +93,7 @@ class ProverQueries {
    */
   explainNoAnswer(answer) {
     if (answer.kind === "lost") return say.GAVE_UP;
-    if (answer.kind === "more") return say.moreThan(formatNumber(this.searchedStates));
+    if (answer.kind === "more") return say.moreStatesThan(formatNumber(this.searchedStates));
     return say.memoryFullAfter(formatNumber(Math.max(answer.states, this.searchedStates)));
   }
 }

@@ -194,7 +194,8 @@ export class PropertyJudge {
       mistake);
     if (!found) return { kind: "open", words: explainUnconfirmed(property) };
     if (!await calls.confirms(found, property.isGoal)) return { kind: "open", words: say.NOT_CONFIRMED };
-    return found.isAllowed || property.isGoal ? { kind: "found", found } : { kind: "open", words: say.excluded(formatSteps(found.steps)) };
+    return found.isAllowed || property.isGoal ? { kind: "found", found }
+      : { kind: "open", words: say.onlyExcludedInputs(formatSteps(found.steps)) };
   }
 
   /**

@@ -100,7 +100,7 @@ export class Connection extends MessageStream {
     const fault = this.lifecycleError(method);
     const handler = Object.prototype.hasOwnProperty.call(this.handlers.requests, method) && this.handlers.requests[method];
     if (fault || !handler || this.pendingRequests.has(id)) {
-      const notServed = handler ? new ProtocolError(INVALID_REQUEST, say.idWaits(id))
+      const notServed = handler ? new ProtocolError(INVALID_REQUEST, say.requestPending(id))
         : new ProtocolError(METHOD_NOT_FOUND, say.noMethod(method));
       this.rejectRequest(id, fault || notServed);
       return;

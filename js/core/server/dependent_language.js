@@ -7,7 +7,7 @@ import { findDefinition } from "../text/references.js";
 import { wordsUpTo } from "../text/test_words.js";
 import { escapeMarkdown } from "./markdown.js";
 import { rangeInLine } from "./lsp_protocol.js";
-import { inColumn } from "../../words/conditions.js";
+import { errorInColumn } from "../../words/conditions.js";
 import * as say from "../../words/server.js";
 
 /**
@@ -37,7 +37,7 @@ const VALUE_COMPLETION = 12;
  * @returns {ShownFault}
  */
 export function locateError(lines, { line, column, words: fullMessage }) {
-  const message = column < 0 ? fullMessage : fullMessage.replace(inColumn("", column), "");
+  const message = column < 0 ? fullMessage : fullMessage.replace(errorInColumn("", column), "");
   const text = lines[line - 1] || "";
   const end = text.trimEnd().length;
   const begin = Math.min(end, text.length - text.trimStart().length);

@@ -82,7 +82,7 @@ export function quickFixes(uri, faults, range) {
   return faults.filter((fault) => touchesRange(fault, range)).flatMap((fault) => {
     const texts = fault.quickFixTexts || [];
     return texts.map((newText) => ({
-      title: say.write(newText),
+      title: say.quickFixTitle(newText),
       kind: "quickfix",
       diagnostics: [toDiagnostic(fault)],
       isPreferred: texts.length === 1,

@@ -44,7 +44,7 @@ function readFormattingOptions(options) {
  * @returns {any[]}
  */
 function needList(value, parameterName) {
-  if (!Array.isArray(value)) throw new ProtocolError(INVALID_PARAMS, say.isList(parameterName));
+  if (!Array.isArray(value)) throw new ProtocolError(INVALID_PARAMS, say.mustBeList(parameterName));
   return value;
 }
 

@@ -40,7 +40,7 @@ const TEXT_FILES = /(^[^.]*|\.(txt|text))$/i;
  * @returns {UnusableFile}
  */
 function unusableFileError(reason) {
-  return new UnusableFile(say.opens(reason));
+  return new UnusableFile(say.supportedFiles(reason));
 }
 
 /**

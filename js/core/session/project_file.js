@@ -191,7 +191,7 @@ function checkEnvelope(text) {
   const version = /^fethsaim project (\d+)$/.exec(firstLine);
   if (!version) throw new InvalidProject(say.NO_PROJECT);
   if (firstLine !== FIRST_LINE) throw new InvalidProject(say.otherVersion(version[1]));
-  if (!text.endsWith(`\n${LAST_LINE}\n`)) throw new InvalidProject(say.cutOff(LAST_LINE));
+  if (!text.endsWith(`\n${LAST_LINE}\n`)) throw new InvalidProject(say.projectCutOff(LAST_LINE));
   const found = /^[^\n]*\ncksum (\d+)\n/.exec(text);
   if (!found) return;
   const sum = checksum(new TextEncoder().encode(text.slice(found[0].length)));
@@ -216,7 +216,7 @@ function readHead(lines) {
     const [match, word, value] = /^(name|unended|value) (.+)$|^#/.exec(lines.next) || [];
     const breakpoint = parseBreakpoint(lines.next || "");
     if (breakpoint) breakpoints.push(breakpoint);
-    else if (match === undefined) throw lines.fault(say.ONE_OF_HEAD);
+    else if (match === undefined) throw lines.fault(say.HEAD_LINE);
     if (word === "name") name = shortName(value);
     if (word === "unended") unended.add(value);
     if (word === "value") watched.push(value);

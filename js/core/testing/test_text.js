@@ -7,7 +7,7 @@ import { parsePlace } from "../conditions/places.js";
 import { readSetting } from "../conditions/set_command.js";
 import { parseNumber } from "../bench/numbers.js";
 import { keyLine, pinKey } from "../board/key_place.js";
-import { inColumn } from "../../words/conditions.js";
+import { errorInColumn } from "../../words/conditions.js";
 import * as say from "../../words/testing.js";
 
 /**
@@ -173,7 +173,7 @@ class TestReader {
    * @param {number} [column]
    */
   addFault(line, words, column = -1) {
-    this.faults.push({ file: this.source.name, line, column, words: column < 0 ? words : inColumn(words, column) });
+    this.faults.push({ file: this.source.name, line, column, words: column < 0 ? words : errorInColumn(words, column) });
   }
 
   /**

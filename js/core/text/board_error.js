@@ -126,7 +126,7 @@ class BoardErrorText {
     const { number, section, key: name } = this.error;
     if (number === MISSING_KEY) return say.lacksKeys(section, name);
     if (number === BAD_VALUE) return this.explainValues(value);
-    if (number === TOO_MANY) return name === "" ? say.mostTables(MAX_PARTS[section], section) : say.mostColumns(MAX_COLUMNS);
+    if (number === TOO_MANY) return name === "" ? say.tooManyTables(MAX_PARTS[section], section) : say.tooManyColumns(MAX_COLUMNS);
     if (!entry || !key || !value) return this.messageFor(number);
     if (number === DUPLICATE) return say.alreadyThere(`${name} ${value.inner}`, this.findFirstLine(entry, key));
     if (number === MISSING_LINE) return name === "rows" ? this.explainRows(entry) : this.explainMissingLine(String(value.inner));

@@ -257,7 +257,7 @@ export class BoardReader {
       values.push(this.readValue(key));
       this.skipLineEnds();
       if (this.isMark(",")) this.at += 1;
-      else if (!this.isMark("]")) throw new TomlSyntaxError(this.word, this.word.fault || say.COMMA_OF_VALUES);
+      else if (!this.isMark("]")) throw new TomlSyntaxError(this.word, this.word.fault || say.VALUE_COMMA_MISSING);
     }
     this.at += 1;
     return values;
@@ -272,7 +272,7 @@ export class BoardReader {
       if (this.word.kind === "end") throw new TomlSyntaxError(this.word, say.NO_BRACE);
       keys.push(this.readKey());
       if (this.isMark(",")) this.at += 1;
-      else if (!this.isMark("}")) throw new TomlSyntaxError(this.word, this.word.fault || say.COMMA_OF_KEYS);
+      else if (!this.isMark("}")) throw new TomlSyntaxError(this.word, this.word.fault || say.KEY_COMMA_MISSING);
     }
     this.at += 1;
     return { table: "", line, from, to, keys, end: this.lastEnd };

@@ -69,7 +69,7 @@ function describeNumberError(text) {
   if (converted) return converted.words;
   if (/^-\d+$/.test(text)) return say.NO_NEGATIVES;
   if (/[-+*/()<>]/.test(text)) return say.NO_EXPRESSIONS;
-  if (/\s/.test(text)) return say.COMMA_OF_OPERANDS;
+  if (/\s/.test(text)) return say.OPERAND_COMMA_MISSING;
   if (/^\d/.test(text)) return say.NUMBER_SYNTAX;
   return "";
 }

@@ -63,10 +63,10 @@ export function findDefinition(lines, name) {
  */
 export function findRenamingError(lines, name, newName, isInstruction) {
   const upper = newName.toUpperCase();
-  if (!NAME.test(newName)) return say.NAME_IS;
+  if (!NAME.test(newName)) return say.NAME_RULE;
   if (newName.length > MAX_NAME_LENGTH) return say.nameHasMost(MAX_NAME_LENGTH, newName.length);
-  if (isInstruction(upper) || upper === "WPM" || DIRECTIVES.includes(upper)) return say.isAnInstruction(newName);
-  if (REGISTER.test(newName) || PAIR.test(newName)) return say.isARegister(newName);
+  if (isInstruction(upper) || upper === "WPM" || DIRECTIVES.includes(upper)) return say.nameIsInstruction(newName);
+  if (REGISTER.test(newName) || PAIR.test(newName)) return say.nameIsRegister(newName);
   const line = findDefinedNames(lines).get(newName);
   return newName !== name && line ? say.isDefined(newName, line) : "";
 }

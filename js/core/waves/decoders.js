@@ -87,7 +87,7 @@ function formatBits(bits, base) {
  * @param {NumberBase} base
  */
 export function shiftText(value, bits, base) {
-  return value === AT_REST ? say.atRest(formatBits(bits, base)) : String(value & 1);
+  return value === AT_REST ? say.valueAtRest(formatBits(bits, base)) : String(value & 1);
 }
 
 /**

@@ -64,7 +64,7 @@ export class LiveWaves {
     const { waves, triggerMoment, endReason: over } = this;
     const { trigger } = this.settings;
     const triggerText = triggerMoment < 0 ? "" : say.triggerWasAt(formatNumber(triggerMoment));
-    if (over === "trigger") return say.recorded(this.lengthText, triggerText);
+    if (over === "trigger") return say.recordedDuration(this.lengthText, triggerText);
     if (over !== "") return say.recordedUntil(this.lengthText || say.NOTHING, say.END_REASONS[over] || over, triggerText);
     if (triggerMoment >= 0) return say.recordsAfter(triggerText);
     const statusText = waves.cycles === 0 ? say.RECORDS_SOON : say.RECORDS;

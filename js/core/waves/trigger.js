@@ -3,7 +3,7 @@
 
 import { compileTracedCondition } from "../conditions/condition_language.js";
 import { isDecoder } from "./decoders.js";
-import { inColumn } from "../../words/conditions.js";
+import { errorInColumn } from "../../words/conditions.js";
 import * as say from "../../words/waves.js";
 
 /**
@@ -74,7 +74,7 @@ export function readTrigger(text, lines, names) {
   const found = EDGE_SYNTAX.exec(text.trim());
   if (found) return parseEdge(found[1], /** @type {Edge} */ (found[2]), lines);
   const { condition, fault, column } = compileTracedCondition(text, names);
-  if (!condition) return { trigger: null, fault: inColumn(fault, column) };
+  if (!condition) return { trigger: null, fault: errorInColumn(fault, column) };
   const { places, address, holds } = condition;
   return { trigger: { edge: "", members: [], places, address, holds: (values) => holds(values) }, fault: "" };
 }

@@ -28,7 +28,7 @@ class Lamp {
     this.isLit = false;
     this.dutyCycle = 0;
     this.brightness = 0;
-    this.words = { lit: say.lit(name), dark: say.dark(name) };
+    this.words = { lit: say.litLamp(name), dark: say.darkLamp(name) };
     this.node = element("span", { className: `bulb ${colour}`, title: line });
     this.node.setAttribute("role", "img");
     this.node.setAttribute("aria-label", this.words.dark);
@@ -148,7 +148,7 @@ export class LampsView {
   drawScanned(group, number) {
     return lampList(group, (index, words) => {
       const reader = scannedLampAt(group, number, index);
-      return this.addLamp(reader.column, reader, words, say.both(this.lines[reader.column], this.lines[reader.row]));
+      return this.addLamp(reader.column, reader, words, say.columnAndRow(this.lines[reader.column], this.lines[reader.row]));
     });
   }
 

@@ -213,7 +213,7 @@ export class WiringView {
    * @param {Pin} pin
    */
   describePin({ id, line }) {
-    if (line !== "" && id !== line) return say.at(line);
+    if (line !== "" && id !== line) return say.wiredAt(line);
     const pins = (this.linePins.get(line) || []).filter((pin) => pin !== id);
     return pins.length > 0 ? say.wiredTo(pins.join(say.AND)) : say.NOT_WIRED;
   }

@@ -197,7 +197,7 @@ export class ExploreTab {
   describeSearch(currentResults, isRunning) {
     const report = currentResults && currentResults.report;
     if (report) return isRunning ? progressSummary(report) : finalSummary(report, currentResults.isStopped);
-    return isRunning ? say.BEGINS : "";
+    return isRunning ? say.STARTING : "";
   }
 
   stop() {

@@ -1,7 +1,7 @@
 // The results of a search for counterexamples: a row for each property, and the program's coverage.
 
 import { Cell, Switch, block, makeButton, descendant, element } from "../ui/dom.js";
-import { andMore } from "../../words/debug.js";
+import { moreItems } from "../../words/debug.js";
 import { coverageOf, markOf, searchStatistics, describePropertyResult } from "../../words/explore_results.js";
 import * as say from "../../words/explore.js";
 import { lineReference } from "../../words/stops.js";
@@ -61,7 +61,7 @@ class PropertyRow {
     this.node.append(
       element("details", {}, element("summary", {}, say.ITS_TEST), element("pre", { tabIndex: 0 }, property.found.test.trimEnd())),
       element("p", { className: "bar" },
-        makeButton(say.OPEN_AS_SESSION, () => this.calls.openCounterexample(this.index), { title: say.AS_IT_IS_THERE }),
+        makeButton(say.OPEN_AS_SESSION, () => this.calls.openCounterexample(this.index), { title: say.NEW_SESSION_HINT }),
         makeButton(say.ADD_TO_TESTS, () => this.calls.addTest(this.index), { title: say.AT_END })));
   }
 }
@@ -132,7 +132,7 @@ export class ExploreView {
     const key = lines.join(" ");
     if (key === this.listedNeverRun) return;
     this.listedNeverRun = key;
-    const moreText = lines.length > MAX_LISTED_LINES ? andMore(lines.length - MAX_LISTED_LINES) : "";
+    const moreText = lines.length > MAX_LISTED_LINES ? moreItems(lines.length - MAX_LISTED_LINES) : "";
     const buttons = lines.slice(0, MAX_LISTED_LINES).flatMap((line) => [
       " ", makeButton(String(line), () => this.calls.goToSource(line), { className: "name", ariaLabel: say.lineOfSource(line) })]);
     this.neverRunBlock.replaceChildren(...(lines.length === 0 ? [] : [say.NEVER_RUN, ...buttons, moreText]));

@@ -95,7 +95,7 @@ export class TourView {
     this.program.set(program);
     this.program.node.hidden = program === "";
     this.putButton.hidden = program === "";
-    this.nextButton.textContent = this.isLastStep ? say.END : say.NEXT_STEP;
+    this.nextButton.textContent = this.isLastStep ? say.FINISH : say.NEXT_STEP;
     this.showDone();
     this.pointAtTarget();
   }

@@ -118,7 +118,7 @@ export class LineServer {
     this.showCounter(counter, result.entries);
     if (result.hasChangedRom) calls.checkSource();
     const fault = await calls.save();
-    if (result.status !== 0) this.notice.show(say.LINES_TOO_LONG);
+    if (result.status !== 0) this.notice.show(say.TOO_MANY_BYTES);
     calls.log(result.entries, fault);
   }
 
@@ -133,7 +133,7 @@ export class LineServer {
     const isReset = entries.some(({ line, answers }) => line.trim() === "reset" && parseRefusal(answers[0]) === null);
     const isRunning = calls.isRunning();
     if (isReset) calls.forgetGoal();
-    if (isReset) calls.showMessage(isRunning ? say.RESET_RUNNING : say.wasReset(counter));
+    if (isReset) calls.showMessage(isRunning ? say.RESET_RUNNING : say.resetAt(counter));
     else if (counter !== previousCounter && !isRunning) calls.showMessage(stoppedAt(counter));
   }
 }

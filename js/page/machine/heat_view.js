@@ -179,6 +179,6 @@ export class HeatView {
     const map = this.calls.map();
     const warmth = heatLevels(heat, /** @type {HeatKind} */ (this.kind.value));
     this.calls.showCells(new Map(heat.cells.map((cell) => (
-      [cell.place, { warmth: warmth.get(cell.place) || 0, words: say.changedHow(describeCell(cell, map)) }]))));
+      [cell.place, { warmth: warmth.get(cell.place) || 0, words: say.changedBy(describeCell(cell, map)) }]))));
   }
 }

@@ -22,7 +22,7 @@ import * as say from "../../words/machine.js";
  */
 function secondByteMark(address, breakpoints) {
   if (!breakpoints.has(address)) return undefined;
-  const message = say.insideBreakpoint(address);
+  const message = say.breakpointInsideInstruction(address);
   return { mark: "\u25CB", words: message };
 }
 

@@ -47,7 +47,7 @@ class VerdictRow {
    */
   counterexampleNodes(isGoal, counterexample, calls) {
     const { isTest, text } = counterexample;
-    const [openWords, title] = isGoal ? [say.OPEN_WAY, say.BEFORE_GOAL] : [say.OPEN_FOUND, say.BEFORE_IT];
+    const [openWords, title] = isGoal ? [say.OPEN_WAY, say.BEFORE_GOAL] : [say.OPEN_FOUND, say.BEFORE_BREAK];
     const add = isTest ? [makeButton(say.ADD_TO_TESTS, () => calls.addTest(counterexample), { title: say.AT_END })] : [];
     const name = isTest ? say.ITS_TEST : say.ITS_LINES;
     return [

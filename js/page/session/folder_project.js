@@ -47,7 +47,7 @@ async function readText(files, path, kind) {
  */
 function omittedMessage(lists) {
   const omittedPaths = lists.flatMap((paths) => paths.slice(1));
-  return omittedPaths.length === 0 ? "" : say.leftOut(omittedPaths.join(", "), omittedPaths.length === 1);
+  return omittedPaths.length === 0 ? "" : say.textsOmitted(omittedPaths.join(", "), omittedPaths.length === 1);
 }
 
 /**

@@ -150,7 +150,7 @@ export class SessionManager {
     if (currentSession && currentSession.record.id === id) await this.calls.save();
     return this.openNew(async () => {
       const record = await this.readRecord(id);
-      return newRecord(say.aCopy(record.name), record.file, record);
+      return newRecord(say.copyName(record.name), record.file, record);
     });
   }
 

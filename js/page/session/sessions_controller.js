@@ -156,7 +156,8 @@ export class SessionsController {
     const deletedRecords = await this.trash.remove(records);
     if (deletedRecords.length === 0) return;
     for (const { id } of deletedRecords) this.openings.forget(id);
-    this.notice.show(say.deleted(formatNames(deletedRecords)), "undo", { word: say.UNDO, act: () => this.restoreSessions(deletedRecords) });
+    this.notice.show(say.sessionsDeleted(formatNames(deletedRecords)), "undo",
+      { word: say.UNDO, act: () => this.restoreSessions(deletedRecords) });
   }
 
   /** @param {SessionRecord[]} records */

@@ -50,7 +50,7 @@ function isEntry(entry) {
  * @returns {StoredSegment}
  */
 function parseSegment({ file, total, reset, entries }) {
-  if (typeof total !== "number" || typeof reset !== "number" || !entries.every(isEntry)) throw new Error(say.NO_PAST);
+  if (typeof total !== "number" || typeof reset !== "number" || !entries.every(isEntry)) throw new Error(say.NOT_A_HISTORY);
   return { file: fromBase64(file), total, reset, entries };
 }
 

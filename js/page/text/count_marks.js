@@ -28,7 +28,7 @@ function formatTimes(number) {
  */
 export function describeCount({ count, isJump, taken }) {
   if (count === 0) return say.NO_TEST_RUNS;
-  return say.ran(formatTimes(count)) + (isJump ? say.jumped(formatTimes(taken), formatTimes(count - taken)) : "");
+  return say.runCount(formatTimes(count)) + (isJump ? say.jumpCounts(formatTimes(taken), formatTimes(count - taken)) : "");
 }
 
 export class CountMarks {

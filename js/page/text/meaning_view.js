@@ -60,7 +60,7 @@ export class MeaningView {
 
   /** @param {Value} value */
   makeCell(value) {
-    const cell = element("button", { "type": "button", "className": "value", "title": say.edits(value.name) });
+    const cell = element("button", { "type": "button", "className": "value", "title": say.editHint(value.name) });
     cell.setAttribute("aria-label", value.name);
     cell.textContent = value.value;
     this.makeEditable(cell, value);

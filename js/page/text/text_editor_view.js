@@ -66,7 +66,7 @@ export class EditorView {
     const root = block(id);
     const panel = descendant(root, ".paper", HTMLElement);
     const container = element("div", { className: "text" });
-    const list = element("ul", { "className": "fault-list", "aria-label": say.FAULTS });
+    const list = element("ul", { "className": "fault-list", "aria-label": say.ERRORS });
     this.meaning = new MeaningView(language.makeEditable || (() => {}));
     this.sizeCell = new Cell(element("p", { className: "size" }));
     panel.append(container, list, element("div", { className: "strip" }, this.meaning.node, this.sizeCell.node));
@@ -352,7 +352,7 @@ export class EditorView {
       const [{ length }, limit, unit] = isUnsent
         ? [this.text, MAX_STORED_LENGTH, "characters"]
         : [this.benchText, MAX_SENT_LENGTH, "bytes"];
-      this.sizeCell.set(say.sizeOf(length.toLocaleString("en"), limit.toLocaleString("en"), unit));
+      this.sizeCell.set(say.textSize(length.toLocaleString("en"), limit.toLocaleString("en"), unit));
       this.sizeCell.node.classList.toggle("too-many", length > limit);
     }, REST_DELAY_MS);
   }

@@ -78,7 +78,7 @@ export class Notice {
     this.list.add(message);
     const row = { kind, words, node: element("div", { className: "notice", role: "alert" }, element("p", {}, words)), message, timer: 0 };
     row.node.append(...actions.map((action) => (
-      this.button(action.word, say.ofNotice(action.word, words), () => this.act(message, action)))));
+      this.button(action.word, say.noticeText(action.word, words), () => this.act(message, action)))));
     row.node.append(this.button(say.DISMISS, say.DISMISS_NOTICE, () => this.dismiss(row), "dismiss"));
     this.rows.unshift(row);
     this.block.prepend(row.node);

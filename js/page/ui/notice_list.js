@@ -42,7 +42,7 @@ export class NoticeList {
     const buttons = message.actions.map((action) => makeButton(action.word, () => {
       this.dialog.close();
       this.act(message, action);
-    }, { "aria-label": say.ofNotice(action.word, message.words) }));
+    }, { "aria-label": say.noticeText(action.word, message.words) }));
     return element("li", {}, element("small", {}, time), element("span", { className: "grow" }, message.words), ...buttons);
   }
 }
