@@ -93,7 +93,7 @@ export class SnapshotView {
     this.sourceStatus = new Cell(block("source-status"));
     this.testText = new Cell(button("test"));
     /** True if the TEST pin is at 1. */
-    this.test = new Switch((isOn) => button("test").setAttribute("aria-pressed", String(isOn)));
+    this.testSwitch = new Switch((isOn) => button("test").setAttribute("aria-pressed", String(isOn)));
   }
 
   /**
@@ -187,7 +187,7 @@ export class SnapshotView {
   /** Updates the views that `show` can delay. */
   showSlowViews() {
     this.lastDrawTime = performance.now();
-    this.showChanged(this.reader.readOtherChanges());
+    this.showStateChanges(this.reader.readOtherChanges());
   }
 
   /**
@@ -207,7 +207,7 @@ export class SnapshotView {
     if (keys) this.front.showKeys(keys);
     if (test !== undefined) {
       this.testText.set(`TEST ${test}`);
-      this.test.set(test === "1");
+      this.testSwitch.set(test === "1");
       this.front.showTest(test);
       this.wiring.showTest(test === "1");
     }
@@ -218,7 +218,7 @@ export class SnapshotView {
   }
 
   /** @param {StateChanges} changedValues */
-  showChanged({ registers, ports, breakpoints, watches, ram = [] }) {
+  showStateChanges({ registers, ports, breakpoints, watches, ram = [] }) {
     if (ports) {
       this.ports.show(ports);
       this.wiring.showPorts(ports);

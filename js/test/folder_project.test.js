@@ -1,7 +1,7 @@
 // Tests project folders that the user drops on the page: their texts, or the reason why they are rejected.
 import assert from "node:assert/strict";
 import { test } from "node:test";
-import { folderFromFiles, droppedFolders, readFolder } from "../page/session/folder_files.js";
+import { folderFromFiles, getDroppedFolders, readFolder } from "../page/session/folder_files.js";
 import { readFolderTexts } from "../page/session/folder_project.js";
 import { readOpenedFile } from "../core/session/opened_file.js";
 
@@ -21,14 +21,14 @@ function folder(texts, name = "lights") {
 }
 
 test("the texts of a folder", async () => {
-  const { texts, speed, words } = await readFolderTexts(folder(TEXTS));
+  const { texts, speed, message } = await readFolderTexts(folder(TEXTS));
   assert.deepEqual([texts.name, texts.board, texts.program, texts.tests, texts.properties], ["lights", TEXTS["b/wires.toml"], "NOP\n",
     TEXTS["a.test"], ""]);
-  assert.deepEqual([speed, words], ["tenth", "The page has one text of each kind: c.test is left out."]);
+  assert.deepEqual([speed, message], ["tenth", "The page has one text of each kind: c.test is left out."]);
   // A project can have its board and its program in one script.
   const script = "wire\n[[rom]]\nchip = 0\nport = \"0000\"\n.\nasm\nNOP\n.\n";
   const both = await readFolderTexts(folder({ "mcs4.toml": "board = \"s.txt\"\nprogram = \"s.txt\"\n", "s.txt": script }, ""));
-  assert.deepEqual([both.texts.name, both.texts.program, both.speed, both.words], ["s", "NOP\n", "", ""]);
+  assert.deepEqual([both.texts.name, both.texts.program, both.speed, both.message], ["s", "NOP\n", "", ""]);
 });
 
 test("a folder that is no project", async () => {
@@ -60,8 +60,8 @@ test("folders and files as a browser has them", async () => {
   const { name, files } = await readFolder(dropped);
   assert.deepEqual([name, [...files.keys()]], ["lights", ["mcs4.toml", "main.asm", "b/wires.toml"]]);
   const items = [{ kind: "string" }, { kind: "file", webkitGetAsEntry: () => dropped }, { kind: "file", webkitGetAsEntry: () => null }];
-  assert.deepEqual(droppedFolders({ items }), [dropped]);
-  assert.deepEqual(droppedFolders(null), []);
+  assert.deepEqual(getDroppedFolders({ items }), [dropped]);
+  assert.deepEqual(getDroppedFolders(null), []);
   assert.equal(folderFromFiles([file("mcs4.toml", "")]), null);
   assert.deepEqual([...folderFromFiles([file("a.asm", ""), file("mcs4.toml", "")]).files.keys()], ["a.asm", "mcs4.toml"]);
 });

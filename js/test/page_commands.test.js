@@ -3,8 +3,8 @@ import assert from "node:assert/strict";
 import { readFileSync } from "node:fs";
 import { test } from "node:test";
 import { COMMANDS, commandById } from "../page/commands/command_table.js";
-import { commandForKey, editorKeys, formatKey, listenToKeys } from "../page/commands/keys.js";
-import { keyRows, addKeyRows } from "../page/commands/key_list.js";
+import { commandForKey, makeEditorBindings, formatKey, listenToKeys } from "../page/commands/keys.js";
+import { makeKeyRows, addKeyRows } from "../page/commands/key_list.js";
 import { listDestinations } from "../page/commands/palette_places.js";
 import { searchEntries, rankEntry } from "../page/commands/palette_search.js";
 import * as say from "../words/page_commands.js";
@@ -108,9 +108,9 @@ test("while a dialog is open keys do nothing, and the browser does nothing with 
 test("names of keys, as the table and as an editor has them", () => {
   assert.equal(formatKey(typed("p", { metaKey: true, shiftKey: true })), "Ctrl+Shift+P");
   assert.equal(formatKey(typed("[", { ctrlKey: true, altKey: true, shiftKey: true })), "Ctrl+Alt+Shift+[");
-  assert.deepEqual(Object.keys(editorKeys("text.foldAll", () => {})), ["Ctrl-Alt-Shift-[", "Cmd-Alt-Shift-["]);
-  assert.deepEqual(Object.keys(editorKeys("text.comment", () => {})), ["Ctrl-/", "Cmd-/"]);
-  assert.deepEqual(Object.keys(editorKeys("debug.condition", () => {})), ["Shift-F9"]);
+  assert.deepEqual(Object.keys(makeEditorBindings("text.foldAll", () => {})), ["Ctrl-Alt-Shift-[", "Cmd-Alt-Shift-["]);
+  assert.deepEqual(Object.keys(makeEditorBindings("text.comment", () => {})), ["Ctrl-/", "Cmd-/"]);
+  assert.deepEqual(Object.keys(makeEditorBindings("debug.condition", () => {})), ["Shift-F9"]);
 });
 
 const entry = (words, hint = "", keys = []) => ({ words, hint, why: "", keys, act: () => {} });
@@ -155,7 +155,7 @@ test("places: texts, labels, typed addresses and lines, projects, examples", () 
 test("the help's section of the keyboard begins with the keys of the commands", () => {
   const [one, two] = addKeyRows([{ title: "The keyboard", tables: [{ caption: "", head: [], rows: [] }] }, { title: "Other", tables: [] }]);
   assert.deepEqual([one.tables.length, two.tables.length], [2, 0]);
-  assert.deepEqual(one.tables[0].rows, keyRows());
-  assert.deepEqual(keyRows()[0], ["`F5`, `F8`", "Continue"]);
-  assert.equal(keyRows().length, COMMANDS.filter(({ keys }) => keys.length).length);
+  assert.deepEqual(one.tables[0].rows, makeKeyRows());
+  assert.deepEqual(makeKeyRows()[0], ["`F5`, `F8`", "Continue"]);
+  assert.equal(makeKeyRows().length, COMMANDS.filter(({ keys }) => keys.length).length);
 });

@@ -7,7 +7,7 @@ import { parsePlace } from "../core/conditions/places.js";
 import { Face } from "../core/board/face.js";
 import { parseStory } from "../core/help/story.js";
 import { runAction } from "../core/help/story_actions.js";
-import { requestedStory } from "../page/session/address.js";
+import { readRequestedStory } from "../page/session/address.js";
 
 const EXAMPLES = new URL("../../examples/", import.meta.url);
 const stories = readdirSync(EXAMPLES, { recursive: true }).filter((name) => name.endsWith(".story"));
@@ -85,7 +85,7 @@ test("an act calls the page, and says why it cannot", async () => {
 });
 
 test("the story that an address names", () => {
-  assert.equal(requestedStory("?story=printing%20calculator"), "printing calculator");
-  assert.equal(requestedStory("?story=printing_calculator"), "printing calculator");
-  assert.equal(requestedStory("?other=1"), "");
+  assert.equal(readRequestedStory("?story=printing%20calculator"), "printing calculator");
+  assert.equal(readRequestedStory("?story=printing_calculator"), "printing calculator");
+  assert.equal(readRequestedStory("?other=1"), "");
 });

@@ -53,7 +53,7 @@ export class WiringView {
     this.chains = [];
     /** @type {Map<string, Levels>} the line levels of each RAM chip, by `bank.chip` */
     this.rams = new Map();
-    /** The name that `mark` received last; "" for none. */
+    /** The name of the highlighted part, in the form that `mark` takes; "" for none. */
     this.markedName = "";
     /** The name of the part or pin that the Tab key moves the focus to. */
     this.tabStop = "";
@@ -271,11 +271,11 @@ export class WiringView {
   /**
    * Draws the wire in progress from a pin to the pointer.
    * @param {string} name the pin's name; "" removes the wire
-   * @param {import("../../core/board/wiring.js").Point | null} to
+   * @param {import("../../core/board/wiring.js").Point | null} endPoint
    */
-  drawNewWire(name, to) {
+  drawNewWire(name, endPoint) {
     const pin = [...this.parts.values()].flatMap(({ pins }) => pins).find(({ id }) => id === name);
-    this.newWire.setAttribute("d", pin && to ? pathText(routeWire({ from: pin, to }, [], 0)) : "");
+    this.newWire.setAttribute("d", pin && endPoint ? pathText(routeWire({ from: pin, to: endPoint }, [], 0)) : "");
   }
 
   /**

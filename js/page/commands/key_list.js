@@ -13,7 +13,7 @@ import * as say from "../../words/page_commands.js";
  * Returns a table row for each command with keys: its keys and its name.
  * @returns {string[][]}
  */
-export function keyRows() {
+export function makeKeyRows() {
   return COMMANDS.filter(({ keys }) => keys.length > 0).map(({ keys, words, place }) => (
     [keys.map((key) => `\`${key}\``).join(", "), say.WHERE[place] ? `${words} (${say.WHERE[place]})` : words]));
 }
@@ -25,6 +25,6 @@ export function keyRows() {
  */
 export function addKeyRows(manual) {
   /** @type {ManualTable} */
-  const table = { caption: say.KEY_TABLE, head: [say.KEY, say.DOES], rows: keyRows() };
+  const table = { caption: say.KEY_TABLE, head: [say.KEY, say.DOES], rows: makeKeyRows() };
   return manual.map((section) => (section.title === KEYBOARD ? { ...section, tables: [table, ...section.tables] } : section));
 }

@@ -32,7 +32,7 @@ const makeEntry = (words, hint, action, isFound = false) => ({ words, hint, why:
  * @param {string} query
  * @param {PlaceCalls} calls
  */
-function typedDestination(query, calls) {
+function findTypedDestinations(query, calls) {
   const [, line = ""] = LINE_NUMBER_QUERY.exec(query) || [];
   if (line) return [makeEntry(say.lineNamed(Number(line)), "", () => calls.showLine(Number(line)), true)];
   const map = calls.map();
@@ -51,7 +51,7 @@ export function listDestinations(query, calls) {
   const map = calls.map();
   const labels = map ? [...map.names.values()].filter(({ isLabel }) => isLabel) : [];
   return [
-    ...typedDestination(query, calls),
+    ...findTypedDestinations(query, calls),
     ...Object.entries(say.TEXTS).map(([name, words]) => makeEntry(words, say.A_TEXT, () => calls.show(name))),
     ...labels.map(({ name, value }) => (
       makeEntry(name, say.labelAt(map ? map.lineOf(value) : 0, hex(value, 3)), () => calls.showAddress(value)))),

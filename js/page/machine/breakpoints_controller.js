@@ -46,7 +46,7 @@ import * as say from "../../words/machine.js";
  *   Resolves when the comparison is complete.
  * @property {() => Promise<void>} checkSource Compares the source with ROM, even if the source was not edited. Resolves when the comparison
  *   is complete.
- * @property {(words: string) => void} showMessage Shows a message near the user's last action.
+ * @property {(message: string) => void} showMessage Shows a message near the user's last action.
  * @property {(fault: unknown) => void} reportFailure Reports an error that a call threw.
  */
 
@@ -132,16 +132,16 @@ export class BreakpointsController {
    */
   openMenu(line, point) {
     const { manager, calls } = this;
-    const [toggle, condition] = ["debug.breakpoint", "debug.condition"].map((id) => commandById(id).keys[0]);
+    const [toggleKey, conditionKey] = ["debug.breakpoint", "debug.condition"].map((id) => commandById(id).keys[0]);
     const breakpoint = manager.list.findByLine(line);
-    const action = (/** @type {() => Promise<void>} */ work) => () => {
+    const makeAction = (/** @type {() => Promise<void>} */ work) => () => {
       work().catch(calls.reportFailure);
     };
     this.menu.open([
-      { words: breakpoint ? say.REMOVES_BREAKPOINT : say.ADDS_BREAKPOINT, key: toggle, act: action(() => this.toggleLine(line)) },
-      { words: say.CONDITION, key: condition, act: action(() => this.editLine(line, "condition")) },
-      { words: say.HIT_COUNT, act: action(() => this.editLine(line, "from")) },
-      { words: say.LOG_MESSAGE, act: action(() => this.editLine(line, "note")) },
+      { words: breakpoint ? say.REMOVES_BREAKPOINT : say.ADDS_BREAKPOINT, key: toggleKey, act: makeAction(() => this.toggleLine(line)) },
+      { words: say.CONDITION, key: conditionKey, act: makeAction(() => this.editLine(line, "condition")) },
+      { words: say.HIT_COUNT, act: makeAction(() => this.editLine(line, "from")) },
+      { words: say.LOG_MESSAGE, act: makeAction(() => this.editLine(line, "note")) },
       ...(breakpoint ? [{
         words: breakpoint.isOn ? say.DISABLE : say.ENABLE, act: () => manager.change(breakpoint.id, { isOn: !breakpoint.isOn }),
       }] : []),

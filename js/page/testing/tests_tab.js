@@ -46,14 +46,14 @@ export class TestsTab {
     this.calls = calls;
     this.textTab = new TextTab({
       name: "tests",
-      firstButton: "first-test",
+      insertButton: "first-test",
       firstText: () => calls.sample(calls.texts()),
       forms: testForms(manual),
-      wordsAt: helpForTest,
+      describeWord: helpForTest,
       complete: completeTest,
     }, calls, {
-      faults: () => calls.faults(this.texts),
-      showFaultCount: (count) => this.showMark(count),
+      findErrors: () => calls.faults(this.texts),
+      showErrorCount: (count) => this.showMark(count),
       send: () => this.run().catch(calls.reportFailure),
     });
     this.editor = this.textTab.editor;
@@ -129,7 +129,7 @@ export class TestsTab {
   show(report, texts) {
     if (report.faults.length > 0) {
       this.clear();
-      this.textTab.showFaults(report.faults);
+      this.textTab.showErrors(report.faults);
       this.editor.showMessage(textErrorsMessage(report.faults, this.calls.describeRefusal));
       return;
     }

@@ -19,7 +19,7 @@ const BELOW_POINTER = 16;
  * Returns a text that identifies the layout of a description without its values. Descriptions with the same layout reuse the same cells.
  * @param {Piece[]} pieces
  */
-function layoutKey(pieces) {
+function layoutKeyOf(pieces) {
   return pieces.map((piece) => (typeof piece === "string" ? piece : piece.place)).join("\n");
 }
 
@@ -43,7 +43,7 @@ export class MeaningView {
    * @param {string} words the word's meaning
    */
   set(pieces, words) {
-    const layout = layoutKey(pieces);
+    const layout = layoutKeyOf(pieces);
     if (layout !== this.layout) {
       this.layout = layout;
       this.cells = [];
@@ -79,7 +79,7 @@ export class MeaningView {
     if (pieces.length > 0) putBelow(this.tooltip, { left, bottom: top }, BELOW_POINTER);
   }
 
-  hideTip() {
+  hideTooltip() {
     if (!this.tooltip.hidden) this.tooltip.hidden = true;
   }
 }

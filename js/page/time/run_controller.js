@@ -105,7 +105,7 @@ export class RunController {
 
   /** Starts a new measurement of the simulation rate. */
   startRateMeasurement() {
-    this.rate = new Rate(this.clock.now);
+    this.rate = new Rate(this.clock.simulatedTime);
     this.showRate();
   }
 
@@ -260,7 +260,7 @@ export class RunController {
    */
   handleFrame(frame) {
     const { currentSession } = this;
-    const isNewRate = this.rate.add(frame.cycles, this.clock.now);
+    const isNewRate = this.rate.add(frame.cycles, this.clock.simulatedTime);
     if (frame.stop) this.clock.stop();
     this.sound.playLevels(frame.heard);
     this.calls.showFrame(frame);

@@ -27,16 +27,16 @@ export class RowMenu {
    * @param {{ left: number, bottom: number }} point
    */
   open(row, point) {
-    this.menu.open(row.line < 0 ? this.groupItems(row) : this.lineItems(row), point);
+    this.menu.open(row.line < 0 ? this.makeGroupItems(row) : this.makeLineItems(row), point);
   }
 
   /** @returns {MenuItem[]} */
   get moveItems() {
     const { view } = this;
-    const { selected } = view;
+    const { selectedIndex } = view;
     return [
-      { words: say.MOVE_UP, key: "Alt+Up", act: () => view.moveRow(selected, selected - 1) },
-      { words: say.MOVE_DOWN, key: "Alt+Down", act: () => view.moveRow(selected, selected + 1) },
+      { words: say.MOVE_UP, key: "Alt+Up", act: () => view.moveRow(selectedIndex, selectedIndex - 1) },
+      { words: say.MOVE_DOWN, key: "Alt+Down", act: () => view.moveRow(selectedIndex, selectedIndex + 1) },
     ];
   }
 
@@ -44,7 +44,7 @@ export class RowMenu {
    * @param {WaveRow} row
    * @returns {MenuItem[]}
    */
-  groupItems({ group }) {
+  makeGroupItems({ group }) {
     const { view } = this;
     const memberNames = () => view.names.filter((name) => view.arrangement.groupOf(name) === group);
     return [
@@ -60,7 +60,7 @@ export class RowMenu {
    * @param {WaveRow} row
    * @returns {MenuItem[]}
    */
-  lineItems({ name, title, colour, group }) {
+  makeLineItems({ name, title, colour, group }) {
     const { view } = this;
     const leaveItem = { words: say.LEAVE_GROUP, act: () => view.changeLines([name], { group: "" }) };
     const joinItem = {
@@ -85,8 +85,8 @@ export class RowMenu {
    * @param {(word: string) => void} action
    */
   askName(label, value, action) {
-    this.nameBar.open({ label, value, word: say.NAME, act: (typed) => {
-      action(typed.slice(0, MAX_NAME_LENGTH));
+    this.nameBar.open({ label, value, buttonLabel: say.NAME, act: (text) => {
+      action(text.slice(0, MAX_NAME_LENGTH));
       return "";
     } });
   }
