@@ -86,7 +86,7 @@ function makeTimeCalls(page) {
     isRunning: () => runController.clock.isRunning,
     continueOrPause: () => runController.continueOrPause(),
     step: () => void runController.stepOnce(),
-    goOn: travel.goOn.bind(travel),
+    runToGoal: travel.goOn.bind(travel),
     goBack: travel.goBack.bind(travel),
     goForward: () => void travel.goForward(),
     canGoForward: () => !button("forward").disabled,
@@ -265,9 +265,10 @@ export class Commands {
    */
   makeEntry(command) {
     const { calls } = this;
-    const { words, group, keys, icon, wordsNow } = command;
-    const name = wordsNow ? wordsNow(calls) : words;
-    return { words: name, hint: say.GROUPS[group], why: command.whyNot(calls), keys, icon, act: () => command.act(calls) };
+    const { group, keys, icon, currentLabel } = command;
+    const label = currentLabel ? currentLabel(calls) : command.label;
+    const disabledReason = command.unavailableReason(calls);
+    return { label, hint: say.GROUPS[group], disabledReason, keys, icon, act: () => command.act(calls) };
   }
 
   /**
@@ -275,8 +276,8 @@ export class Commands {
    * @param {Command} command
    */
   execute(command) {
-    const reason = command.whyNot(this.calls);
-    if (reason) this.page.runController.showMessage(say.notDone(command.words, reason));
+    const reason = command.unavailableReason(this.calls);
+    if (reason) this.page.runController.showMessage(say.notDone(command.label, reason));
     else command.act(this.calls);
   }
 

@@ -55,7 +55,7 @@ export function makeBreakpointsController(page) {
     runTo: (line) => runToLine(page, line),
     ensureSourceChecked: () => page.source.waitForCheck(),
     checkSource: () => page.source.check(),
-    showMessage: (words) => page.snapshotView.message.show(words),
+    showMessage: (message) => page.snapshotView.message.show(message),
     reportFailure: (fault) => page.recovery.reportFailure(fault),
   });
 }
@@ -67,7 +67,7 @@ export function makeTravel(page) {
     pause: () => runController.pause(),
     texts: () => page.breakpoints.texts(),
     storeGoal: (goal) => runController.storeGoal(goal),
-    change: (words, work) => page.lineServer.performWork(words, work),
+    change: (description, work) => page.lineServer.performWork(description, work),
     runTo: (goal) => runController.run(goal),
     reportTally: (tally) => page.breakpoints.count(tally),
     reasonOf: (stop, goal) => runController.describeStop(stop, goal),
@@ -86,7 +86,7 @@ export function makeHistoryView(page) {
   listenForRunToCaret(block("program-editor"), () => runToLine(page, programEditor.editor.editor.getCursor().line + 1));
   makeLastChangeView(page);
   return new HistoryView({
-    goOn: (goal) => travel.goOn(goal),
+    runToGoal: (goal) => travel.goOn(goal),
     goBack: (goal) => travel.goBack(goal),
     goForward: () => travel.goForward(),
     names: () => collectExpressionNames(page),

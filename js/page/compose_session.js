@@ -136,10 +136,10 @@ export function makeGuide(page, manual) {
       else if (target === "ram") layout.showPanel("memory");
       else layout.showText("program");
     },
-    replace: (program, words) => page.textsController.replace("program", program, words),
+    replace: (program, message) => page.textsController.replace("program", program, message),
     storyCalls: makeStoryCalls(page),
     handleTourEnd: forgetStory,
-    showRefusal: (words) => page.notice.show(words, "session"),
+    showRefusal: (reason) => page.notice.show(reason, "session"),
   });
   page.sessionsController.onSessionOpened = () => guide.endStory();
   page.sessionsController.showStory = (example) =>

@@ -75,7 +75,7 @@ export class SnapshotView {
     this.message = new PopupMessage();
     this.editor = new CellEditor({
       poke: async (place, value) => this.refusalMessage(await calls.serveLine(`poke ${place} ${value}\n`)),
-      showMessage: (words, cell) => this.message.show(words, cell),
+      showMessage: (message, cell) => this.message.show(message, cell),
     });
     this.registers = new RegistersView(this.changes, this.editor, calls.explain);
     this.ram = new RamView(this.changes, this.editor, (bank, source, isSet, cell) => (
@@ -159,10 +159,10 @@ export class SnapshotView {
   /**
    * Shows the names of the program in ROM.
    * @param {SourceMap | null} map null if the source is not the program in ROM
-   * @param {string} words the reason why `map` is null; "" otherwise
+   * @param {string} reason the reason why `map` is null; "" otherwise
    */
-  nameLines(map, words) {
-    this.sourceStatus.set(words);
+  nameLines(map, reason) {
+    this.sourceStatus.set(reason);
     this.listing.nameLines(map);
     this.goTo.setNames(map);
     this.showListing();

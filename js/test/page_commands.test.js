@@ -24,13 +24,13 @@ function recorder() {
 
 test("each command has an id of its own, words of its own, a group, and does something", () => {
   assert.equal(new Set(COMMANDS.map(({ id }) => id)).size, COMMANDS.length);
-  assert.equal(new Set(COMMANDS.map(({ words }) => words)).size, COMMANDS.length);
+  assert.equal(new Set(COMMANDS.map(({ label }) => label)).size, COMMANDS.length);
   for (const command of COMMANDS) {
-    assert.ok(command.words && command.group in say.GROUPS, command.id);
+    assert.ok(command.label && command.group in say.GROUPS, command.id);
     const { seen, calls } = recorder();
     command.act(calls);
     assert.equal(seen.length, 1, command.id);
-    assert.equal(command.whyNot(calls), "", command.id);
+    assert.equal(command.unavailableReason(calls), "", command.id);
   }
 });
 
@@ -51,12 +51,12 @@ test("what a command presses, ticks or enters is in the page", () => {
 
 test("a command that cannot be done says why", () => {
   const calls = { canGoForward: () => false, isOffered: () => false, hasText: () => false, hasNotices: () => false, hasKeys: () => false };
-  const whys = COMMANDS.map((command) => [command.id, command.whyNot(calls)]).filter(([, why]) => why);
-  assert.ok(whys.length > 30);
-  assert.equal(commandById("time.redo").whyNot(calls), say.NOTHING_UNDONE);
-  assert.equal(commandById("text.find").whyNot(calls), say.NO_EDITOR);
-  assert.equal(commandById("waves.save").whyNot(calls), say.NO_WAVES);
-  for (const [id, why] of whys) assert.match(why, /^[a-z].*[a-z]$/, id);
+  const reasons = COMMANDS.map((command) => [command.id, command.unavailableReason(calls)]).filter(([, reason]) => reason);
+  assert.ok(reasons.length > 30);
+  assert.equal(commandById("time.redo").unavailableReason(calls), say.NOTHING_UNDONE);
+  assert.equal(commandById("text.find").unavailableReason(calls), say.NO_EDITOR);
+  assert.equal(commandById("waves.save").unavailableReason(calls), say.NO_WAVES);
+  for (const [id, reason] of reasons) assert.match(reason, /^[a-z].*[a-z]$/, id);
 });
 
 test("the keys are those of VS Code and DevTools, and the old ones go on", () => {
@@ -113,11 +113,11 @@ test("names of keys, as the table and as an editor has them", () => {
   assert.deepEqual(Object.keys(makeEditorBindings("debug.condition", () => {})), ["Shift-F9"]);
 });
 
-const entry = (words, hint = "", keys = []) => ({ words, hint, why: "", keys, act: () => {} });
+const entry = (label, hint = "", keys = []) => ({ label, hint, disabledReason: "", keys, act: () => {} });
 
 test("the palette finds by words in any order, what begins with them first", () => {
   const entries = [entry("Show Source"), entry("Save project"), entry("Step over", "Time", ["F10"]), entry("Zoom to fit")];
-  const names = (query) => searchEntries(entries, query).map(({ words }) => words);
+  const names = (query) => searchEntries(entries, query).map(({ label }) => label);
   assert.deepEqual(names(""), ["Show Source", "Save project", "Step over", "Zoom to fit"]);
   assert.deepEqual(names("s"), ["Show Source", "Save project", "Step over"]);
   assert.deepEqual(names("over st"), ["Step over"]);
@@ -139,7 +139,7 @@ test("places: texts, labels, typed addresses and lines, projects, examples", () 
   const first = (wanted) => {
     const [place] = searchEntries(listDestinations(wanted, calls), wanted);
     place.act();
-    return [place.words, place.hint, went.pop()];
+    return [place.label, place.hint, went.pop()];
   };
   assert.deepEqual(first(":12"), ["Line 12 of Source", "", "line 12"]);
   assert.deepEqual(first("0x20"), ["Address 020", "", "address 32"]);
@@ -149,7 +149,8 @@ test("places: texts, labels, typed addresses and lines, projects, examples", () 
   assert.deepEqual(first("mine"), ["mine", "project", "project 4"]);
   assert.deepEqual(first("clo"), ["clock", "Example", "example clock"]);
   assert.deepEqual(searchEntries(listDestinations("nowhere", calls), "nowhere"), []);
-  assert.equal(listDestinations("", { ...calls, map: () => null }).some(({ words }) => words === "loop"), false);
+  assert.equal(listDestinations("", { ...calls, map: () => null }).some(({ label }) => label === "loop"), false);
+
 });
 
 test("the help's section of the keyboard begins with the keys of the commands", () => {

@@ -117,7 +117,8 @@ export class FrontView {
     const errors = sortByLine([...face.faults, ...missingParts(face, board)]);
     const root = block("face-faults");
     const messages = errors.slice(0, MAX_LISTED_ERRORS).map(({ line, words }) => say.lineOfBoard(line, words));
-    root.replaceChildren(...[...messages, moreErrors(errors, MAX_LISTED_ERRORS)].filter(Boolean).map((words) => element("li", {}, words)));
+    const footnote = moreErrors(errors, MAX_LISTED_ERRORS);
+    root.replaceChildren(...[...messages, footnote].filter(Boolean).map((message) => element("li", {}, message)));
     root.hidden = errors.length === 0;
   }
 

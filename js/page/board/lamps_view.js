@@ -28,10 +28,10 @@ class Lamp {
     this.isLit = false;
     this.dutyCycle = 0;
     this.brightness = 0;
-    this.words = { lit: say.lit(name), dark: say.dark(name) };
+    this.labels = { lit: say.lit(name), dark: say.dark(name) };
     this.node = element("span", { className: `bulb ${colour}`, title: lineNames });
     this.node.setAttribute("role", "img");
-    this.node.setAttribute("aria-label", this.words.dark);
+    this.node.setAttribute("aria-label", this.labels.dark);
   }
 
   /**
@@ -44,7 +44,7 @@ class Lamp {
     if (this.isLit === isOn) return;
     this.isLit = isOn;
     this.node.classList.toggle("lit", isOn);
-    this.node.setAttribute("aria-label", isOn ? this.words.lit : this.words.dark);
+    this.node.setAttribute("aria-label", isOn ? this.labels.lit : this.labels.dark);
   }
 
   /** @param {number} brightness */
@@ -137,7 +137,7 @@ export class LampsView {
    * @param {Group} group
    */
   drawGroup(group) {
-    return makeLampList(group, (index, words) => this.makeLamp(group.first + index, words));
+    return makeLampList(group, (index, defaultName) => this.makeLamp(group.first + index, defaultName));
   }
 
   /**
@@ -146,9 +146,9 @@ export class LampsView {
    * @param {number} scannedIndex the index of the group among the multiplexed groups
    */
   drawScannedGroup(group, scannedIndex) {
-    return makeLampList(group, (index, words) => {
+    return makeLampList(group, (index, defaultName) => {
       const reader = scannedLampAt(group, scannedIndex, index);
-      return this.addLamp(reader.column, reader, words, say.both(this.lines[reader.column], this.lines[reader.row]));
+      return this.addLamp(reader.column, reader, defaultName, say.both(this.lines[reader.column], this.lines[reader.row]));
     });
   }
 

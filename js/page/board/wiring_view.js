@@ -34,7 +34,7 @@ export class WiringView {
   constructor(isShown) {
     this.isShown = isShown;
     this.root = block("wiring-picture");
-    this.words = block("wiring-words");
+    this.descriptionList = block("wiring-words");
     /** @type {Map<string, Switch>} the level of each line, by line name; the name of the TEST pin is "" */
     this.levels = new Map();
     /** @type {Map<string, SVGElement>} the elements of parts and pins by name, in drawing order */
@@ -118,7 +118,9 @@ export class WiringView {
     const picture = svgElement("svg", { viewBox: this.viewBox, role: "group", "aria-label": say.PARTS_AND_WIRES });
     picture.append(...wireNodes, ...partNodes, this.newWire);
     this.root.replaceChildren(picture);
-    this.words.replaceChildren(...parts.map(({ title, descriptions }) => element("li", {}, `${title}: ${descriptions.join("; ")}.`)));
+    this.descriptionList.replaceChildren(...parts.map(({ title, descriptions }) => (
+      element("li", {}, `${title}: ${descriptions.join("; ")}.`))));
+
     this.setTabStop(this.items.has(focusedName) ? focusedName : this.tabStop);
     if (focusedName) this.focus(this.tabStop);
     this.showMark();

@@ -14,8 +14,8 @@ import * as say from "../../words/page_commands.js";
  * @returns {string[][]}
  */
 export function makeKeyRows() {
-  return COMMANDS.filter(({ keys }) => keys.length > 0).map(({ keys, words, place }) => (
-    [keys.map((key) => `\`${key}\``).join(", "), say.WHERE[place] ? `${words} (${say.WHERE[place]})` : words]));
+  return COMMANDS.filter(({ keys }) => keys.length > 0).map(({ keys, label, place }) => (
+    [keys.map((key) => `\`${key}\``).join(", "), say.WHERE[place] ? `${label} (${say.WHERE[place]})` : label]));
 }
 
 /**

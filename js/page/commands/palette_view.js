@@ -79,13 +79,13 @@ export class PaletteView {
    * @param {Entry} entry
    * @param {number} index
    */
-  makeOption({ words, hint, why, keys, icon: name }, index) {
+  makeOption({ label, hint, disabledReason, keys, icon: name }, index) {
     const option = element("li", { "id": `palette-${index}`, "role": "option", "aria-selected": "false" });
-    if (why) option.setAttribute("aria-disabled", "true");
+    if (disabledReason) option.setAttribute("aria-disabled", "true");
     // An empty icon aligns the label with the labels of other commands.
     const iconSpace = this.searchesCommands ? [element("span", { className: "icon" })] : [];
-    option.append(...(name ? [icon(name)] : iconSpace), element("span", { className: "grow" }, words), element("small", {}, why || hint),
-      ...keys.slice(0, 1).map((key) => element("kbd", {}, key)));
+    option.append(...(name ? [icon(name)] : iconSpace), element("span", { className: "grow" }, label),
+      element("small", {}, disabledReason || hint), ...keys.slice(0, 1).map((key) => element("kbd", {}, key)));
     return option;
   }
 
@@ -143,9 +143,9 @@ export class PaletteView {
   executeEntry(index) {
     const entry = this.entries[index];
     if (!entry) return;
-    if (entry.why) {
+    if (entry.disabledReason) {
       this.choose(index);
-      this.countStatus.textContent = `${entry.words}: ${entry.why}`;
+      this.countStatus.textContent = `${entry.label}: ${entry.disabledReason}`;
       return;
     }
     this.dialog.close();

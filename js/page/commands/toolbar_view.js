@@ -67,13 +67,13 @@ export class ToolbarView {
    * @param {ButtonOptions} options
    */
   makeButton(command, { id, tip, isWide = false }) {
-    const { icon: name, words, keys } = command;
+    const { icon: name, label, keys } = command;
     const node = element("button", { id, type: "button", className: "tool" }, ...(name ? [icon(name)] : []));
-    if (isWide) node.append(element("span", { className: "word" }, say.SHORT_LABELS[command.id] || words));
-    node.setAttribute("aria-label", words);
+    if (isWide) node.append(element("span", { className: "word" }, say.SHORT_LABELS[command.id] || label));
+    node.setAttribute("aria-label", label);
     if (keys.length > 0) node.setAttribute("aria-keyshortcuts", keys.map((key) => key.replace("Ctrl+", "Control+")).join(" "));
     onClick(node, () => this.executeCommand(command));
-    this.tips.add(node, () => ({ text: tip || words, key: keys[0] || "" }));
+    this.tips.add(node, () => ({ text: tip || label, key: keys[0] || "" }));
     return node;
   }
 
@@ -82,11 +82,11 @@ export class ToolbarView {
    * @param {boolean} isRunning
    */
   showRunning(isRunning) {
-    const words = say.COMMANDS[isRunning ? "time.pause" : "time.continue"];
-    this.runLabel.textContent = words;
+    const label = say.COMMANDS[isRunning ? "time.pause" : "time.continue"];
+    this.runLabel.textContent = label;
     this.runButton.replaceChildren(icon(isRunning ? "pause" : "continue"), this.runLabel);
-    this.runButton.setAttribute("aria-label", words);
-    this.tips.add(this.runButton, () => ({ text: words, key: commandById("time.continue").keys[0] }));
+    this.runButton.setAttribute("aria-label", label);
+    this.tips.add(this.runButton, () => ({ text: label, key: commandById("time.continue").keys[0] }));
   }
 
   makePaletteButton() {
@@ -97,21 +97,21 @@ export class ToolbarView {
 
   /**
    * @param {string} id
-   * @param {string} words
+   * @param {string} label
    * @param {IconName} name
    */
-  makeMenuButton(id, words, name) {
-    const node = element("button", { id, type: "button", className: "tool" }, icon(name), element("span", { className: "word" }, words),
+  makeMenuButton(id, label, name) {
+    const node = element("button", { id, type: "button", className: "tool" }, icon(name), element("span", { className: "word" }, label),
       icon("down"));
-    node.setAttribute("aria-label", words);
-    this.tips.add(node, () => ({ text: words, key: "" }));
+    node.setAttribute("aria-label", label);
+    this.tips.add(node, () => ({ text: label, key: "" }));
     return node;
   }
 
   /** Returns the file menu. In a narrow window, this menu also has the commands that do not fit into the toolbar. */
   makeFileMenu() {
     /** @type {(command: Command, id: string, isNarrow: boolean) => import("./menu_view.js").MenuItem} */
-    const item = (command, id, isNarrow) => ({ id, words: command.words, icon: command.icon, key: command.keys[0], isNarrow,
+    const item = (command, id, isNarrow) => ({ id, label: command.label, icon: command.icon, key: command.keys[0], isNarrow,
       act: () => this.executeCommand(command) });
     return new MenuView(this.makeMenuButton("menu-button", say.FILE, "file"), "menu", say.FILE, [
       ...Object.entries(FILE_MENU_IDS).map(([command, id]) => item(commandById(command), id, false)),
@@ -121,8 +121,8 @@ export class ToolbarView {
 
   /** @param {Theme} theme */
   makeThemeMenu(theme) {
-    const themeItems = Object.entries(say.THEMES).map(([name, words]) => ({
-      words, act: () => this.executeCommand(commandById(`theme.${name}`)), isChosen: () => theme.name === name,
+    const themeItems = Object.entries(say.THEMES).map(([name, label]) => ({
+      label, act: () => this.executeCommand(commandById(`theme.${name}`)), isChosen: () => theme.name === name,
     }));
     return new MenuView(this.makeMenuButton("theme-button", say.THEME, "theme"), "theme-menu", say.THEME, themeItems);
   }

@@ -101,7 +101,7 @@ export class ExploreTab {
       texts: () => this.texts,
       prove: calls.prove,
       goTo: (line) => editor.editor.select({ from: line, to: line }),
-      showMessage: (words) => editor.showMessage(words),
+      showMessage: (message) => editor.showMessage(message),
       showFaults: (faults) => this.showFaults(faults),
       open: calls.openWithLines,
       addTest: calls.addTest,
@@ -183,11 +183,11 @@ export class ExploreTab {
   /**
    * Shows a message about the search if the message has changed. An unchanged message is not shown again, so that it does not replace a
    * later message about another action.
-   * @param {string} words
+   * @param {string} message
    */
-  showMessage(words) {
-    if (words !== this.lastMessage) this.editor.showMessage(words);
-    this.lastMessage = words;
+  showMessage(message) {
+    if (message !== this.lastMessage) this.editor.showMessage(message);
+    this.lastMessage = message;
   }
 
   /**

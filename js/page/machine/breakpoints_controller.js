@@ -138,14 +138,14 @@ export class BreakpointsController {
       work().catch(calls.reportFailure);
     };
     this.menu.open([
-      { words: breakpoint ? say.REMOVES_BREAKPOINT : say.ADDS_BREAKPOINT, key: toggleKey, act: makeAction(() => this.toggleLine(line)) },
-      { words: say.CONDITION, key: conditionKey, act: makeAction(() => this.editLine(line, "condition")) },
-      { words: say.HIT_COUNT, act: makeAction(() => this.editLine(line, "from")) },
-      { words: say.LOG_MESSAGE, act: makeAction(() => this.editLine(line, "note")) },
+      { label: breakpoint ? say.REMOVES_BREAKPOINT : say.ADDS_BREAKPOINT, key: toggleKey, act: makeAction(() => this.toggleLine(line)) },
+      { label: say.CONDITION, key: conditionKey, act: makeAction(() => this.editLine(line, "condition")) },
+      { label: say.HIT_COUNT, act: makeAction(() => this.editLine(line, "from")) },
+      { label: say.LOG_MESSAGE, act: makeAction(() => this.editLine(line, "note")) },
       ...(breakpoint ? [{
-        words: breakpoint.isOn ? say.DISABLE : say.ENABLE, act: () => manager.change(breakpoint.id, { isOn: !breakpoint.isOn }),
+        label: breakpoint.isOn ? say.DISABLE : say.ENABLE, act: () => manager.change(breakpoint.id, { isOn: !breakpoint.isOn }),
       }] : []),
-      { words: say.RUN_TO_LINE, act: () => calls.runTo(line) },
+      { label: say.RUN_TO_LINE, act: () => calls.runTo(line) },
     ], point);
   }
 

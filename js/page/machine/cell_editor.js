@@ -98,10 +98,10 @@ export class CellEditor {
     this.field.select();
   }
 
-  /** @param {string} words */
-  showMessage(words) {
-    this.message.textContent = words;
-    this.field.setAttribute("aria-invalid", String(words !== ""));
+  /** @param {string} message */
+  showMessage(message) {
+    this.message.textContent = message;
+    this.field.setAttribute("aria-invalid", String(message !== ""));
   }
 
   /** @param {boolean} returnsFocus true if the focus returns to the cell */

@@ -136,9 +136,9 @@ export class HeatView {
     this.calls.showCells(new Map());
   }
 
-  /** @param {string} words */
-  showStatus(words) {
-    if (this.status.textContent !== words) this.status.textContent = words;
+  /** @param {string} text */
+  showStatus(text) {
+    if (this.status.textContent !== text) this.status.textContent = text;
   }
 
   /** Cancels the current count. If the heat map is out of date and time is paused, starts another count after COUNT_DELAY_MS. */

@@ -63,13 +63,13 @@ const MAX_LISTED_ERRORS = 20;
 export class Editors {
   /**
    * @param {Bench} bench
-   * @param {ErrorMessages} words
+   * @param {ErrorMessages} errorMessages
    * @param {ManualSection[]} manual
    * @param {EditorsCalls} calls
    */
-  constructor(bench, words, manual, calls) {
+  constructor(bench, errorMessages, manual, calls) {
     this.bench = bench;
-    this.words = words;
+    this.errorMessages = errorMessages;
     this.calls = calls;
     this.instructions = readInstructions(manual);
     this.tables = boardTables(manual);
@@ -77,7 +77,7 @@ export class Editors {
     this.board = this.makeBoard();
     /** @type {string | null} the board's text while it is being applied; null at other times */
     this.pendingBoardText = null;
-    this.errorFinder = this.makeErrorFinder(words);
+    this.errorFinder = this.makeErrorFinder(errorMessages);
     this.programErrors = new LiveErrors((isWanted) => this.errorFinder.findInProgram(this.program.text, isWanted),
       (result) => this.showFoundErrors("program", result), calls.reportFailure);
     onClick(button("assemble-only"), () => this.assembleOnly().catch(calls.reportFailure));
@@ -86,15 +86,15 @@ export class Editors {
       (result) => this.showFoundErrors("board", result), calls.reportFailure);
   }
 
-  /** @param {ErrorMessages} words */
-  makeErrorFinder(words) {
+  /** @param {ErrorMessages} errorMessages */
+  makeErrorFinder(errorMessages) {
     return new TextErrorFinder({
       findBoardError: (sent) => this.bench.call("wiring", [sent]),
       findLineErrors: (sent) => this.bench.call("errors", [sent]),
       findRefusal: (sent) => this.findRefusal("asm", sent),
       readMap: async (sent) => (await this.bench.call("checkProgram", [sent])).map,
       readRomNumbers: () => this.readRomNumbers(),
-    }, { instructions: this.instructions, tables: this.tables }, (number) => words.refusalMeaning(number));
+    }, { instructions: this.instructions, tables: this.tables }, (number) => errorMessages.refusalMeaning(number));
   }
 
   makeProgram() {
@@ -234,7 +234,7 @@ export class Editors {
 
   /** @param {import("../../core/bench/answers.js").Refusal} refusal */
   describeRefusal({ number }) {
-    return `no ${number}: ${this.words.refusalMeaning(number)}`;
+    return `no ${number}: ${this.errorMessages.refusalMeaning(number)}`;
   }
 
   /**

@@ -35,9 +35,9 @@ export class ErrorView {
     if (faults.length === 0 && this.faults.length === 0) return;
     this.faults = faults;
     /** @type {Map<number, string>} */
-    const words = new Map();
-    for (const fault of faults) words.set(fault.line, [words.get(fault.line), fault.words].filter(Boolean).join("; "));
-    this.marks.showTexts("faults", (line) => (words.has(line) ? "!" : ""), (line) => words.get(line) || "");
+    const messages = new Map();
+    for (const fault of faults) messages.set(fault.line, [messages.get(fault.line), fault.words].filter(Boolean).join("; "));
+    this.marks.showTexts("faults", (line) => (messages.has(line) ? "!" : ""), (line) => messages.get(line) || "");
     this.editor.showErrors(faults.flatMap((fault) => this.underline(fault)));
     this.list.replaceChildren(...faults.map((fault) => this.makeEntry(fault)), ...(footnote ? [element("li", {}, footnote)] : []));
     this.list.hidden = faults.length === 0;

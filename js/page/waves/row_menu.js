@@ -35,8 +35,8 @@ export class RowMenu {
     const { view } = this;
     const { selectedIndex } = view;
     return [
-      { words: say.MOVE_UP, key: "Alt+Up", act: () => view.moveRow(selectedIndex, selectedIndex - 1) },
-      { words: say.MOVE_DOWN, key: "Alt+Down", act: () => view.moveRow(selectedIndex, selectedIndex + 1) },
+      { label: say.MOVE_UP, key: "Alt+Up", act: () => view.moveRow(selectedIndex, selectedIndex - 1) },
+      { label: say.MOVE_DOWN, key: "Alt+Down", act: () => view.moveRow(selectedIndex, selectedIndex + 1) },
     ];
   }
 
@@ -48,10 +48,10 @@ export class RowMenu {
     const { view } = this;
     const memberNames = () => view.names.filter((name) => view.arrangement.groupOf(name) === group);
     return [
-      { words: say.FOLD, key: "Enter", act: () => view.toggleFold(group) },
-      { words: say.RENAME,
+      { label: say.FOLD, key: "Enter", act: () => view.toggleFold(group) },
+      { label: say.RENAME,
         act: () => this.askName(say.nameOf(group), group, (word) => word && view.changeLines(memberNames(), { group: word })) },
-      { words: say.UNGROUP, act: () => view.changeLines(memberNames(), { group: "" }) },
+      { label: say.UNGROUP, act: () => view.changeLines(memberNames(), { group: "" }) },
       ...this.moveItems,
     ];
   }
@@ -62,18 +62,18 @@ export class RowMenu {
    */
   makeLineItems({ name, title, colour, group }) {
     const { view } = this;
-    const leaveItem = { words: say.LEAVE_GROUP, act: () => view.changeLines([name], { group: "" }) };
+    const leaveItem = { label: say.LEAVE_GROUP, act: () => view.changeLines([name], { group: "" }) };
     const joinItem = {
-      words: say.GROUP, act: () => this.askName(say.groupOf(name), "", (word) => view.changeLines([name], { group: word })),
+      label: say.GROUP, act: () => this.askName(say.groupOf(name), "", (word) => view.changeLines([name], { group: word })),
     };
     const colourItems = /** @type {const} */ (["", ...ROW_COLOURS]).map((choice) => (
-      { words: say.COLOURS[choice], isChosen: () => colour === choice, act: () => view.changeLines([name], { colour: choice }) }));
+      { label: say.COLOURS[choice], isChosen: () => colour === choice, act: () => view.changeLines([name], { colour: choice }) }));
     return [
-      { words: say.RENAME, act: () => this.askName(say.nameOf(name), title || name,
+      { label: say.RENAME, act: () => this.askName(say.nameOf(name), title || name,
         (word) => view.changeLines([name], { title: word === name ? "" : word })) },
       group === "" ? joinItem : leaveItem,
       ...this.moveItems,
-      { words: say.HIDE, act: () => view.calls.hide(name) },
+      { label: say.HIDE, act: () => view.calls.hide(name) },
       ...colourItems,
     ];
   }

@@ -96,16 +96,16 @@ class BenchWorker {
   }
 
   /** @param {Request} request */
-  async answerRequest({ number, call, words }) {
+  async answerRequest({ number, call, words: callArguments }) {
     this.currentRequest = number;
     this.lastReportTime = performance.now();
     // First report the run that preceded the call.
     if (CHANGING_CALLS[call] && this.calls.bench.fullSpeed.isOn) this.postFrame(this.calls.bench.takeUnreported());
     try {
-      const result = await (/** @type {any} */ (this.calls))[call](...words);
-      if (pressesKey(call, words)) this.sendEarly({ kind: "early", number, result });
+      const result = await (/** @type {any} */ (this.calls))[call](...callArguments);
+      if (pressesKey(call, callArguments)) this.sendEarly({ kind: "early", number, result });
       this.post({ kind: "reply", number, result }, result && result.file instanceof ArrayBuffer ? [result.file] : []);
-      if (pressesKey(call, words)) this.calls.bench.checkLastLines();
+      if (pressesKey(call, callArguments)) this.calls.bench.checkLastLines();
     } catch (fault) {
       this.post({ kind: "reply", number, fault: packError(fault) });
     }
