@@ -33,7 +33,7 @@ export function makeEditors(page, manual) {
       page.textsController.handleEdit();
       page.drawingController.handleEdit();
     },
-    handleAssembly: (isBegun) => page.breakpoints.handleAssembly(isBegun),
+    handleAssembly: (wasReset) => page.breakpoints.handleAssembly(wasReset),
     serveLines: (lines) => page.lineServer.serveLines(lines),
     pauseTime: () => runController.pause(),
     resumeTime: () => runController.run(),

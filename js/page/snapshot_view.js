@@ -53,8 +53,8 @@ import * as say from "../words/page.js";
 /** @typedef {import("./board/printer_view.js").PrinterCalls & ViewCalls} SnapshotCalls */
 
 /**
- * A listener for changes of lamps and keys. `lamps` has one character per lamp, `*` for on. `keysDown` is the number of keys that are down.
- * @typedef {{ handleLamps: (lamps: string) => void, handleKeyCount: (keysDown: number) => void }} Watcher
+ * A listener for changes of lamps and keys. `lamps` has one character per lamp, `*` for on. `keyCount` is the number of keys that are down.
+ * @typedef {{ handleLamps: (lamps: string) => void, handleKeyCount: (keyCount: number) => void }} Watcher
  */
 
 /** While time is running fast, the interval in milliseconds between updates of the views whose values change too quickly to read. */

@@ -173,7 +173,8 @@ export class DisplayView {
     else this.signDigit.showDutyCycles(litPattern, SEGMENT_PATHS.map((_, index) => (1 << index === MINUS_PATTERN ? lamps[lamp] : 0)));
   }
 
-  /** @param {{ number: string, names: string }} words */
+  /** @param {{ number: string, names: string }} content the displayed number, and the names of the lamps that are on */
+
   showText({ number, names }) {
     this.textCell.set(number);
     this.announcer.announce(names ? `${number} ${names}` : number);

@@ -204,10 +204,10 @@ export class BreakpointsController {
 
   /**
    * Updates the breakpoints after the source was loaded into ROM. Resolves when each breakpoint has the address of its line.
-   * @param {boolean} isBegun true if the processor was reset, which also resets the hit counts
+   * @param {boolean} wasReset true if the processor was reset, which also resets the hit counts
    */
-  async handleAssembly(isBegun) {
-    if (isBegun) this.manager.resetHits();
+  async handleAssembly(wasReset) {
+    if (wasReset) this.manager.resetHits();
     await this.calls.checkSource();
     await this.manager.allSent;
   }

@@ -31,7 +31,7 @@ import * as say from "../../words/testing.js";
  *   margin; null removes the counts.
  * @property {(address: number) => void} goTo Shows an address in the source and in the disassembly.
  * @property {(name: string, file: Uint8Array, texts: TestedTexts) => void} open Opens a new session from a file, with the tested texts.
- * @property {(words: string, isGood?: boolean) => void} showMark Shows a short text on the tab; "" removes it. If `isGood`, the text
+ * @property {(label: string, isGood?: boolean) => void} showMark Shows a short text on the tab; "" removes it. If `isGood`, the text
  *   reports a success.
  * @property {() => void} handleEdit Handles an edit of the tests.
  * @property {(fault: unknown) => void} reportFailure Reports an error that a call threw.

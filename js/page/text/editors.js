@@ -37,7 +37,7 @@ import * as say from "../../words/text.js";
  * @typedef {object} EditorsCalls
  * @property {(edits: Edit[]) => void} handleEdits Handles an edit: the edits of the source, or an empty list for an edit of the board's
  *   text.
- * @property {(isBegun: boolean) => Promise<void>} handleAssembly Handles a program that was loaded into ROM; `isBegun` is true if the
+ * @property {(wasReset: boolean) => Promise<void>} handleAssembly Handles a program that was loaded into ROM; `wasReset` is true if the
  *   processor was also reset. Resolves when each breakpoint has the address of its line.
  * @property {(lines: string) => Promise<string | null>} serveLines Sends lines to the bench. Resolves to the first answer, or to null after
  *   a failure. A failure has already been reported.
@@ -53,7 +53,7 @@ import * as say from "../../words/text.js";
  *   the word at an offset in a line. Returns an empty list while time is running.
  * @property {import("./meaning_view.js").MakeEditable} makeEditable Makes a cell that shows a value editable.
  * @property {(name: "program" | "board", count: number) => void} showErrorCount Shows the number of errors in a text on its tab.
- * @property {(text: string, words: string) => void} replaceBoard Replaces the board's text and shows a message that offers undo.
+ * @property {(text: string, message: string) => void} replaceBoard Replaces the board's text and shows a message that offers undo.
  * @property {(fault: unknown) => void} reportFailure Reports an error that a call threw.
  */
 

@@ -18,7 +18,7 @@ import * as say from "../../words/time.js";
  * @property {(goal: BackGoal) => void} goBack Goes back to a goal.
  * @property {() => void} goForward Returns to the state before the last move back.
  * @property {() => import("../../core/conditions/condition_language.js").Names} names Returns the names that conditions can use.
- * @property {(words: string) => void} showMessage Shows a message in the status line.
+ * @property {(message: string) => void} showMessage Shows a message in the status line.
  */
 
 const MAX_INSTRUCTIONS = 10000000;

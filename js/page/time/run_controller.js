@@ -143,7 +143,7 @@ export class RunController {
     else delete session.record.goal;
   }
 
-  /** Forgets the goal after a reset, because the subroutine that it waits for can no longer return. */
+  /** Forgets the goal after a reset, because the subroutine that the goal waits for can no longer return. */
   forgetGoal() {
     this.goal = null;
   }
