@@ -59,7 +59,8 @@ class Lamp {
 /**
  * Returns the HTML list of the lamps in a group.
  * @param {Group} group
- * @param {(index: number, defaultName: string) => HTMLElement} makeLampNode returns the lamp element for an index in the group and a default name
+ * @param {(index: number, defaultName: string) => HTMLElement} makeLampNode returns the lamp element for an index in the group and a
+ *   default name
  */
 function makeLampList({ kind, rows, columns }, makeLampNode) {
   const cells = indices(rows * columns).map((index) => {
