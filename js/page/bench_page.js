@@ -34,18 +34,19 @@ import * as say from "../words/page.js";
  * @typedef {import("./session/store.js").SessionRecord} SessionRecord
  * @typedef {import("./session/store.js").SessionStore} SessionStore
  * @typedef {import("../core/bench/error_messages.js").ErrorMessages} ErrorMessages
- * @typedef {{ bench: Bench, makeBench: () => Bench, store: SessionStore, locks: Locks, words: ErrorMessages, notice: Notice, examples:
- *   Example[], manual: ManualSection[] }} PageServices the services that the page uses; `makeBench` starts another bench, in a new worker
+ * @typedef {{ bench: Bench, makeBench: () => Bench, store: SessionStore, locks: Locks, errorMessages: ErrorMessages, notice: Notice,
+ *   examples: Example[], manual: ManualSection[] }} PageServices the services that the page uses; `makeBench` starts another bench, in a
+ *   new worker
  */
 
 export class Page {
   /** @param {PageServices} services */
   constructor(services) {
-    const { bench, makeBench, store, words, notice, manual } = services;
+    const { bench, makeBench, store, errorMessages, notice, manual } = services;
     this.cellWords = cellWords(manual);
     this.bench = bench;
     this.store = store;
-    this.words = words;
+    this.errorMessages = errorMessages;
     this.notice = notice;
     /** True if the computer's keyboard presses the board's keys. */
     this.isTyping = true;
@@ -56,7 +57,7 @@ export class Page {
     this.lineServer = makeLineServer(this);
     this.keyPresser = makeKeyPresser(this);
     this.snapshotView = makeSnapshotView(this);
-    this.logView = new LogView(words);
+    this.logView = new LogView(errorMessages);
     this.layout = new Layout(() => this.printContents());
     this.progressView = new ProgressView();
     this.editors = makeEditors(this, manual);

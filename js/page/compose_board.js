@@ -32,7 +32,7 @@ export function makeSnapshotView(page) {
     isWiringShown: () => page.layout.tabs.shownName === "wiring",
     ask: (lines) => page.bench.call("ask", [lines]),
     serveLine: (line) => page.lineServer.serveLines(line),
-    describeRefusal: (number) => page.words.refusalMeaning(number),
+    describeRefusal: (number) => page.errorMessages.refusalMeaning(number),
     explain: (name) => describeCell(page.cellWords, name),
     showCounterLine: (counter) => page.source.showNext(counter, runController.isFast || page.currentSession.willRun),
     receiveBreakpoints: (breakpoints) => page.breakpoints.manager.updateFromBench(breakpoints),
@@ -100,7 +100,7 @@ export function makeDrawingController(page) {
     edit: (edits) => editor.edit(edits),
     undo: () => editor.undoOrRedo("undo"),
     redo: () => editor.undoOrRedo("redo"),
-    describeRefusal: (number) => page.words.refusalMeaning(number),
+    describeRefusal: (number) => page.errorMessages.refusalMeaning(number),
     isInFront: () => tabs.shownName === "wiring",
     putInFront: () => tabs.choose("wiring"),
     applyBoard: async () => {
@@ -144,7 +144,7 @@ export function makeScope(page) {
     name: () => page.currentSession.name,
     boardLines: () => listRecordableLines(page.snapshotView.board, page.boardEditor.text),
     showRecording: (isOn) => page.layout.dock.setMark("waves", isOn ? "records" : ""),
-    startLive: (wanted, values) => resultOrReport(page, page.bench.call("recordLive", [textsWithValues(values), wanted])),
+    startLive: (setup, values) => resultOrReport(page, page.bench.call("recordLive", [textsWithValues(values), setup])),
     endLive: () => resultOrReport(page, page.bench.call("endRecording", [])),
     record: async (cycles, isBefore, values) => {
       // A recording continues from the current state, so time must be paused.

@@ -48,7 +48,7 @@ function show({ layout }, name) {
  * @typedef {{ theme: Theme, tips: Tooltips, toolbar: ToolbarView }} PageFrame
  * @returns {PageFrame}
  */
-export function makeShell() {
+export function makePageFrame() {
   const theme = new Theme(new Preferences());
   const tips = new Tooltips();
   return { theme, tips, toolbar: new ToolbarView(tips, theme) };
@@ -58,7 +58,7 @@ export function makeShell() {
  * Returns the callbacks for commands about projects, files and notices.
  * @param {Page} page
  */
-function projectCalls({ exportView, notice, recovery, sessionsController, linkSharing }) {
+function makeProjectCalls({ exportView, notice, recovery, sessionsController, linkSharing }) {
   const { manager, view } = sessionsController;
   return {
     open: () => field("file").click(),
@@ -80,25 +80,25 @@ function projectCalls({ exportView, notice, recovery, sessionsController, linkSh
  * Returns the callbacks for commands that run, pause and step.
  * @param {Page} page
  */
-function timeCalls(page) {
+function makeTimeCalls(page) {
   const { snapshotView, programEditor, runController, lineServer, travel } = page;
   return {
     isRunning: () => runController.clock.isRunning,
     continueOrPause: () => runController.continueOrPause(),
     step: () => void runController.stepOnce(),
-    goOn: travel.goOn.bind(travel),
+    runToGoal: travel.goOn.bind(travel),
     goBack: travel.goBack.bind(travel),
     goForward: () => void travel.goForward(),
     canGoForward: () => !button("forward").disabled,
     runToCursor: () => runToLine(page, programEditor.editor.editor.getCursor().line + 1),
     /** @param {string} line */
     sendLine: (line) => void lineServer.serveLines(line),
-    toggleTestPin: () => void lineServer.serveLines(`test ${snapshotView.test.isOn ? 0 : 1}\n`),
+    toggleTestPin: () => void lineServer.serveLines(`test ${snapshotView.testSwitch.isOn ? 0 : 1}\n`),
     /** @param {string} id */
     setSpeed: (id) => {
-      const speeds = byId("speed", HTMLSelectElement);
-      speeds.value = id;
-      speeds.dispatchEvent(new Event("change"));
+      const speedSelect = byId("speed", HTMLSelectElement);
+      speedSelect.value = id;
+      speedSelect.dispatchEvent(new Event("change"));
     },
   };
 }
@@ -107,7 +107,7 @@ function timeCalls(page) {
  * Returns the callbacks for commands about the texts.
  * @param {Page} page
  */
-function textCalls(page) {
+function makeTextCalls(page) {
   const { layout, programEditor } = page;
   const findFrontEditor = () => page.textEditors[EDITOR_NAMES.findIndex((name) => name === layout.tabs.shownName)];
   return {
@@ -148,7 +148,7 @@ export class Commands {
    * @param {Page} page
    * @param {Guide} guide
    * @param {Example[]} examples
-   * @param {PageFrame} shell
+   * @param {PageFrame} pageFrame
    */
   constructor(page, guide, examples, { theme, toolbar }) {
     this.page = page;
@@ -179,9 +179,9 @@ export class Commands {
   makeCalls(guide, theme) {
     const { page } = this;
     return {
-      ...timeCalls(page),
-      ...textCalls(page),
-      ...projectCalls(page),
+      ...makeTimeCalls(page),
+      ...makeTextCalls(page),
+      ...makeProjectCalls(page),
       setTheme: (name) => theme.set(name),
       show: (name) => show(page, name),
       press: (id, containerName) => {
@@ -204,7 +204,7 @@ export class Commands {
       openWelcome: () => this.welcome.open(),
       toggleHelp: () => guide.help.toggle(wordAtCaret(page)),
       openHelp: (query) => guide.help.open(query),
-      openPalette: (begin) => this.open(begin),
+      openPalette: (initialText) => this.open(initialText),
     };
   }
 
@@ -265,9 +265,10 @@ export class Commands {
    */
   makeEntry(command) {
     const { calls } = this;
-    const { words, group, keys, icon, wordsNow } = command;
-    const name = wordsNow ? wordsNow(calls) : words;
-    return { words: name, hint: say.GROUPS[group], why: command.whyNot(calls), keys, icon, act: () => command.act(calls) };
+    const { group, keys, icon, currentLabel } = command;
+    const label = currentLabel ? currentLabel(calls) : command.label;
+    const disabledReason = command.unavailableReason(calls);
+    return { label, hint: say.GROUPS[group], disabledReason, keys, icon, act: () => command.act(calls) };
   }
 
   /**
@@ -275,18 +276,18 @@ export class Commands {
    * @param {Command} command
    */
   execute(command) {
-    const reason = command.whyNot(this.calls);
-    if (reason) this.page.runController.showMessage(say.notDone(command.words, reason));
+    const reason = command.unavailableReason(this.calls);
+    if (reason) this.page.runController.showMessage(say.notDone(command.label, reason));
     else command.act(this.calls);
   }
 
   /**
    * Opens the palette. The saved projects appear once the store has listed them.
-   * @param {string} begin the initial text of the palette's field
+   * @param {string} initialText the initial text of the palette's field
    */
-  open(begin) {
+  open(initialText) {
     const { recovery, sessionsController } = this.page;
-    this.palette.open(begin);
+    this.palette.open(initialText);
     sessionsController.manager.savedSessions().then((records) => {
       this.projects = records.map(({ id, name }) => ({ id, name }));
       this.palette.refresh();

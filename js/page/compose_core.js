@@ -16,17 +16,17 @@ import { RunController } from "./time/run_controller.js";
 export function makeCurrentSession(page) {
   return new CurrentSession(page.bench, page.store, {
     begin: (record) => page.begin(record),
-    show: (shown) => page.show(shown),
+    show: (state) => page.show(state),
     checkSource: () => page.checkSource(),
     checkTestsAndProperties: () => page.checkTestsAndProperties(),
     run: () => page.runController.run(),
-    showPaused: (words) => page.runController.endRun(words),
+    showPaused: (reason) => page.runController.endRun(reason),
     stopTime: () => page.runController.stopRun(),
     describeCounter: () => page.runController.counterText,
     handleSessionChange: () => page.sessionsController.handleSessionChange(),
     takeRuns: () => page.logView.takeRuns(),
-    logRuns: (ran, fault) => page.logView.showRuns(ran, fault),
-    showSaveError: (words) => (words ? page.notice.show(words, "kept") : page.notice.hide("kept")),
+    logRuns: (runs, saveError) => page.logView.showRuns(runs, saveError),
+    showSaveError: (message) => (message ? page.notice.show(message, "kept") : page.notice.hide("kept")),
     showSaveState: (state) => page.layout.status.showSaved(state),
   }, page.storedHistory);
 }
@@ -36,11 +36,11 @@ export function makeCurrentSession(page) {
  * @returns {Recovery}
  */
 export function makeRecovery(page) {
-  return new Recovery(page.bench, page.words, page.notice, {
+  return new Recovery(page.bench, page.errorMessages, page.notice, {
     session: () => page.currentSession.session,
     isRunning: () => page.runController.clock.isRunning,
     stopClock: () => page.runController.clock.stop(),
-    showPaused: (words) => page.runController.endRun(words),
+    showPaused: (reason) => page.runController.endRun(reason),
     showLastFrame: (frame) => page.runController.handleFrame(frame),
     reopenSession: async (record) => {
       page.show(await page.currentSession.requestOpening(record));
@@ -75,7 +75,7 @@ export function makeRunController(page) {
     describeCounter: () => addressWithName(page.snapshotView.counter, page.source.map),
     describeCondition: (id) => describeBreakpointCondition(page.breakpoints.manager.list.get(id), page.breakpoints.manager.faults.get(id)),
     countInvalidBreakpoints: () => page.breakpoints.manager.faults.size,
-    describeRefusal: (number) => page.words.refusalMeaning(number),
+    describeRefusal: (number) => page.errorMessages.refusalMeaning(number),
     step: () => page.lineServer.serveLines("step\n"),
     reportFailure: (fault) => page.recovery.reportFailure(fault),
   });
@@ -87,9 +87,9 @@ export function makeRunController(page) {
  */
 export function makeLineServer(page) {
   const { currentSession, runController } = page;
-  return new LineServer(page.bench, page.words, page.notice, {
+  return new LineServer(page.bench, page.errorMessages, page.notice, {
     map: () => page.source.map,
-    work: (words, work) => page.progressView.show(words, (signal, progress) => work({ signal, progress })),
+    runWithProgress: (description, work) => page.progressView.show(description, (signal, progress) => work({ signal, progress })),
     counter: () => page.snapshotView.counter,
     show: (result) => {
       if (result.hasChangedRom) page.snapshotView.forgetRom();
@@ -97,12 +97,12 @@ export function makeLineServer(page) {
     },
     checkSource: () => page.checkSource(),
     save: () => currentSession.markChangedAndSave(),
-    log: (entries, fault) => page.logView.show(entries, fault),
+    log: (entries, saveError) => page.logView.show(entries, saveError),
     countHits: (tally) => page.breakpoints.count(tally),
     isRunning: () => runController.clock.isRunning,
     forgetGoal: () => runController.forgetGoal(),
     describeStop: (stop) => runController.describeStop(stop, null),
-    showMessage: (words) => runController.showMessage(words),
+    showMessage: (message) => runController.showMessage(message),
     reportFailure: (fault) => page.recovery.reportFailure(fault),
   });
 }

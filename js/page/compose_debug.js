@@ -55,7 +55,7 @@ export function makeBreakpointsController(page) {
     runTo: (line) => runToLine(page, line),
     ensureSourceChecked: () => page.source.waitForCheck(),
     checkSource: () => page.source.check(),
-    showMessage: (words) => page.snapshotView.message.show(words),
+    showMessage: (message) => page.snapshotView.message.show(message),
     reportFailure: (fault) => page.recovery.reportFailure(fault),
   });
 }
@@ -67,7 +67,7 @@ export function makeTravel(page) {
     pause: () => runController.pause(),
     texts: () => page.breakpoints.texts(),
     storeGoal: (goal) => runController.storeGoal(goal),
-    change: (words, work) => page.lineServer.performWork(words, work),
+    change: (description, work) => page.lineServer.performWork(description, work),
     runTo: (goal) => runController.run(goal),
     reportTally: (tally) => page.breakpoints.count(tally),
     reasonOf: (stop, goal) => runController.describeStop(stop, goal),
@@ -86,10 +86,10 @@ export function makeHistoryView(page) {
   listenForRunToCaret(block("program-editor"), () => runToLine(page, programEditor.editor.editor.getCursor().line + 1));
   makeLastChangeView(page);
   return new HistoryView({
-    goOn: (goal) => travel.goOn(goal),
+    runToGoal: (goal) => travel.goOn(goal),
     goBack: (goal) => travel.goBack(goal),
     goForward: () => travel.goForward(),
-    names: () => expressionNames(page),
+    names: () => collectExpressionNames(page),
     showMessage: (words) => runController.showMessage(words),
   });
 }
@@ -147,7 +147,7 @@ export function makeHeatView(page) {
       bench.call("watchRam", [isOn]).catch((fault) => recovery.reportFailure(fault));
     },
     showCells: (heatByPlace) => snapshotView.ram.showHeat(heatByPlace),
-    placeName: (place) => snapshotView.ram.placeName(place),
+    describePlace: (place) => snapshotView.ram.describePlace(place),
     map: () => page.source.map,
   });
 }
@@ -156,7 +156,7 @@ export function makeHeatView(page) {
  * Returns the names that expressions can use: names from the board in use, from the program in ROM, and from the watch list.
  * @param {Page} page
  */
-function expressionNames({ snapshotView, source, breakpoints }) {
+function collectExpressionNames({ snapshotView, source, breakpoints }) {
   const watched = collectWatchNames(breakpoints.manager.watchTexts);
   return { face: snapshotView.face, board: snapshotView.board, map: source.map, watched };
 }
@@ -170,7 +170,7 @@ export function makeWatchView(page) {
   return new WatchView({
     makeEditable: (cell, { place, name }) => snapshotView.editor.makeEditable(cell, { place, name, digits: 1 }),
     pausedState: () => page.sourceValues.machineState,
-    names: () => expressionNames(page),
+    names: () => collectExpressionNames(page),
     handleListChange: () => showNibbleNames(page),
     storeExpressions: (texts) => {
       if (!currentSession.session) return;

@@ -31,9 +31,9 @@ export function makeSessionsController(page, services) {
     openLink: (link) => page.linkSharing.open(link),
     loadTexts: (name, texts) => page.textsController.open(name, texts),
     setSpeed: (id) => {
-      const speeds = byId("speed", HTMLSelectElement);
-      speeds.value = id;
-      speeds.dispatchEvent(new Event("change"));
+      const speedSelect = byId("speed", HTMLSelectElement);
+      speedSelect.value = id;
+      speedSelect.dispatchEvent(new Event("change"));
     },
     loadImage: async (name, bytes) => {
       const message = await page.romFiles.load(name, bytes);
@@ -73,7 +73,7 @@ export function makeExportView(page) {
  */
 export function makeLinkSharing(page) {
   const { currentSession, sessionsController } = page;
-  return new LinkSharing(page.bench, page.confirmDialog, page.notice, page.words, {
+  return new LinkSharing(page.bench, page.confirmDialog, page.notice, page.errorMessages, {
     currentTexts: () => currentSession.session && currentSession.session.record,
     showSessionAddress: () => currentSession.showName(),
     begin: (texts, file, runs) => sessionsController.manager.openNew(async () => newRecord(texts.name || "session", file, texts, runs)),
@@ -136,13 +136,14 @@ export function makeGuide(page, manual) {
       else if (target === "ram") layout.showPanel("memory");
       else layout.showText("program");
     },
-    replace: (program, words) => page.textsController.replace("program", program, words),
-    acts: makeStoryCalls(page),
+    replace: (program, message) => page.textsController.replace("program", program, message),
+    storyCalls: makeStoryCalls(page),
     handleTourEnd: forgetStory,
-    showRefusal: (words) => page.notice.show(words, "session"),
+    showRefusal: (reason) => page.notice.show(reason, "session"),
   });
   page.sessionsController.onSessionOpened = () => guide.endStory();
-  page.sessionsController.showExample = (example) => guide.showStory(example.name, [example]);
+  page.sessionsController.showStory = (example) =>
+ guide.showStory(example.name, [example]);
   page.snapshotView.watcher = guide.tour;
   page.runController.onRunEnd = (endReason) => guide.tour.recordEnd(endReason);
   return guide;

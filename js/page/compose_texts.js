@@ -27,25 +27,25 @@ import * as say from "../words/page.js";
  */
 export function makeEditors(page, manual) {
   const { runController } = page;
-  return new Editors(page.bench, page.words, manual, {
+  return new Editors(page.bench, page.errorMessages, manual, {
     handleEdits: (edits) => {
       page.breakpoints.manager.applyTextEdits(edits);
       page.textsController.handleEdit();
       page.drawingController.handleEdit();
     },
-    handleAssembly: (isBegun) => page.breakpoints.handleAssembly(isBegun),
+    handleAssembly: (wasReset) => page.breakpoints.handleAssembly(wasReset),
     serveLines: (lines) => page.lineServer.serveLines(lines),
     pauseTime: () => runController.pause(),
     resumeTime: () => runController.run(),
     counter: () => page.snapshotView.counter,
     toggleBreakpoint: (line) => page.breakpoints.toggleLine(line).catch((fault) => page.recovery.reportFailure(fault)),
-    editBreakpoint: (line, what) => page.breakpoints.editLine(line, what).catch((fault) => page.recovery.reportFailure(fault)),
+    editBreakpoint: (line, fieldName) => page.breakpoints.editLine(line, fieldName).catch((fault) => page.recovery.reportFailure(fault)),
     openMarginMenu: (line, point) => page.breakpoints.openMenu(line, point),
     describeName: (name) => page.source.meaningOf(name),
-    valuesAt: (text, at) => page.sourceValues.valueAt(text, at),
+    valuesAt: (text, index) => page.sourceValues.valueAt(text, index),
     makeEditable: (cell, { place, name }) => page.snapshotView.editor.makeEditable(cell, { place, name, digits: 1 }),
-    replaceBoard: (text, words) => page.textsController.replace("board", text, words),
-    showFaultCount: (name, count) => page.layout.tabs.setMark(name, count > 0 ? formatErrorCount(count) : ""),
+    replaceBoard: (text, message) => page.textsController.replace("board", text, message),
+    showErrorCount: (name, count) => page.layout.tabs.setMark(name, count > 0 ? formatErrorCount(count) : ""),
     reportFailure: (fault) => page.recovery.reportFailure(fault),
   });
 }
@@ -60,11 +60,11 @@ export function makeProblemsView(page) {
   const problems = new ProblemsView({
     goTo: (name, fault) => {
       page.layout.showText(name);
-      editors[name].goToFault(fault);
+      editors[name].goToError(fault);
     },
     showCount: (count) => page.layout.dock.setMark("problems", count > 0 ? String(count) : ""),
   });
-  for (const [name, editor] of Object.entries(editors)) editor.onFaultsChange = (faults) => problems.setFaults(name, faults);
+  for (const [name, editor] of Object.entries(editors)) editor.onErrorsChange = (faults) => problems.setErrors(name, faults);
   return problems;
 }
 
@@ -84,13 +84,13 @@ export function makeSource(page) {
   const source = new SourceSync({
     text: () => page.programEditor.benchText,
     check: (text) => page.bench.call("checkProgram", [text]),
-    changed: (map, words) => {
-      page.snapshotView.nameLines(map, words);
-      page.layout.status.showRom(map !== null, words);
+    changed: (map, reason) => {
+      page.snapshotView.nameLines(map, reason);
+      page.layout.status.showRom(map !== null, reason);
       showNibbleNames(page);
-      page.breakpoints.manager.setSourceMap(map, words);
+      page.breakpoints.manager.setSourceMap(map, reason);
     },
-    describeRefusal: (number) => page.words.refusalMeaning(number),
+    describeRefusal: (number) => page.errorMessages.refusalMeaning(number),
   });
   source.editor = page.programEditor;
   return source;
@@ -117,7 +117,7 @@ export function makeTextsController(page) {
     isProbablyNotProgram: (text) => page.editors.isProbablyNotProgram(text),
     handleLoadedTexts: (shownName, lines) => {
       page.layout.tabs.choose(shownName);
-      page.sessionsController.lines.offer(lines);
+      page.sessionsController.offeredLines.offer(lines);
     },
     reportFailure: (fault) => page.recovery.reportFailure(fault),
   });
@@ -144,7 +144,7 @@ export function insertKeyScan({ layout, programEditor }, board) {
  * @returns {TestsTab}
  */
 export function makeTestsTab(page, manual) {
-  const { bench, runController, words } = page;
+  const { bench, runController, errorMessages } = page;
   const tab = new TestsTab(manual, {
     texts: () => ({ boardText: page.boardEditor.text, programText: page.programEditor.text }),
     labels: () => (page.source.map ? [...page.source.map.labels.values()].flat() : []),
@@ -155,7 +155,7 @@ export function makeTestsTab(page, manual) {
       await runController.pause();
       return page.progressView.show(say.RUNNING_TESTS, (signal, progress) => bench.call("runTests", [texts], { signal, progress }));
     },
-    describeRefusal: (number) => words.refusalMeaning(number),
+    describeRefusal: (number) => errorMessages.refusalMeaning(number),
     showCounts: (report, programText) => {
       if (report && report.coverage && programText === page.programEditor.text) page.programEditor.counts.show(report.coverage.lines);
       else page.programEditor.counts.clear();
@@ -171,7 +171,7 @@ export function makeTestsTab(page, manual) {
 }
 
 /**
- * Adds a test to the program's tests. Returns a message for the user.
+ * Adds a test to the text in the Tests tab. Returns a message for the user.
  * @param {Page} page
  * @param {string} test
  */
@@ -211,14 +211,14 @@ async function openWithLines(page, { name, lines, message }, texts) {
  * @returns {ExploreTab}
  */
 export function makeExploreTab(page, manual, makeBench) {
-  const { bench, words } = page;
+  const { bench, errorMessages } = page;
   const [explorer, prover] = [new Explorer(makeBench), new Prover(makeBench)];
   const tab = new ExploreTab(manual, {
     texts: () => ({ boardText: page.boardEditor.text, programText: page.programEditor.text, testText: page.testsTab.editor.text }),
     labels: () => (page.source.map ? [...page.source.map.labels.values()].flat() : []),
     faults: (texts) => bench.call("propertyFaults", [texts]),
     explore: (texts, request, signal, showProgress) => explorer.explore(texts, request, signal, showProgress),
-    describeRefusal: (number) => words.refusalMeaning(number),
+    describeRefusal: (number) => errorMessages.refusalMeaning(number),
     goToSource: (line) => {
       page.layout.tabs.choose("program");
       page.programEditor.editor.select({ from: line, to: line });

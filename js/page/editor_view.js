@@ -36,10 +36,10 @@ const keyPresser = new KeyPresser({
   },
 });
 /**
- * The front panel. Lamps show their perceived brightness while time is running, and their state at this instant while time is paused.
+ * The front panel. Lamps show their perceived brightness while time is running, and their current state while time is paused.
  */
 const front = new FrontView((node, key) => keyPresser.listen(node, key), () => {});
-/** The printer view. The debug adapter stores the printout since the board was drawn. */
+/** The printer view. The debug adapter stores everything that was printed since the board was drawn. */
 const printer = new PrinterView({ setPrinter: () => {}, clear: () => editor.postMessage({ isTorn: true }) });
 keyPresser.listenToKeyboard();
 button("test").addEventListener("click", () => sendKey(pinKey(front.testLevel === "1" ? 0 : 1), true));

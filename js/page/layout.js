@@ -45,7 +45,7 @@ export class Layout {
     });
     this.status = new StatusView();
     this.print = new PrintView(readContents);
-    this.splitters = SPLITTERS.map((border) => new Splitter(preferences, border));
+    this.splitters = SPLITTERS.map((options) => new Splitter(preferences, options));
     this.folds = makeFolds(preferences);
     this.panels = new Panels(preferences, () => this.reset());
   }

@@ -3,13 +3,13 @@
 import { inflateRaw } from "pako/dist/pako_inflate.js";
 import { Bench } from "../core/bench/bench_client.js";
 import { startWorker } from "./bench/early_replies.js";
-import { Commands, makeShell } from "./compose_commands.js";
+import { Commands, makePageFrame } from "./compose_commands.js";
 import { block, button, byId, element, field, onClick } from "./ui/dom.js";
 import { fromBase64 } from "../core/session/base64.js";
 import { Locks } from "./session/locks.js";
 import { Notice } from "./ui/notice.js";
 import { Page } from "./bench_page.js";
-import { requestedStory } from "./session/address.js";
+import { readRequestedStory } from "./session/address.js";
 import { makeGuide } from "./compose_session.js";
 import { SPEEDS, findSpeed } from "../core/time/speeds.js";
 import { withTimeout, MemoryStore, Store } from "./session/store.js";
@@ -20,7 +20,7 @@ import * as say from "../words/page.js";
 /**
  * @typedef {import("../core/engine/examples.js").Example} Example
  * @typedef {import("./session/store.js").SessionStore} SessionStore
- * @typedef {import("./compose_commands.js").PageFrame} Shell
+ * @typedef {import("./compose_commands.js").PageFrame} PageFrame
  * @typedef {import("../core/help/manual.js").ManualSection} ManualSection
  * @typedef {{ refusals: Record<string, string>, examples: Example[], manual: ManualSection[] }} Data The data that page/build embeds in the
  *   page.
@@ -34,7 +34,7 @@ const BULK_MEMORY_MODULE = Uint8Array.of(0, 97, 115, 109, 1, 0, 0, 0, 1, 4, 1, 9
   65, 0, 65, 0, 65, 0, 252, 11, 0, 11);
 
 /** Returns the name of a feature that the bench needs and this browser lacks, or "" if the browser has all of them. */
-function missingFeature() {
+function findMissingFeature() {
   if (typeof WebAssembly !== "object" || !WebAssembly.validate(BULK_MEMORY_MODULE)) return say.BULK_MEMORY;
   if (typeof BigInt !== "function") return say.BIG_INTEGERS;
   if (typeof Worker !== "function") return "workers";
@@ -59,7 +59,7 @@ async function openStore(locks) {
  * Returns the text of an embedded script element of the page.
  * @param {string} id
  */
-function embeddedText(id) {
+function readEmbeddedText(id) {
   return (block(id).textContent || "").trim();
 }
 
@@ -70,7 +70,7 @@ function embeddedText(id) {
  * @returns {Promise<Uint8Array>}
  */
 async function unpackEmbedded(id) {
-  const bytes = fromBase64(embeddedText(id));
+  const bytes = fromBase64(readEmbeddedText(id));
   const stream = makeStream("DecompressionStream");
   return stream ? readOutput(bytes, stream) : inflateRaw(bytes);
 }
@@ -87,26 +87,26 @@ async function prepareBench(examples) {
 
 /** @param {Page} page */
 function listenToButtons(page) {
-  onClick(button("test"), () => page.lineServer.serveLines(`test ${page.snapshotView.test.isOn ? 0 : 1}\n`));
+  onClick(button("test"), () => page.lineServer.serveLines(`test ${page.snapshotView.testSwitch.isOn ? 0 : 1}\n`));
   onClick(button("from-rom"), () => page.textsController.disassembleRom());
   listenToChoices(page);
 }
 
 /** @param {Page} page */
 function listenToChoices(page) {
-  const speed = byId("speed", HTMLSelectElement);
+  const speedSelect = byId("speed", HTMLSelectElement);
   const typingField = field("typing");
   const { preferences } = page.layout;
-  const speedChoice = SPEEDS.find(({ id }) => id === preferences.get("speed"));
-  if (speedChoice) page.runController.clock.setSpeed(speedChoice);
+  const storedSpeed = SPEEDS.find(({ id }) => id === preferences.get("speed"));
+  if (storedSpeed) page.runController.clock.setSpeed(storedSpeed);
   const show = () => {
-    speed.value = page.runController.clock.speed.id;
+    speedSelect.value = page.runController.clock.speed.id;
     typingField.checked = page.isTyping;
   };
-  speed.replaceChildren(...SPEEDS.map(({ id, words }) => element("option", { value: id }, words)));
-  speed.addEventListener("change", () => {
-    preferences.set("speed", speed.value);
-    page.runController.setSpeed(findSpeed(speed.value)).catch((fault) => page.recovery.reportFailure(fault));
+  speedSelect.replaceChildren(...SPEEDS.map(({ id, words }) => element("option", { value: id }, words)));
+  speedSelect.addEventListener("change", () => {
+    preferences.set("speed", speedSelect.value);
+    page.runController.setSpeed(findSpeed(speedSelect.value)).catch((fault) => page.recovery.reportFailure(fault));
   });
   typingField.addEventListener("change", () => {
     page.isTyping = typingField.checked;
@@ -120,7 +120,7 @@ function listenToChoices(page) {
  * Listens to window events: the user hides or leaves the page, the page's address changes, or an error is not caught.
  * @param {Page} page
  */
-function listenToLeaving(page) {
+function listenToWindow(page) {
   document.addEventListener("visibilitychange", () => page.runController.setHidden(document.hidden));
   addEventListener("pagehide", () => page.currentSession.saveNow());
   addEventListener("beforeunload", (event) => {
@@ -139,42 +139,42 @@ function listenToLeaving(page) {
 /**
  * Creates the page with its commands and its guide, as soon as the session store is open. The bench may still be loading.
  * @param {Omit<import("./bench_page.js").PageServices, "store" | "locks">} services
- * @param {Shell} shell
- * @param {Promise<Locks>} findingLocks
- * @param {Promise<SessionStore>} openingStore
+ * @param {PageFrame} pageFrame
+ * @param {Promise<Locks>} locksPromise
+ * @param {Promise<SessionStore>} storePromise
  */
-async function createPage(services, shell, findingLocks, openingStore) {
-  const [locks, store] = await Promise.all([findingLocks, openingStore]);
+async function createPage(services, pageFrame, locksPromise, storePromise) {
+  const [locks, store] = await Promise.all([locksPromise, storePromise]);
   const page = new Page({ ...services, store, locks });
   if (!store.isPersistent) services.notice.show(say.NO_STORE, "store");
   const guide = makeGuide(page, services.manual);
-  const commands = new Commands(page, guide, services.examples, shell);
+  const commands = new Commands(page, guide, services.examples, pageFrame);
   page.keyPresser.listenToKeyboard();
   listenToButtons(page);
-  listenToLeaving(page);
+  listenToWindow(page);
   const savedSessions = await page.sessionsController.manager.savedSessions();
   return { page, guide, commands, hasSessions: savedSessions.length > 0 };
 }
 
 /**
  * Creates the page and opens its first session.
- * @param {ErrorMessages} words
+ * @param {ErrorMessages} errorMessages
  * @param {Notice} notice
- * @param {Shell} shell
+ * @param {PageFrame} pageFrame
  * @param {Data} data
  */
-async function start(words, notice, shell, { examples, manual }) {
-  const findingLocks = Locks.find();
-  const openingStore = openStore(findingLocks);
+async function start(errorMessages, notice, pageFrame, { examples, manual }) {
+  const locksPromise = Locks.find();
+  const storePromise = openStore(locksPromise);
   const makeBench = await prepareBench(examples);
   const bench = makeBench();
-  const services = { bench, makeBench, words, notice, examples, manual };
+  const services = { bench, makeBench, errorMessages, notice, examples, manual };
   // The page creates its views while the worker loads the module.
-  const creatingPage = createPage(services, shell, findingLocks, openingStore);
-  const [{ page, guide, commands, hasSessions }] = await Promise.all([creatingPage, bench.start()]);
+  const pagePromise = createPage(services, pageFrame, locksPromise, storePromise);
+  const [{ page, guide, commands, hasSessions }] = await Promise.all([pagePromise, bench.start()]);
   // A worker that dies before it has loaded the module is not replaced.
   bench.listener = page.listener();
-  const story = requestedStory(location.search);
+  const story = readRequestedStory(location.search);
   const isFirst = location.hash === "" && !story && !hasSessions;
   await page.sessionsController.openFirst(story);
   if (story) guide.showStory(story, examples);
@@ -186,22 +186,22 @@ async function start(words, notice, shell, { examples, manual }) {
 }
 
 async function main() {
-  const shell = makeShell();
+  const pageFrame = makePageFrame();
   const notice = new Notice();
   // The block `needs` is visible only in browsers that cannot run this script.
   block("needs").hidden = true;
-  const missingName = missingFeature();
-  if (missingName) {
-    notice.show(say.featureMissing(missingName, embeddedText("needs")));
+  const missingFeature = findMissingFeature();
+  if (missingFeature) {
+    notice.show(say.featureMissing(missingFeature, readEmbeddedText("needs")));
     return;
   }
   /** @type {Data} */
   const data = JSON.parse(new TextDecoder().decode(await unpackEmbedded("data")));
   const errorMessages = new ErrorMessages(data.refusals);
   try {
-    await start(errorMessages, notice, shell, data);
+    await start(errorMessages, notice, pageFrame, data);
   } catch (fault) {
-    notice.show(say.cannotStart(errorMessages.errorMessage(fault), embeddedText("needs")));
+    notice.show(say.cannotStart(errorMessages.errorMessage(fault), readEmbeddedText("needs")));
   }
 }
 

@@ -14,13 +14,13 @@ export class PrintView {
     addEventListener("beforeprint", () => this.fill());
     addEventListener("afterprint", () => this.block.replaceChildren());
     // Some browsers announce a print preview only through the media query.
-    const print = matchMedia("print");
-    if (print.addEventListener) print.addEventListener("change", () => print.matches && this.fill());
+    const printQuery = matchMedia("print");
+    if (printQuery.addEventListener) printQuery.addEventListener("change", () => printQuery.matches && this.fill());
   }
 
   fill() {
     const { name, board, program } = this.readContents();
-    this.block.replaceChildren(...textNodes(say.sourceTitle(name), program), ...textNodes(say.boardTitle(name), board));
+    this.block.replaceChildren(...makeTextNodes(say.sourceTitle(name), program), ...makeTextNodes(say.boardTitle(name), board));
   }
 }
 
@@ -28,7 +28,7 @@ export class PrintView {
  * @param {string} title
  * @param {string} text
  */
-function textNodes(title, text) {
+function makeTextNodes(title, text) {
   const lines = text.replace(/\n$/, "").split("\n").map((line) => element("li", {}, element("code", {}, line)));
   return text === "" ? [] : [element("h2", {}, title), element("ol", {}, ...lines)];
 }

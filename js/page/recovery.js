@@ -17,7 +17,7 @@ import * as say from "../words/page.js";
  * @property {() => OpenSession | null} session Returns the current session, or null if there is none.
  * @property {() => boolean} isRunning Returns true if time is running.
  * @property {() => void} stopClock Stops the page's clock without a request to the worker.
- * @property {(words: string) => void} showPaused Shows that time is paused, and the reason.
+ * @property {(reason: string) => void} showPaused Shows that time is paused, and the reason.
  * @property {(frame: Frame) => void} showLastFrame Shows the last frame of a run before the error.
  * @property {(record: SessionRecord) => Promise<void>} reopenSession Opens a session in a new worker and shows the session. Rejects if the
  *   new worker also fails.
@@ -26,16 +26,16 @@ import * as say from "../words/page.js";
 export class Recovery {
   /**
    * @param {Bench} bench
-   * @param {ErrorMessages} words
+   * @param {ErrorMessages} errorMessages
    * @param {Notice} notice
    * @param {RecoveryCalls} calls
    */
-  constructor(bench, words, notice, calls) {
+  constructor(bench, errorMessages, notice, calls) {
     this.bench = bench;
-    this.words = words;
+    this.errorMessages = errorMessages;
     this.notice = notice;
     this.calls = calls;
-    /** True while a new worker starts in place of a terminated worker. */
+    /** True while a new worker starts to replace a terminated worker. */
     this.isRestarting = false;
   }
 
@@ -44,11 +44,11 @@ export class Recovery {
    * @param {unknown} fault
    */
   reportFailure(fault) {
-    const { bench, notice, words, calls } = this;
+    const { bench, notice, errorMessages, calls } = this;
     console.error(fault);
     // While a new worker starts, pending calls to the old worker still fail. `restart` reports the termination to the user.
     if (this.isRestarting) return;
-    notice.show(words.failureMessage(fault));
+    notice.show(errorMessages.failureMessage(fault));
     if (!calls.session()) return;
     const isRunning = calls.isRunning();
     calls.showPaused(say.PAUSED);
@@ -58,7 +58,7 @@ export class Recovery {
 
   /** Starts a new worker after the old one has terminated. The session continues from the last record that the page has. */
   async restart() {
-    const { bench, notice, words, calls } = this;
+    const { bench, notice, errorMessages, calls } = this;
     this.isRestarting = true;
     calls.stopClock();
     try {
@@ -70,7 +70,7 @@ export class Recovery {
       this.isRestarting = false;
       calls.showPaused(say.PAUSED);
     } catch (fault) {
-      notice.show(say.cannotRestart(words.errorMessage(fault)));
+      notice.show(say.cannotRestart(errorMessages.errorMessage(fault)));
     } finally {
       this.isRestarting = false;
     }

@@ -53,8 +53,8 @@ import * as say from "../words/page.js";
 /** @typedef {import("./board/printer_view.js").PrinterCalls & ViewCalls} SnapshotCalls */
 
 /**
- * A listener for changes of lamps and keys. `lamps` has one character per lamp, `*` for on. `keysDown` is the number of keys that are down.
- * @typedef {{ handleLamps: (lamps: string) => void, handleKeyCount: (keysDown: number) => void }} Watcher
+ * A listener for changes of lamps and keys. `lamps` has one character per lamp, `*` for on. `keyCount` is the number of keys that are down.
+ * @typedef {{ handleLamps: (lamps: string) => void, handleKeyCount: (keyCount: number) => void }} Watcher
  */
 
 /** While time is running fast, the interval in milliseconds between updates of the views whose values change too quickly to read. */
@@ -75,7 +75,7 @@ export class SnapshotView {
     this.message = new PopupMessage();
     this.editor = new CellEditor({
       poke: async (place, value) => this.refusalMessage(await calls.serveLine(`poke ${place} ${value}\n`)),
-      showMessage: (words, cell) => this.message.show(words, cell),
+      showMessage: (message, cell) => this.message.show(message, cell),
     });
     this.registers = new RegistersView(this.changes, this.editor, calls.explain);
     this.ram = new RamView(this.changes, this.editor, (bank, source, isSet, cell) => (
@@ -93,7 +93,7 @@ export class SnapshotView {
     this.sourceStatus = new Cell(block("source-status"));
     this.testText = new Cell(button("test"));
     /** True if the TEST pin is at 1. */
-    this.test = new Switch((isOn) => button("test").setAttribute("aria-pressed", String(isOn)));
+    this.testSwitch = new Switch((isOn) => button("test").setAttribute("aria-pressed", String(isOn)));
   }
 
   /**
@@ -159,10 +159,10 @@ export class SnapshotView {
   /**
    * Shows the names of the program in ROM.
    * @param {SourceMap | null} map null if the source is not the program in ROM
-   * @param {string} words the reason why `map` is null; "" otherwise
+   * @param {string} reason the reason why `map` is null; "" otherwise
    */
-  nameLines(map, words) {
-    this.sourceStatus.set(words);
+  nameLines(map, reason) {
+    this.sourceStatus.set(reason);
     this.listing.nameLines(map);
     this.goTo.setNames(map);
     this.showListing();
@@ -187,7 +187,7 @@ export class SnapshotView {
   /** Updates the views that `show` can delay. */
   showSlowViews() {
     this.lastDrawTime = performance.now();
-    this.showChanged(this.reader.readOtherChanges());
+    this.showStateChanges(this.reader.readOtherChanges());
   }
 
   /**
@@ -207,7 +207,7 @@ export class SnapshotView {
     if (keys) this.front.showKeys(keys);
     if (test !== undefined) {
       this.testText.set(`TEST ${test}`);
-      this.test.set(test === "1");
+      this.testSwitch.set(test === "1");
       this.front.showTest(test);
       this.wiring.showTest(test === "1");
     }
@@ -218,7 +218,7 @@ export class SnapshotView {
   }
 
   /** @param {StateChanges} changedValues */
-  showChanged({ registers, ports, breakpoints, watches, ram = [] }) {
+  showStateChanges({ registers, ports, breakpoints, watches, ram = [] }) {
     if (ports) {
       this.ports.show(ports);
       this.wiring.showPorts(ports);

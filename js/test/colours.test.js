@@ -2,8 +2,8 @@
 
 import assert from "node:assert/strict";
 import { test } from "node:test";
-import { assemblyColours } from "../page/text/assembly_colours.js";
-import { boardColours } from "../page/text/board_colours.js";
+import { makeAssemblyColours } from "../page/text/assembly_colours.js";
+import { colourBoardLine } from "../page/text/board_colours.js";
 import { COLOURS } from "../core/text/test_colours.js";
 
 /** Returns the words of a line with their style classes. */
@@ -12,17 +12,17 @@ function describeColours(line, colours) {
 }
 
 test("words of a program have the colours of their kinds", () => {
-  const colours = assemblyColours(new Set(["ISZ"]));
+  const colours = makeAssemblyColours(new Set(["ISZ"]));
   assert.equal(describeColours("loop:\tISZ R0, loop ; again", colours), "loop def|ISZ keyword|R0 atom|loop variable-2|; again comment");
   assert.equal(describeColours("", colours), "");
 });
 
 test("a board's tables, keys, values and comments are distinguished", () => {
-  assert.equal(describeColours("[[rom]] # the first", boardColours), "[[rom]] atom|# the first comment");
-  assert.equal(describeColours('port = "00#0" # inputs', boardColours), 'port property|"00#0" string|# inputs comment');
-  assert.equal(describeColours("rows = [1, true]", boardColours), "rows property|[ bracket|1 number|true atom|] bracket");
-  assert.equal(describeColours("# a comment alone", boardColours), "# a comment alone comment");
-  assert.equal(describeColours('name = "open', boardColours), 'name property|"open string');
+  assert.equal(describeColours("[[rom]] # the first", colourBoardLine), "[[rom]] atom|# the first comment");
+  assert.equal(describeColours('port = "00#0" # inputs', colourBoardLine), 'port property|"00#0" string|# inputs comment');
+  assert.equal(describeColours("rows = [1, true]", colourBoardLine), "rows property|[ bracket|1 number|true atom|] bracket");
+  assert.equal(describeColours("# a comment alone", colourBoardLine), "# a comment alone comment");
+  assert.equal(describeColours('name = "open', colourBoardLine), 'name property|"open string');
 });
 
 test("lines of tests: the first word, test names, and comments, except after keys", () => {

@@ -1,7 +1,7 @@
 // Tests early replies in browsers that have, lack or forbid broadcast channels.
 import assert from "node:assert/strict";
 import { test } from "node:test";
-import { earlySender } from "../page/bench/early_replies.js";
+import { makeEarlySender } from "../page/bench/early_replies.js";
 
 /** A sample early reply. */
 const EARLY = { kind: /** @type {"early"} */ ("early"), number: 7, result: "lamps" };
@@ -15,14 +15,14 @@ test("a reply is sent to the channel with the given name", () => {
 
     postMessage(message) { received.push([this.name, message]); }
   };
-  earlySender("one")(EARLY);
+  makeEarlySender("one")(EARLY);
   assert.deepEqual(received, [["one", EARLY]]);
 });
 
 test("without a name, or if channels are missing or forbidden, nothing is sent and nothing fails", () => {
   globalThis.BroadcastChannel = class { constructor() { throw new Error("insecure"); } };
-  earlySender("one")(EARLY);
-  earlySender("")(EARLY);
+  makeEarlySender("one")(EARLY);
+  makeEarlySender("")(EARLY);
   Reflect.deleteProperty(globalThis, "BroadcastChannel");
-  earlySender("one")(EARLY);
+  makeEarlySender("one")(EARLY);
 });

@@ -1,7 +1,7 @@
 // Tests project folders that the user drops on the page: their texts, or the reason why they are rejected.
 import assert from "node:assert/strict";
 import { test } from "node:test";
-import { folderFromFiles, droppedFolders, readFolder } from "../page/session/folder_files.js";
+import { folderFromFiles, getDroppedFolders, readFolder } from "../page/session/folder_files.js";
 import { readFolderTexts } from "../page/session/folder_project.js";
 import { readOpenedFile } from "../core/session/opened_file.js";
 
@@ -21,15 +21,15 @@ function createFolder(texts, name = "lights") {
 }
 
 test("the texts of a project folder are read", async () => {
-  const { texts, speed, words } = await readFolderTexts(createFolder(TEXTS));
+  const { texts, speed, message } = await readFolderTexts(createFolder(TEXTS));
   assert.deepEqual([texts.name, texts.board, texts.program, texts.tests, texts.properties], ["lights", TEXTS["b/wires.toml"], "NOP\n",
     TEXTS["a.test"], ""]);
-  assert.deepEqual([speed, words], ["tenth", "The page has one text of each kind: c.test is left out."]);
+  assert.deepEqual([speed, message], ["tenth", "The page has one text of each kind: c.test is left out."]);
   // A project can have its board and its program in one script.
   const script = "wire\n[[rom]]\nchip = 0\nport = \"0000\"\n.\nasm\nNOP\n.\n";
   const scriptProject =
     await readFolderTexts(createFolder({ "mcs4.toml": "board = \"s.txt\"\nprogram = \"s.txt\"\n", "s.txt": script }, ""));
-  assert.deepEqual([scriptProject.texts.name, scriptProject.texts.program, scriptProject.speed, scriptProject.words],
+  assert.deepEqual([scriptProject.texts.name, scriptProject.texts.program, scriptProject.speed, scriptProject.message],
     ["s", "NOP\n", "", ""]);
 });
 
@@ -64,8 +64,8 @@ test("dropped folders and files are read through the browser's interfaces", asyn
   assert.deepEqual([name, [...files.keys()]], ["lights", ["mcs4.toml", "main.asm", "b/wires.toml"]]);
   const items = [{ kind: "string" }, { kind: "file", webkitGetAsEntry: () => droppedEntry },
     { kind: "file", webkitGetAsEntry: () => null }];
-  assert.deepEqual(droppedFolders({ items }), [droppedEntry]);
-  assert.deepEqual(droppedFolders(null), []);
+  assert.deepEqual(getDroppedFolders({ items }), [droppedEntry]);
+  assert.deepEqual(getDroppedFolders(null), []);
   assert.equal(folderFromFiles([createFile("mcs4.toml", "")]), null);
   assert.deepEqual([...folderFromFiles([createFile("a.asm", ""), createFile("mcs4.toml", "")]).files.keys()], ["a.asm", "mcs4.toml"]);
 });

@@ -1,10 +1,10 @@
 // Tests which notices are removed when a new one appears.
 import assert from "node:assert/strict";
 import { test } from "node:test";
-import { noticesToRemove } from "../page/ui/notice.js";
+import { findNoticesToRemove } from "../page/ui/notice.js";
 
 /** Returns the kinds of the notices that are removed from a list of notices, given by their kinds, newest first. */
-const kindsToRemove = (...kinds) => noticesToRemove(kinds.map((kind) => ({ kind }))).map(({ kind }) => kind);
+const kindsToRemove = (...kinds) => findNoticesToRemove(kinds.map((kind) => ({ kind }))).map(({ kind }) => kind);
 
 test("the newest three notices are shown", () => {
   assert.deepEqual(kindsToRemove(), []);

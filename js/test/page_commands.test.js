@@ -3,8 +3,8 @@ import assert from "node:assert/strict";
 import { readFileSync } from "node:fs";
 import { test } from "node:test";
 import { COMMANDS, commandById } from "../page/commands/command_table.js";
-import { commandForKey, editorKeys, formatKey, listenToKeys } from "../page/commands/keys.js";
-import { keyRows, addKeyRows } from "../page/commands/key_list.js";
+import { commandForKey, makeEditorBindings, formatKey, listenToKeys } from "../page/commands/keys.js";
+import { makeKeyRows, addKeyRows } from "../page/commands/key_list.js";
 import { listDestinations } from "../page/commands/palette_places.js";
 import { searchEntries, rankEntry } from "../page/commands/palette_search.js";
 import * as say from "../words/page_commands.js";
@@ -24,13 +24,13 @@ function createRecorder() {
 
 test("each command has a unique id, a unique name, a group and an action", () => {
   assert.equal(new Set(COMMANDS.map(({ id }) => id)).size, COMMANDS.length);
-  assert.equal(new Set(COMMANDS.map(({ words }) => words)).size, COMMANDS.length);
+  assert.equal(new Set(COMMANDS.map(({ label }) => label)).size, COMMANDS.length);
   for (const command of COMMANDS) {
-    assert.ok(command.words && command.group in say.GROUPS, command.id);
+    assert.ok(command.label && command.group in say.GROUPS, command.id);
     const { seen, calls } = createRecorder();
     command.act(calls);
     assert.equal(seen.length, 1, command.id);
-    assert.equal(command.whyNot(calls), "", command.id);
+    assert.equal(command.unavailableReason(calls), "", command.id);
   }
 });
 
@@ -51,12 +51,12 @@ test("the elements that commands use exist in the page", () => {
 
 test("a command that cannot run gives the reason", () => {
   const calls = { canGoForward: () => false, isOffered: () => false, hasText: () => false, hasNotices: () => false, hasKeys: () => false };
-  const reasons = COMMANDS.map((command) => [command.id, command.whyNot(calls)]).filter(([, why]) => why);
+  const reasons = COMMANDS.map((command) => [command.id, command.unavailableReason(calls)]).filter(([, reason]) => reason);
   assert.ok(reasons.length > 30);
-  assert.equal(commandById("time.redo").whyNot(calls), say.NOTHING_UNDONE);
-  assert.equal(commandById("text.find").whyNot(calls), say.NO_EDITOR);
-  assert.equal(commandById("waves.save").whyNot(calls), say.NO_WAVES);
-  for (const [id, why] of reasons) assert.match(why, /^[a-z].*[a-z]$/, id);
+  assert.equal(commandById("time.redo").unavailableReason(calls), say.NOTHING_UNDONE);
+  assert.equal(commandById("text.find").unavailableReason(calls), say.NO_EDITOR);
+  assert.equal(commandById("waves.save").unavailableReason(calls), say.NO_WAVES);
+  for (const [id, reason] of reasons) assert.match(reason, /^[a-z].*[a-z]$/, id);
 });
 
 test("the keys are those of VS Code and DevTools", () => {
@@ -108,16 +108,16 @@ test("while a dialog is open, command keys have no effect, also not in the brows
 test("names of keys have the format of the table or of the editor", () => {
   assert.equal(formatKey(keyEvent("p", { metaKey: true, shiftKey: true })), "Ctrl+Shift+P");
   assert.equal(formatKey(keyEvent("[", { ctrlKey: true, altKey: true, shiftKey: true })), "Ctrl+Alt+Shift+[");
-  assert.deepEqual(Object.keys(editorKeys("text.foldAll", () => {})), ["Ctrl-Alt-Shift-[", "Cmd-Alt-Shift-["]);
-  assert.deepEqual(Object.keys(editorKeys("text.comment", () => {})), ["Ctrl-/", "Cmd-/"]);
-  assert.deepEqual(Object.keys(editorKeys("debug.condition", () => {})), ["Shift-F9"]);
+  assert.deepEqual(Object.keys(makeEditorBindings("text.foldAll", () => {})), ["Ctrl-Alt-Shift-[", "Cmd-Alt-Shift-["]);
+  assert.deepEqual(Object.keys(makeEditorBindings("text.comment", () => {})), ["Ctrl-/", "Cmd-/"]);
+  assert.deepEqual(Object.keys(makeEditorBindings("debug.condition", () => {})), ["Shift-F9"]);
 });
 
-const entry = (words, hint = "", keys = []) => ({ words, hint, why: "", keys, act: () => {} });
+const entry = (label, hint = "", keys = []) => ({ label, hint, disabledReason: "", keys, act: () => {} });
 
 test("the palette finds entries by words in any order, and ranks matches at the beginning first", () => {
   const entries = [entry("Show Source"), entry("Save project"), entry("Step over", "Time", ["F10"]), entry("Zoom to fit")];
-  const names = (query) => searchEntries(entries, query).map(({ words }) => words);
+  const names = (query) => searchEntries(entries, query).map(({ label }) => label);
   assert.deepEqual(names(""), ["Show Source", "Save project", "Step over", "Zoom to fit"]);
   assert.deepEqual(names("s"), ["Show Source", "Save project", "Step over"]);
   assert.deepEqual(names("over st"), ["Step over"]);
@@ -140,7 +140,7 @@ test("places: texts, labels, typed addresses and lines, projects, examples", () 
   const openFirst = (query) => {
     const [place] = searchEntries(listDestinations(query, calls), query);
     place.act();
-    return [place.words, place.hint, visits.pop()];
+    return [place.label, place.hint, visits.pop()];
   };
   assert.deepEqual(openFirst(":12"), ["Line 12 of Source", "", "line 12"]);
   assert.deepEqual(openFirst("0x20"), ["Address 020", "", "address 32"]);
@@ -150,14 +150,15 @@ test("places: texts, labels, typed addresses and lines, projects, examples", () 
   assert.deepEqual(openFirst("mine"), ["mine", "project", "project 4"]);
   assert.deepEqual(openFirst("clo"), ["clock", "Example", "example clock"]);
   assert.deepEqual(searchEntries(listDestinations("nowhere", calls), "nowhere"), []);
-  assert.equal(listDestinations("", { ...calls, map: () => null }).some(({ words }) => words === "loop"), false);
+  assert.equal(listDestinations("", { ...calls, map: () => null }).some(({ label }) => label === "loop"), false);
+
 });
 
 test("the help section about the keyboard begins with the keys of commands", () => {
   const [keyboard, other] =
     addKeyRows([{ title: "The keyboard", tables: [{ caption: "", head: [], rows: [] }] }, { title: "Other", tables: [] }]);
   assert.deepEqual([keyboard.tables.length, other.tables.length], [2, 0]);
-  assert.deepEqual(keyboard.tables[0].rows, keyRows());
-  assert.deepEqual(keyRows()[0], ["`F5`, `F8`", "Continue"]);
-  assert.equal(keyRows().length, COMMANDS.filter(({ keys }) => keys.length).length);
+  assert.deepEqual(keyboard.tables[0].rows, makeKeyRows());
+  assert.deepEqual(makeKeyRows()[0], ["`F5`, `F8`", "Continue"]);
+  assert.equal(makeKeyRows().length, COMMANDS.filter(({ keys }) => keys.length).length);
 });

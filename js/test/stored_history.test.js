@@ -46,7 +46,7 @@ async function reopenPage(store, { bench: { session: { file, count } } }, name =
   const past = new StoredHistory(store);
   past.begin(name);
   addReport(past, calls, calls.open(file.slice(), count.total, count.reset));
-  return { calls, past, storedSegments: past.storedSegments() };
+  return { calls, past, storedSegments: past.takeStoredSegments() };
 }
 
 /** Sends a copy of the history to the worker, as postMessage does. */

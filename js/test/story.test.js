@@ -7,7 +7,7 @@ import { parsePlace } from "../core/conditions/places.js";
 import { Face } from "../core/board/face.js";
 import { parseStory } from "../core/help/story.js";
 import { runAction } from "../core/help/story_actions.js";
-import { requestedStory } from "../page/session/address.js";
+import { readRequestedStory } from "../page/session/address.js";
 
 const EXAMPLES = new URL("../../examples/", import.meta.url);
 const stories = readdirSync(EXAMPLES, { recursive: true }).filter((name) => name.endsWith(".story"));
@@ -87,7 +87,7 @@ test("an action calls the page, or returns the reason why it cannot", async () =
 });
 
 test("the story is read from an address", () => {
-  assert.equal(requestedStory("?story=printing%20calculator"), "printing calculator");
-  assert.equal(requestedStory("?story=printing_calculator"), "printing calculator");
-  assert.equal(requestedStory("?other=1"), "");
+  assert.equal(readRequestedStory("?story=printing%20calculator"), "printing calculator");
+  assert.equal(readRequestedStory("?story=printing_calculator"), "printing calculator");
+  assert.equal(readRequestedStory("?other=1"), "");
 });

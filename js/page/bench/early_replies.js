@@ -8,7 +8,7 @@
  */
 
 /** Returns a random channel name that no other page can guess. */
-function secretName() {
+function makeSecretName() {
   return crypto.getRandomValues(new Uint32Array(4)).join("-");
 }
 
@@ -31,7 +31,7 @@ function openChannel(name) {
  * @returns {WorkerLike}
  */
 export function startWorker(address) {
-  const name = secretName();
+  const name = makeSecretName();
   const worker = new Worker(address, { name });
   const channel = openChannel(name);
   return {
@@ -52,7 +52,7 @@ export function startWorker(address) {
  * @param {string} name the worker's name, which is also the channel name
  * @returns {(early: EarlyReply) => void}
  */
-export function earlySender(name) {
+export function makeEarlySender(name) {
   const channel = openChannel(name);
   return (early) => channel && channel.postMessage(early);
 }

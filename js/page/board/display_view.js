@@ -34,7 +34,7 @@ class Digit {
     this.steadyPattern = 0;
     this.node = document.createElementNS(SVG_NAMESPACE, "svg");
     this.node.setAttribute("viewBox", isSign ? "2 0 32 60" : "0 0 44 60");
-    this.isSmeared = new Switch((isOn) => this.node.classList.toggle("smeared", isOn));
+    this.smearSwitch = new Switch((isOn) => this.node.classList.toggle("smeared", isOn));
     this.segments = SEGMENT_PATHS.map((shape, bit) => {
       const segment = document.createElementNS(SVG_NAMESPACE, "path");
       segment.setAttribute("d", shape);
@@ -49,7 +49,7 @@ class Digit {
     const litPattern = pattern === UNLIT_PATTERN ? 0 : pattern;
     if (litPattern === this.steadyPattern) return;
     this.steadyPattern = litPattern;
-    this.isSmeared.set(false);
+    this.smearSwitch.set(false);
     this.show(litPattern, this.segments.map((_, bit) => (litPattern & (1 << bit) ? 1 : 0)));
   }
 
@@ -63,7 +63,7 @@ class Digit {
       this.set(perceivedDigit.steady);
       return;
     }
-    this.isSmeared.set(perceivedDigit.isSmeared);
+    this.smearSwitch.set(perceivedDigit.isSmeared);
     this.showDutyCycles(perceivedDigit.pattern, perceivedDigit.segments.map((dutyCycle) => dutyCycle * digitCount));
   }
 
@@ -173,7 +173,8 @@ export class DisplayView {
     else this.signDigit.showDutyCycles(litPattern, SEGMENT_PATHS.map((_, index) => (1 << index === MINUS_PATTERN ? lamps[lamp] : 0)));
   }
 
-  /** @param {{ number: string, names: string }} words */
+  /** @param {{ number: string, names: string }} content the displayed number, and the names of the lamps that are on */
+
   showText({ number, names }) {
     this.textCell.set(number);
     this.announcer.announce(names ? `${number} ${names}` : number);

@@ -114,11 +114,12 @@ export class FrontView {
    * @param {Face} face
    */
   drawErrors(board, face) {
-    const faults = sortByLine([...face.faults, ...missingParts(face, board)]);
+    const errors = sortByLine([...face.faults, ...missingParts(face, board)]);
     const root = block("face-faults");
-    const messages = faults.slice(0, MAX_LISTED_ERRORS).map(({ line, words }) => say.lineOfBoard(line, words));
-    root.replaceChildren(...[...messages, moreErrors(faults, MAX_LISTED_ERRORS)].filter(Boolean).map((words) => element("li", {}, words)));
-    root.hidden = faults.length === 0;
+    const messages = errors.slice(0, MAX_LISTED_ERRORS).map(({ line, words }) => say.lineOfBoard(line, words));
+    const footnote = moreErrors(errors, MAX_LISTED_ERRORS);
+    root.replaceChildren(...[...messages, footnote].filter(Boolean).map((message) => element("li", {}, message)));
+    root.hidden = errors.length === 0;
   }
 
   /**

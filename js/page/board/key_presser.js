@@ -72,8 +72,8 @@ export class KeyPresser {
     });
     button.addEventListener("lostpointercapture", () => this.endPress(key));
     button.addEventListener("contextmenu", (event) => event.preventDefault());
-    button.addEventListener("keydown", (event) => this.activate(event, () => this.pressOrRelease(boardKey, event.shiftKey)));
-    button.addEventListener("keyup", (event) => this.activate(event, () => this.endPress(key)));
+    button.addEventListener("keydown", (event) => this.performOnActivation(event, () => this.pressOrRelease(boardKey, event.shiftKey)));
+    button.addEventListener("keyup", (event) => this.performOnActivation(event, () => this.endPress(key)));
     // A click without a pointer or a keyboard, for example from a screen reader, presses and releases the key.
     button.addEventListener("click", (event) => {
       if (event.detail !== 0 || event.timeStamp - liftTime < TAP_CLICK_MS) return;
@@ -84,10 +84,11 @@ export class KeyPresser {
   }
 
   /**
+   * Performs an action if the event is for Enter or Space, the keys that activate a button. Ignores the repeats of a held key.
    * @param {KeyboardEvent} event
    * @param {() => void} action
    */
-  activate(event, action) {
+  performOnActivation(event, action) {
     if (event.key !== " " && event.key !== "Enter") return;
     event.preventDefault();
     event.stopPropagation();
@@ -119,9 +120,9 @@ export class KeyPresser {
    * Presses a key, or releases it if it is already down. A switch, or a key that is pressed with Shift, stays down until it is pressed
    * again.
    * @param {Pick<BoardKey, "key" | "isSwitch">} boardKey
-   * @param {boolean} hasShift
+   * @param {boolean} isShiftDown
    */
-  pressOrRelease({ key, isSwitch }, hasShift) {
+  pressOrRelease({ key, isSwitch }, isShiftDown) {
     const name = formatKey(key);
     if (this.heldKeys.has(name)) return;
     const isDown = this.calls.isDown(key);
@@ -135,7 +136,7 @@ export class KeyPresser {
       this.heldKeys.set(name, { key, staysDown: true, undoPress: () => press(key) });
     } else {
       press(key);
-      this.heldKeys.set(name, { key, staysDown: hasShift || isSwitch, undoPress: () => release(key) });
+      this.heldKeys.set(name, { key, staysDown: isShiftDown || isSwitch, undoPress: () => release(key) });
     }
   }
 

@@ -20,18 +20,18 @@ class Lamp {
   /**
    * @param {LampReader} reader
    * @param {string} name
-   * @param {string} line the names of the lines that light the lamp
+   * @param {string} lineNames the names of the lines that light the lamp
    * @param {string} colour
    */
-  constructor(reader, name, line, colour) {
+  constructor(reader, name, lineNames, colour) {
     this.reader = reader;
     this.isLit = false;
     this.dutyCycle = 0;
     this.brightness = 0;
-    this.words = { lit: say.litLamp(name), dark: say.darkLamp(name) };
-    this.node = element("span", { className: `bulb ${colour}`, title: line });
+    this.labels = { lit: say.litLamp(name), dark: say.darkLamp(name) };
+    this.node = element("span", { className: `bulb ${colour}`, title: lineNames });
     this.node.setAttribute("role", "img");
-    this.node.setAttribute("aria-label", this.words.dark);
+    this.node.setAttribute("aria-label", this.labels.dark);
   }
 
   /**
@@ -44,7 +44,7 @@ class Lamp {
     if (this.isLit === isOn) return;
     this.isLit = isOn;
     this.node.classList.toggle("lit", isOn);
-    this.node.setAttribute("aria-label", isOn ? this.words.lit : this.words.dark);
+    this.node.setAttribute("aria-label", isOn ? this.labels.lit : this.labels.dark);
   }
 
   /** @param {number} brightness */
@@ -59,12 +59,13 @@ class Lamp {
 /**
  * Returns the HTML list of the lamps in a group.
  * @param {Group} group
- * @param {(at: number, words: string) => HTMLElement} makeLampNode returns the lamp element for an index in the group and a default name
+ * @param {(index: number, defaultName: string) => HTMLElement} makeLampNode returns the lamp element for an index in the group and a
+ *   default name
  */
-function lampList({ kind, rows, columns }, makeLampNode) {
-  const cells = indices(rows * columns).map((at) => {
-    const defaultName = rows > 1 ? say.rowAndColumn(Math.floor(at / columns), at % columns) : say.lampOfRow(at + 1, columns);
-    return element("li", {}, makeLampNode(at, defaultName));
+function makeLampList({ kind, rows, columns }, makeLampNode) {
+  const cells = indices(rows * columns).map((index) => {
+    const defaultName = rows > 1 ? say.rowAndColumn(Math.floor(index / columns), index % columns) : say.lampOfRow(index + 1, columns);
+    return element("li", {}, makeLampNode(index, defaultName));
   });
   const list = element("ul", { className: `group ${kind}` }, ...cells);
   list.setAttribute("aria-label", kind);
@@ -73,7 +74,7 @@ function lampList({ kind, rows, columns }, makeLampNode) {
 }
 
 /** @param {string} line for example `ram0.3.2`: line 2 of port `ram0.3` */
-function linePort(line) {
+function portOfLine(line) {
   return line.slice(0, line.lastIndexOf("."));
 }
 
@@ -99,7 +100,7 @@ export class LampsView {
     const grid = face.grid.filter(({ lamp }) => lamp < lines.length);
     let scannedCount = 0;
     const groupNodes = groups.filter(({ kind }) => kind !== "display").map((group) => (
-      isMultiplexed(group) ? this.drawScanned(group, scannedCount++) : this.drawGroup(group)));
+      isMultiplexed(group) ? this.drawScannedGroup(group, scannedCount++) : this.drawGroup(group)));
     if (grid.length > 0) groupNodes.push(this.drawGrid(grid));
     block("groups").replaceChildren(...groupNodes);
     block("lamps").replaceChildren(...this.drawRows(lampsOutsideGroups(face, lines.length)));
@@ -123,11 +124,11 @@ export class LampsView {
    * @param {number} index the index of the lamp whose colour is used
    * @param {LampReader} reader
    * @param {string} name
-   * @param {string} line
+   * @param {string} lineNames
    */
-  addLamp(index, reader, name, line) {
+  addLamp(index, reader, name, lineNames) {
     const colour = this.face && this.face.colours.get(index);
-    const lamp = new Lamp(reader, name, line, colour ? colour.text : "red");
+    const lamp = new Lamp(reader, name, lineNames, colour ? colour.text : "red");
     this.lamps.push(lamp);
     return lamp.node;
   }
@@ -137,18 +138,18 @@ export class LampsView {
    * @param {Group} group
    */
   drawGroup(group) {
-    return lampList(group, (index, words) => this.makeLamp(group.first + index, words));
+    return makeLampList(group, (index, defaultName) => this.makeLamp(group.first + index, defaultName));
   }
 
   /**
    * Returns the HTML list for a multiplexed group, whose lamps are on only while their row is scanned.
    * @param {Group} group
-   * @param {number} number the index of the group among the multiplexed groups
+   * @param {number} scannedIndex the index of the group among the multiplexed groups
    */
-  drawScanned(group, number) {
-    return lampList(group, (index, words) => {
-      const reader = scannedLampAt(group, number, index);
-      return this.addLamp(reader.column, reader, words, say.columnAndRow(this.lines[reader.column], this.lines[reader.row]));
+  drawScannedGroup(group, scannedIndex) {
+    return makeLampList(group, (index, defaultName) => {
+      const reader = scannedLampAt(group, scannedIndex, index);
+      return this.addLamp(reader.column, reader, defaultName, say.columnAndRow(this.lines[reader.column], this.lines[reader.row]));
     });
   }
 
@@ -176,7 +177,7 @@ export class LampsView {
     const rows = [];
     for (const index of lampNumbers) {
       const name = this.lampName(index);
-      const port = name ? "" : linePort(this.lines[index]);
+      const port = name ? "" : portOfLine(this.lines[index]);
       if (rows.length === 0 || rows[rows.length - 1].port !== port) rows.push({ port, cells: [] });
       const label = name || this.lines[index].slice(port.length + 1);
       rows[rows.length - 1].cells.push(element("li", {}, this.makeLamp(index, this.lines[index]), element("span", {}, label)));

@@ -17,7 +17,7 @@ import * as say from "../../words/board.js";
  * @property {() => boolean} isRealTime Returns true if time is running at the real chip's speed. At other speeds the buzzer is silent.
  */
 
-/** The number of cycles in one block of samples: 45 ms. */
+/** The number of cycles in one block of samples, which lasts 45 ms. */
 const BLOCK_CYCLES = 4200;
 /** The delay in seconds between the simulation of a cycle and its sound. */
 const SOUND_DELAY_SECONDS = 0.09;
@@ -32,7 +32,7 @@ const CUTOFF_HERTZ = 30;
 class Player {
   constructor() {
     this.context = new AudioContext();
-    this.pieces = new SampleBuffer(BLOCK_CYCLES);
+    this.sampleBuffer = new SampleBuffer(BLOCK_CYCLES);
     /** The end time of the last block, in seconds of the audio context. */
     this.endTime = 0;
     const volume = new GainNode(this.context, { gain: GAIN });
@@ -43,10 +43,10 @@ class Player {
 
   /** @param {BuzzerLevels} levels */
   play(levels) {
-    const samples = this.pieces.add(levels);
+    const samples = this.sampleBuffer.add(levels);
     const currentTime = this.context.currentTime;
     if (!samples || this.endTime > currentTime + MAX_DELAY_SECONDS) return;
-    // An audio context's time is 0 until it runs.
+    // An audio context's time is 0 until the context runs.
     if (this.endTime <= currentTime) this.endTime = currentTime + SOUND_DELAY_SECONDS;
     const buffer = this.context.createBuffer(1, samples.length, CYCLES_PER_SECOND);
     buffer.copyToChannel(samples, 0);
@@ -65,7 +65,7 @@ export class Sound {
     /** @type {Player | null} null if sound is off */
     this.player = null;
     this.status = new Cell(block("sound-status"));
-    this.isPressed = pressedSwitch(button("sound-button"));
+    this.buttonSwitch = pressedSwitch(button("sound-button"));
     onClick(button("sound-button"), () => this.toggle());
   }
 
@@ -104,7 +104,7 @@ export class Sound {
   /** Updates the button and the status, and starts or stops the bench's reports about the buzzer's line. */
   update() {
     const isOn = this.player !== null;
-    this.isPressed.set(isOn);
+    this.buttonSwitch.set(isOn);
     this.status.set(isOn && !this.calls.isRealTime() ? say.SILENT : "");
     this.calls.listenToLine(isOn && this.calls.isRealTime() ? this.line : "");
   }

@@ -34,7 +34,7 @@ export class WiringView {
   constructor(isShown) {
     this.isShown = isShown;
     this.root = block("wiring-picture");
-    this.words = block("wiring-words");
+    this.descriptionList = block("wiring-words");
     /** @type {Map<string, Switch>} the level of each line, by line name; the name of the TEST pin is "" */
     this.levels = new Map();
     /** @type {Map<string, SVGElement>} the elements of parts and pins by name, in drawing order */
@@ -53,7 +53,7 @@ export class WiringView {
     this.chains = [];
     /** @type {Map<string, Levels>} the line levels of each RAM chip, by `bank.chip` */
     this.rams = new Map();
-    /** The name that `mark` received last; "" for none. */
+    /** The name of the highlighted part, in the form that `mark` takes; "" for none. */
     this.markedName = "";
     /** The name of the part or pin that the Tab key moves the focus to. */
     this.tabStop = "";
@@ -118,7 +118,9 @@ export class WiringView {
     const picture = svgElement("svg", { viewBox: this.viewBox, role: "group", "aria-label": say.PARTS_AND_WIRES });
     picture.append(...wireNodes, ...partNodes, this.newWire);
     this.root.replaceChildren(picture);
-    this.words.replaceChildren(...parts.map(({ title, descriptions }) => element("li", {}, `${title}: ${descriptions.join("; ")}.`)));
+    this.descriptionList.replaceChildren(...parts.map(({ title, descriptions }) => (
+      element("li", {}, `${title}: ${descriptions.join("; ")}.`))));
+
     this.setTabStop(this.items.has(focusedName) ? focusedName : this.tabStop);
     if (focusedName) this.focus(this.tabStop);
     this.showMark();
@@ -271,11 +273,11 @@ export class WiringView {
   /**
    * Draws the wire in progress from a pin to the pointer.
    * @param {string} name the pin's name; "" removes the wire
-   * @param {import("../../core/board/wiring.js").Point | null} to
+   * @param {import("../../core/board/wiring.js").Point | null} endPoint
    */
-  drawNewWire(name, to) {
+  drawNewWire(name, endPoint) {
     const pin = [...this.parts.values()].flatMap(({ pins }) => pins).find(({ id }) => id === name);
-    this.newWire.setAttribute("d", pin && to ? pathText(routeWire({ from: pin, to }, [], 0)) : "");
+    this.newWire.setAttribute("d", pin && endPoint ? pathText(routeWire({ from: pin, to: endPoint }, [], 0)) : "");
   }
 
   /**

@@ -12,12 +12,13 @@ import * as say from "../../words/page_commands.js";
  *   text editors, or in one of them
  * @typedef {"system" | "light" | "dark"} Theme
  *
- * A command of the page. `words` is its label, `group` its group in lists, and `icon` its icon in the toolbar and in lists. `keys` are its
- * key bindings; lists show the first. `place` says where these keys work. `act` executes the command. `wordsNow` returns a label that
- * depends on whether time is running. `whyNot` returns the reason why the command is unavailable, or "" if it is available.
- * @typedef {{ id: string, words: string, group: keyof typeof say.GROUPS, icon?: IconName, keys: string[], place: KeyPlace,
- *   wordsNow?: (calls: CommandCalls) => string,
- *   act: (calls: CommandCalls) => void, whyNot: (calls: CommandCalls) => string }} Command
+ * A command of the page. `label` is its name in menus and lists, `group` its group in lists, and `icon` its icon in the toolbar and in
+ * lists. `keys` are its key bindings; lists show the first. `place` says where these keys work. `act` executes the command. `currentLabel`
+ * returns a label that depends on whether time is running. `unavailableReason` returns the reason why the command is unavailable, or "" if
+ * it is available.
+ * @typedef {{ id: string, label: string, group: keyof typeof say.GROUPS, icon?: IconName, keys: string[], place: KeyPlace,
+ *   currentLabel?: (calls: CommandCalls) => string,
+ *   act: (calls: CommandCalls) => void, unavailableReason: (calls: CommandCalls) => string }} Command
  *
  * @typedef {"find" | "replace" | "line" | "comment" | "complete" | "define" | "uses" | "rename" | "fold" | "unfold" | "foldAll" |
  * "unfoldAll" | "undo" | "redo"} TextAction an editing action
@@ -29,7 +30,7 @@ import * as say from "../../words/page_commands.js";
  * @property {() => boolean} isRunning Returns true if time is running.
  * @property {() => void} continueOrPause Resumes or pauses time.
  * @property {() => void} step Executes one instruction.
- * @property {(goal: import("../../core/debug/goals.js").Goal) => void} goOn Runs until a goal is reached.
+ * @property {(goal: import("../../core/debug/goals.js").Goal) => void} runToGoal Runs until a goal is reached.
  * @property {(goal: import("../../core/engine/past_search.js").BackGoal) => void} goBack Goes back to a goal.
  * @property {() => void} goForward Returns to the state before the last move back.
  * @property {() => boolean} canGoForward Returns true if a move back can be undone.
@@ -40,18 +41,18 @@ import * as say from "../../words/page_commands.js";
  * @property {(theme: Theme) => void} setTheme Sets the colours of the page.
  * @property {() => void} print Prints the page.
  * @property {(name: string) => void} show Brings a text or a panel to the front, by its name.
- * @property {(button: string, shown: string) => void} press Brings the text or panel `shown` to the front, then clicks the button with the
- *   id `button`.
+ * @property {(button: string, containerName: string) => void} press Brings the text or panel `containerName` to the front, then clicks the
+ *   button with the id `button`.
  * @property {(button: string) => boolean} isOffered Returns true if the button with the id `button` is available.
- * @property {(field: string, shown: string) => void} enter Brings the text or panel `shown` to the front, then focuses the field with the
- *   id `field`.
+ * @property {(field: string, containerName: string) => void} enter Brings the text or panel `containerName` to the front, then focuses the
+ *   field with the id `field`.
  * @property {(text: TextName) => void} sendText Sends a text to the bench, like the first button of the text's editor.
  * @property {(box: string) => void} toggle Toggles the check box with the id `box`.
  * @property {(isSource: boolean) => boolean} hasText Returns true if a text editor is in front. If `isSource` is true, only the source's
  *   editor counts.
- * @property {(what: TextAction) => void} performTextAction Performs an editing action in the editor that is in front.
- * @property {(what?: import("../machine/breakpoint_form.js").BreakpointField) => void} toggleOrEditBreakpoint Toggles the
- *   breakpoint at the caret's line. With a field, opens that field of the breakpoint instead.
+ * @property {(textAction: TextAction) => void} performTextAction Performs an editing action in the editor that is in front.
+ * @property {(fieldName?: import("../machine/breakpoint_form.js").BreakpointField) => void} toggleOrEditBreakpoint Toggles the
+ *   breakpoint at the caret's line. With `fieldName`, opens that field of the breakpoint instead.
  * @property {() => void} open Asks for a file to open.
  * @property {() => void} save Saves the project to a file.
  * @property {() => void} saveSession Saves only the session file.
@@ -68,8 +69,8 @@ import * as say from "../../words/page_commands.js";
  * @property {() => void} toggleHelp Closes the help, or opens it at the word at the caret.
  * @property {() => void} openExamples Opens the list of examples.
  * @property {() => void} openWelcome Opens the welcome cards.
- * @property {(wanted?: string) => void} openHelp Opens the help. With `wanted`, shows the entry with this name.
- * @property {(begin: string) => void} openPalette Opens the command palette with `begin` as the text of its field.
+ * @property {(query?: string) => void} openHelp Opens the help. With `query`, searches the help for this text.
+ * @property {(initialText: string) => void} openPalette Opens the command palette with `initialText` in its field.
  */
 
 /**
@@ -87,7 +88,7 @@ const alwaysAvailable = () => "";
  * @returns {Command}
  */
 function command(id, group, action, options = {}) {
-  return { id, words: say.COMMANDS[id], group, keys: [], place: "everywhere", act: action, whyNot: alwaysAvailable, ...options };
+  return { id, label: say.COMMANDS[id], group, keys: [], place: "everywhere", act: action, unavailableReason: alwaysAvailable, ...options };
 }
 
 /**
@@ -101,8 +102,8 @@ function command(id, group, action, options = {}) {
  */
 function buttonCommand(id, group, button, containerName, reason = say.NOT_NOW, options = {}) {
   /** @param {CommandCalls} calls */
-  const whyNot = (calls) => (calls.isOffered(button) ? "" : reason);
-  return command(id, group, (calls) => calls.press(button, containerName), { whyNot, ...options });
+  const unavailableReason = (calls) => (calls.isOffered(button) ? "" : reason);
+  return command(id, group, (calls) => calls.press(button, containerName), { unavailableReason, ...options });
 }
 
 /**
@@ -114,27 +115,28 @@ function buttonCommand(id, group, button, containerName, reason = say.NOT_NOW, o
  */
 function textCommand(id, textAction, keys, isSource = false) {
   return command(id, "text", (calls) => calls.performTextAction(textAction), { keys, place: isSource ? "source" : "texts",
-    whyNot: (calls) => (calls.hasText(isSource) ? "" : isSource ? say.NO_NAMES : say.NO_EDITOR) });
+    unavailableReason: (calls) => (calls.hasText(isSource) ? "" : isSource ? say.NO_NAMES : say.NO_EDITOR) });
 }
 
 /** @type {Command[]} */
 const TIME_COMMANDS = [
   command("time.continue", "time", (calls) => calls.continueOrPause(), {
-    icon: "continue", keys: ["F5", "F8"], wordsNow: (calls) => say.COMMANDS[calls.isRunning() ? "time.pause" : "time.continue"] }),
-  command("time.over", "time", (calls) => calls.goOn({ kind: "over" }), { icon: "over", keys: ["F10"] }),
+    icon: "continue", keys: ["F5", "F8"], currentLabel: (calls) => say.COMMANDS[calls.isRunning() ? "time.pause" : "time.continue"] }),
+  command("time.over", "time", (calls) => calls.runToGoal({ kind: "over" }), { icon: "over", keys: ["F10"] }),
   command("time.into", "time", (calls) => calls.step(), { icon: "into", keys: ["F11"] }),
-  command("time.out", "time", (calls) => calls.goOn({ kind: "out" }), { icon: "out", keys: ["Shift+F11"] }),
+  command("time.out", "time", (calls) => calls.runToGoal({ kind: "out" }), { icon: "out", keys: ["Shift+F11"] }),
   command("time.stepBack", "time", (calls) => calls.goBack({ kind: "instruction" }), { icon: "back", keys: ["Ctrl+F11"] }),
   command("time.lastPause", "time", (calls) => calls.goBack({ kind: "stop" }), { keys: ["Shift+F8"] }),
   command("time.reverse", "time", (calls) => calls.goBack({ kind: "arrival", place: "" })),
   command("time.redo", "time", (calls) => calls.goForward(), {
-    whyNot: (calls) => (calls.canGoForward() ? "" : say.NOTHING_UNDONE) }),
+    unavailableReason: (calls) => (calls.canGoForward() ? "" : say.NOTHING_UNDONE) }),
   command("time.toCursor", "time", (calls) => calls.runToCursor(), { keys: ["Ctrl+F10"], place: "source" }),
   command("time.count", "time", (calls) => calls.enter("step-count", "history")),
   command("time.untilChange", "time", (calls) => calls.enter("change-place", "history")),
   buttonCommand("time.backToChange", "time", "back-change", "history"),
   command("time.reset", "time", (calls) => calls.sendLine("reset\n"), { icon: "reset" }),
-  command("time.test", "time", (calls) => calls.toggleTestPin(), { whyNot: (calls) => (calls.isOffered("test") ? "" : say.NO_TEST_PIN) }),
+  command("time.test", "time", (calls) => calls.toggleTestPin(), {
+    unavailableReason: (calls) => (calls.isOffered("test") ? "" : say.NO_TEST_PIN) }),
 ];
 
 /** @type {Command[]} */
@@ -155,7 +157,7 @@ const SHOW_COMMANDS = [
   command("settings.palette", "show", (calls) => calls.openPalette(">"), { icon: "search", keys: ["Ctrl+Shift+P", "Ctrl+K"] }),
   command("go.to", "show", (calls) => calls.openPalette(""), { icon: "goTo", keys: ["Ctrl+P"] }),
   command("go.notices", "show", (calls) => calls.openNotices(), { icon: "notices",
-    whyNot: (calls) => (calls.hasNotices() ? "" : say.NO_NOTICES) }),
+    unavailableReason: (calls) => (calls.hasNotices() ? "" : say.NO_NOTICES) }),
 ];
 
 /** @type {Command[]} */
@@ -227,7 +229,8 @@ const WIRING_COMMANDS = [
   buttonCommand("wiring.undo", "wiring", "drawing-undo", "wiring"),
   buttonCommand("wiring.redo", "wiring", "drawing-redo", "wiring"),
   buttonCommand("wiring.arrange", "wiring", "drawing-tidy", "wiring"),
-  command("wiring.scan", "wiring", (calls) => calls.insertKeyScan(), { whyNot: (calls) => (calls.hasKeys() ? "" : say.NO_KEYS) }),
+  command("wiring.scan", "wiring", (calls) => calls.insertKeyScan(), {
+    unavailableReason: (calls) => (calls.hasKeys() ? "" : say.NO_KEYS) }),
   buttonCommand("wiring.larger", "wiring", "picture-larger", "wiring"),
   buttonCommand("wiring.smaller", "wiring", "picture-smaller", "wiring"),
   buttonCommand("wiring.fit", "wiring", "picture-fit", "wiring"),
@@ -256,7 +259,7 @@ const WAVE_COMMANDS = [
   waveCommand("waves.b", "cursor-b"),
   waveCommand("waves.instruction", "wave-go-to"),
   command("waves.search", "waves", (calls) => calls.enter("wave-search", "waves"), {
-    whyNot: (calls) => (calls.isOffered("zoom-in") ? "" : say.NO_WAVES) }),
+    unavailableReason: (calls) => (calls.isOffered("zoom-in") ? "" : say.NO_WAVES) }),
   waveCommand("waves.findBefore", "find-before"),
   waveCommand("waves.findAfter", "find-after"),
   buttonCommand("waves.changing", "waves", "waves-changing", "waves"),
@@ -275,18 +278,18 @@ const HELP_COMMANDS = [
 /**
  * Returns a command whose label is not in the table of labels, such as the command that shows a given panel.
  * @param {string} id
- * @param {string} words the label
+ * @param {string} label the label
  * @param {Command["group"]} group
  * @param {Command["act"]} action
  * @param {IconName} [icon]
  * @returns {Command}
  */
-export const labelledCommand = (id, words, group, action, icon) => (
-  { id, words, group, keys: [], place: "everywhere", act: action, whyNot: alwaysAvailable, icon });
+export const labelledCommand = (id, label, group, action, icon) => (
+  { id, label, group, keys: [], place: "everywhere", act: action, unavailableReason: alwaysAvailable, icon });
 
 /** @type {Command[]} */
-const PANEL_COMMANDS = [...Object.entries(say.TEXTS), ...Object.entries(say.PANELS)].map(([name, words]) => (
-  labelledCommand(`show.${name}`, say.showText(words), "show", (calls) => calls.show(name))));
+const PANEL_COMMANDS = [...Object.entries(say.TEXTS), ...Object.entries(say.PANELS)].map(([name, label]) => (
+  labelledCommand(`show.${name}`, say.showText(label), "show", (calls) => calls.show(name))));
 
 /**
  * Commands that show, hide and maximise panels.
@@ -303,8 +306,8 @@ const LAYOUT_COMMANDS = [
 /** @type {Command[]} */
 const SETTING_COMMANDS = [
   ...SPEEDS.map(({ id, words }) => labelledCommand(`speed.${id}`, say.atSpeed(words), "settings", (calls) => calls.setSpeed(id))),
-  ...Object.entries(say.THEMES).map(([name, words]) => (
-    labelledCommand(`theme.${name}`, words, "settings", (calls) => calls.setTheme(/** @type {Theme} */ (name)), "theme"))),
+  ...Object.entries(say.THEMES).map(([name, label]) => (
+    labelledCommand(`theme.${name}`, label, "settings", (calls) => calls.setTheme(/** @type {Theme} */ (name)), "theme"))),
 ];
 
 /** The commands that do not depend on the session, in the order in which lists show them. */

@@ -14,11 +14,11 @@ const FILL_COMMANDS = {
  * @param {(command: import("./command_table.js").Command) => void} action
  */
 export function fillEmptyPanels(action) {
-  for (const [id, name] of Object.entries(FILL_COMMANDS)) {
-    const command = commandById(name);
-    const { words, button } = say.EMPTY[id];
+  for (const [panelId, commandId] of Object.entries(FILL_COMMANDS)) {
+    const command = commandById(commandId);
+    const { words, button } = say.EMPTY[panelId];
     const fillButton = element("button", { type: "button" }, button);
     onClick(fillButton, () => action(command));
-    block(id).after(element("p", { className: "empty" }, words, " ", fillButton));
+    block(panelId).after(element("p", { className: "empty" }, words, " ", fillButton));
   }
 }

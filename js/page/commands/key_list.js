@@ -13,9 +13,9 @@ import * as say from "../../words/page_commands.js";
  * Returns a table row for each command with keys: its keys and its name.
  * @returns {string[][]}
  */
-export function keyRows() {
-  return COMMANDS.filter(({ keys }) => keys.length > 0).map(({ keys, words, place }) => (
-    [keys.map((key) => `\`${key}\``).join(", "), say.WHERE[place] ? `${words} (${say.WHERE[place]})` : words]));
+export function makeKeyRows() {
+  return COMMANDS.filter(({ keys }) => keys.length > 0).map(({ keys, label, place }) => (
+    [keys.map((key) => `\`${key}\``).join(", "), say.WHERE[place] ? `${label} (${say.WHERE[place]})` : label]));
 }
 
 /**
@@ -25,6 +25,6 @@ export function keyRows() {
  */
 export function addKeyRows(manual) {
   /** @type {ManualTable} */
-  const table = { caption: say.KEY_TABLE, head: [say.KEY, say.DOES], rows: keyRows() };
+  const table = { caption: say.KEY_TABLE, head: [say.KEY, say.DOES], rows: makeKeyRows() };
   return manual.map((section) => (section.title === KEYBOARD ? { ...section, tables: [table, ...section.tables] } : section));
 }

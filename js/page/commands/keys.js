@@ -53,7 +53,7 @@ export function listenToKeys(action, isBlocked, target = window) {
  * @param {(editor: Editor) => void} action
  * @returns {Record<string, (editor: Editor) => void>}
  */
-export function editorKeys(id, action) {
+export function makeEditorBindings(id, action) {
   /** @type {[string, (editor: Editor) => void][]} */
   const bindings = commandById(id).keys.flatMap((key) => {
     const name = key.replace(/\+/g, "-").replace(/-$/, "+");

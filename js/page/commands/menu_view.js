@@ -7,7 +7,7 @@ import { putBelow } from "../ui/popup_message.js";
 /**
  * A menu item: its id, label, icon, key binding and action. For an item in a set of alternatives, `isChosen` returns true if the item is
  * the current alternative. An item with `isNarrow` appears only in a narrow window; a wide window has a toolbar button instead.
- * @typedef {{ id?: string, words: string, icon?: import("../ui/icons.js").IconName, key?: string, act: () => void,
+ * @typedef {{ id?: string, label: string, icon?: import("../ui/icons.js").IconName, key?: string, act: () => void,
  *   isChosen?: () => boolean, isNarrow?: boolean }} MenuItem
  */
 
@@ -36,9 +36,9 @@ class MenuList {
   }
 
   /** @param {MenuItem} item */
-  makeItem({ id, words, icon: name, key, act: action, isChosen }) {
+  makeItem({ id, label, icon: name, key, act: action, isChosen }) {
     const button = element("button", { "type": "button", "role": isChosen ? "menuitemradio" : "menuitem", "tabIndex": -1 },
-      ...(name ? [icon(name)] : []), element("span", { className: "grow" }, words),
+      ...(name ? [icon(name)] : []), element("span", { className: "grow" }, label),
       ...(key ? [element("kbd", { "aria-hidden": "true" }, key)] : []));
     if (id) button.id = id;
     button.addEventListener("click", () => {

@@ -18,27 +18,27 @@ import * as say from "../../words/page_commands.js";
  * @property {(name: string) => void} show Brings a text to the front, by the name of its tab.
  * @property {(line: number) => void} showLine Shows a line of the source. Lines count from 1.
  * @property {(address: number) => void} showAddress Shows an address in the source and in the disassembly.
- * @property {(name: string) => void} beginExample Begins a new session from the example with this name.
+ * @property {(name: string) => void} beginExample Opens a new session from the example with this name.
  * @property {(id: string) => void} openProject Opens the project with this id.
  */
 
 const LINE_NUMBER_QUERY = /^:\s*(\d+)$/;
 
-/** @type {(words: string, hint: string, action: () => void, isFound?: boolean) => Entry} */
-const makeEntry = (words, hint, action, isFound = false) => ({ words, hint, why: "", keys: [], isFound, act: action });
+/** @type {(label: string, hint: string, action: () => void, isForQuery?: boolean) => Entry} */
+const makeEntry = (label, hint, action, isForQuery = false) => ({ label, hint, disabledReason: "", keys: [], isForQuery, act: action });
 
 /**
  * Returns a list with the entry for a typed line number, address, or name with an offset. Returns an empty list for any other text.
  * @param {string} query
  * @param {PlaceCalls} calls
  */
-function typedDestination(query, calls) {
+function findTypedDestinations(query, calls) {
   const [, line = ""] = LINE_NUMBER_QUERY.exec(query) || [];
   if (line) return [makeEntry(say.lineNamed(Number(line)), "", () => calls.showLine(Number(line)), true)];
   const map = calls.map();
   if (query === "" || (map && map.names.has(query))) return [];
-  const { address, words } = parseGoal(query, map);
-  return words ? [] : [makeEntry(say.addressNamed(hex(address, 3)), "", () => calls.showAddress(address), true)];
+  const { address, words: error } = parseGoal(query, map);
+  return error ? [] : [makeEntry(say.addressNamed(hex(address, 3)), "", () => calls.showAddress(address), true)];
 }
 
 /**
@@ -51,8 +51,8 @@ export function listDestinations(query, calls) {
   const map = calls.map();
   const labels = map ? [...map.names.values()].filter(({ isLabel }) => isLabel) : [];
   return [
-    ...typedDestination(query, calls),
-    ...Object.entries(say.TEXTS).map(([name, words]) => makeEntry(words, say.A_TEXT, () => calls.show(name))),
+    ...findTypedDestinations(query, calls),
+    ...Object.entries(say.TEXTS).map(([name, label]) => makeEntry(label, say.A_TEXT, () => calls.show(name))),
     ...labels.map(({ name, value }) => (
       makeEntry(name, say.labelAt(map ? map.lineOf(value) : 0, hex(value, 3)), () => calls.showAddress(value)))),
     ...calls.projects().map(({ id, name }) => makeEntry(name, say.A_PROJECT, () => calls.openProject(id))),

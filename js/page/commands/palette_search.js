@@ -1,11 +1,11 @@
 // The palette's search: finds the entries that contain all words of the query, best matches first.
 
 /**
- * A palette entry. `words` is its label and `hint` the text next to the label. `why` is the reason why the entry cannot be executed, or ""
- * if it can. `isFound` is true if the entry was made for the query, for example for a typed address. Such an entry is always listed, even
- * if its label does not match the query.
- * @typedef {{ words: string, hint: string, why: string, keys: string[], icon?: import("../ui/icons.js").IconName, isFound?: boolean,
- *   act: () => void }} Entry
+ * A palette entry. `hint` is the text next to its label. `disabledReason` is the reason why the entry cannot be executed, or "" if it can.
+ * `isForQuery` is true if the entry was made for the query, for example for a typed address. Such an entry is always listed, even if its
+ * label does not match the query.
+ * @typedef {{ label: string, hint: string, disabledReason: string, keys: string[], icon?: import("../ui/icons.js").IconName,
+ *   isForQuery?: boolean, act: () => void }} Entry
  */
 
 /** @param {string} query */
@@ -19,13 +19,13 @@ export function splitQuery(query) {
  * @param {Entry} entry
  * @param {string[]} queryWords
  */
-export function rankEntry({ words, hint, keys, isFound }, queryWords) {
-  const label = words.toLowerCase();
+export function rankEntry({ label, hint, keys, isForQuery }, queryWords) {
+  const lowerLabel = label.toLowerCase();
   const searchText = `${label} ${hint} ${keys.join(" ")}`.toLowerCase();
-  if (isFound || label.startsWith(queryWords.join(" "))) return 0;
-  const labelWords = label.split(/[^a-z0-9]+/);
+  if (isForQuery || lowerLabel.startsWith(queryWords.join(" "))) return 0;
+  const labelWords = lowerLabel.split(/[^a-z0-9]+/);
   if (queryWords.every((word) => labelWords.some((labelWord) => labelWord.startsWith(word)))) return 1;
-  if (queryWords.every((word) => label.includes(word))) return 2;
+  if (queryWords.every((word) => lowerLabel.includes(word))) return 2;
   return queryWords.every((word) => searchText.includes(word)) ? 3 : -1;
 }
 

@@ -12,7 +12,7 @@ import * as say from "../../words/page_commands.js";
  *   an entry for each destination, including a destination made for the query
  */
 
-/** The first character of a query that searches commands. A query without it searches destinations. */
+/** The first character of a query that searches commands. A query without this character searches destinations. */
 export const COMMAND_PREFIX = ">";
 /** The maximum number of entries that are drawn. */
 const MAX_DRAWN_ENTRIES = 500;
@@ -29,8 +29,8 @@ export class PaletteView {
     this.field = element("input", { "type": "text", "role": "combobox", "aria-expanded": "true", "aria-controls": "palette-list",
       "aria-autocomplete": "list", "autocomplete": "off", "autocapitalize": "off", "spellcheck": false });
     this.list = element("ul", { id: "palette-list", role: "listbox" });
-    this.count = element("p", { className: "unseen", role: "status" });
-    this.dialog = element("dialog", { id: "palette" }, element("label", {}, icon("search"), this.field), this.count, this.list);
+    this.countStatus = element("p", { className: "unseen", role: "status" });
+    this.dialog = element("dialog", { id: "palette" }, element("label", {}, icon("search"), this.field), this.countStatus, this.list);
     document.body.append(this.dialog);
     this.field.addEventListener("input", () => this.draw());
     this.field.addEventListener("keydown", (event) => this.handleKey(event));
@@ -41,15 +41,15 @@ export class PaletteView {
     this.dialog.addEventListener("click", (event) => event.target === this.dialog && this.dialog.close());
   }
 
-  /** @param {string} begin the initial text of the field */
-  open(begin) {
+  /** @param {string} initialText the initial text of the field */
+  open(initialText) {
     if (this.dialog.open) return;
-    this.field.value = begin;
+    this.field.value = initialText;
     this.draw();
     this.dialog.showModal();
     this.field.focus();
     // WebKit puts the caret before text that a script has written.
-    this.field.setSelectionRange(begin.length, begin.length);
+    this.field.setSelectionRange(initialText.length, initialText.length);
   }
 
   /** True if the query begins with COMMAND_PREFIX and therefore searches commands; false if it searches destinations. */
@@ -70,7 +70,7 @@ export class PaletteView {
     this.list.replaceChildren(...this.entries.map((entry, index) => this.makeOption(entry, index)));
     const { length } = this.entries;
     const noMatchText = splitQuery(query).length > 0 && length === 0 ? say.noneHas(query.trim()) : "";
-    this.count.textContent = noMatchText || (searchesCommands ? say.countOfCommands(length) : say.countOfPlaces(length));
+    this.countStatus.textContent = noMatchText || (searchesCommands ? say.countOfCommands(length) : say.countOfPlaces(length));
     if (noMatchText) this.list.append(element("li", { "role": "option", "aria-disabled": "true" }, noMatchText));
     this.choose(0);
   }
@@ -79,13 +79,13 @@ export class PaletteView {
    * @param {Entry} entry
    * @param {number} index
    */
-  makeOption({ words, hint, why, keys, icon: name }, index) {
+  makeOption({ label, hint, disabledReason, keys, icon: name }, index) {
     const option = element("li", { "id": `palette-${index}`, "role": "option", "aria-selected": "false" });
-    if (why) option.setAttribute("aria-disabled", "true");
+    if (disabledReason) option.setAttribute("aria-disabled", "true");
     // An empty icon aligns the label with the labels of other commands.
     const iconSpace = this.searchesCommands ? [element("span", { className: "icon" })] : [];
-    option.append(...(name ? [icon(name)] : iconSpace), element("span", { className: "grow" }, words), element("small", {}, why || hint),
-      ...keys.slice(0, 1).map((key) => element("kbd", {}, key)));
+    option.append(...(name ? [icon(name)] : iconSpace), element("span", { className: "grow" }, label),
+      element("small", {}, disabledReason || hint), ...keys.slice(0, 1).map((key) => element("kbd", {}, key)));
     return option;
   }
 
@@ -143,9 +143,9 @@ export class PaletteView {
   executeEntry(index) {
     const entry = this.entries[index];
     if (!entry) return;
-    if (entry.why) {
+    if (entry.disabledReason) {
       this.choose(index);
-      this.count.textContent = `${entry.words}: ${entry.why}`;
+      this.countStatus.textContent = `${entry.label}: ${entry.disabledReason}`;
       return;
     }
     this.dialog.close();

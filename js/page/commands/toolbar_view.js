@@ -42,22 +42,23 @@ export class ToolbarView {
     this.tips = tips;
     /** @type {(command: Command) => void} executes a command; set when the page's commands are created */
     this.executeCommand = () => {};
-    this.runWord = element("span", { className: "word" });
+    this.runLabel = element("span", { className: "word" });
     this.runButtons = Object.entries(RUN_BUTTON_IDS).map(([command, id]) => (
-      this.button(commandById(command), { id, tip: say.TOOLTIPS[command] })));
+      this.makeButton(commandById(command), { id, tip: say.TOOLTIPS[command] })));
     this.runButton = this.runButtons[1];
     this.runButton.classList.add("primary");
     this.showRunning(false);
-    this.noticesButton = this.button(commandById("go.notices"), { id: "notices-button" });
+    this.noticesButton = this.makeButton(commandById("go.notices"), { id: "notices-button" });
     this.noticesButton.hidden = true;
-    this.helpButton = this.button(commandById("help.open"), { id: "help-button" });
+    this.helpButton = this.makeButton(commandById("help.open"), { id: "help-button" });
     this.helpButton.setAttribute("aria-controls", "help");
     this.helpButton.setAttribute("aria-expanded", "false");
-    this.file = this.fileMenu();
-    block("session-bar").append(this.file.node, this.button(commandById("project.examples"), { id: "sessions-button", isWide: true }));
+    this.fileMenu = this.makeFileMenu();
+    const examplesButton = this.makeButton(commandById("project.examples"), { id: "sessions-button", isWide: true });
+    block("session-bar").append(this.fileMenu.node, examplesButton);
     block("steps").append(...this.runButtons);
-    const share = this.button(commandById("project.share"), { id: "share-button", isWide: true });
-    block("tools").append(this.paletteButton(), share, this.noticesButton, this.themeMenu(theme).node, this.helpButton);
+    const shareButton = this.makeButton(commandById("project.share"), { id: "share-button", isWide: true });
+    block("tools").append(this.makePaletteButton(), shareButton, this.noticesButton, this.makeThemeMenu(theme).node, this.helpButton);
   }
 
   /**
@@ -65,14 +66,14 @@ export class ToolbarView {
    * @param {Command} command
    * @param {ButtonOptions} options
    */
-  button(command, { id, tip, isWide = false }) {
-    const { icon: name, words, keys } = command;
+  makeButton(command, { id, tip, isWide = false }) {
+    const { icon: name, label, keys } = command;
     const node = element("button", { id, type: "button", className: "tool" }, ...(name ? [icon(name)] : []));
-    if (isWide) node.append(element("span", { className: "word" }, say.SHORT_LABELS[command.id] || words));
-    node.setAttribute("aria-label", words);
+    if (isWide) node.append(element("span", { className: "word" }, say.SHORT_LABELS[command.id] || label));
+    node.setAttribute("aria-label", label);
     if (keys.length > 0) node.setAttribute("aria-keyshortcuts", keys.map((key) => key.replace("Ctrl+", "Control+")).join(" "));
     onClick(node, () => this.executeCommand(command));
-    this.tips.add(node, () => ({ words: tip || words, key: keys[0] || "" }));
+    this.tips.add(node, () => ({ text: tip || label, key: keys[0] || "" }));
     return node;
   }
 
@@ -81,48 +82,48 @@ export class ToolbarView {
    * @param {boolean} isRunning
    */
   showRunning(isRunning) {
-    const words = say.COMMANDS[isRunning ? "time.pause" : "time.continue"];
-    this.runWord.textContent = words;
-    this.runButton.replaceChildren(icon(isRunning ? "pause" : "continue"), this.runWord);
-    this.runButton.setAttribute("aria-label", words);
-    this.tips.add(this.runButton, () => ({ words, key: commandById("time.continue").keys[0] }));
+    const label = say.COMMANDS[isRunning ? "time.pause" : "time.continue"];
+    this.runLabel.textContent = label;
+    this.runButton.replaceChildren(icon(isRunning ? "pause" : "continue"), this.runLabel);
+    this.runButton.setAttribute("aria-label", label);
+    this.tips.add(this.runButton, () => ({ text: label, key: commandById("time.continue").keys[0] }));
   }
 
-  paletteButton() {
-    const node = this.button(commandById("settings.palette"), { id: "palette-button" });
+  makePaletteButton() {
+    const node = this.makeButton(commandById("settings.palette"), { id: "palette-button" });
     node.append(element("span", { className: "word" }, say.PALETTE), element("kbd", {}, commandById("settings.palette").keys[0]));
     return node;
   }
 
   /**
    * @param {string} id
-   * @param {string} words
+   * @param {string} label
    * @param {IconName} name
    */
-  menuButton(id, words, name) {
-    const node = element("button", { id, type: "button", className: "tool" }, icon(name), element("span", { className: "word" }, words),
+  makeMenuButton(id, label, name) {
+    const node = element("button", { id, type: "button", className: "tool" }, icon(name), element("span", { className: "word" }, label),
       icon("down"));
-    node.setAttribute("aria-label", words);
-    this.tips.add(node, () => ({ words, key: "" }));
+    node.setAttribute("aria-label", label);
+    this.tips.add(node, () => ({ text: label, key: "" }));
     return node;
   }
 
   /** Returns the file menu. In a narrow window, this menu also has the commands that do not fit into the toolbar. */
-  fileMenu() {
+  makeFileMenu() {
     /** @type {(command: Command, id: string, isNarrow: boolean) => import("./menu_view.js").MenuItem} */
-    const item = (command, id, isNarrow) => ({ id, words: command.words, icon: command.icon, key: command.keys[0], isNarrow,
+    const item = (command, id, isNarrow) => ({ id, label: command.label, icon: command.icon, key: command.keys[0], isNarrow,
       act: () => this.executeCommand(command) });
-    return new MenuView(this.menuButton("menu-button", say.FILE, "file"), "menu", say.FILE, [
+    return new MenuView(this.makeMenuButton("menu-button", say.FILE, "file"), "menu", say.FILE, [
       ...Object.entries(FILE_MENU_IDS).map(([command, id]) => item(commandById(command), id, false)),
       ...Object.entries(NARROW_MENU_IDS).map(([command, id]) => item(commandById(command), id, true)),
     ]);
   }
 
   /** @param {Theme} theme */
-  themeMenu(theme) {
-    const themeItems = Object.entries(say.THEMES).map(([name, words]) => ({
-      words, act: () => this.executeCommand(commandById(`theme.${name}`)), isChosen: () => theme.name === name,
+  makeThemeMenu(theme) {
+    const themeItems = Object.entries(say.THEMES).map(([name, label]) => ({
+      label, act: () => this.executeCommand(commandById(`theme.${name}`)), isChosen: () => theme.name === name,
     }));
-    return new MenuView(this.menuButton("theme-button", say.THEME, "theme"), "theme-menu", say.THEME, themeItems);
+    return new MenuView(this.makeMenuButton("theme-button", say.THEME, "theme"), "theme-menu", say.THEME, themeItems);
   }
 }

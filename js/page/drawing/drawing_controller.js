@@ -116,7 +116,7 @@ export class DrawingController {
     if (this.calls.isInFront()) this.reportFailure(this.drawing.refresh());
   }
 
-  /** Draws the picture again DRAW_DELAY after the last edit of the text. */
+  /** Draws the picture again DRAW_DELAY milliseconds after the last edit of the text. */
   handleEdit() {
     clearTimeout(this.drawTimer);
     this.drawTimer = window.setTimeout(() => this.drawing.text !== this.calls.text() && this.updateFromText(), DRAW_DELAY);

@@ -19,9 +19,9 @@ import * as say from "../../words/drawing.js";
 /**
  * The callbacks of the shelf, the buttons and the fields.
  * @typedef {object} ViewCalls
- * @property {(action: DrawingAction) => void} performAction Changes the board's text by an action. If the bench rejects the new text, the
+ * @property {(action: DrawingAction) => void} performAction Applies an action to the board's text. If the bench rejects the new text, the
  *   old text stays.
- * @property {(which: "undo" | "redo") => void} undoOrRedo Undoes or redoes the last edit.
+ * @property {(direction: "undo" | "redo") => void} undoOrRedo Undoes or redoes the last edit.
  * @property {() => void} applyBoard Applies the board's text.
  * @property {(part: string) => void} showPartLines Shows the lines of a part in the text. The part is named as in the picture, for example
  *   `rom 1`.
@@ -96,8 +96,8 @@ export class DrawingView {
   /** @param {ShelfPart} part */
   add(part) {
     const { lastState: state } = this;
-    const line = state && state.fields.buttons.find(({ act: action }) => action.kind === "add" && action.part === part);
-    this.calls.performAction(line ? line.act : this.makeAddAction(part));
+    const lineButton = state && state.fields.buttons.find(({ act: action }) => action.kind === "add" && action.part === part);
+    this.calls.performAction(lineButton ? lineButton.act : this.makeAddAction(part));
   }
 
   /**
@@ -184,11 +184,12 @@ export class DrawingView {
     const focusedLabel = document.activeElement instanceof HTMLElement && root.contains(document.activeElement)
       ? document.activeElement.getAttribute("aria-label") : null;
     const head = element("b", {}, title);
-    this.fields = fields.map((description, index) => this.fieldNode(description, index, isDisabled));
+    this.fields = fields.map((description, index) => this.makeFieldNode(description, index, isDisabled));
     const rows = this.fields.map((node, index) => element("label", {}, `${fields[index].label} `, node));
-    const endButtons = buttons.map(({ word, act: action }) => this.buttonNode(word, () => this.calls.performAction(action), isDisabled));
-    if (part === "keys") endButtons.push(this.buttonNode(say.INSERT_SCAN, () => this.calls.insertKeyScan(), isDisabled));
-    if (part) endButtons.push(this.buttonNode(say.SHOW_IN_BOARD, () => this.calls.showPartLines(part), false));
+    const endButtons = buttons.map(({ word, act: action }) => (
+      this.makeButtonNode(word, () => this.calls.performAction(action), isDisabled)));
+    if (part === "keys") endButtons.push(this.makeButtonNode(say.INSERT_SCAN, () => this.calls.insertKeyScan(), isDisabled));
+    if (part) endButtons.push(this.makeButtonNode(say.SHOW_IN_BOARD, () => this.calls.showPartLines(part), false));
     root.replaceChildren(head, ...endButtons, ...(endButtons.length > 0 ? [element("hr")] : []), ...rows);
     const nodes = [...root.querySelectorAll("input, select, button")];
     const focusTarget = focusedLabel && nodes.find((node) => node.getAttribute("aria-label") === focusedLabel);
@@ -200,7 +201,7 @@ export class DrawingView {
    * @param {() => void} action
    * @param {boolean} isDisabled
    */
-  buttonNode(word, action, isDisabled) {
+  makeButtonNode(word, action, isDisabled) {
     const node = element("button", { "type": "button", disabled: isDisabled, "aria-label": word }, word);
     onClick(node, action);
     return node;
@@ -211,7 +212,7 @@ export class DrawingView {
    * @param {number} index the index of the field
    * @param {boolean} isDisabled
    */
-  fieldNode({ label, options }, index, isDisabled) {
+  makeFieldNode({ label, options }, index, isDisabled) {
     const attributes = { "aria-label": label, "autocomplete": "off", disabled: isDisabled };
     const node = options
       ? element("select", attributes, ...options.map((option) => element("option", { value: option.value }, option.words)))

@@ -19,7 +19,7 @@
  * @property {() => void} handleDrop Handles the end of a part's drag.
  * @property {(name: string) => void} deleteItem Deletes a part or a wire.
  * @property {() => void} cancelAction Cancels the wire in progress or the selection.
- * @property {(which: "undo" | "redo") => void} undoOrRedo Undoes or redoes the last edit.
+ * @property {(direction: "undo" | "redo") => void} undoOrRedo Undoes or redoes the last edit.
  */
 
 /** The distance that the pointer must move to start a drag, in the picture's units. */
@@ -153,7 +153,10 @@ export class PictureInput {
     return true;
   }
 
-  /** @param {KeyboardEvent} event */
+  /**
+   * Executes the action of a key that is pressed with Control or Command. Returns true if the key has an action.
+   * @param {KeyboardEvent} event
+   */
   handleControlKey({ key, shiftKey }) {
     const isUndo = key.toLowerCase() === "z" && !shiftKey;
     const isRedo = key.toLowerCase() === "y" || (key.toLowerCase() === "z" && shiftKey);

@@ -77,10 +77,10 @@ export class PictureZoom {
   handleKey(event) {
     if (event.ctrlKey || event.metaKey || event.altKey) return;
     /** @type {Record<string, () => void>} */
-    const keys = { "+": () => this.zoom(ZOOM_FACTOR), "-": () => this.zoom(1 / ZOOM_FACTOR), 0: () => this.fit() };
-    if (!(event.key in keys)) return;
+    const actions = { "+": () => this.zoom(ZOOM_FACTOR), "-": () => this.zoom(1 / ZOOM_FACTOR), 0: () => this.fit() };
+    if (!(event.key in actions)) return;
     event.preventDefault();
-    keys[event.key]();
+    actions[event.key]();
   }
 
   /** @param {WheelEvent} event */

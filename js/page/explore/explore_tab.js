@@ -30,7 +30,7 @@ import * as say from "../../words/explore.js";
  * @property {() => Omit<ExploredTexts, "propertiesText">} texts Returns the current texts of the board, the source and the tests.
  * @property {() => string[]} labels Returns the labels of the program in ROM.
  * @property {(texts: ExploredTexts) => Promise<TextFault[]>} faults Resolves to the errors of all texts.
- * @property {(texts: ExploredTexts, asked: RunOptions, signal: AbortSignal, showProgress: (progress: Progress) => void) =>
+ * @property {(texts: ExploredTexts, options: RunOptions, signal: AbortSignal, showProgress: (progress: Progress) => void) =>
  *   Promise<TaskResult>} explore Searches until the time is up, every property has a counterexample, or `signal` is aborted. Calls
  *   `showProgress` with each progress report. Resolves to the errors in the texts and whether the search was stopped.
  * @property {(number: number) => string} describeRefusal Returns the message for a numbered error of the bench.
@@ -39,16 +39,16 @@ import * as say from "../../words/explore.js";
  *   search.
  * @property {ProofsCalls["prove"]} prove Proves properties.
  * @property {ProofsCalls["open"]} openWithLines Opens a new session with the texts, and executes lines in it.
- * @property {(test: string) => string} addTest Adds a test to the program's tests. Returns the message about the result.
- * @property {(words: string, isGood?: boolean) => void} showMark Shows a short text on the tab; "" removes it. If `isGood`, the text
+ * @property {(test: string) => string} addTest Adds a test to the text in the Tests tab. Returns the message about the result.
+ * @property {(label: string, isGood?: boolean) => void} showMark Shows a short text on the tab; "" removes it. If `isGood`, the text
  *   reports a success.
  * @property {() => void} handleEdit Handles an edit of the properties.
  * @property {(fault: unknown) => void} reportFailure Reports an error that a call threw.
  */
 
 const NUMBER_FIELDS = [
-  { id: "explore-seconds", max: 86400, words: say.SECONDS_RANGE },
-  { id: "explore-seed", max: 99999999, words: say.SEED_RANGE },
+  { id: "explore-seconds", max: 86400, hint: say.SECONDS_RANGE },
+  { id: "explore-seed", max: 99999999, hint: say.SEED_RANGE },
 ];
 
 export class ExploreTab {
@@ -60,14 +60,14 @@ export class ExploreTab {
     this.calls = calls;
     this.textTab = new TextTab({
       name: "properties",
-      firstButton: "first-properties",
+      insertButton: "first-properties",
       firstText: createFirstProperties,
       forms: propertyForms(manual),
-      wordsAt: helpForProperty,
+      describeWord: helpForProperty,
       complete: completeProperty,
     }, calls, {
-      faults: () => calls.faults(this.texts),
-      showFaultCount: (count) => this.showMark(count),
+      findErrors: () => calls.faults(this.texts),
+      showErrorCount: (count) => this.showMark(count),
       send: () => this.exploreOrStop(),
       prove: () => this.proofs.proveOrCancel(),
     });
@@ -81,7 +81,7 @@ export class ExploreTab {
     /** The last search results of each session since the page was opened, by session id. */
     this.resultsBySession = /** @type {Map<string, SearchResults>} */ (new Map());
     /** The id of the current session. */
-    this.session = "";
+    this.sessionId = "";
     /** The last message about the search. */
     this.lastMessage = "";
     /** @type {AbortController | null} the controller that stops the current search; null if no search is running */
@@ -101,7 +101,7 @@ export class ExploreTab {
       texts: () => this.texts,
       prove: calls.prove,
       goTo: (line) => editor.editor.select({ from: line, to: line }),
-      showMessage: (words) => editor.showMessage(words),
+      showMessage: (message) => editor.showMessage(message),
       showFaults: (faults) => this.showFaults(faults),
       open: calls.openWithLines,
       addTest: calls.addTest,
@@ -117,7 +117,7 @@ export class ExploreTab {
 
   /** The search results of the current session, or null if there are none. */
   get currentResults() {
-    return this.resultsBySession.get(this.session) || null;
+    return this.resultsBySession.get(this.sessionId) || null;
   }
 
   /** Checks the text. Called when a session has been opened, and when the tab comes to the front. */
@@ -135,22 +135,22 @@ export class ExploreTab {
   }
 
   /**
-   * Handles the opening of another session: stops the search and shows the earlier results of that session.
-   * @param {string} session the id of the opened session
+   * Handles the opening of another session: stops the search and shows the earlier results of the opened session.
+   * @param {string} sessionId the id of the opened session
    */
-  begin(session) {
+  begin(sessionId) {
     this.stop();
-    this.session = session;
+    this.sessionId = sessionId;
     this.view.clear();
     this.show();
-    this.proofs.begin(session);
+    this.proofs.begin(sessionId);
     this.textTab.offerFirstText();
   }
 
   /** Clears the counterexamples and the verdicts. */
   clear() {
     this.stop();
-    this.resultsBySession.delete(this.session);
+    this.resultsBySession.delete(this.sessionId);
     this.view.clear();
     this.proofs.clear();
     this.show();
@@ -183,11 +183,11 @@ export class ExploreTab {
   /**
    * Shows a message about the search if the message has changed. An unchanged message is not shown again, so that it does not replace a
    * later message about another action.
-   * @param {string} words
+   * @param {string} message
    */
-  showMessage(words) {
-    if (words !== this.lastMessage) this.editor.showMessage(words);
-    this.lastMessage = words;
+  showMessage(message) {
+    if (message !== this.lastMessage) this.editor.showMessage(message);
+    this.lastMessage = message;
   }
 
   /**
@@ -220,7 +220,7 @@ export class ExploreTab {
       field(id).setAttribute("aria-invalid", String(isInvalid));
       return isInvalid;
     });
-    this.editor.showMessage(invalidFields.map(({ words }) => words).join(" "));
+    this.editor.showMessage(invalidFields.map(({ hint }) => hint).join(" "));
     const [seconds, seed] = NUMBER_FIELDS.map(({ id }) => Number(field(id).value));
     return invalidFields.length > 0 ? null : { seconds, seed };
   }
@@ -228,12 +228,12 @@ export class ExploreTab {
   async explore() {
     const request = this.readRunOptions();
     if (!request) return;
-    const { texts, session } = this;
+    const { texts, sessionId } = this;
     /** @type {SearchResults} */
     const results = { texts, report: null, files: new Map(), isStopped: false };
     const controller = new AbortController();
     this.controller = controller;
-    this.resultsBySession.set(session, results);
+    this.resultsBySession.set(sessionId, results);
     this.view.clear();
     this.show();
     let searchEnd = /** @type {TaskResult} */ ({ faults: [], isStopped: true });
@@ -242,7 +242,7 @@ export class ExploreTab {
     } finally {
       this.controller = null;
       results.isStopped = searchEnd.isStopped;
-      if (!results.report) this.resultsBySession.delete(session);
+      if (!results.report) this.resultsBySession.delete(sessionId);
       this.show();
     }
     if (searchEnd.faults.length > 0) this.showFaults(searchEnd.faults);
@@ -251,7 +251,7 @@ export class ExploreTab {
 
   /** @param {TextFault[]} faults the errors that prevented the search */
   showFaults(faults) {
-    this.textTab.showFaults(faults);
+    this.textTab.showErrors(faults);
     this.editor.showMessage(textErrorsMessage(faults, this.calls.describeRefusal));
   }
 

@@ -1,6 +1,6 @@
 // The results of a search for counterexamples: a row for each property, and the program's coverage.
 
-import { Cell, Switch, block, makeButton, descendant, element } from "../ui/dom.js";
+import { Cell, Switch, block, makeButton, findDescendant, element } from "../ui/dom.js";
 import { moreItems } from "../../words/debug.js";
 import { coverageOf, markOf, searchStatistics, describePropertyResult } from "../../words/explore_results.js";
 import * as say from "../../words/explore.js";
@@ -17,7 +17,7 @@ import { lineReference } from "../../words/stops.js";
  * @property {(line: number) => void} goTo Shows a line of the properties text. Lines count from 1.
  * @property {(line: number) => void} goToSource Shows a line of the source. Lines count from 1.
  * @property {(property: number) => void} openCounterexample Opens a counterexample as a new session.
- * @property {(property: number) => void} addTest Adds a counterexample's test to the program's tests.
+ * @property {(property: number) => void} addTest Adds a counterexample's test to the text in the Tests tab.
  */
 
 /** The maximum number of lines listed as never executed. */
@@ -39,7 +39,7 @@ class PropertyRow {
       : element("span", {}, text);
     this.node = element("li", {}, element("p", {}, mark, " ", name, " ", statusText));
     this.mark = new Cell(mark);
-    this.words = new Cell(statusText);
+    this.status = new Cell(statusText);
     this.okSwitch = new Switch((isOn) => mark.classList.toggle("ok", isOn));
     this.notOkSwitch = new Switch((isOn) => mark.classList.toggle("not-ok", isOn));
     this.hasCounterexample = false;
@@ -55,7 +55,7 @@ class PropertyRow {
     this.mark.set(mark);
     this.okSwitch.set(mark === "ok");
     this.notOkSwitch.set(mark === "not ok");
-    this.words.set(describePropertyResult(property, report));
+    this.status.set(describePropertyResult(property, report));
     if (!property.found || this.hasCounterexample) return;
     this.hasCounterexample = true;
     this.node.append(
@@ -75,11 +75,12 @@ export class ExploreView {
     this.statistics = new Cell(block("explore-figures"));
     this.bars = (/** @type {const} */ (["instructions", "ways"])).map((name) => {
       const root = block(`explored-${name}`);
-      return { name, root, bar: descendant(root, "progress", HTMLProgressElement), words: new Cell(descendant(root, "span", HTMLElement)) };
+      const label = new Cell(findDescendant(root, "span", HTMLElement));
+      return { name, root, bar: findDescendant(root, "progress", HTMLProgressElement), label };
     });
     this.neverRunBlock = block("never-run");
     /** The line numbers in the list of lines that never ran, to detect changes. */
-    this.listedNeverRun = "";
+    this.listedLineNumbers = "";
     /** @type {PropertyRow[]} */
     this.rows = [];
   }
@@ -116,12 +117,12 @@ export class ExploreView {
    */
   showCoverage(report, isRunning, isSearched) {
     const coverage = coverageOf(report);
-    for (const { name, root, bar, words } of this.bars) {
+    for (const { name, root, bar, label } of this.bars) {
       root.hidden = !isSearched;
-      const { part, whole, words: label } = coverage[name];
+      const { part, whole, words } = coverage[name];
       bar.max = Math.max(1, whole);
       bar.value = part;
-      words.set(label);
+      label.set(words);
     }
     // The list would change continuously during a search, so it is empty until the end.
     this.listNeverRunLines(isRunning || !isSearched ? [] : coverage.left);
@@ -130,8 +131,8 @@ export class ExploreView {
   /** @param {number[]} lines the lines that never ran */
   listNeverRunLines(lines) {
     const key = lines.join(" ");
-    if (key === this.listedNeverRun) return;
-    this.listedNeverRun = key;
+    if (key === this.listedLineNumbers) return;
+    this.listedLineNumbers = key;
     const moreText = lines.length > MAX_LISTED_LINES ? moreItems(lines.length - MAX_LISTED_LINES) : "";
     const buttons = lines.slice(0, MAX_LISTED_LINES).flatMap((line) => [
       " ", makeButton(String(line), () => this.calls.goToSource(line), { className: "name", ariaLabel: say.lineOfSource(line) })]);

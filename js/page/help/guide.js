@@ -20,16 +20,16 @@ import * as say from "../../words/help.js";
 /**
  * The callbacks through which the guide acts on the page.
  * @typedef {object} PageCalls
- * @property {(example: Example) => Promise<boolean>} begin Begins a new session from an example. Resolves to true if the session was
+ * @property {(example: Example) => Promise<boolean>} begin Opens a new session from an example. Resolves to true if the session was
  *   created.
  * @property {() => void} showSource Brings the source to the front.
  * @property {() => string} program Returns the text of the source.
  * @property {(program: string) => void} replaceSource Replaces the source with a program, as one edit.
  * @property {(target: import("../../core/help/tour.js").Target) => void} reveal Scrolls the target of a tour step into view.
- * @property {(program: string, words: string) => void} replace Replaces the source with a program, and shows a message that offers undo.
- * @property {import("../../core/help/story_actions.js").ActionCalls} acts The callbacks for links in stories.
+ * @property {(program: string, message: string) => void} replace Replaces the source with a program, and shows a message that offers undo.
+ * @property {import("../../core/help/story_actions.js").ActionCalls} storyCalls The callbacks for links in stories.
  * @property {() => void} handleTourEnd Handles the end of the tour or of a story.
- * @property {(words: string) => void} showRefusal Shows the reason why a story cannot be opened.
+ * @property {(reason: string) => void} showRefusal Shows the reason why a story cannot be opened.
  */
 
 /** @typedef {Omit<LinesCalls, "openHelp"> & PageCalls} GuideCalls */
@@ -52,19 +52,19 @@ export class Guide {
       putProgram: (program) => this.putProgram(program),
       isProgramInSource: (program) => calls.program() === program,
       reveal: calls.reveal,
-      executeAction: (action) => runAction(action, calls.acts),
+      executeAction: (action) => runAction(action, calls.storyCalls),
       handleTourEnd: calls.handleTourEnd,
     });
   }
 
   /** @param {Example} example */
   async beginTour(example) {
-    const isBegun = await this.calls.begin(example);
-    if (isBegun) {
+    const hasOpened = await this.calls.begin(example);
+    if (hasOpened) {
       this.help.close();
       this.calls.showSource();
     }
-    return isBegun;
+    return hasOpened;
   }
 
   /**

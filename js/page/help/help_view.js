@@ -1,6 +1,6 @@
 // The help: the manual's tables, with a search.
 
-import { Cell, block, button, descendant, element, field, onClick } from "../ui/dom.js";
+import { Cell, block, button, findDescendant, element, field, onClick } from "../ui/dom.js";
 import { splitCell, searchManual } from "../../core/help/manual.js";
 import * as say from "../../words/help.js";
 
@@ -10,7 +10,7 @@ import * as say from "../../words/help.js";
  */
 
 /** @param {string} cell */
-function textNodes(cell) {
+function makeTextNodes(cell) {
   return splitCell(cell).map(({ text, isCode }) => (isCode ? element("code", {}, text) : text));
 }
 
@@ -19,8 +19,8 @@ function textNodes(cell) {
  * @param {string} title the title of the table's section
  */
 function makeTable({ caption, head, rows }, title) {
-  const headCells = head.map((cell) => element("th", { scope: "col" }, ...textNodes(cell)));
-  const body = rows.map((row) => element("tr", {}, ...row.map((cell) => element("td", {}, ...textNodes(cell)))));
+  const headCells = head.map((cell) => element("th", { scope: "col" }, ...makeTextNodes(cell)));
+  const body = rows.map((row) => element("tr", {}, ...row.map((cell) => element("td", {}, ...makeTextNodes(cell)))));
   return element("table", { "aria-label": caption || title }, ...(caption ? [element("caption", {}, caption)] : []),
     element("thead", {}, element("tr", {}, ...headCells)), element("tbody", {}, ...body));
 }
@@ -32,8 +32,8 @@ export class HelpView {
     this.root = block("help");
     this.helpButton = button("help-button");
     this.search = field("help-search");
-    this.sections = descendant(this.root, "#help-sections", HTMLElement);
-    this.status = new Cell(descendant(this.root, "#help-status", HTMLElement));
+    this.sections = findDescendant(this.root, "#help-sections", HTMLElement);
+    this.status = new Cell(findDescendant(this.root, "#help-status", HTMLElement));
     /** @type {string | null} the query whose matching sections are drawn; null before the first drawing */
     this.drawnQuery = null;
     this.isOpen = false;

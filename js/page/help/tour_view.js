@@ -15,7 +15,7 @@ import * as say from "../../words/help.js";
 /**
  * The callbacks of the tour panel.
  * @typedef {object} TourCalls
- * @property {(example: Example) => Promise<boolean>} begin Begins a new session from an example. Resolves to true if the session was
+ * @property {(example: Example) => Promise<boolean>} begin Opens a new session from an example. Resolves to true if the session was
  *   created.
  * @property {(program: string) => void} putProgram Puts a program into the source.
  * @property {(action: import("../../core/help/story.js").StoryAction) => Promise<string>} executeAction Executes the action of a story's
@@ -44,7 +44,7 @@ export class TourView {
     this.isOn = false;
     this.root = block("tour");
     this.title = new Cell(block("tour-title"));
-    this.words = block("tour-words");
+    this.textBlock = block("tour-words");
     this.program = new Cell(block("tour-program"));
     this.status = new Cell(block("tour-status"));
     this.putButton = button("tour-put");
@@ -91,7 +91,7 @@ export class TourView {
     this.progress.begin(index);
     const { title, words, program } = this.progress.step;
     this.title.set(say.stepOf(index + 1, this.progress.steps.length, title));
-    this.words.replaceChildren(...words.map((paragraph) => element("p", {}, ...[paragraph].flat().map((part) => this.makeNode(part)))));
+    this.textBlock.replaceChildren(...words.map((paragraph) => element("p", {}, ...[paragraph].flat().map((part) => this.makeNode(part)))));
     this.program.set(program);
     this.program.node.hidden = program === "";
     this.putButton.hidden = program === "";
@@ -139,10 +139,10 @@ export class TourView {
     this.showDone();
   }
 
-  /** @param {number} keysDown the number of keys that are down */
-  handleKeyCount(keysDown) {
+  /** @param {number} keyCount the number of keys that are down */
+  handleKeyCount(keyCount) {
     if (!this.isOn || this.progress.isDone) return;
-    this.progress.recordKeys(keysDown);
+    this.progress.recordKeys(keyCount);
     this.showDone();
   }
 

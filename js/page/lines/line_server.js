@@ -26,32 +26,32 @@ import { stoppedAt } from "../../words/stops.js";
  * @typedef {object} LineServerCalls
  * @property {() => SourceMap | null} map Returns the source map of the program in ROM, which gives the value of each `@NAME`; null if ROM
  *   does not match the source.
- * @property {<Result>(words: string, work: (options: CallOptions) => Promise<Result>) => Promise<Result>} work Performs long work and shows
- *   its progress with the description `words`. Rejects with `CancelledError` if the user cancels the work.
+ * @property {<Result>(description: string, work: (options: CallOptions) => Promise<Result>) => Promise<Result>} runWithProgress Performs
+ *   long work and shows its description and progress. Rejects with `CancelledError` if the user cancels the work.
  * @property {() => string} counter Returns the program counter that the page shows, as three hexadecimal digits.
  * @property {(result: LinesReply) => void} show Shows the session's state after the lines.
  * @property {() => void} checkSource Compares the source with ROM again.
  * @property {() => Promise<string>} save Saves the session. Resolves to the reason why it could not be saved, or to "".
- * @property {(entries: ServedInput[], fault: string) => void} log Logs lines with their answers, and the reason if the session could not be
- *   saved.
+ * @property {(entries: ServedInput[], saveError: string) => void} log Logs lines with their answers. `saveError` is the reason why the
+ *   session could not be saved, or "".
  * @property {(tally: Tally) => void} countHits Shows the hit counts and log messages of breakpoints.
  * @property {() => boolean} isRunning Returns true if time is running.
  * @property {() => void} forgetGoal Forgets the goal of the current run. Called after the bench was reset.
  * @property {(stop: Stop) => string} describeStop Returns the message with the reason why a run stopped.
- * @property {(words: string) => void} showMessage Shows a message in the status line.
+ * @property {(message: string) => void} showMessage Shows a message in the status line.
  * @property {(fault: unknown) => void} reportFailure Reports an error that a call threw.
  */
 
 export class LineServer {
   /**
    * @param {Bench} bench
-   * @param {ErrorMessages} words
+   * @param {ErrorMessages} errorMessages
    * @param {Notice} notice
    * @param {LineServerCalls} calls
    */
-  constructor(bench, words, notice, calls) {
+  constructor(bench, errorMessages, notice, calls) {
     this.bench = bench;
-    this.words = words;
+    this.errorMessages = errorMessages;
     this.notice = notice;
     this.calls = calls;
   }
@@ -69,19 +69,19 @@ export class LineServer {
 
   /**
    * Replaces each `@NAME` in typed lines with the name's value, and sends the lines to the bench. Breakpoints stop a run that a line
-   * starts.
+   * starts. Resolves to the first answer, or to null after a failure.
    * @param {string} typedLines
    */
   async serveTyped(typedLines) {
     const { calls } = this;
-    const { lines, words } = replaceNames(typedLines, calls.map());
-    if (words !== "") {
-      this.notice.show(words);
+    const { lines, words: nameError } = replaceNames(typedLines, calls.map());
+    if (nameError !== "") {
+      this.notice.show(nameError);
       return null;
     }
     const result = await this.performWork(say.SENDING_LINES, (options) => this.bench.call("serveTyped", [lines], options));
     if (!result) return null;
-    const { id, cut: cut, cycles, tally } = result.typed;
+    const { id, cut, cycles, tally } = result.typed;
     calls.countHits(tally);
     if (id !== 0 && !calls.isRunning()) {
       calls.showMessage(lineEnded(calls.describeStop({ why: "break", id, cycles, returns: false }), cut));
@@ -92,17 +92,17 @@ export class LineServer {
   /**
    * Performs work that changes the session, saves the session and shows the result. Resolves to the result, or to null after a failure.
    * @template {LinesReply} Result
-   * @param {string} words the description of the work
+   * @param {string} description
    * @param {(options: CallOptions) => Promise<Result>} work
    * @returns {Promise<Result | null>}
    */
-  async performWork(words, work) {
+  async performWork(description, work) {
     let result;
     try {
-      result = await this.calls.work(words, work);
+      result = await this.calls.runWithProgress(description, work);
     } catch (fault) {
       // After a cancellation, time resumes if time was running before.
-      if (fault instanceof CancelledError) this.notice.show(this.words.failureMessage(fault));
+      if (fault instanceof CancelledError) this.notice.show(this.errorMessages.failureMessage(fault));
       else this.calls.reportFailure(fault);
       return null;
     }
@@ -117,9 +117,9 @@ export class LineServer {
     calls.show(result);
     this.showCounter(counter, result.entries);
     if (result.hasChangedRom) calls.checkSource();
-    const fault = await calls.save();
+    const saveError = await calls.save();
     if (result.status !== 0) this.notice.show(say.TOO_MANY_BYTES);
-    calls.log(result.entries, fault);
+    calls.log(result.entries, saveError);
   }
 
   /**

@@ -11,7 +11,7 @@ import * as say from "../../words/page.js";
  *   failure. A failure has already been reported.
  * @property {(answer: string) => string} formatAnswer Returns the text that the console shows for an answer. If the answer is a numbered
  *   error, the text includes the error's message.
- * @property {(wanted: string) => void} openHelp Opens the help at the entry `wanted`.
+ * @property {(query: string) => void} openHelp Opens the help and searches it for `query`.
  */
 
 /** The maximum number of sent lines that the arrow keys can recall. */
@@ -27,7 +27,7 @@ export class LinesView {
   constructor(lines, calls) {
     this.lines = lines;
     this.calls = calls;
-    this.area = byId("lines", HTMLTextAreaElement);
+    this.textArea = byId("lines", HTMLTextAreaElement);
     this.hint = new Cell(block("lines-hint"));
     this.hint.set(say.LINES_HINT);
     /** The answer to the last line, for screen readers. */
@@ -39,16 +39,16 @@ export class LinesView {
     /** The text that was in the input before a sent line was recalled. */
     this.draft = "";
     onClick(button("send"), () => this.send());
-    this.area.addEventListener("keydown", (event) => this.handleKey(event));
-    this.area.addEventListener("input", () => this.showHint());
+    this.textArea.addEventListener("keydown", (event) => this.handleKey(event));
+    this.textArea.addEventListener("input", () => this.showHint());
   }
 
   get text() {
-    return this.area.value;
+    return this.textArea.value;
   }
 
   set text(text) {
-    this.area.value = text;
+    this.textArea.value = text;
     this.showHint();
   }
 
@@ -69,11 +69,11 @@ export class LinesView {
   }
 
   isInFirstLine() {
-    return !this.text.slice(0, this.area.selectionStart).includes("\n");
+    return !this.text.slice(0, this.textArea.selectionStart).includes("\n");
   }
 
   isInLastLine() {
-    return !this.text.slice(this.area.selectionEnd).includes("\n");
+    return !this.text.slice(this.textArea.selectionEnd).includes("\n");
   }
 
   /**
@@ -88,7 +88,7 @@ export class LinesView {
     if (this.recallIndex === this.sentLines.length) this.draft = this.text;
     this.recallIndex = nextIndex;
     this.text = nextIndex === this.sentLines.length ? this.draft : this.sentLines[nextIndex];
-    this.area.setSelectionRange(this.text.length, this.text.length);
+    this.textArea.setSelectionRange(this.text.length, this.text.length);
   }
 
   /** The last line of the typed text. */

@@ -15,9 +15,9 @@ import * as say from "../../words/page.js";
 const MAX_ENTRIES = 400;
 
 export class LogView {
-  /** @param {ErrorMessages} words */
-  constructor(words) {
-    this.words = words;
+  /** @param {ErrorMessages} errorMessages */
+  constructor(errorMessages) {
+    this.errorMessages = errorMessages;
     this.block = block("log");
     /** The runs since the last save. They appear in the log after the next save. */
     this.unloggedRuns = new RunLog();
@@ -43,33 +43,33 @@ export class LogView {
 
   /**
    * @param {RunEntry[]} entries
-   * @param {string} fault the reason why the runs could not be saved; "" if they were saved
+   * @param {string} saveError the reason why the runs could not be saved; "" if they were saved
    */
-  showRuns(entries, fault) {
+  showRuns(entries, saveError) {
     if (entries.length === 0) return;
     const runLog = new RunLog();
     const { lastRuns } = this;
     // Consecutive runs share one entry.
-    if (lastRuns && entries[0].runs > 0 && fault === "" && lastRuns.node === this.block.lastElementChild) {
+    if (lastRuns && entries[0].runs > 0 && saveError === "" && lastRuns.node === this.block.lastElementChild) {
       runLog.add([lastRuns.entry]);
       lastRuns.node.remove();
     }
     runLog.add(entries);
     const runEntries = runLog.take();
-    this.add(runEntries.map((entry) => this.makeEntry(formatRuns(entry), [entry.answer], fault)));
+    this.add(runEntries.map((entry) => this.makeEntry(formatRuns(entry), [entry.answer], saveError)));
     const lastEntry = runEntries[runEntries.length - 1];
     const node = this.block.lastElementChild;
-    this.lastRuns = lastEntry.runs > 0 && fault === "" && node instanceof HTMLElement ? { entry: lastEntry, node } : null;
+    this.lastRuns = lastEntry.runs > 0 && saveError === "" && node instanceof HTMLElement ? { entry: lastEntry, node } : null;
   }
 
   /**
    * Shows lines that the user or a button has sent, and their answers.
    * @param {ServedInput[]} entries
-   * @param {string} fault the reason why the lines could not be saved; "" if they were saved
+   * @param {string} saveError the reason why the lines could not be saved; "" if they were saved
    */
-  show(entries, fault) {
+  show(entries, saveError) {
     this.add(entries.map(({ line, textLines, answers }) => (
-      this.makeEntry(textLines > 0 ? say.textLines(line, textLines) : line, answers, fault))));
+      this.makeEntry(textLines > 0 ? say.textLines(line, textLines) : line, answers, saveError))));
   }
 
   /** @param {HTMLElement[]} entries */
@@ -84,11 +84,11 @@ export class LogView {
   /**
    * @param {string} line
    * @param {string[]} answers
-   * @param {string} fault
+   * @param {string} saveError
    */
-  makeEntry(line, answers, fault) {
+  makeEntry(line, answers, saveError) {
     const entry = element("div", {}, element("p", { className: "sent" }, line), ...answers.map((answer) => this.makeAnswer(answer)));
-    if (fault) entry.append(element("p", { className: "refused" }, say.notKept(fault)));
+    if (saveError) entry.append(element("p", { className: "refused" }, say.notKept(saveError)));
     return entry;
   }
 
@@ -103,7 +103,7 @@ export class LogView {
    */
   formatAnswer(answer) {
     const refusal = parseRefusal(answer);
-    return refusal ? `${answer}: ${this.words.refusalMeaning(refusal.number)}` : answer;
+    return refusal ? `${answer}: ${this.errorMessages.refusalMeaning(refusal.number)}` : answer;
   }
 
   clear() {

@@ -38,7 +38,7 @@ function makeField(label, properties) {
 }
 
 /** @param {Breakpoint} breakpoint */
-const breakpointTexts = ({ condition, from, note }) => ({ condition, from, note });
+const textsOf = ({ condition, from, note }) => ({ condition, from, note });
 
 export class BreakpointForm {
   /** @param {BreakpointFormCalls} calls */
@@ -159,7 +159,7 @@ export class BreakpointForm {
   cancel() {
     const { originalBreakpoint } = this;
     if (!originalBreakpoint) return;
-    this.calls.change(originalBreakpoint.id, breakpointTexts(originalBreakpoint));
+    this.calls.change(originalBreakpoint.id, textsOf(originalBreakpoint));
     this.finish(originalBreakpoint);
   }
 

@@ -46,7 +46,7 @@ import * as say from "../../words/machine.js";
  *   Resolves when the comparison is complete.
  * @property {() => Promise<void>} checkSource Compares the source with ROM, even if the source was not edited. Resolves when the comparison
  *   is complete.
- * @property {(words: string) => void} showMessage Shows a message near the user's last action.
+ * @property {(message: string) => void} showMessage Shows a message near the user's last action.
  * @property {(fault: unknown) => void} reportFailure Reports an error that a call threw.
  */
 
@@ -132,20 +132,20 @@ export class BreakpointsController {
    */
   openMenu(line, point) {
     const { manager, calls } = this;
-    const [toggle, condition] = ["debug.breakpoint", "debug.condition"].map((id) => commandById(id).keys[0]);
+    const [toggleKey, conditionKey] = ["debug.breakpoint", "debug.condition"].map((id) => commandById(id).keys[0]);
     const breakpoint = manager.list.findByLine(line);
-    const action = (/** @type {() => Promise<void>} */ work) => () => {
+    const makeAction = (/** @type {() => Promise<void>} */ work) => () => {
       work().catch(calls.reportFailure);
     };
     this.menu.open([
-      { words: breakpoint ? say.REMOVES_BREAKPOINT : say.ADDS_BREAKPOINT, key: toggle, act: action(() => this.toggleLine(line)) },
-      { words: say.CONDITION, key: condition, act: action(() => this.editLine(line, "condition")) },
-      { words: say.HIT_COUNT, act: action(() => this.editLine(line, "from")) },
-      { words: say.LOG_MESSAGE, act: action(() => this.editLine(line, "note")) },
+      { label: breakpoint ? say.REMOVES_BREAKPOINT : say.ADDS_BREAKPOINT, key: toggleKey, act: makeAction(() => this.toggleLine(line)) },
+      { label: say.CONDITION, key: conditionKey, act: makeAction(() => this.editLine(line, "condition")) },
+      { label: say.HIT_COUNT, act: makeAction(() => this.editLine(line, "from")) },
+      { label: say.LOG_MESSAGE, act: makeAction(() => this.editLine(line, "note")) },
       ...(breakpoint ? [{
-        words: breakpoint.isOn ? say.DISABLE : say.ENABLE, act: () => manager.change(breakpoint.id, { isOn: !breakpoint.isOn }),
+        label: breakpoint.isOn ? say.DISABLE : say.ENABLE, act: () => manager.change(breakpoint.id, { isOn: !breakpoint.isOn }),
       }] : []),
-      { words: say.RUN_TO_LINE, act: () => calls.runTo(line) },
+      { label: say.RUN_TO_LINE, act: () => calls.runTo(line) },
     ], point);
   }
 
@@ -204,10 +204,10 @@ export class BreakpointsController {
 
   /**
    * Updates the breakpoints after the source was loaded into ROM. Resolves when each breakpoint has the address of its line.
-   * @param {boolean} isBegun true if the processor was reset, which also resets the hit counts
+   * @param {boolean} wasReset true if the processor was reset, which also resets the hit counts
    */
-  async handleAssembly(isBegun) {
-    if (isBegun) this.manager.resetHits();
+  async handleAssembly(wasReset) {
+    if (wasReset) this.manager.resetHits();
     await this.calls.checkSource();
     await this.manager.allSent;
   }

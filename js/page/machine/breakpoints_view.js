@@ -15,8 +15,8 @@ import * as say from "../../words/machine.js";
  * @typedef {import("../../core/machine/source_map.js").SourceMap} SourceMap
  * @typedef {import("../../core/debug/breakpoint_manager.js").BreakpointManager} BreakpointManager
  * @typedef {Pick<BreakpointManager, "list" | "faults" | "map">} ShownManager
- * @typedef {{ root: HTMLLIElement, isOn: HTMLInputElement, mark: Cell, location: Cell, edit: HTMLButtonElement, hits: Cell, words: Cell,
- *   fault: Cell }} Row
+ * @typedef {{ root: HTMLLIElement, enableBox: HTMLInputElement, mark: Cell, location: Cell, edit: HTMLButtonElement, hits: Cell,
+ *   details: Cell, error: Cell }} Row
  */
 
 /**
@@ -29,7 +29,7 @@ import * as say from "../../words/machine.js";
  * @property {(isOn: boolean) => void} switchAll Enables or disables all breakpoints.
  * @property {() => void} removeAll Removes all breakpoints.
  * @property {() => void} resetHits Sets all hit counts to 0.
- * @property {(breakpoint: Breakpoint) => void} goTo Shows a breakpoint's address and source line, as far as it has them.
+ * @property {(breakpoint: Breakpoint) => void} goTo Shows a breakpoint's address and source line. Either can be missing.
  */
 
 /**
@@ -77,21 +77,21 @@ export class BreakpointsView {
   /**
    * @param {Row} row
    * @param {Breakpoint} breakpoint
-   * @param {string} fault
+   * @param {string} error the error in the breakpoint's texts; "" if there is none
    * @param {SourceMap | null} map
    */
-  showRow(row, breakpoint, fault, map) {
+  showRow(row, breakpoint, error, map) {
     const { isOn, hits } = breakpoint;
-    const { mark, words } = breakpointMark(breakpoint, fault);
-    row.isOn.checked = isOn;
+    const { mark, words } = breakpointMark(breakpoint, error);
+    row.enableBox.checked = isOn;
     row.mark.set(mark);
     row.mark.node.title = words;
     const location = formatLocation(breakpoint, map);
     row.location.set(location);
     row.edit.setAttribute("aria-label", say.editBreakpoint(location));
     row.hits.set(hits > 0 ? formatQuantity(hits, "hit") : "");
-    row.words.set(describeDetails(breakpoint));
-    row.fault.set(fault && say.stopsEachTime(fault));
+    row.details.set(describeDetails(breakpoint));
+    row.error.set(error && say.stopsEachTime(error));
   }
 
   /** @param {ShownManager} manager */
@@ -108,9 +108,10 @@ export class BreakpointsView {
    * @returns {Row}
    */
   makeRow(id, manager) {
-    const isOn = element("input", { "type": "checkbox", "aria-label": say.ON, "autocomplete": "off" });
-    const place = element("button", { type: "button", className: "place" });
-    const [mark, location, hits, words, fault] = [element("i", { "aria-hidden": "true" }), place, element("span", { className: "hits" }),
+    const enableBox = element("input", { "type": "checkbox", "aria-label": say.ON, "autocomplete": "off" });
+    const locationButton = element("button", { type: "button", className: "place" });
+    const hitsNode = element("span", { className: "hits" });
+    const [mark, location, hits, details, error] = [element("i", { "aria-hidden": "true" }), locationButton, hitsNode,
       element("p", { className: "words" }), element("p", { className: "fault" })].map((node) => new Cell(node));
     const withBreakpoint = (/** @type {(breakpoint: Breakpoint) => void} */ call) => () => {
       const breakpoint = manager.list.get(id);
@@ -118,11 +119,11 @@ export class BreakpointsView {
     };
     const edit = makeButton(say.EDIT, withBreakpoint((breakpoint) => this.calls.edit(breakpoint)), { className: "edit" });
     const remove = makeButton("\u00D7", () => this.calls.remove(id), { "aria-label": say.REMOVE_BREAKPOINT, "title": say.REMOVES_IT });
-    const root = element("li", {}, element("div", { className: "bar" }, isOn, mark.node, location.node, hits.node, edit, remove),
-      words.node, fault.node);
-    isOn.addEventListener("change", () => this.calls.change(id, { isOn: isOn.checked }));
+    const root = element("li", {}, element("div", { className: "bar" }, enableBox, mark.node, location.node, hits.node, edit, remove),
+      details.node, error.node);
+    enableBox.addEventListener("change", () => this.calls.change(id, { isOn: enableBox.checked }));
     onClick(location.node, withBreakpoint((breakpoint) => this.calls.goTo(breakpoint)));
-    const row = { root, isOn, mark, location, edit, hits, words, fault };
+    const row = { root, enableBox, mark, location, edit, hits, details, error };
     this.rows.set(id, row);
     return row;
   }
@@ -156,7 +157,7 @@ export class BreakpointsView {
     return row && row.root;
   }
 
-  /** @param {number} id the breakpoint whose row receives the focus */
+  /** @param {number} id the id of the breakpoint whose row receives the focus */
   focus(id) {
     const row = this.rows.get(id);
     if (row) row.edit.focus();

@@ -15,7 +15,7 @@ import * as say from "../../words/machine.js";
  * @typedef {object} EditorCalls
  * @property {(place: string, value: string) => Promise<string>} poke Sets a register or memory cell to a value. `place` and `value` have
  *   the syntax of the `poke` command. Resolves to "", or to the reason why the bench rejects the value.
- * @property {(words: string, cell: HTMLElement) => void} showMessage Shows a message at a cell that cannot be edited now.
+ * @property {(message: string, cell: HTMLElement) => void} showMessage Shows a message at a cell that cannot be edited now.
  */
 
 
@@ -35,7 +35,7 @@ export class CellEditor {
     /** @type {WeakMap<HTMLElement, EditableCell>} */
     this.editableCells = new WeakMap();
     /** @type {WeakMap<HTMLElement, string>} the reason why each read-only cell cannot be edited */
-    this.fixedReasons = new WeakMap();
+    this.readOnlyReasons = new WeakMap();
     /** @type {HTMLElement | null} the cell that is being edited */
     this.cell = null;
     this.label = element("span", { className: "unseen" });
@@ -65,7 +65,7 @@ export class CellEditor {
    * @param {string} reason
    */
   makeReadOnly(cell, reason) {
-    this.fixedReasons.set(cell, reason);
+    this.readOnlyReasons.set(cell, reason);
     this.listen(cell);
   }
 
@@ -82,7 +82,7 @@ export class CellEditor {
 
   /** @param {HTMLElement} cell */
   open(cell) {
-    const reason = this.fixedReasons.get(cell);
+    const reason = this.readOnlyReasons.get(cell);
     if (reason) this.calls.showMessage(reason, cell);
     const target = this.editableCells.get(cell);
     if (!target) return;
@@ -98,10 +98,10 @@ export class CellEditor {
     this.field.select();
   }
 
-  /** @param {string} words */
-  showMessage(words) {
-    this.message.textContent = words;
-    this.field.setAttribute("aria-invalid", String(words !== ""));
+  /** @param {string} message */
+  showMessage(message) {
+    this.message.textContent = message;
+    this.field.setAttribute("aria-invalid", String(message !== ""));
   }
 
   /** @param {boolean} returnsFocus true if the focus returns to the cell */

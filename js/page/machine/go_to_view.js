@@ -1,4 +1,4 @@
-// The field that shows an address in the disassembly, and the button that sets a breakpoint there.
+// The field for an address to show in the disassembly, and the button that sets or removes a breakpoint at this address.
 
 import { Cell, block, button, byId, element, field, onClick } from "../ui/dom.js";
 import { parseGoal } from "../../core/machine/go_to_target.js";
@@ -18,15 +18,15 @@ export class GoToView {
     this.listing = listing;
     this.onGoTo = onGoTo;
     this.field = field("go-to");
-    this.names = byId("names", HTMLDataListElement);
+    this.nameList = byId("names", HTMLDataListElement);
     this.status = new Cell(block("go-to-status"));
     /** @type {SourceMap | null} */
     this.map = null;
     this.field.addEventListener("change", () => this.goToTypedAddress());
     // Enter also works if the text is unchanged.
     this.field.addEventListener("keydown", (event) => event.key === "Enter" && this.goToTypedAddress());
-    const breakButton = button("break-there");
-    onClick(breakButton, () => {
+    const breakpointButton = button("break-there");
+    onClick(breakpointButton, () => {
       const address = this.goToTypedAddress();
       if (address !== null) toggleBreakpoint(address);
     });
@@ -36,7 +36,7 @@ export class GoToView {
   setNames(map) {
     this.map = map;
     const names = map ? [...map.names.keys()].sort() : [];
-    this.names.replaceChildren(...names.map((name) => element("option", { value: name })));
+    this.nameList.replaceChildren(...names.map((name) => element("option", { value: name })));
   }
 
   /** Shows the typed address in the disassembly. Returns the address, or null if the typed text is not an address. */

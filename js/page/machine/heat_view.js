@@ -14,8 +14,8 @@ import * as say from "../../words/machine.js";
  * @typedef {import("../../core/engine/heat_meter.js").ChipHeat} ChipHeat
  * @typedef {import("../../core/machine/heat_levels.js").HeatKind} HeatKind
  * @typedef {import("../../core/machine/source_map.js").SourceMap} SourceMap
- * @typedef {{ warmth: number, words: string }} CellHeat `warmth`: the level of the cell's colour, 0 for no colour; `words`: the text about
- *   the cell's changes
+ * @typedef {{ warmth: number, changeText: string }} CellHeat `warmth`: the level of the cell's colour, 0 for no colour; `changeText`: the
+ *   text about the cell's changes
  */
 
 /**
@@ -27,7 +27,7 @@ import * as say from "../../words/machine.js";
  * @property {(isOn: boolean) => void} setWatch Starts or stops the bench's reports of RAM changes.
  * @property {(heatByPlace: Map<string, CellHeat>) => void} showCells Shows the heat of cells. `heatByPlace` has the heat of each cell by
  *   the cell's location. Cells that are not in the map have no colour.
- * @property {(place: string) => string} placeName Returns the name of the cell at location `place`, or a description if the cell has
+ * @property {(place: string) => string} describePlace Returns the name of the cell at location `place`, or a description if the cell has
  *   no name.
  * @property {() => SourceMap | null} map Returns the source map of the program in ROM, or null if ROM does not match the source.
  */
@@ -47,8 +47,8 @@ export class HeatView {
   constructor(preferences, calls) {
     this.preferences = preferences;
     this.calls = calls;
-    this.kind = byId("heat", HTMLSelectElement);
-    this.cycles = field("heat-cycles");
+    this.kindSelect = byId("heat", HTMLSelectElement);
+    this.cyclesField = field("heat-cycles");
     this.status = block("heat-status");
     this.countTimer = 0;
     this.request = new AbortController();
@@ -59,30 +59,30 @@ export class HeatView {
     this.recentHeat = new RecentHeat();
     /** The time of the last update while time was running, in milliseconds. */
     this.lastDrawTime = 0;
-    this.kind.value = preferences.get("heat");
-    this.cycles.value = preferences.get("heat-cycles") || this.cycles.value;
-    this.kind.addEventListener("change", () => this.applyChoice());
-    this.cycles.addEventListener("change", () => this.applyChoice());
+    this.kindSelect.value = preferences.get("heat");
+    this.cyclesField.value = preferences.get("heat-cycles") || this.cyclesField.value;
+    this.kindSelect.addEventListener("change", () => this.applyChoice());
+    this.cyclesField.addEventListener("change", () => this.applyChoice());
     // Input cancels a count, so that the user's next action does not wait for the count.
-    for (const kind of ["keydown", "pointerdown"]) addEventListener(kind, () => this.restartTimer(), true);
+    for (const eventName of ["keydown", "pointerdown"]) addEventListener(eventName, () => this.restartTimer(), true);
     this.showCyclesField();
   }
 
   applyChoice() {
-    this.preferences.set("heat", this.kind.value);
-    this.preferences.set("heat-cycles", this.cycles.value);
+    this.preferences.set("heat", this.kindSelect.value);
+    this.preferences.set("heat-cycles", this.cyclesField.value);
     this.showCyclesField();
     this.clear();
     this.updateWatch();
-    if (this.kind.value !== "") this.readCycles();
+    if (this.kindSelect.value !== "") this.readCycles();
     this.isStale = true;
     this.restartTimer();
   }
 
   /** Returns the number of cycles in the field. If the number is not valid, shows a message and returns 0. */
   readCycles() {
-    const cycles = parseCount(this.cycles.value, MAX_CYCLES);
-    this.cycles.setAttribute("aria-invalid", String(cycles === 0));
+    const cycles = parseCount(this.cyclesField.value, MAX_CYCLES);
+    this.cyclesField.setAttribute("aria-invalid", String(cycles === 0));
     if (cycles === 0) {
       this.clear();
       this.showStatus(say.cycleCountHint(MAX_CYCLES.toLocaleString("en")));
@@ -95,11 +95,11 @@ export class HeatView {
    * changes.
    */
   updateWatch() {
-    this.calls.setWatch(this.kind.value !== "");
+    this.calls.setWatch(this.kindSelect.value !== "");
   }
 
   showCyclesField() {
-    block("heat-reach").hidden = this.kind.value === "";
+    block("heat-reach").hidden = this.kindSelect.value === "";
   }
 
   /**
@@ -107,10 +107,10 @@ export class HeatView {
    * @param {{ warmed: ChipHeat | null, cycles: number }} frame
    */
   handleFrame({ warmed, cycles }) {
-    if (this.kind.value === "") return;
+    if (this.kindSelect.value === "") return;
     // The message about the recorded past does not apply while time is running. A board without RAM has no other message.
     if (!warmed) this.showStatus("");
-    const maxCycles = parseCount(this.cycles.value, MAX_CYCLES);
+    const maxCycles = parseCount(this.cyclesField.value, MAX_CYCLES);
     if (!warmed || maxCycles === 0) return;
     this.recentHeat.add(warmed, cycles, maxCycles);
     if (performance.now() - this.lastDrawTime < DRAW_INTERVAL) return;
@@ -122,7 +122,7 @@ export class HeatView {
 
   /** Marks the heat map as out of date after a new snapshot. */
   handleSnapshot() {
-    if (this.kind.value === "") return;
+    if (this.kindSelect.value === "") return;
     this.isStale = true;
     if (!this.calls.isRunning()) this.recentHeat.clear();
     this.restartTimer();
@@ -136,16 +136,16 @@ export class HeatView {
     this.calls.showCells(new Map());
   }
 
-  /** @param {string} words */
-  showStatus(words) {
-    if (this.status.textContent !== words) this.status.textContent = words;
+  /** @param {string} text */
+  showStatus(text) {
+    if (this.status.textContent !== text) this.status.textContent = text;
   }
 
   /** Cancels the current count. If the heat map is out of date and time is paused, starts another count after COUNT_DELAY_MS. */
   restartTimer() {
     clearTimeout(this.countTimer);
     this.request.abort();
-    if (!this.isStale || this.kind.value === "" || this.calls.isRunning()) return;
+    if (!this.isStale || this.kindSelect.value === "" || this.calls.isRunning()) return;
     this.countTimer = window.setTimeout(() => this.startCount(), COUNT_DELAY_MS);
   }
 
@@ -156,7 +156,7 @@ export class HeatView {
     this.request = request;
     if (!this.heat) this.showStatus(say.SEARCHING_PAST);
     const heat = await this.calls.countChanges(cycles, request.signal);
-    if (!heat || request.signal.aborted || this.calls.isRunning() || this.kind.value === "") return;
+    if (!heat || request.signal.aborted || this.calls.isRunning() || this.kindSelect.value === "") return;
     this.heat = heat;
     this.isStale = false;
     this.showHeat(heat, cycles);
@@ -164,10 +164,10 @@ export class HeatView {
 
   /**
    * @param {Heat} heat
-   * @param {number} wantedCycles
+   * @param {number} requestedCycles
    */
-  showHeat(heat, wantedCycles) {
-    this.showStatus(describeHeat(heat, wantedCycles, this.calls.placeName, this.calls.map()));
+  showHeat(heat, requestedCycles) {
+    this.showStatus(describeHeat(heat, requestedCycles, this.calls.describePlace, this.calls.map()));
     this.showCells(heat, describeChanges);
   }
 
@@ -177,8 +177,8 @@ export class HeatView {
    */
   showCells(heat, describeCell) {
     const map = this.calls.map();
-    const warmth = heatLevels(heat, /** @type {HeatKind} */ (this.kind.value));
+    const warmth = heatLevels(heat, /** @type {HeatKind} */ (this.kindSelect.value));
     this.calls.showCells(new Map(heat.cells.map((cell) => (
-      [cell.place, { warmth: warmth.get(cell.place) || 0, words: say.changedBy(describeCell(cell, map)) }]))));
+      [cell.place, { warmth: warmth.get(cell.place) || 0, changeText: say.changedBy(describeCell(cell, map)) }]))));
   }
 }

@@ -36,11 +36,11 @@ export class LastChangeView {
     this.tip.setAttribute("role", "status");
     document.body.append(this.tip);
     for (const panel of panels) {
-      for (const kind of ["pointerover", "focusin"]) panel.addEventListener(kind, ({ target }) => this.startTimer(target));
-      for (const kind of ["pointerout", "focusout"]) panel.addEventListener(kind, () => this.hideTip());
+      for (const eventName of ["pointerover", "focusin"]) panel.addEventListener(eventName, ({ target }) => this.startTimer(target));
+      for (const eventName of ["pointerout", "focusout"]) panel.addEventListener(eventName, () => this.hideTip());
     }
     // Input cancels the search, so that the user's next action does not wait for the search.
-    for (const kind of ["keydown", "pointerdown"]) addEventListener(kind, () => this.hideTip(), true);
+    for (const eventName of ["keydown", "pointerdown"]) addEventListener(eventName, () => this.hideTip(), true);
   }
 
   /** @param {EventTarget | null} cell */

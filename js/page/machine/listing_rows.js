@@ -11,7 +11,7 @@ import * as say from "../../words/machine.js";
  * A row. `address` is the address of the row's instruction. `markedAddress` is the address of a breakpoint in that instruction, or
  * `address` if there is none.
  * @typedef {{ button: HTMLButtonElement, address: number, markedAddress: number, mark: Cell, bytes: Cell, labels: Cell,
- *   instruction: Cell, breakpoint: Switch, next: Switch }} Row
+ *   instruction: Cell, breakpointSwitch: Switch, nextSwitch: Switch }} Row
  */
 
 /**
@@ -20,7 +20,7 @@ import * as say from "../../words/machine.js";
  * @param {Map<string, BreakpointMark>} breakpoints
  * @returns {BreakpointMark | undefined}
  */
-function secondByteMark(address, breakpoints) {
+function findSecondByteMark(address, breakpoints) {
   if (!breakpoints.has(address)) return undefined;
   const message = say.breakpointInsideInstruction(address);
   return { mark: "\u25CB", words: message };
@@ -61,13 +61,15 @@ export class ListingRows {
     const mark = new Cell(element("i", { "aria-hidden": "true" }));
     const [bytes, labels, instruction] = ["bytes", "labels", "instruction"].map((className) => new Cell(element("span", { className })));
     const button = element("button", { type: "button" }, mark.node, bytes.node, labels.node, instruction.node);
-    const next = new Switch((isNext) => {
+    const nextSwitch = new Switch((isNext) => {
       button.classList.toggle("next", isNext);
       if (isNext) button.setAttribute("aria-current", "true");
       else button.removeAttribute("aria-current");
     });
     /** @type {Row} */
-    const row = { button, address: 0, markedAddress: 0, mark, bytes, labels, instruction, breakpoint: pressedSwitch(button), next };
+    const row = {
+      button, address: 0, markedAddress: 0, mark, bytes, labels, instruction, breakpointSwitch: pressedSwitch(button), nextSwitch,
+    };
     onClick(button, () => this.toggleBreakpoint(row.markedAddress));
     return row;
   }
@@ -92,7 +94,7 @@ export class ListingRows {
       row.button.hidden = line === undefined;
       if (!line) return;
       const lineMark = breakpoints.get(line.first);
-      const mark = lineMark || secondByteMark(line.second, breakpoints);
+      const mark = lineMark || findSecondByteMark(line.second, breakpoints);
       const title = [mark ? mark.words : "", line.source].filter(Boolean).join("; ");
       row.address = line.address;
       row.markedAddress = mark && !lineMark ? parseInt(line.second, 16) : line.address;
@@ -101,8 +103,8 @@ export class ListingRows {
       row.instruction.set(line.instruction);
       if (row.button.title !== title) row.button.title = title;
       row.mark.set(mark ? mark.mark : "");
-      row.next.set(line.address === counter);
-      row.breakpoint.set(mark !== undefined);
+      row.nextSwitch.set(line.address === counter);
+      row.breakpointSwitch.set(mark !== undefined);
     });
   }
 

@@ -70,10 +70,10 @@ export class ListingView {
   }
 
   addListeners() {
-    const follow = field("follow");
-    follow.checked = this.followsCounter;
-    follow.addEventListener("change", () => {
-      this.followsCounter = follow.checked;
+    const followBox = field("follow");
+    followBox.checked = this.followsCounter;
+    followBox.addEventListener("change", () => {
+      this.followsCounter = followBox.checked;
       this.counterAtLeave = -1;
       this.rereadLines();
     });

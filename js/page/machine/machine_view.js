@@ -15,11 +15,11 @@ import * as say from "../../words/machine.js";
  */
 
 /**
- * @param {string[]} words
+ * @param {string[]} headings
  * @param {Explain} explain
  */
-function tableHead(words, explain) {
-  const headCells = words.map((word) => element("th", { scope: "col", title: explain(word) }, word));
+function makeTableHead(headings, explain) {
+  const headCells = headings.map((word) => element("th", { scope: "col", title: explain(word) }, word));
   return element("thead", {}, element("tr", {}, ...headCells));
 }
 
@@ -28,9 +28,9 @@ function makeCells(count) {
   return indices(count).map(() => new Cell(element("span")));
 }
 
-/** @param {Cell[]} cellList */
-function cellNodes(cellList) {
-  return cellList.map((cell) => cell.node);
+/** @param {Cell[]} cells */
+function nodesOf(cells) {
+  return cells.map((cell) => cell.node);
 }
 
 /** The number of hexadecimal digits of the registers that have more than one digit. */
@@ -121,7 +121,7 @@ export class PortsView {
       const oneSwitches = bits.map(({ node }) => new Switch((isOne) => node.classList.toggle("one", isOne)));
       return { bits, oneSwitches, shownBits: "" };
     });
-    const lines = this.chains.map(({ bits }, index) => this.makeChainLine(`chain ${index}`, placeName(`chain${index}`), cellNodes(bits)));
+    const lines = this.chains.map(({ bits }, index) => this.makeChainLine(`chain ${index}`, placeName(`chain${index}`), nodesOf(bits)));
     this.block.replaceChildren(this.sources, ...(board.roms.length > 0 ? [this.makeRomTable(board.roms, placeName)] : []), ...lines);
   }
 
@@ -133,8 +133,8 @@ export class PortsView {
     const rows = roms.map((rom, index) => element("tr", {},
       element("th", { scope: "row" }, String(rom.chip), element("small", {}, placeName(`rom${rom.chip}`))),
       element("td", {}, rom.port),
-      ...cellNodes(this.roms[index]).map((node) => element("td", {}, node))));
-    const head = tableHead(["ROM", say.LINES_3_TO_0, "latch", "reads"], this.explain);
+      ...nodesOf(this.roms[index]).map((node) => element("td", {}, node))));
+    const head = makeTableHead(["ROM", say.LINES_3_TO_0, "latch", "reads"], this.explain);
     return element("table", { className: "roms", "aria-label": say.PORTS_OF_ROMS }, head, element("tbody", {}, ...rows));
   }
 
@@ -156,10 +156,11 @@ export class PortsView {
    */
   showSources(sources) {
     for (const source of sources) {
-      const [first, second] = source.split(".");
-      const name = second === undefined ? say.SRC_OF_ROMS : `bank ${first}`;
+      const [bankOrByte, bankByte] = source.split(".");
+      const name = bankByte === undefined ? say.SRC_OF_ROMS : `bank ${bankOrByte}`;
       const cell = this.sourceCells.get(name) || this.addSourceCell(name);
-      this.changes.set(cell, second === undefined ? first : second);
+      this.changes.set(cell, bankByte === undefined ? bankOrByte : bankByte);
+
     }
   }
 

@@ -63,10 +63,10 @@ export class MistakesView {
 
   /**
    * @param {Kind} kind
-   * @param {boolean} isStop
+   * @param {boolean} shouldStop
    */
-  setStop(kind, isStop) {
-    if (isStop) this.stopKinds.add(kind);
+  setStop(kind, shouldStop) {
+    if (shouldStop) this.stopKinds.add(kind);
     else this.stopKinds.delete(kind);
     this.calls.storeKinds([...this.stopKinds].join(" "));
     this.calls.stopAtMistakes([...this.stopKinds]);

@@ -26,7 +26,7 @@ function describeRegister({ bank, chip, register }) {
  * @param {string} register the register as `bank.chip.register`
  * @param {ReadonlyMap<string, string[]>} names
  */
-function nibbleLabels(register, names) {
+function makeNibbleLabels(register, names) {
   const [bank, chip, number] = register.split(".").map(Number);
   const registerIndex = chip * 4 + number;
   /** @type {(place: string, label: string) => string[]} */
@@ -42,7 +42,7 @@ function nibbleLabels(register, names) {
 const NIBBLES_PER_GROUP = NIBBLES_PER_REGISTER / 2;
 
 /** @param {Cell[]} cells */
-function nibbleGroup(cells) {
+function makeNibbleGroup(cells) {
   return element("span", { className: "nibbles" }, ...cells.map(({ node }) => node));
 }
 
@@ -50,8 +50,8 @@ export class RamView {
   /**
    * @param {Changes} changes
    * @param {CellEditor} editor
-   * @param {(bank: number, source: number, isWatched: boolean, cell: HTMLElement) => void} toggleWatch sets a watch on a nibble, or
-   *   clears the watch if `isWatched`; `source` is the nibble's SRC byte
+   * @param {(bank: number, srcByte: number, isWatched: boolean, cell: HTMLElement) => void} toggleWatch sets a watch on a nibble, or
+   *   clears the watch if `isWatched`; `srcByte` is the nibble's SRC byte
    */
   constructor(changes, editor, toggleWatch) {
     this.changes = changes;
@@ -124,8 +124,8 @@ export class RamView {
     const status = indices(STATUS_CHARACTERS_PER_REGISTER).map((character) => this.drawStatus(location, character));
     const names = element("small", { className: "cell-names", hidden: true });
     this.registers.set(`${bank}.${chip}.${register}`, { characters, status, names, shownText: "" });
-    const halves = [characters.slice(0, NIBBLES_PER_GROUP), characters.slice(NIBBLES_PER_GROUP), status].map(nibbleGroup);
-    const cells = [element("td", {}, ...halves.slice(0, 2), names), element("td", {}, halves[2])];
+    const groups = [characters.slice(0, NIBBLES_PER_GROUP), characters.slice(NIBBLES_PER_GROUP), status].map(makeNibbleGroup);
+    const cells = [element("td", {}, ...groups.slice(0, 2), names), element("td", {}, groups[2])];
     if (register === 0) cells[1].append(this.drawPort(bank, chip));
     return element("tr", {}, element("th", { scope: "row", title: describeRegister(location) }, `${chip}.${register}`), ...cells);
   }
@@ -136,18 +136,18 @@ export class RamView {
    */
   drawCharacter(location, character) {
     const { bank } = location;
-    const source = location.chip * 64 + location.register * 16 + character;
-    const button = element("button", { type: "button", title: say.characterTitle(describeRegister(location), character, hex(source, 2)) });
+    const srcByte = location.chip * 64 + location.register * 16 + character;
+    const button = element("button", { type: "button", title: say.characterTitle(describeRegister(location), character, hex(srcByte, 2)) });
     const watchSwitch = pressedSwitch(button);
-    this.watchSwitches.set(`${bank}.${hex(source, 2)}`, watchSwitch);
-    this.makeEditable(`ram.${bank}.0x${hex(source, 2)}`, button);
+    this.watchSwitches.set(`${bank}.${hex(srcByte, 2)}`, watchSwitch);
+    this.makeEditable(`ram.${bank}.0x${hex(srcByte, 2)}`, button);
     let wasWatched = false;
     button.addEventListener("click", (event) => {
       if (event.detail > 0) button.blur();
       if (event.detail > 2) return;
       // The second click of a double click undoes the effect of the first.
       wasWatched = event.detail === 2 ? !wasWatched : watchSwitch.isOn;
-      this.toggleWatch(bank, source, wasWatched, button);
+      this.toggleWatch(bank, srcByte, wasWatched, button);
     });
     return new Cell(button);
   }
@@ -204,7 +204,7 @@ export class RamView {
    * Returns a RAM nibble's name, or its description if it has no name.
    * @param {string} place the nibble's location as the `poke` command names it
    */
-  placeName(place) {
+  describePlace(place) {
     const [name] = this.names.get(place) || [];
     const nibble = this.characters.get(place);
     return name || (nibble ? nibble.title : place);
@@ -215,7 +215,7 @@ export class RamView {
     this.names = names;
     for (const place of this.characters.keys()) this.updateTitle(place);
     for (const [name, { names: namesLine }] of this.registers) {
-      namesLine.textContent = nibbleLabels(name, names).join("  ");
+      namesLine.textContent = makeNibbleLabels(name, names).join("  ");
       namesLine.hidden = namesLine.textContent === "";
     }
   }
@@ -242,14 +242,14 @@ export class RamView {
     const nibble = this.characters.get(place);
     if (!nibble) return;
     const names = this.names.get(place) || [];
-    const { words } = this.heatByPlace.get(place) || { words: "" };
-    nibble.node.title = [...names, nibble.title].join(", ") + (words && `; ${words}`);
+    const { changeText } = this.heatByPlace.get(place) || { changeText: "" };
+    nibble.node.title = [...names, nibble.title].join(", ") + (changeText && `; ${changeText}`);
     nibble.node.classList.toggle("named", names.length > 0);
   }
 
   /** @param {string[]} names */
   showWatches(names) {
     const watchedNames = new Set(names);
-    for (const [name, isWatched] of this.watchSwitches) isWatched.set(watchedNames.has(name));
+    for (const [name, watchSwitch] of this.watchSwitches) watchSwitch.set(watchedNames.has(name));
   }
 }

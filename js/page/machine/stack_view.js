@@ -11,7 +11,7 @@ import * as say from "../../words/machine.js";
  * @typedef {import("./changes.js").Changes} Changes
  * @typedef {import("../../core/machine/return_addresses.js").AddressNote} AddressNote
  * @typedef {import("../../core/machine/source_map.js").SourceMap} SourceMap
- * @typedef {{ button: HTMLButtonElement, value: Cell, note: Cell, isLive: Switch }} Row `isLive`: off if the address is stale
+ * @typedef {{ button: HTMLButtonElement, value: Cell, note: Cell, liveSwitch: Switch }} Row `liveSwitch`: off if the address is stale
  */
 
 /** The column range of the first ROM byte in a line of the bench's answer to `list`. */
@@ -30,7 +30,7 @@ export class StackView {
     this.ask = ask;
     /** @type {number[]} the program counter, then the return addresses, newest first */
     this.addresses = [];
-    /** The addresses that the notes next to them describe, separated by spaces. */
+    /** The addresses that the current notes describe, separated by spaces. */
     this.describedAddresses = "";
     /** @type {SourceMap | null} */
     this.map = null;
@@ -58,7 +58,7 @@ export class StackView {
     const head = element("span", { className: "name", title }, name);
     const button = element("button", { type: "button" }, head, value.node, note.node);
     onClick(button, action);
-    return { button, value, note, isLive: new Switch((isLive) => button.classList.toggle("left-over", !isLive)) };
+    return { button, value, note, liveSwitch: new Switch((isLive) => button.classList.toggle("left-over", !isLive)) };
   }
 
   /**
@@ -67,7 +67,7 @@ export class StackView {
    */
   rowAddress(index) {
     const address = this.addresses[index] || 0;
-    return index > 0 && this.rows[index].isLive.isOn ? callAddress(address) : address;
+    return index > 0 && this.rows[index].liveSwitch.isOn ? callAddress(address) : address;
   }
 
   /** @param {Registers} registers */
@@ -108,9 +108,9 @@ export class StackView {
   clear() {
     this.describedAddresses = "";
     this.requestCount += 1;
-    for (const { note, isLive } of this.rows) {
+    for (const { note, liveSwitch } of this.rows) {
       note.set("");
-      isLive.set(true);
+      liveSwitch.set(true);
     }
   }
 
@@ -126,7 +126,7 @@ export class StackView {
     notes.forEach(({ isLive, words, title }, index) => {
       const row = this.rows[index];
       row.note.set(words);
-      row.isLive.set(isLive);
+      row.liveSwitch.set(isLive);
       if (row.button.title !== title) row.button.title = title;
     });
   }

@@ -41,20 +41,20 @@ export class WatchView {
 
   /** @param {unknown} texts the expressions that were saved with a session, not yet validated */
   open(texts) {
-    const { all: expressions, fault } = parseWatches(texts);
-    this.status.textContent = fault;
+    const { all: expressions, fault: error } = parseWatches(texts);
+    this.status.textContent = error;
     this.setExpressions(expressions);
   }
 
   add() {
     const input = field("watched-field");
-    const { watched, fault } = parseWatch(input.value, this.calls.names());
+    const { watched: expression, fault: error } = parseWatch(input.value, this.calls.names());
     const isFull = this.expressions.length >= MAX_WATCH_EXPRESSIONS;
-    this.status.textContent = isFull ? say.maxWatched(MAX_WATCH_EXPRESSIONS) : fault;
+    this.status.textContent = isFull ? say.maxWatched(MAX_WATCH_EXPRESSIONS) : error;
     input.setAttribute("aria-invalid", String(this.status.textContent !== ""));
-    if (!watched || isFull) return;
+    if (!expression || isFull) return;
     input.value = "";
-    this.setExpressions([...this.expressions.filter(({ name }) => name !== watched.name), watched]);
+    this.setExpressions([...this.expressions.filter(({ name }) => name !== expression.name), expression]);
     this.storeAll();
   }
 
@@ -65,25 +65,26 @@ export class WatchView {
   /** @param {WatchExpression[]} expressions */
   setExpressions(expressions) {
     this.expressions = expressions;
-    this.rows = expressions.map((watch) => this.makeRow(watch));
+    this.rows = expressions.map((expression) => this.makeRow(expression));
     this.list.replaceChildren(...this.rows.map(({ root }) => root));
     this.calls.handleListChange();
     this.show();
   }
 
   /**
-   * @param {WatchExpression} watched
+   * @param {WatchExpression} expression
    * @returns {Row}
    */
-  makeRow(watched) {
+  makeRow(expression) {
     const value = element("span", { className: "values" }, element("small", {}, say.WHEN_PAUSED));
-    const remove = element("button", { "type": "button", "className": "remove", "title": say.stopWatching(watched.name) }, "\u00D7");
-    remove.setAttribute("aria-label", say.stopWatching(watched.name));
-    onClick(remove, () => {
-      this.setExpressions(this.expressions.filter((entry) => entry !== watched));
+    const title = say.stopWatching(expression.name);
+    const removeButton = element("button", { "type": "button", "className": "remove", title }, "\u00D7");
+    removeButton.setAttribute("aria-label", title);
+    onClick(removeButton, () => {
+      this.setExpressions(this.expressions.filter((entry) => entry !== expression));
       this.storeAll();
     });
-    const root = element("li", { title: watched.text }, element("b", {}, watched.name), " ", value, " ", remove);
+    const root = element("li", { title: expression.text }, element("b", {}, expression.name), " ", value, " ", removeButton);
     return { root, value, shape: "", cells: [] };
   }
 
@@ -92,15 +93,15 @@ export class WatchView {
     const state = this.calls.pausedState();
     if (!state) return;
     const names = this.calls.names();
-    this.expressions.forEach((watched, index) => this.showRow(this.rows[index], watched, watched.pieces(state, names)));
+    this.expressions.forEach((expression, index) => this.showRow(this.rows[index], expression, expression.pieces(state, names)));
   }
 
   /**
    * @param {Row} row
-   * @param {WatchExpression} watched
+   * @param {WatchExpression} expression
    * @param {import("../../core/debug/word_values.js").Piece[]} pieces the expression's current value, as texts and editable values
    */
-  showRow(row, watched, pieces) {
+  showRow(row, expression, pieces) {
     const shape = pieces.map((piece) => (typeof piece === "string" ? piece : piece.place)).join("\n");
     const values = pieces.flatMap((piece) => (typeof piece === "string" ? [] : [piece]));
     if (shape !== row.shape) {
@@ -108,7 +109,7 @@ export class WatchView {
       row.cells = [];
       row.value.replaceChildren(...pieces.map((piece) => {
         if (typeof piece === "string") return piece;
-        const label = `${watched.name}, ${piece.name}`;
+        const label = `${expression.name}, ${piece.name}`;
         const cell = new Cell(element("button", { "type": "button", "className": "value", "aria-label": label }));
         cell.set(piece.value);
         this.calls.makeEditable(cell.node, piece);

@@ -25,11 +25,11 @@ import { ProofsView } from "./proofs_view.js";
  *   prove Proves properties, visiting at most `maxStates` states for each of them. Calls `report` with each progress report. Resolves to
  *   the errors in the texts and whether `signal` has cancelled the proof.
  * @property {(line: number) => void} goTo Shows a line of the properties text. Lines count from 1.
- * @property {(words: string) => void} showMessage Shows a message next to the buttons.
+ * @property {(message: string) => void} showMessage Shows a message next to the buttons.
  * @property {(faults: TextFault[]) => void} showFaults Shows the errors that prevented the proof.
- * @property {(name: string, lines: string, texts: ExploredTexts, words: string) => Promise<void>} open Opens a new session with the texts,
- *   executes lines in it, and shows a message.
- * @property {(test: string) => string} addTest Adds a test to the program's tests. Returns the message about the result.
+ * @property {(name: string, lines: string, texts: ExploredTexts, message: string) => Promise<void>} open Opens a new session with the
+ *   texts, executes lines in it, and shows a message.
+ * @property {(test: string) => string} addTest Adds a test to the text in the Tests tab. Returns the message about the result.
  * @property {() => void} handleVerdictChange Called after the verdicts have changed; for example, updates the mark on the tab.
  * @property {(fault: unknown) => void} reportFailure Reports an error that a call threw.
  */
@@ -55,7 +55,7 @@ export class Proofs {
     /** The last proof results of each session since the page was opened, by session id. */
     this.resultsBySession = /** @type {Map<string, ProofResults>} */ (new Map());
     /** The id of the current session. */
-    this.session = "";
+    this.sessionId = "";
     /** @type {AbortController | null} the controller that cancels the current proof; null if no proof is running */
     this.controller = null;
     this.button = new Cell(button("prove"));
@@ -65,16 +65,16 @@ export class Proofs {
 
   /** The proof results of the current session, or null if there are none. */
   get currentResults() {
-    return this.resultsBySession.get(this.session) || null;
+    return this.resultsBySession.get(this.sessionId) || null;
   }
 
   /**
-   * Handles the opening of another session: cancels the proof and shows the earlier results of that session.
-   * @param {string} session the id of the opened session
+   * Handles the opening of another session: cancels the proof and shows the earlier results of the opened session.
+   * @param {string} sessionId the id of the opened session
    */
-  begin(session) {
+  begin(sessionId) {
     this.cancel();
-    this.session = session;
+    this.sessionId = sessionId;
     this.view.clear();
     this.show();
   }
@@ -82,7 +82,7 @@ export class Proofs {
   /** Cancels the proof, and clears the verdicts. */
   clear() {
     this.cancel();
-    this.resultsBySession.delete(this.session);
+    this.resultsBySession.delete(this.sessionId);
     this.view.clear();
     this.show();
   }
@@ -152,13 +152,13 @@ export class Proofs {
   async prove() {
     const maxStates = this.readMaxStates();
     if (maxStates === 0) return;
-    const { calls, session } = this;
+    const { calls, sessionId } = this;
     const texts = calls.texts();
     /** @type {ProofResults} */
     const results = { texts, maxStates, progress: { judged: [], count: 0, states: 0 } };
     const controller = new AbortController();
     this.controller = controller;
-    this.resultsBySession.set(session, results);
+    this.resultsBySession.set(sessionId, results);
     this.view.clear();
     this.show();
     let proofEnd = /** @type {TaskResult} */ ({ faults: [], isStopped: true });
@@ -169,8 +169,8 @@ export class Proofs {
       });
     } finally {
       this.controller = null;
-      if (results.progress.judged.length === 0) this.resultsBySession.delete(session);
-      if (session === this.session) this.finish(results, proofEnd);
+      if (results.progress.judged.length === 0) this.resultsBySession.delete(sessionId);
+      if (sessionId === this.sessionId) this.finish(results, proofEnd);
     }
   }
 

@@ -1,6 +1,6 @@
 // The results of proofs: a row with the verdict of each property, and the progress.
 
-import { Cell, Switch, block, makeButton, descendant, element } from "../ui/dom.js";
+import { Cell, Switch, block, makeButton, findDescendant, element } from "../ui/dom.js";
 import { isDesiredVerdict, markOf, describeVerdict, progressSummary } from "../../words/prove_results.js";
 import * as say from "../../words/prove.js";
 import { lineReference } from "../../words/stops.js";
@@ -15,7 +15,7 @@ import { lineReference } from "../../words/stops.js";
  * @property {(propertyVerdict: PropertyVerdict) => void} goTo Shows the line of a property in the properties text.
  * @property {(verdict: PropertyVerdict, counterexample: Counterexample) => void} openCounterexample Opens a new session
  *   in the state before the counterexample's last step.
- * @property {(counterexample: Counterexample) => void} addTest Adds a counterexample's test to the program's tests.
+ * @property {(counterexample: Counterexample) => void} addTest Adds a counterexample's test to the text in the Tests tab.
  */
 
 /** A property's row. The verdict is inserted only once, so that buttons that the user is about to click are not replaced. */
@@ -34,10 +34,10 @@ class VerdictRow {
       : makeButton(text, () => calls.goTo(propertyVerdict), { className: "name", title: lineReference(line) });
     this.node = element("li", {}, element("p", {}, mark, " ", name, " ", statusText));
     this.mark = new Cell(mark);
-    this.words = new Cell(statusText);
+    this.status = new Cell(statusText);
     this.litSwitch = new Switch((isOn) => mark.classList.toggle("lit", isOn));
     this.notOkSwitch = new Switch((isOn) => mark.classList.toggle("not-ok", isOn));
-    if (verdict.kind === "found") this.node.append(...this.counterexampleNodes(isGoal, verdict.found, calls));
+    if (verdict.kind === "found") this.node.append(...this.makeCounterexampleNodes(isGoal, verdict.found, calls));
   }
 
   /**
@@ -45,15 +45,15 @@ class VerdictRow {
    * @param {Counterexample} counterexample
    * @param {ProofCalls} calls
    */
-  counterexampleNodes(isGoal, counterexample, calls) {
+  makeCounterexampleNodes(isGoal, counterexample, calls) {
     const { isTest, text } = counterexample;
-    const [openWords, title] = isGoal ? [say.OPEN_WAY, say.BEFORE_GOAL] : [say.OPEN_FOUND, say.BEFORE_BREAK];
-    const add = isTest ? [makeButton(say.ADD_TO_TESTS, () => calls.addTest(counterexample), { title: say.AT_END })] : [];
+    const [openLabel, title] = isGoal ? [say.OPEN_WAY, say.BEFORE_GOAL] : [say.OPEN_FOUND, say.BEFORE_BREAK];
+    const addButtons = isTest ? [makeButton(say.ADD_TO_TESTS, () => calls.addTest(counterexample), { title: say.AT_END })] : [];
     const name = isTest ? say.ITS_TEST : say.ITS_LINES;
     return [
       element("details", {}, element("summary", {}, name), element("pre", { tabIndex: 0 }, text.trimEnd())),
       element("p", { className: "bar" },
-        makeButton(openWords, () => calls.openCounterexample(this.propertyVerdict, counterexample), { title }), ...add),
+        makeButton(openLabel, () => calls.openCounterexample(this.propertyVerdict, counterexample), { title }), ...addButtons),
     ];
   }
 
@@ -61,7 +61,7 @@ class VerdictRow {
   show(isCurrent) {
     const { propertyVerdict } = this;
     this.mark.set(isCurrent ? markOf(propertyVerdict) : "");
-    this.words.set(isCurrent ? describeVerdict(propertyVerdict) : say.CHANGED);
+    this.status.set(isCurrent ? describeVerdict(propertyVerdict) : say.CHANGED);
     this.litSwitch.set(isCurrent && propertyVerdict.verdict.kind === "proved" && isDesiredVerdict(propertyVerdict));
     this.notOkSwitch.set(isCurrent && propertyVerdict.verdict.kind !== "open" && !isDesiredVerdict(propertyVerdict));
   }
@@ -74,8 +74,8 @@ export class ProofsView {
     this.block = block("proof-results");
     this.list = block("proof-list");
     this.progress = block("proof-progress");
-    this.bar = descendant(this.progress, "progress", HTMLProgressElement);
-    this.progressText = new Cell(descendant(this.progress, "span", HTMLElement));
+    this.bar = findDescendant(this.progress, "progress", HTMLProgressElement);
+    this.progressText = new Cell(findDescendant(this.progress, "span", HTMLElement));
     /** @type {VerdictRow[]} */
     this.rows = [];
   }

@@ -17,7 +17,7 @@ function decodeText(text) {
  * name or the name of its folder.
  * @param {string} search
  */
-export function requestedStory(search) {
+export function readRequestedStory(search) {
   return new URLSearchParams(search).get("story")?.replace(/_/g, " ") || "";
 }
 

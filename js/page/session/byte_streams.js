@@ -18,13 +18,13 @@ export function makeStream(name) {
 }
 
 /**
- * Resolves to the output of a stream for an input. Rejects with `tooLong` if the output is longer than `limit` bytes.
+ * Resolves to the output of a stream for an input. Rejects with `lengthError` if the output is longer than `limit` bytes.
  * @param {Uint8Array} bytes
  * @param {ByteTransform} stream
  * @param {number} [limit]
- * @param {Error} [tooLong]
+ * @param {Error} [lengthError]
  */
-export async function readOutput(bytes, { readable, writable }, limit = Infinity, tooLong = undefined) {
+export async function readOutput(bytes, { readable, writable }, limit = Infinity, lengthError = undefined) {
   const writer = writable.getWriter();
   // Errors in the input are reported through the reader.
   writer.write(bytes).catch(() => {});
@@ -38,7 +38,7 @@ export async function readOutput(bytes, { readable, writable }, limit = Infinity
     count += result.value.length;
     if (count > limit) {
       reader.cancel().catch(() => {});
-      throw tooLong;
+      throw lengthError;
     }
   }
   const output = new Uint8Array(count);

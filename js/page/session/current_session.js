@@ -29,14 +29,14 @@ import * as say from "../../words/session.js";
  * @property {() => Promise<void>} checkSource Compares the source with ROM. Resolves when the page shows the program's names.
  * @property {() => void} checkTestsAndProperties Checks the tests and the properties of the session.
  * @property {() => void} run Resumes time in a session that the user left while time was running.
- * @property {(words: string) => void} showPaused Shows that time is paused, and the reason.
+ * @property {(reason: string) => void} showPaused Shows that time is paused, and the reason.
  * @property {() => Promise<void>} stopTime Pauses time. Resolves when the worker has stopped the run.
  * @property {() => string} describeCounter Returns a text with the program counter, its name and its source line.
  * @property {() => void} handleSessionChange Called when the user changes the session.
  * @property {() => RunEntry[]} takeRuns Removes and returns the log entries of the runs since the last call.
- * @property {(runs: RunEntry[], fault: string) => void} logRuns Logs runs. `fault` is the reason why the session could not be saved, or ""
- *   if it was saved.
- * @property {(words: string) => void} showSaveError Shows the reason why the session is not saved; "" hides the reason.
+ * @property {(runs: RunEntry[], saveError: string) => void} logRuns Logs runs. `saveError` is the reason why the session could not be
+ *   saved, or "" if it was saved.
+ * @property {(message: string) => void} showSaveError Shows the reason why the session is not saved; "" hides the reason.
  * @property {(state: "example" | "saved" | "failed") => void} showSaveState Shows in the status line whether the session is saved.
  */
 
@@ -98,7 +98,7 @@ export class CurrentSession {
   async showElements() {
     const isFirst = block("bench").hidden;
     document.body.classList.toggle("settling", isFirst);
-    for (const part of SESSION_ELEMENT_IDS) block(part).hidden = false;
+    for (const id of SESSION_ELEMENT_IDS) block(id).hidden = false;
     await this.calls.checkSource();
     document.body.classList.remove("settling");
   }
@@ -106,7 +106,7 @@ export class CurrentSession {
   /** Restores the history from before a page reload, so that the user can go back beyond the reload. */
   async restoreHistory() {
     const { bench, storedHistory } = this;
-    const segments = storedHistory.storedSegments();
+    const segments = storedHistory.takeStoredSegments();
     const count = segments.length > 0 ? await bench.call("recall", [segments]).catch(() => -1) : -1;
     if (count >= 0) storedHistory.continueFrom(segments, count);
   }
@@ -204,11 +204,11 @@ export class CurrentSession {
     const { calls } = this;
     this.lastSaveTime = performance.now();
     const runs = calls.takeRuns();
-    const fault = await this.session.save();
-    calls.logRuns(runs, fault);
-    calls.showSaveError(fault && say.notKept(fault));
-    calls.showSaveState(fault || !this.store.isPersistent ? "failed" : this.session.isUntouched ? "example" : "saved");
-    return fault;
+    const saveError = await this.session.save();
+    calls.logRuns(runs, saveError);
+    calls.showSaveError(saveError && say.notKept(saveError));
+    calls.showSaveState(saveError || !this.store.isPersistent ? "failed" : this.session.isUntouched ? "example" : "saved");
+    return saveError;
   }
 
   /** Saves the session when the user leaves the page. */

@@ -8,10 +8,10 @@ const URL_LIFETIME_MS = 10000;
 /**
  * @param {string} name
  * @param {string} extension the file extension
- * @param {Blob} bytes
+ * @param {Blob} blob
  */
-export function download(name, extension, bytes) {
-  const link = element("a", { href: URL.createObjectURL(bytes) });
+export function download(name, extension, blob) {
+  const link = element("a", { href: URL.createObjectURL(blob) });
   link.download = `${name.replace(/[^\w .,()-]/g, "_").trim() || "session"}${extension}`;
   link.click();
   setTimeout(() => URL.revokeObjectURL(link.href), URL_LIFETIME_MS);

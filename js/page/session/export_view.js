@@ -25,16 +25,16 @@ export class ExportView {
   constructor(calls) {
     this.calls = calls;
     this.status = element("p", { className: "status-text", role: "status" });
-    const close = element("button", { type: "button" }, say.CLOSE);
+    const closeButton = element("button", { type: "button" }, say.CLOSE);
     this.dialog = element("dialog", { "id": "export", "aria-labelledby": "export-title" },
-      element("div", { className: "bar" }, element("h2", { id: "export-title" }, say.EXPORT), close),
-      element("ul", { "aria-label": say.FILES }, ...this.files().map((file) => this.makeRow(file))), this.status);
+      element("div", { className: "bar" }, element("h2", { id: "export-title" }, say.EXPORT), closeButton),
+      element("ul", { "aria-label": say.FILES }, ...this.listFiles().map((file) => this.makeRow(file))), this.status);
     document.body.append(this.dialog);
-    onClick(close, () => this.dialog.close());
+    onClick(closeButton, () => this.dialog.close());
   }
 
   /** @returns {ExportedFile[]} */
-  files() {
+  listFiles() {
     const { calls } = this;
     return [
       { extension: ".asm", description: say.SOURCE_FILE, make: calls.program },
@@ -46,9 +46,9 @@ export class ExportView {
 
   /** @param {ExportedFile} file */
   makeRow(file) {
-    const save = element("button", { type: "button" }, say.saveAs(file.extension));
-    onClick(save, () => this.save(file).catch(this.calls.reportFailure));
-    return element("li", {}, save, element("span", { className: "grow" }, file.description));
+    const saveButton = element("button", { type: "button" }, say.saveAs(file.extension));
+    onClick(saveButton, () => this.save(file).catch(this.calls.reportFailure));
+    return element("li", {}, saveButton, element("span", { className: "grow" }, file.description));
   }
 
   open() {

@@ -13,7 +13,7 @@ const MAX_DEPTH = 6;
  * @param {DataTransfer | null} data
  * @returns {FileSystemDirectoryEntry[]}
  */
-export function droppedFolders(data) {
+export function getDroppedFolders(data) {
   const fileItems = (data ? [...data.items] : []).filter((item) => item.kind === "file" && item.webkitGetAsEntry);
   const entries = fileItems.map((item) => item.webkitGetAsEntry());
   return entries.flatMap((entry) => (entry && entry.isDirectory ? [/** @type {FileSystemDirectoryEntry} */ (entry)] : []));

@@ -11,9 +11,9 @@ import * as say from "../../words/session.js";
  * @typedef {import("../../core/engine/examples.js").Example} Example
  * @typedef {import("../../core/session/opened_file.js").FileTexts} FileTexts
  *
- * The contents of a project folder. `speed` is the speed that the project requests, or "". `words` is a message about the files that were
- * not read, or "".
- * @typedef {{ texts: Example, speed: string, words: string }} FolderTexts
+ * The contents of a project folder. `speed` is the speed that the project requests, or "". `message` is a message about the files that
+ * were not read, or "".
+ * @typedef {{ texts: Example, speed: string, message: string }} FolderTexts
  */
 
 /**
@@ -43,10 +43,10 @@ async function readText(files, path, kind) {
 /**
  * Returns a message about the files that were not read, or "" if all were read. A session has only one text of each kind, so the other
  * files of that kind are omitted.
- * @param {string[][]} lists the paths of the project's test files, and of its property files
+ * @param {string[][]} pathLists the paths of the project's test files, and of its property files
  */
-function omittedMessage(lists) {
-  const omittedPaths = lists.flatMap((paths) => paths.slice(1));
+function describeOmittedFiles(pathLists) {
+  const omittedPaths = pathLists.flatMap((paths) => paths.slice(1));
   return omittedPaths.length === 0 ? "" : say.textsOmitted(omittedPaths.join(", "), omittedPaths.length === 1);
 }
 
@@ -71,5 +71,5 @@ export async function readFolderTexts({ name, files }) {
     lines: "",
     project: "",
   };
-  return { texts, speed, words: omittedMessage([tests, properties]) };
+  return { texts, speed, message: describeOmittedFiles([tests, properties]) };
 }

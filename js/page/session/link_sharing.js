@@ -24,7 +24,7 @@ import * as say from "../../words/session.js";
  * @typedef {object} LinkSharingCalls
  * @property {() => Texts | null} currentTexts Returns the name and the texts of the current session, or null if there is none.
  * @property {() => void} showSessionAddress Puts the address of the current session into the address bar.
- * @property {(texts: Texts, file: Uint8Array, runs: boolean) => Promise<boolean>} begin Begins a new session from texts and a file. If
+ * @property {(texts: Texts, file: Uint8Array, runs: boolean) => Promise<boolean>} begin Opens a new session from texts and a file. If
  *   `runs` is true, time runs in the session. Resolves to true if the session was created.
  * @property {() => void} save Saves the project as a file. Called if the link would be too long.
  */
@@ -44,14 +44,14 @@ export class LinkSharing {
    * @param {Bench} bench
    * @param {ConfirmDialog} confirmDialog
    * @param {Notice} notice
-   * @param {ErrorMessages} words
+   * @param {ErrorMessages} errorMessages
    * @param {LinkSharingCalls} calls
    */
-  constructor(bench, confirmDialog, notice, words, calls) {
+  constructor(bench, confirmDialog, notice, errorMessages, calls) {
     this.bench = bench;
     this.confirmDialog = confirmDialog;
     this.notice = notice;
-    this.words = words;
+    this.errorMessages = errorMessages;
     this.calls = calls;
   }
 
@@ -84,9 +84,9 @@ export class LinkSharing {
   async offerFile(size) {
     const isSaved = await this.confirmDialog.ask({
       title: say.TOO_LONG_LINK,
-      words: [say.longLink(size, MAX_LINK_LENGTH.toLocaleString("en"))],
-      accept: say.SAVE_PROJECT,
-      refuse: say.LEAVE_IT,
+      paragraphs: [say.longLink(size, MAX_LINK_LENGTH.toLocaleString("en"))],
+      acceptLabel: say.SAVE_PROJECT,
+      refuseLabel: say.LEAVE_IT,
     });
     if (isSaved) this.calls.save();
   }
@@ -97,16 +97,16 @@ export class LinkSharing {
    * @param {string[]} messages
    */
   async showLink(address, messages) {
-    const area = element("textarea", { id: "link", rows: 4, readOnly: true, value: address, autofocus: true });
-    area.setAttribute("aria-label", say.THE_LINK);
+    const textArea = element("textarea", { id: "link", rows: 4, readOnly: true, value: address, autofocus: true });
+    textArea.setAttribute("aria-label", say.THE_LINK);
     const answer = this.confirmDialog.ask({
       title: say.COPY_LINK,
-      words: [say.COPY_MANUALLY, area, ...messages],
-      accept: "",
-      refuse: say.CLOSE,
+      paragraphs: [say.COPY_MANUALLY, textArea, ...messages],
+      acceptLabel: "",
+      refuseLabel: say.CLOSE,
     });
-    area.focus();
-    area.select();
+    textArea.focus();
+    textArea.select();
     await answer;
   }
 
@@ -120,13 +120,13 @@ export class LinkSharing {
       const result = await this.bench.call("dryRun", [texts]);
       const isWanted = await this.confirmDialog.ask({
         title: say.openFromLink(texts.name),
-        words: this.describeLink(texts, result),
-        accept: say.OPEN_AS_NEW,
-        refuse: say.LEAVE_IT,
+        paragraphs: this.describeLink(texts, result),
+        acceptLabel: say.OPEN_AS_NEW,
+        refuseLabel: say.LEAVE_IT,
       });
       if (isWanted) await this.calls.begin(texts, result.file, result.refused.length === 0 && texts.programText !== "");
     } catch (fault) {
-      this.notice.show(say.linkNotOpened(this.words.errorMessage(fault)), "session");
+      this.notice.show(say.linkNotOpened(this.errorMessages.errorMessage(fault)), "session");
     } finally {
       this.calls.showSessionAddress();
     }
@@ -140,7 +140,7 @@ export class LinkSharing {
     const title = shortName(sessionTitle(boardText, programText));
     const lines = refused.map(({ word, answer }) => {
       const refusal = parseRefusal(answer);
-      const reason = refusal ? `${answer}: ${this.words.refusalMeaning(refusal.number)}` : answer;
+      const reason = refusal ? `${answer}: ${this.errorMessages.refusalMeaning(refusal.number)}` : answer;
       return say.benchRefusesText(word === "wire", reason);
     });
     return [

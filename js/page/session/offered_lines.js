@@ -10,14 +10,14 @@ export class OfferedLines {
   /** @param {Notice} notice */
   constructor(notice) {
     this.notice = notice;
-    this.area = byId("lines", HTMLTextAreaElement);
+    this.textArea = byId("lines", HTMLTextAreaElement);
     /** The lines that this class last put into the input. */
     this.lastOfferedText = "";
   }
 
   /** @param {string} lines the lines to put into the input; "" for a session without lines */
   offer(lines) {
-    const userText = this.area.value;
+    const userText = this.textArea.value;
     const hasUserText = userText.trim() !== "" && userText !== this.lastOfferedText;
     this.lastOfferedText = lines;
     if (hasUserText && lines === "") return;
@@ -29,7 +29,7 @@ export class OfferedLines {
 
   /** @param {string} lines */
   setLines(lines) {
-    this.area.value = lines;
-    this.area.dispatchEvent(new Event("input"));
+    this.textArea.value = lines;
+    this.textArea.dispatchEvent(new Event("input"));
   }
 }

@@ -16,14 +16,14 @@ export class Persistence {
   /** @param {StorageManagerLike | null} storageManager */
   constructor(storageManager = browserStorageManager()) {
     this.storageManager = storageManager;
-    this.isAsked = false;
+    this.hasAsked = false;
     /** True if the browser has promised not to delete the page's data. */
     this.isPromised = false;
   }
 
   async ask() {
-    if (this.isAsked || !this.storageManager) return;
-    this.isAsked = true;
+    if (this.hasAsked || !this.storageManager) return;
+    this.hasAsked = true;
     try {
       this.isPromised = await this.storageManager.persist();
     } catch {

@@ -2,7 +2,7 @@
 // be restored.
 
 import { block, button, element, field } from "../ui/dom.js";
-import { boardPicture } from "./gallery_view.js";
+import { drawBoardPicture } from "./gallery_view.js";
 import * as say from "../../words/session.js";
 
 /**
@@ -19,9 +19,9 @@ import * as say from "../../words/session.js";
  * @property {(records: SessionRecord[]) => Promise<void>} remove Deletes sessions. Deleted sessions can be restored.
  * @property {() => SessionRecord[]} deleted Returns the sessions that can be restored.
  * @property {(records: SessionRecord[]) => Promise<void>} restoreSessions Restores deleted sessions.
- * @property {(act: () => Promise<boolean>) => void} runAndClose Executes `act`. Closes the dialog unless `act` resolves to false.
- * @property {(word: string, label: string, act: () => void) => HTMLButtonElement} button Returns a button with a visible word, a label for
- *   screen readers, and its action.
+ * @property {(action: () => Promise<boolean>) => void} runAndClose Executes `action`. Closes the dialog unless `action` resolves to false.
+ * @property {(word: string, label: string, action: () => void) => HTMLButtonElement} makeButton Returns a button with a visible word, a
+ *   label for screen readers, and an action.
  */
 
 export class SessionList {
@@ -57,9 +57,9 @@ export class SessionList {
   }
 
   showSelection() {
-    const remove = button("delete-chosen");
-    remove.disabled = this.selectedIds.size === 0;
-    remove.textContent = this.selectedIds.size === 0 ? say.DELETE_CHOSEN : say.deleteSome(this.selectedIds.size);
+    const deleteButton = button("delete-chosen");
+    deleteButton.disabled = this.selectedIds.size === 0;
+    deleteButton.textContent = this.selectedIds.size === 0 ? say.DELETE_CHOSEN : say.deleteSome(this.selectedIds.size);
     field("choose-all").checked = this.selectedIds.size > 0 && this.selectedIds.size === this.removableSessions.length;
   }
 
@@ -74,13 +74,14 @@ export class SessionList {
     const isCurrent = this.calls.isShown(record.id);
     const { name, id } = record;
     const word = isCurrent ? say.SHOWN : say.OPEN;
-    const open = this.calls.button(word, say.openNamed(name), () => this.calls.runAndClose(() => this.calls.open(id)));
-    open.disabled = isCurrent;
-    const copy = this.calls.button(say.COPY, say.copyNamed(name), () => this.calls.runAndClose(() => this.calls.copy(id)));
-    const remove = this.calls.button(say.DELETE, say.deleteNamed(name), () => this.remove([record]));
-    remove.disabled = isCurrent;
+    const openButton = this.calls.makeButton(word, say.openNamed(name), () => this.calls.runAndClose(() => this.calls.open(id)));
+    openButton.disabled = isCurrent;
+    const copyButton = this.calls.makeButton(say.COPY, say.copyNamed(name), () => this.calls.runAndClose(() => this.calls.copy(id)));
+    const deleteButton = this.calls.makeButton(say.DELETE, say.deleteNamed(name), () => this.remove([record]));
+    deleteButton.disabled = isCurrent;
     const checkBox = this.makeCheckBox(record, isCurrent);
-    return element("li", {}, checkBox, boardPicture(record.boardText), sessionDescription(record), open, copy, remove);
+    const description = makeSessionDescription(record);
+    return element("li", {}, checkBox, drawBoardPicture(record.boardText), description, openButton, copyButton, deleteButton);
   }
 
   /**
@@ -100,11 +101,11 @@ export class SessionList {
 
   /** @param {SessionRecord} record */
   makeDeletedEntry(record) {
-    const restoreButton = this.calls.button(say.RESTORE, say.restoreNamed(record.name), async () => {
+    const restoreButton = this.calls.makeButton(say.RESTORE, say.restoreNamed(record.name), async () => {
       await this.calls.restoreSessions([record]);
       this.focusEntry(0);
     });
-    return element("li", {}, boardPicture(record.boardText), sessionDescription(record), restoreButton);
+    return element("li", {}, drawBoardPicture(record.boardText), makeSessionDescription(record), restoreButton);
   }
 
   removeSelected() {
@@ -123,9 +124,9 @@ export class SessionList {
 
   /** @param {number} index */
   focusEntry(index) {
-    const line = this.listBlock.children[Math.min(index, this.listBlock.children.length - 1)];
-    const next = line && line.querySelector("button:not(:disabled)");
-    if (next instanceof HTMLElement) next.focus();
+    const entry = this.listBlock.children[Math.min(index, this.listBlock.children.length - 1)];
+    const firstButton = entry && entry.querySelector("button:not(:disabled)");
+    if (firstButton instanceof HTMLElement) firstButton.focus();
     else button("close-sessions").focus();
   }
 }
@@ -134,7 +135,7 @@ export class SessionList {
  * Returns an element with a session's name, the time of its last change, and its cycle count.
  * @param {SessionRecord} record
  */
-function sessionDescription({ name, changed, cycles }) {
+function makeSessionDescription({ name, changed, cycles }) {
   const changeTime = new Date(changed).toLocaleString([], { dateStyle: "medium", timeStyle: "short" });
   const cycleText = cycles && cycles.total > 0 ? say.withCycles(cycles.total.toLocaleString("en")) : "";
   return element("span", { className: "grow" }, name, element("small", {}, `${changeTime}${cycleText}`));

@@ -28,9 +28,9 @@ import * as say from "../../words/session.js";
  * @typedef {object} ManagerCalls
  * @property {() => OpenSession | null} session Returns the current session, or null if there is none.
  * @property {() => Promise<string>} save Saves the session. Resolves to the reason why it could not be saved, or to "".
- * @property {(words: string, ...actions: NoticeAction[]) => void} refuse Shows a message that says why an action was not executed, with
+ * @property {(message: string, ...actions: NoticeAction[]) => void} refuse Shows a message that says why an action was not executed, with
  *   buttons for alternative actions.
- * @property {(id: string) => void} setSpeed Sets the speed that a project requests, by its id.
+ * @property {(id: string) => void} setSpeed Sets the speed that a project requests. `id` is the speed's id.
  * @property {(record: SessionRecord) => void} offerReturn Reports a session that the user has left for a new session, and offers to
  *   reopen it.
  * @property {(name: string, texts: import("../../core/session/opened_file.js").FileTexts) => Promise<void>} loadTexts Loads the texts of a
@@ -46,14 +46,14 @@ export class SessionManager {
    * @param {Bench} bench
    * @param {SessionStore} store
    * @param {Locks} locks
-   * @param {ErrorMessages} words
+   * @param {ErrorMessages} errorMessages
    * @param {ManagerCalls} calls
    */
-  constructor(bench, store, locks, words, calls) {
+  constructor(bench, store, locks, errorMessages, calls) {
     this.bench = bench;
     this.store = store;
     this.locks = locks;
-    this.words = words;
+    this.errorMessages = errorMessages;
     this.calls = calls;
     this.unsavedTexts = new UnsavedTexts();
   }
@@ -78,17 +78,17 @@ export class SessionManager {
 
   /**
    * Shows a message that says why an action was not executed. Returns false.
-   * @param {string} words
+   * @param {string} message
    * @param {NoticeAction[]} actions buttons for alternative actions
    * @returns {false}
    */
-  rejectAction(words, ...actions) {
-    this.calls.refuse(words, ...actions);
+  rejectAction(message, ...actions) {
+    this.calls.refuse(message, ...actions);
     return false;
   }
 
   /**
-   * Opens a saved session. If the session is open in another tab, deleted or damaged, reports that and resolves to false.
+   * Opens a saved session. If the session is open in another tab, deleted or damaged, reports the reason and resolves to false.
    * @param {string} id
    */
   async open(id) {
@@ -99,7 +99,7 @@ export class SessionManager {
       return true;
     } catch (fault) {
       release();
-      return this.rejectAction(say.notOpened(this.words.errorMessage(fault)));
+      return this.rejectAction(say.notOpened(this.errorMessages.errorMessage(fault)));
     }
   }
 
@@ -116,20 +116,22 @@ export class SessionManager {
       if (previousSession && !previousSession.isUntouched) this.calls.offerReturn(previousSession.record);
       return true;
     } catch (fault) {
-      return this.rejectAction(say.notMade(this.words.errorMessage(fault)));
+      return this.rejectAction(say.notMade(this.errorMessages.errorMessage(fault)));
     }
   }
 
   /**
-   * Begins a new session from an example.
+   * Opens a new session from an example.
    * @param {Example} example
    */
   begin(example) {
-    return this.openNew(() => (example.project === "" ? this.exampleRecord(example) : this.exampleProjectRecord(example)), example.name);
+    const makeRecord = () => (example.project === "" ? this.makeExampleRecord(example) : this.makeExampleProjectRecord(example));
+    return this.openNew(makeRecord, example.name);
+
   }
 
   /** @param {Example} example */
-  async exampleRecord(example) {
+  async makeExampleRecord(example) {
     const { board, program, tests, properties } = example;
     const texts = { boardText: board, programText: program, testText: tests, propertiesText: properties };
     const record = newRecord(example.name, await this.bench.call("make", [example]), texts, startsRunning(example));
@@ -140,8 +142,8 @@ export class SessionManager {
    * Resolves to a new record for an example that is a project, with the example's properties.
    * @param {Example} example
    */
-  async exampleProjectRecord({ project, properties }) {
-    return { ...(await this.projectRecord(new TextEncoder().encode(project))), propertiesText: properties };
+  async makeExampleProjectRecord({ project, properties }) {
+    return { ...(await this.makeProjectRecord(new TextEncoder().encode(project))), propertiesText: properties };
   }
 
   /** @param {string} id */
@@ -167,11 +169,11 @@ export class SessionManager {
       else if (contents.kind === "image") await this.calls.loadImage(file.name, contents.bytes);
       else {
         const isProject = contents.kind === "project";
-        return await this.openSession(await (isProject ? this.projectRecord(bytes) : this.sessionFileRecord(file.name, bytes)));
+        return await this.openSession(await (isProject ? this.makeProjectRecord(bytes) : this.makeSessionFileRecord(file.name, bytes)));
       }
       return true;
     } catch (fault) {
-      return this.rejectAction(say.fileNotOpened(file.name, this.words.errorMessage(fault)));
+      return this.rejectAction(say.fileNotOpened(file.name, this.errorMessages.errorMessage(fault)));
     }
   }
 
@@ -184,13 +186,13 @@ export class SessionManager {
     try {
       const folder = await read();
       name = folder.name || name;
-      const { texts, speed, words } = await readFolderTexts(folder);
-      const hasOpened = await this.openSession(await this.exampleRecord(texts));
+      const { texts, speed, message } = await readFolderTexts(folder);
+      const hasOpened = await this.openSession(await this.makeExampleRecord(texts));
       if (hasOpened && speed) this.calls.setSpeed(speed);
-      if (hasOpened && words) this.calls.refuse(words);
+      if (hasOpened && message) this.calls.refuse(message);
       return hasOpened;
     } catch (fault) {
-      return this.rejectAction(say.fileNotOpened(name, this.words.errorMessage(fault)));
+      return this.rejectAction(say.fileNotOpened(name, this.errorMessages.errorMessage(fault)));
     }
   }
 
@@ -203,7 +205,7 @@ export class SessionManager {
    * Resolves to a new record for a project file. The record contains the bytes of the project's session unchanged.
    * @param {Uint8Array} bytes
    */
-  async projectRecord(bytes) {
+  async makeProjectRecord(bytes) {
     const project = readProject(bytes, this.bench.size);
     await this.bench.call("settled", [project.file]);
     return newRecord(project.name || "session", project.file, project);
@@ -214,7 +216,7 @@ export class SessionManager {
    * @param {string} fileName
    * @param {Uint8Array} bytes
    */
-  async sessionFileRecord(fileName, bytes) {
+  async makeSessionFileRecord(fileName, bytes) {
     // The bench needs only one byte more than the size of a session file to detect a file that is too long.
     const settledBytes = await this.bench.call("settled", [bytes.slice(0, this.bench.size + 1)]);
     const texts = await this.bench.call("texts", [settledBytes]);

@@ -17,7 +17,7 @@ import * as say from "../../words/session.js";
  * @typedef {import("./locks.js").Release} Release
  * @typedef {import("./store.js").SessionRecord} SessionRecord
  * @typedef {{ bench: import("../../core/bench/bench_client.js").Bench, store: import("./store.js").SessionStore,
- *   locks: import("./locks.js").Locks, words: import("../../core/bench/error_messages.js").ErrorMessages,
+ *   locks: import("./locks.js").Locks, errorMessages: import("../../core/bench/error_messages.js").ErrorMessages,
  *   notice: import("../ui/notice.js").Notice, examples: Example[] }} SessionServices
  */
 
@@ -27,7 +27,7 @@ import * as say from "../../words/session.js";
  * @property {() => OpenSession | null} session Returns the current session, or null if there is none.
  * @property {() => Promise<string>} save Saves the session. Resolves to the reason why it could not be saved, or to "".
  * @property {(name: string) => void} rename Renames the current session.
- * @property {(id: string) => void} setSpeed Sets the speed that a project requests, by its id.
+ * @property {(id: string) => void} setSpeed Sets the speed that a project requests. `id` is the speed's id.
  * @property {(name: string, texts: import("../../core/session/opened_file.js").FileTexts) => Promise<void>} loadTexts Loads the texts of a
  *   file into the editors.
  * @property {(name: string, bytes: Int16Array) => Promise<void>} loadImage Loads the bytes of a file into ROM; -1 leaves a byte unchanged.
@@ -42,31 +42,31 @@ export class SessionsController {
    * @param {SessionServices} services
    * @param {ControllerCalls} calls
    */
-  constructor({ bench, store, locks, words, notice, examples }, calls) {
+  constructor({ bench, store, locks, errorMessages, notice, examples }, calls) {
     this.calls = calls;
     this.store = store;
     this.locks = locks;
     this.notice = notice;
     this.examples = examples;
     /** @type {(example: Example) => void} shows the story of an example */
-    this.showExample = () => {};
+    this.showStory = () => {};
     /** Called after another session has been opened. */
     this.onSessionOpened = () => {};
     this.persistence = new Persistence();
-    this.openings = new OpeningGuard();
-    this.openings.listen(window);
-    this.lines = new OfferedLines(notice);
-    /** @type {(words: string, ...actions: import("../ui/notice.js").NoticeAction[]) => void} */
+    this.openingGuard = new OpeningGuard();
+    this.openingGuard.listen(window);
+    this.offeredLines = new OfferedLines(notice);
+    /** @type {(message: string, ...actions: import("../ui/notice.js").NoticeAction[]) => void} */
     const refuse = (message, ...actions) => notice.show(message, "session", ...actions);
-    this.manager = new SessionManager(bench, store, locks, words, {
+    this.manager = new SessionManager(bench, store, locks, errorMessages, {
       ...calls,
       refuse,
       offerReturn: (record) => this.offerReturn(record),
       useSession: async (record, release, example) => {
-        await this.openings.runOpening(record.id, () => calls.useSession(record, release, example));
+        await this.openingGuard.runOpening(record.id, () => calls.useSession(record, release, example));
         notice.hide("left");
         this.onSessionOpened();
-        this.lines.offer("");
+        this.offeredLines.offer("");
       },
     });
     this.trash = new Trash(store, locks, refuse);
@@ -85,9 +85,9 @@ export class SessionsController {
       restoreSessions: (records) => trash.restoreSessions(records),
       begin: (example) => this.begin(example),
       beginStory: async (example) => {
-        const hasBegun = await this.begin(example);
-        if (hasBegun) this.showExample(example);
-        return hasBegun;
+        const hasOpened = await this.begin(example);
+        if (hasOpened) this.showStory(example);
+        return hasOpened;
       },
       openFile: (file) => manager.openFile(file),
       openFolder: (read) => manager.openFolder(read),
@@ -129,13 +129,13 @@ export class SessionsController {
   }
 
   /**
-   * Begins a new session from an example. The example's lines appear in the console's input.
+   * Opens a new session from an example. The example's lines appear in the console's input.
    * @param {Example} example
    */
   async begin(example) {
-    const hasBegun = await this.manager.begin(example);
-    if (!hasBegun) return false;
-    this.lines.offer(example.lines);
+    const hasOpened = await this.manager.begin(example);
+    if (!hasOpened) return false;
+    this.offeredLines.offer(example.lines);
     if (example.lines !== "" && example.board === "") this.calls.showLines();
     return true;
   }
@@ -155,7 +155,7 @@ export class SessionsController {
   async remove(records) {
     const deletedRecords = await this.trash.remove(records);
     if (deletedRecords.length === 0) return;
-    for (const { id } of deletedRecords) this.openings.forget(id);
+    for (const { id } of deletedRecords) this.openingGuard.forget(id);
     this.notice.show(say.sessionsDeleted(formatNames(deletedRecords)), "undo",
       { word: say.UNDO, act: () => this.restoreSessions(deletedRecords) });
   }
@@ -176,7 +176,7 @@ export class SessionsController {
     const address = readAddress(hash);
     const isStory = address.kind === "" && this.examples.some((example) => example.name === story && example.story);
     const { kind, value } = isStory ? { kind: "example", value: story } : address;
-    const isQuiet = kind === "" || kind === "link" || (kind === "session" && this.openings.hasUnfinishedOpening(value));
+    const isQuiet = kind === "" || kind === "link" || (kind === "session" && this.openingGuard.hasUnfinishedOpening(value));
     if (isQuiet || !(await this.openFromAddress(kind, value))) await this.openLast(isQuiet);
     if (kind === "link") await this.calls.openLink(value);
     if (kind === "") this.reportUnknownAddress(hash);
@@ -199,9 +199,9 @@ export class SessionsController {
   /** @param {boolean} isQuiet true to skip, without a notice, sessions that are open in other tabs */
   async openLast(isQuiet) {
     const records = await this.manager.savedSessions();
-    const unendedRecords = records.filter(({ id }) => this.openings.hasUnfinishedOpening(id));
-    for (const record of unendedRecords) await this.reportUnfinishedOpening(record);
-    for (const record of records.filter((candidate) => !unendedRecords.includes(candidate))) {
+    const unfinishedRecords = records.filter(({ id }) => this.openingGuard.hasUnfinishedOpening(id));
+    for (const record of unfinishedRecords) await this.reportUnfinishedOpening(record);
+    for (const record of records.filter((candidate) => !unfinishedRecords.includes(candidate))) {
       if (await this.open(record.id)) return;
       if (isQuiet) this.notice.hide("session");
     }
@@ -218,8 +218,9 @@ export class SessionsController {
     if (!release) return;
     release();
     const message = say.notOpenedAutomatically(shortName(record.name));
-    const remove = () => this.remove([record]);
-    this.notice.show(message, "unended", { word: say.OPEN_IT, act: () => this.open(record.id) }, { word: say.DELETE_IT, act: remove });
+    const openAction = { word: say.OPEN_IT, act: () => this.open(record.id) };
+    const deleteAction = { word: say.DELETE_IT, act: () => this.remove([record]) };
+    this.notice.show(message, "unended", openAction, deleteAction);
   }
 
   /** Opens the target of a changed address, unless it is already open. */

@@ -1,8 +1,8 @@
 // The sessions dialog: the saved sessions, the examples, the deleted sessions, the button that opens a file, and the session's name field.
 
-import { boardPicture } from "./gallery_view.js";
+import { drawBoardPicture } from "./gallery_view.js";
 import { block, button, byId, element, field, onClick } from "../ui/dom.js";
-import { folderFromFiles, droppedFolders, readFolder } from "./folder_files.js";
+import { folderFromFiles, getDroppedFolders, readFolder } from "./folder_files.js";
 import { SessionList } from "./session_list.js";
 import { ORDER, TO_DO, exampleWords } from "../../words/example_notes.js";
 import * as say from "../../words/session.js";
@@ -14,17 +14,17 @@ import * as say from "../../words/session.js";
  */
 
 /**
- * The callbacks of the sessions dialog. A callback that opens something resolves to false after a failure.
+ * The callbacks of the sessions dialog. The callbacks that open a session or a file resolve to false after a failure.
  * @typedef {object} SessionsCalls
  * @property {() => Promise<SessionRecord[]>} savedSessions Resolves to the saved sessions.
- * @property {(id: string) => boolean} isShown Returns true if a session, by its id, is the current session.
- * @property {(id: string) => Promise<boolean>} open Opens a session by its id.
- * @property {(id: string) => Promise<boolean>} copy Copies a session, by its id, and opens the copy.
+ * @property {(id: string) => boolean} isShown Returns true if the session with this id is the current session.
+ * @property {(id: string) => Promise<boolean>} open Opens the session with this id.
+ * @property {(id: string) => Promise<boolean>} copy Copies the session with this id, and opens the copy.
  * @property {(records: SessionRecord[]) => Promise<void>} remove Deletes sessions. Deleted sessions can be restored.
  * @property {() => SessionRecord[]} deleted Returns the sessions that can be restored.
  * @property {(records: SessionRecord[]) => Promise<void>} restoreSessions Restores deleted sessions.
- * @property {(example: Example) => Promise<boolean>} begin Begins a new session from an example.
- * @property {(example: Example) => Promise<boolean>} beginStory Begins a new session from an example, and shows the example's story.
+ * @property {(example: Example) => Promise<boolean>} begin Opens a new session from an example.
+ * @property {(example: Example) => Promise<boolean>} beginStory Opens a new session from an example, and shows the example's story.
  * @property {(file: File) => Promise<boolean>} openFile Opens a file: a project, a session or a text.
  * @property {(read: () => Promise<import("./folder_files.js").Folder>) => Promise<boolean>} openFolder Opens the project in the folder that
  *   `read` reads.
@@ -56,14 +56,14 @@ export class SessionsView {
     this.calls = calls;
     this.notice = notice;
     this.dialog = byId("sessions", HTMLDialogElement);
-    /** True if the user pressed the last button in the dialog with the pointer, not with a key. */
-    this.isByPointer = false;
+    /** True if the user last pressed a button of the dialog with the pointer, not with a key. */
+    this.usedPointer = false;
     this.sessionList = new SessionList({
       ...calls,
       runAndClose: (action) => this.runAndClose(action),
       remove: (records) => this.changeAndDraw(() => calls.remove(records)),
       restoreSessions: (records) => this.changeAndDraw(() => calls.restoreSessions(records)),
-      button: (word, label, action) => this.button(word, label, action),
+      makeButton: (word, label, action) => this.makeButton(word, label, action),
     });
     onClick(button("first-example"), () => this.openExamples());
     onClick(button("close-sessions"), () => this.close());
@@ -98,7 +98,7 @@ export class SessionsView {
     this.notice.moveTo(document.body);
     // The browser returns the focus to the button that opened the dialog. After a click with the pointer, remove the focus from that
     // button, so that the board receives the keys.
-    if (this.isByPointer && document.activeElement instanceof HTMLElement) document.activeElement.blur();
+    if (this.usedPointer && document.activeElement instanceof HTMLElement) document.activeElement.blur();
   }
 
   async draw() {
@@ -124,14 +124,14 @@ export class SessionsView {
 
   /** @param {Example} example */
   makeExampleEntry(example) {
-    const open = this.button(example.name, say.newSession(example.name), () => this.runAndClose(() => this.calls.begin(example)));
-    open.prepend(boardPicture(example.board));
+    const openButton = this.makeButton(example.name, say.newSession(example.name), () => this.runAndClose(() => this.calls.begin(example)));
+    openButton.prepend(drawBoardPicture(example.board));
     const hint = Object.entries(TO_DO).find(([name]) => name === example.name);
     const title = element("span", { className: "grow" }, hint ? exampleWords(example.title, hint[1]) : example.title);
-    if (!example.story) return element("li", {}, open, title);
+    if (!example.story) return element("li", {}, openButton, title);
     const description = say.newStory(example.name);
-    const story = this.button(say.WITH_STORY, description, () => this.runAndClose(() => this.calls.beginStory(example)));
-    return element("li", {}, open, title, story);
+    const storyButton = this.makeButton(say.WITH_STORY, description, () => this.runAndClose(() => this.calls.beginStory(example)));
+    return element("li", {}, openButton, title, storyButton);
   }
 
   /**
@@ -139,11 +139,11 @@ export class SessionsView {
    * @param {string} label
    * @param {() => void} action
    */
-  button(word, label, action) {
+  makeButton(word, label, action) {
     const node = element("button", { type: "button" }, word);
     node.setAttribute("aria-label", label);
     node.addEventListener("click", (event) => {
-      this.isByPointer = event.detail > 0;
+      this.usedPointer = event.detail > 0;
       action();
     });
     return node;
@@ -187,7 +187,7 @@ export class SessionsView {
     addEventListener("drop", (event) => {
       if (!hasFiles(event)) return;
       event.preventDefault();
-      const folders = droppedFolders(event.dataTransfer);
+      const folders = getDroppedFolders(event.dataTransfer);
       if (folders.length > 0) this.openFolder(() => readFolder(folders[0]));
       else this.openAll(event.dataTransfer ? [...event.dataTransfer.files] : []);
     });

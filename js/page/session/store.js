@@ -48,7 +48,7 @@ export function withTimeout(answer) {
  * @param {IDBRequest<Result>} request
  * @returns {Promise<Result>}
  */
-function requestResult(request) {
+function toPromise(request) {
   return new Promise((resolve, reject) => {
     request.onsuccess = () => resolve(request.result);
     request.onerror = () => reject(request.error);
@@ -95,7 +95,7 @@ export class Store {
 
   /** @returns {Promise<SessionRecord[]>} */
   async all() {
-    return withTimeout(requestResult(this.sessions.getAll()));
+    return withTimeout(toPromise(this.sessions.getAll()));
   }
 
   /**
@@ -103,7 +103,7 @@ export class Store {
    * @returns {Promise<SessionRecord | undefined>}
    */
   async get(id) {
-    return withTimeout(requestResult(this.sessions.get(id)));
+    return withTimeout(toPromise(this.sessions.get(id)));
   }
 
   /**
@@ -131,20 +131,20 @@ export class Store {
   putChecked(record) {
     return new Promise((resolve, reject) => {
       /** @type {Error | null} */
-      let fault = null;
+      let revisionError = null;
       // The record's bytes may change before the answer arrives, so copy them.
       const nextRecord = { ...record, file: record.file.slice(), revision: record.revision + 1 };
       const finish = () => {
         record.revision = nextRecord.revision;
         resolve();
       };
-      const transaction = this.openTransaction(finish, (error) => reject(fault || error));
+      const transaction = this.openTransaction(finish, (error) => reject(revisionError || error));
       const request = transaction.objectStore("sessions").get(record.id);
       request.onsuccess = () => {
         if ((request.result ? request.result.revision : 0) === record.revision) {
           transaction.objectStore("sessions").put(nextRecord);
         } else {
-          fault = new StoreError(say.CHANGED_ELSEWHERE);
+          revisionError = new StoreError(say.CHANGED_ELSEWHERE);
           transaction.abort();
         }
       };

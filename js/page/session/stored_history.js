@@ -23,7 +23,7 @@ const MAX_REPORT_CYCLES = 16000000;
 const MAX_SEGMENTS = 2;
 
 /** Returns the tab's session storage, or null if the page cannot use it. */
-function tabStore() {
+function getTabStore() {
   try {
     return sessionStorage;
   } catch {
@@ -56,10 +56,10 @@ function parseSegment({ file, total, reset, entries }) {
 
 export class StoredHistory {
   /** @param {TabStore | null} store */
-  constructor(store = tabStore()) {
+  constructor(store = getTabStore()) {
     this.store = store;
     /** The id of the current session. */
-    this.session = "";
+    this.sessionId = "";
     /** @type {StoredSegment[]} */
     this.segments = [];
     /** The number of cycles in the last segment. */
@@ -68,9 +68,9 @@ export class StoredHistory {
     this.characters = 0;
   }
 
-  /** @param {string} session the id of the opened session */
-  begin(session) {
-    this.session = session;
+  /** @param {string} sessionId the id of the opened session */
+  begin(sessionId) {
+    this.sessionId = sessionId;
     this.segments = [];
   }
 
@@ -104,17 +104,17 @@ export class StoredHistory {
   /** Writes the history to the storage when the user leaves the page. */
   saveOnLeave() {
     const segments = this.segments.map(({ file, ...fields }) => ({ file: toBase64(file), ...fields }));
-    this.accessStore((store) => store.setItem(STORAGE_KEY, JSON.stringify({ session: this.session, segments })));
+    this.accessStore((store) => store.setItem(STORAGE_KEY, JSON.stringify({ session: this.sessionId, segments })));
   }
 
   /** Removes the session's history from the storage. Returns the history, or an empty list if the storage has none for this session. */
-  storedSegments() {
+  takeStoredSegments() {
     /** @type {StoredSegment[]} */
     let segments = [];
     this.accessStore((store) => {
       const stored = JSON.parse(store.getItem(STORAGE_KEY) || "{}");
       store.removeItem(STORAGE_KEY);
-      if (stored.session === this.session && Array.isArray(stored.segments)) segments = stored.segments.map(parseSegment);
+      if (stored.session === this.sessionId && Array.isArray(stored.segments)) segments = stored.segments.map(parseSegment);
     });
     return segments;
   }

@@ -7,8 +7,8 @@ import * as say from "../../words/session.js";
  * @typedef {import("../ui/confirm_dialog.js").ConfirmDialog} ConfirmDialog
  * @typedef {import("./open_session.js").OpenSession} OpenSession
  * @typedef {import("../ui/notice.js").Notice} Notice
- * @typedef {{ text: string, open: (session: string, text: string) => void, replaceText: (text: string) => void,
- *   undoOrRedo: (which: "undo" | "redo") => boolean }} TextEditor
+ * @typedef {{ text: string, open: (sessionId: string, text: string) => void, replaceText: (text: string) => void,
+ *   undoOrRedo: (direction: "undo" | "redo") => boolean }} TextEditor
  */
 
 /**
@@ -109,7 +109,7 @@ export class TextsController {
     const { program, isGuess } = texts;
     const isSuspicious = isGuess === true && program !== null && (await this.calls.isProbablyNotProgram(program));
     const title = say.replaceByProbableNonProgram(name);
-    const question = { title, words: [say.eachLineWrong(name)], accept: say.REPLACE_IT, refuse: say.LEAVE_AS_IS };
+    const question = { title, paragraphs: [say.eachLineWrong(name)], acceptLabel: say.REPLACE_IT, refuseLabel: say.LEAVE_AS_IS };
     if (isSuspicious && !(await this.confirmDialog.ask(question))) return;
     if (session && this.isShown(session)) this.loadTexts(name, texts);
   }
@@ -126,9 +126,10 @@ export class TextsController {
     const replacedTexts = board === null ? [] : this.putText("board", board);
     if (program !== null) replacedTexts.push(...this.putText("program", program));
     this.calls.handleLoadedTexts(board !== null ? "board" : "program", lines);
-    const [where, what] = board === null ? [say.SOURCE, say.ASSEMBLES] : [say.BOARD, say.WIRES];
-    const place = board !== null && program !== null ? say.BOARD_AND_SOURCE : where;
-    this.showReplaced(replacedTexts, say.textIsIn(name, place, what, place === where ? "" : say.THEN_ASSEMBLE));
+    const [firstText, buttonEffect] = board === null ? [say.SOURCE, say.ASSEMBLES] : [say.BOARD, say.WIRES];
+    const hasBoth = board !== null && program !== null;
+    const destination = hasBoth ? say.BOARD_AND_SOURCE : firstText;
+    this.showReplaced(replacedTexts, say.textIsIn(name, destination, buttonEffect, hasBoth ? say.THEN_ASSEMBLE : ""));
   }
 
   /**
@@ -146,12 +147,12 @@ export class TextsController {
   /**
    * Shows one notice about all texts of a file. The notice offers undo if a text was replaced.
    * @param {ReplacedText[]} replacedTexts
-   * @param {string} words
+   * @param {string} message
    */
-  showReplaced(replacedTexts, words) {
+  showReplaced(replacedTexts, message) {
     const session = this.calls.session();
-    if (session && replacedTexts.length > 0) this.offerUndo(session, replacedTexts, words);
-    else this.notice.show(words, "file");
+    if (session && replacedTexts.length > 0) this.offerUndo(session, replacedTexts, message);
+    else this.notice.show(message, "file");
   }
 
   async disassembleRom() {
@@ -177,9 +178,9 @@ export class TextsController {
   confirmReplacing(oldText, disassembly) {
     return this.confirmDialog.ask({
       title: say.REPLACE_SOURCE,
-      words: [say.sizesOfSources(formatLineCount(oldText), formatLineCount(disassembly))],
-      accept: say.REPLACE_IT,
-      refuse: say.LEAVE_AS_IS,
+      paragraphs: [say.sizesOfSources(formatLineCount(oldText), formatLineCount(disassembly))],
+      acceptLabel: say.REPLACE_IT,
+      refuseLabel: say.LEAVE_AS_IS,
     });
   }
 
@@ -193,12 +194,12 @@ export class TextsController {
    * Replaces a text. A notice offers to restore the previous text.
    * @param {TextName} name
    * @param {string} text
-   * @param {string} words the message of the notice
+   * @param {string} message the text of the notice
    */
-  replace(name, text, words) {
+  replace(name, text, message) {
     const session = this.calls.session();
     const replacedTexts = this.putText(name, text);
-    if (session && replacedTexts.length > 0) this.offerUndo(session, replacedTexts, words);
+    if (session && replacedTexts.length > 0) this.offerUndo(session, replacedTexts, message);
   }
 
   /**
@@ -232,27 +233,27 @@ export class TextsController {
   /**
    * @param {OpenSession} session
    * @param {ReplacedText[]} replacedTexts
-   * @param {string} words
+   * @param {string} message
    */
-  offerUndo(session, replacedTexts, words) {
-    this.notice.show(words, "undo", { word: say.UNDO, act: () => this.restoreTexts(session, replacedTexts, words) });
+  offerUndo(session, replacedTexts, message) {
+    this.notice.show(message, "undo", { word: say.UNDO, act: () => this.restoreTexts(session, replacedTexts, message) });
   }
 
   /**
-   * Restores texts. A notice offers to undo the restoration.
+   * Restores texts. Another notice offers to undo this restoration.
    * @param {OpenSession} session
    * @param {ReplacedText[]} replacedTexts
-   * @param {string} words
+   * @param {string} message the text of the notice that offered to restore the texts
    */
-  restoreTexts(session, replacedTexts, words) {
+  restoreTexts(session, replacedTexts, message) {
     if (!this.isShown(session)) {
-      this.offerUndo(session, replacedTexts, words);
+      this.offerUndo(session, replacedTexts, message);
       this.notice.show(say.inOtherSession(session.record.name), "refusal");
       return;
     }
-    const restored = replacedTexts.flatMap((text) => this.restoreText(text));
+    const undoEntries = replacedTexts.flatMap((text) => this.restoreText(text));
     const [{ name }] = replacedTexts;
-    const message = replacedTexts.length > 1 ? say.TEXTS_RESTORED : say.textRestored(say.WHICH_TEXT[name]);
-    if (restored.length > 0) this.offerUndo(session, restored, message);
+    const restoredMessage = replacedTexts.length > 1 ? say.TEXTS_RESTORED : say.textRestored(say.WHICH_TEXT[name]);
+    if (undoEntries.length > 0) this.offerUndo(session, undoEntries, restoredMessage);
   }
 }

@@ -19,7 +19,7 @@ export class Trash {
   /**
    * @param {SessionStore} store
    * @param {Locks} locks
-   * @param {(words: string) => void} refuse shows the reason why a session was not deleted or restored
+   * @param {(message: string) => void} refuse shows the reason why a session was not deleted or restored
    */
   constructor(store, locks, refuse) {
     this.store = store;

@@ -1,6 +1,6 @@
 // The dialog that a first-time visitor sees. Each of its six cards starts the tour, an example or a drawing.
 
-import { boardPicture } from "./gallery_view.js";
+import { drawBoardPicture } from "./gallery_view.js";
 import { makeButton, element } from "../ui/dom.js";
 import { icon } from "../ui/icons.js";
 import { TOUR_BOARD } from "../../words/help.js";
@@ -13,9 +13,9 @@ import * as say from "../../words/example_notes.js";
 /**
  * The callbacks of the welcome cards.
  * @typedef {object} WelcomeCalls
- * @property {() => void} beginTour Begins the tour with the first program.
- * @property {(name: string) => Promise<boolean>} begin Begins a new session from an example, by its name. Resolves to true if the session
- *   was created.
+ * @property {() => void} beginTour Starts the tour with the first program.
+ * @property {(name: string) => Promise<boolean>} begin Opens a new session from the example with this name. Resolves to true if the
+ *   session was created.
  * @property {() => void} showWiring Brings the Wiring tab to the front.
  * @property {() => void} storeSeen Stores the fact that the cards were shown.
  */
@@ -54,7 +54,7 @@ export class WelcomeView {
    */
   makeCard(name, { title, words, example: exampleName }, example) {
     const node = element("button", { type: "button", className: "card" });
-    const picture = name === "draw" ? icon("chip") : boardPicture(example ? example.board : TOUR_BOARD);
+    const picture = name === "draw" ? icon("chip") : drawBoardPicture(example ? example.board : TOUR_BOARD);
     node.append(picture, element("b", {}, title), element("span", {}, words));
     node.addEventListener("click", () => {
       this.dialog.close();

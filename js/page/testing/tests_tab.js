@@ -31,7 +31,7 @@ import * as say from "../../words/testing.js";
  *   margin; null removes the counts.
  * @property {(address: number) => void} goTo Shows an address in the source and in the disassembly.
  * @property {(name: string, file: Uint8Array, texts: TestedTexts) => void} open Opens a new session from a file, with the tested texts.
- * @property {(words: string, isGood?: boolean) => void} showMark Shows a short text on the tab; "" removes it. If `isGood`, the text
+ * @property {(label: string, isGood?: boolean) => void} showMark Shows a short text on the tab; "" removes it. If `isGood`, the text
  *   reports a success.
  * @property {() => void} handleEdit Handles an edit of the tests.
  * @property {(fault: unknown) => void} reportFailure Reports an error that a call threw.
@@ -46,14 +46,14 @@ export class TestsTab {
     this.calls = calls;
     this.textTab = new TextTab({
       name: "tests",
-      firstButton: "first-test",
+      insertButton: "first-test",
       firstText: () => calls.sample(calls.texts()),
       forms: testForms(manual),
-      wordsAt: helpForTest,
+      describeWord: helpForTest,
       complete: completeTest,
     }, calls, {
-      faults: () => calls.faults(this.texts),
-      showFaultCount: (count) => this.showMark(count),
+      findErrors: () => calls.faults(this.texts),
+      showErrorCount: (count) => this.showMark(count),
       send: () => this.run().catch(calls.reportFailure),
     });
     this.editor = this.textTab.editor;
@@ -129,7 +129,7 @@ export class TestsTab {
   show(report, texts) {
     if (report.faults.length > 0) {
       this.clear();
-      this.textTab.showFaults(report.faults);
+      this.textTab.showErrors(report.faults);
       this.editor.showMessage(textErrorsMessage(report.faults, this.calls.describeRefusal));
       return;
     }

@@ -1,6 +1,6 @@
 // The results of tests: a row for each test with its error, and the coverage and the cycle profile of the program.
 
-import { Cell, block, makeButton, descendant, element } from "../ui/dom.js";
+import { Cell, block, makeButton, findDescendant, element } from "../ui/dom.js";
 import { hex } from "../../core/bench/numbers.js";
 import { CYCLE_MS } from "../../core/time/mcs4_time.js";
 import { coverageMessage, testDuration } from "../../words/test_results.js";
@@ -59,14 +59,14 @@ export class TestsView {
     const head = element("p", {}, mark, " ",
       makeButton(name, () => this.calls.goTo(line), { className: "name", title: lineReference(line) }),
       element("span", { className: "time" }, ` ${testDuration(outcome)}`));
-    return element("li", {}, head, ...(failure ? this.failureNodes(outcome, failure) : []));
+    return element("li", {}, head, ...(failure ? this.makeFailureNodes(outcome, failure) : []));
   }
 
   /**
    * @param {Outcome} outcome
    * @param {Failure} failure
    */
-  failureNodes(outcome, { line, text, words, lamps, registers, trace, file }) {
+  makeFailureNodes(outcome, { line, text, words, lamps, registers, trace, file }) {
     const lineButton = makeButton(lineReference(line), () => this.calls.goTo(line));
     const paragraph = element("p", { className: "wrong" }, lineButton, ` ${text}: ${words}`);
     if (!file) return [paragraph];
@@ -79,20 +79,20 @@ export class TestsView {
 
   /** @param {Profile} profile */
   showProfile({ rows, total, earlierInstructionCycles, keys }) {
-    const cells = (/** @type {(string | Node)[]} */ ...texts) => element("tr", {}, ...texts.map((text) => element("td", {}, text)));
-    const percent = (/** @type {number} */ part) => ((100 * part) / total).toFixed(1);
+    const makeTableRow = (/** @type {(string | Node)[]} */ ...texts) => element("tr", {}, ...texts.map((text) => element("td", {}, text)));
+    const formatPercent = (/** @type {number} */ part) => ((100 * part) / total).toFixed(1);
     const tableRows = rows.map(({ label, address, own, calls }) => {
       const name = address < 0 ? say.NO_LABEL : makeButton(label, () => this.calls.goToAddress(address), { className: "name" });
       const callCells = calls ? [calls.times, calls.withCalls, calls.longest].map((count) => count.toLocaleString("en")) : ["", "", ""];
-      return cells(name, address < 0 ? "" : hex(address, 3), own.toLocaleString("en"), percent(own), ...callCells);
+      return makeTableRow(name, address < 0 ? "" : hex(address, 3), own.toLocaleString("en"), formatPercent(own), ...callCells);
     });
     if (earlierInstructionCycles > 0) {
       const count = earlierInstructionCycles.toLocaleString("en");
-      tableRows.push(cells(say.BEGUN_BEFORE, "", count, percent(earlierInstructionCycles), "", "", ""));
+      tableRows.push(makeTableRow(say.BEGUN_BEFORE, "", count, formatPercent(earlierInstructionCycles), "", "", ""));
     }
     this.labels.replaceChildren(...tableRows);
     this.keys.hidden = keys.length === 0;
-    descendant(this.keys, "tbody", HTMLElement).replaceChildren(...keys.map(({ key, presses, answered, first, last }) => (
-      cells(key, String(presses), String(answered), ...(answered > 0 ? [formatCycles(first), formatCycles(last)] : ["", ""])))));
+    findDescendant(this.keys, "tbody", HTMLElement).replaceChildren(...keys.map(({ key, presses, answered, first, last }) => (
+      makeTableRow(key, String(presses), String(answered), ...(answered > 0 ? [formatCycles(first), formatCycles(last)] : ["", ""])))));
   }
 }

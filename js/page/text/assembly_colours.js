@@ -12,6 +12,6 @@ const STYLES = {
  * @param {Set<string>} mnemonics the mnemonics of all instructions, in upper case
  * @returns {import("./line_colours.js").Colours}
  */
-export function assemblyColours(mnemonics) {
+export function makeAssemblyColours(mnemonics) {
   return (line) => tokenizeLine(line, (word) => mnemonics.has(word)).map(({ from, to, kind }) => ({ from, to, style: STYLES[kind] }));
 }

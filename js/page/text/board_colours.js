@@ -20,7 +20,7 @@ function findComment(line, from) {
  * @param {import("../../core/text/toml_words.js").TomlWord} word
  * @param {boolean} isKey
  */
-function tokenStyle({ kind, text }, isKey) {
+function styleOfToken({ kind, text }, isKey) {
   if (kind === "punctuation") return text === "[" || text === "]" ? "bracket" : "";
   if (isKey) return "property";
   if (kind === "string" || kind === "bad") return "string";
@@ -31,7 +31,7 @@ function tokenStyle({ kind, text }, isKey) {
  * @param {string} line
  * @returns {ColouredRange[]}
  */
-export function boardColours(line) {
+export function colourBoardLine(line) {
   const words = tomlWords([line]).filter(({ kind }) => kind !== "end");
   const lastWord = words[words.length - 1];
   const comment = findComment(line, lastWord ? lastWord.to : 0);
@@ -40,6 +40,6 @@ export function boardColours(line) {
   const equalsSign = words.find(({ kind, text }) => kind === "punctuation" && text === "=");
   /** @param {{ from: number }} word */
   const isKey = ({ from }) => equalsSign !== undefined && from < equalsSign.from;
-  const ranges = words.map((word) => ({ from: word.from, to: word.to, style: tokenStyle(word, isKey(word)) }));
+  const ranges = words.map((word) => ({ from: word.from, to: word.to, style: styleOfToken(word, isKey(word)) }));
   return [...ranges.filter(({ style }) => style !== ""), ...comment];
 }

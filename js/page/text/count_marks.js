@@ -1,5 +1,5 @@
-// Execution counts of source lines, in the margin of the source. An edit removes the counts, because they apply only to the text that the
-// tests have run.
+// Execution counts of source lines, in the margin of the source. An edit removes the counts, because they apply only to the source that was
+// tested.
 
 import * as say from "../../words/text.js";
 

@@ -4,8 +4,8 @@ import { readBoard, parseRefusal } from "../../core/bench/answers.js";
 import { formatQuantity } from "../../core/bench/numbers.js";
 import { TextErrorFinder, findFrontPanelErrors, textRefusalOrNull } from "../../core/text/text_error_finder.js";
 import { createProgramTexts, describeAssembled } from "../../core/text/asm_texts.js";
-import { assemblyColours } from "./assembly_colours.js";
-import { boardColours } from "./board_colours.js";
+import { makeAssemblyColours } from "./assembly_colours.js";
+import { colourBoardLine } from "./board_colours.js";
 import { completeBoard } from "../../core/text/board_completion.js";
 import { completeProgram } from "../../core/text/completion.js";
 import { block, button, onClick } from "../ui/dom.js";
@@ -37,7 +37,7 @@ import * as say from "../../words/text.js";
  * @typedef {object} EditorsCalls
  * @property {(edits: Edit[]) => void} handleEdits Handles an edit: the edits of the source, or an empty list for an edit of the board's
  *   text.
- * @property {(isBegun: boolean) => Promise<void>} handleAssembly Handles a program that was loaded into ROM; `isBegun` is true if the
+ * @property {(wasReset: boolean) => Promise<void>} handleAssembly Handles a program that was loaded into ROM; `wasReset` is true if the
  *   processor was also reset. Resolves when each breakpoint has the address of its line.
  * @property {(lines: string) => Promise<string | null>} serveLines Sends lines to the bench. Resolves to the first answer, or to null after
  *   a failure. A failure has already been reported.
@@ -52,8 +52,8 @@ import * as say from "../../words/text.js";
  * @property {(text: string, offset: number) => import("../../core/debug/word_values.js").Piece[]} valuesAt Returns the current values of
  *   the word at an offset in a line. Returns an empty list while time is running.
  * @property {import("./meaning_view.js").MakeEditable} makeEditable Makes a cell that shows a value editable.
- * @property {(name: "program" | "board", count: number) => void} showFaultCount Shows the number of errors in a text on its tab.
- * @property {(text: string, words: string) => void} replaceBoard Replaces the board's text and shows a message that offers undo.
+ * @property {(name: "program" | "board", count: number) => void} showErrorCount Shows the number of errors in a text on its tab.
+ * @property {(text: string, message: string) => void} replaceBoard Replaces the board's text and shows a message that offers undo.
  * @property {(fault: unknown) => void} reportFailure Reports an error that a call threw.
  */
 
@@ -63,13 +63,13 @@ const MAX_LISTED_ERRORS = 20;
 export class Editors {
   /**
    * @param {Bench} bench
-   * @param {ErrorMessages} words
+   * @param {ErrorMessages} errorMessages
    * @param {ManualSection[]} manual
    * @param {EditorsCalls} calls
    */
-  constructor(bench, words, manual, calls) {
+  constructor(bench, errorMessages, manual, calls) {
     this.bench = bench;
-    this.words = words;
+    this.errorMessages = errorMessages;
     this.calls = calls;
     this.instructions = readInstructions(manual);
     this.tables = boardTables(manual);
@@ -77,42 +77,42 @@ export class Editors {
     this.board = this.makeBoard();
     /** @type {string | null} the board's text while it is being applied; null at other times */
     this.pendingBoardText = null;
-    this.faultSearch = this.makeFaultSearch(words);
-    this.programFaults = new LiveErrors((isWanted) => this.faultSearch.findInProgram(this.program.text, isWanted),
-      (result) => this.showFoundFaults("program", result), calls.reportFailure);
+    this.errorFinder = this.makeErrorFinder(errorMessages);
+    this.programErrors = new LiveErrors((isWanted) => this.errorFinder.findInProgram(this.program.text, isWanted),
+      (result) => this.showFoundErrors("program", result), calls.reportFailure);
     onClick(button("assemble-only"), () => this.assembleOnly().catch(calls.reportFailure));
     onClick(button("first-board"), () => this.applyFirstBoard().catch(calls.reportFailure));
-    this.boardFaults = new LiveErrors((isWanted) => this.faultSearch.findInBoard(this.board.text, isWanted),
-      (result) => this.showFoundFaults("board", result), calls.reportFailure);
+    this.boardErrors = new LiveErrors((isWanted) => this.errorFinder.findInBoard(this.board.text, isWanted),
+      (result) => this.showFoundErrors("board", result), calls.reportFailure);
   }
 
-  /** @param {ErrorMessages} words */
-  makeFaultSearch(words) {
+  /** @param {ErrorMessages} errorMessages */
+  makeErrorFinder(errorMessages) {
     return new TextErrorFinder({
       findBoardError: (sent) => this.bench.call("wiring", [sent]),
       findLineErrors: (sent) => this.bench.call("errors", [sent]),
       findRefusal: (sent) => this.findRefusal("asm", sent),
       readMap: async (sent) => (await this.bench.call("checkProgram", [sent])).map,
-      readRomNumbers: () => this.roms(),
-    }, { instructions: this.instructions, tables: this.tables }, (number) => words.refusalMeaning(number));
+      readRomNumbers: () => this.readRomNumbers(),
+    }, { instructions: this.instructions, tables: this.tables }, (number) => errorMessages.refusalMeaning(number));
   }
 
   makeProgram() {
     return new EditorView("program-editor", {
       mark: ";",
-      colours: assemblyColours(new Set(this.instructions.keys())),
+      colours: makeAssemblyColours(new Set(this.instructions.keys())),
       gutters: ["breakpoints", "numbers", "addresses", "counts"],
       // A new line begins with a tab, because most statements are indented.
       indent: "\t",
       folds: PARTS.program,
       isInstruction: (word) => this.instructions.has(word),
-      wordsAt: (lines, line, offset) => helpForProgram(lines, line, offset, this.instructions, this.calls.describeName),
+      describeWord: (lines, line, offset) => helpForProgram(lines, line, offset, this.instructions, this.calls.describeName),
       valuesAt: (text, offset) => this.calls.valuesAt(text, offset),
       makeEditable: (cell, value) => this.calls.makeEditable(cell, value),
       complete: (lines, line, offset) => completeProgram(lines, line, offset, this.instructions),
     }, {
       handleEdits: (edits) => {
-        this.programFaults.handleEdit();
+        this.programErrors.handleEdit();
         this.calls.handleEdits(edits);
       },
       send: () => this.assembleAndRun().catch(this.calls.reportFailure),
@@ -125,14 +125,14 @@ export class Editors {
   makeBoard() {
     return new EditorView("board-editor", {
       mark: "#",
-      colours: boardColours,
+      colours: colourBoardLine,
       gutters: ["numbers"],
       folds: PARTS.board,
-      wordsAt: (lines, line, offset) => helpForBoard(lines, line, offset, this.tables),
+      describeWord: (lines, line, offset) => helpForBoard(lines, line, offset, this.tables),
       complete: (lines, line, offset) => completeBoard(lines, line, offset, this.tables),
     }, {
       handleEdits: () => {
-        this.boardFaults.handleEdit();
+        this.boardErrors.handleEdit();
         this.calls.handleEdits([]);
       },
       send: () => this.applyBoard().catch(this.calls.reportFailure),
@@ -146,30 +146,30 @@ export class Editors {
    */
   checkTexts(isEmpty) {
     this.offerBoard(isEmpty);
-    this.programFaults.checkNow().catch(this.calls.reportFailure);
-    this.boardFaults.checkNow().catch(this.calls.reportFailure);
+    this.programErrors.checkNow().catch(this.calls.reportFailure);
+    this.boardErrors.checkNow().catch(this.calls.reportFailure);
   }
 
   /**
    * Shows or hides the button that inserts a first board. If the button has the focus when it disappears, the focus moves to the heading of
    * the front panel.
-   * @param {boolean} isOffered
+   * @param {boolean} shouldOffer
    */
-  offerBoard(isOffered) {
+  offerBoard(shouldOffer) {
     const offer = block("board-offer");
     const hadFocus = offer.contains(document.activeElement);
-    offer.hidden = !isOffered;
+    offer.hidden = !shouldOffer;
     const heading = block("front-title").querySelector("button");
-    if (hadFocus && !isOffered && heading) heading.focus();
+    if (hadFocus && !shouldOffer && heading) heading.focus();
   }
 
   /**
    * Resolves to the error with which the bench would reject a text, or to null if the bench would accept it. The session stays unchanged.
-   * @param {"asm" | "wire"} word
+   * @param {"asm" | "wire"} command
    * @param {string} text
    */
-  async findRefusal(word, text) {
-    const [answer] = await this.bench.call("ask", [`${word}\n${text}.\n`]);
+  async findRefusal(command, text) {
+    const [answer] = await this.bench.call("ask", [`${command}\n${text}.\n`]);
     return textRefusalOrNull(parseRefusal(answer));
   }
 
@@ -177,16 +177,16 @@ export class Editors {
    * @param {"program" | "board"} name
    * @param {AllFaults} result
    */
-  showFoundFaults(name, { faults, isWhole }) {
+  showFoundErrors(name, { faults, isWhole }) {
     const shownFaults = name === "board" ? [...faults, ...findFrontPanelErrors(this.board.text)] : faults;
     const moreNote = isWhole || faults.length < 2 ? "" : say.MAY_BE_MORE;
-    this[name].showFaults(shownFaults.slice(0, MAX_LISTED_ERRORS), moreErrors(shownFaults, MAX_LISTED_ERRORS) || moreNote);
-    this.calls.showFaultCount(name, shownFaults.length);
+    this[name].showErrors(shownFaults.slice(0, MAX_LISTED_ERRORS), moreErrors(shownFaults, MAX_LISTED_ERRORS) || moreNote);
+    this.calls.showErrorCount(name, shownFaults.length);
   }
 
   /** Loads the program into ROM, clears the ROM bytes that other programs have left, resets the processor and starts time. */
   async assembleAndRun() {
-    if (!(await this.hasNoFaults("program"))) return;
+    if (!(await this.hasNoErrors("program"))) return;
     await this.calls.pauseTime();
     const { benchText } = this.program;
     const { size, remainingAddresses: left } = await this.bench.call("leftovers", [benchText]);
@@ -203,7 +203,7 @@ export class Editors {
 
   /** Loads the program's bytes into ROM and leaves everything else as it is. */
   async assembleOnly() {
-    if (!(await this.hasNoFaults("program"))) return;
+    if (!(await this.hasNoErrors("program"))) return;
     const { benchText } = this.program;
     const answer = await this.calls.serveLines(`asm\n${benchText}.\n`);
     if (answer === null) return;
@@ -214,7 +214,7 @@ export class Editors {
   }
 
   async applyBoard() {
-    if (!(await this.hasNoFaults("board"))) return;
+    if (!(await this.hasNoErrors("board"))) return;
     const { text, benchText } = this.board;
     this.pendingBoardText = text;
     const answer = await this.calls.serveLines(`wire\n${benchText}.\n`).finally(() => {
@@ -223,7 +223,7 @@ export class Editors {
     if (answer === null) return;
     const refusal = parseRefusal(answer);
     this.board.showMessage(refusal ? this.describeRefusal(refusal) : say.BOARD_WIRED);
-    await this.programFaults.checkNow();
+    await this.programErrors.checkNow();
   }
 
   /** Replaces the board's text with the text of a first board, and applies it. */
@@ -234,16 +234,16 @@ export class Editors {
 
   /** @param {import("../../core/bench/answers.js").Refusal} refusal */
   describeRefusal({ number }) {
-    return `no ${number}: ${this.words.refusalMeaning(number)}`;
+    return `no ${number}: ${this.errorMessages.refusalMeaning(number)}`;
   }
 
   /**
    * Checks a text before it is sent. Resolves to true if the text has no errors. Otherwise shows the first error.
    * @param {"program" | "board"} name
    */
-  async hasNoFaults(name) {
-    const result = await (name === "program" ? this.programFaults : this.boardFaults).checkNow();
-    if (result && result.faults.length > 0) this.reportFaults(name, result.faults);
+  async hasNoErrors(name) {
+    const result = await (name === "program" ? this.programErrors : this.boardErrors).checkNow();
+    if (result && result.faults.length > 0) this.reportErrors(name, result.faults);
     return result !== undefined && result.faults.length === 0;
   }
 
@@ -252,7 +252,7 @@ export class Editors {
    * @param {string} text
    */
   async isProbablyNotProgram(text) {
-    const result = await this.faultSearch.findInProgram(text, () => true);
+    const result = await this.errorFinder.findInProgram(text, () => true);
     return result !== undefined && isProbablyNotProgram(text, result);
   }
 
@@ -261,14 +261,14 @@ export class Editors {
    * @param {"program" | "board"} name
    * @param {Fault[]} faults
    */
-  reportFaults(name, faults) {
+  reportErrors(name, faults) {
     const [{ line, words }] = faults;
     this[name].showMessage(say.firstFault(line, words, faults.length - 1));
     this[name].reveal(line);
   }
 
   /** Resolves to the numbers of the ROM chips on the current board. */
-  async roms() {
+  async readRomNumbers() {
     return new Set(readBoard(await this.bench.call("ask", ["board\n"])).roms.map(({ chip }) => chip));
   }
 }

@@ -1,7 +1,7 @@
 // The errors of a text. Each error has a mark in the margin of its line, an underlined range, and an entry in the list below the text.
 
 import { element, onClick } from "../ui/dom.js";
-import { underlineMark } from "./line_layers.js";
+import { makeUnderlineMark } from "./line_layers.js";
 import { lineReference } from "../../words/stops.js";
 
 /**
@@ -35,10 +35,10 @@ export class ErrorView {
     if (faults.length === 0 && this.faults.length === 0) return;
     this.faults = faults;
     /** @type {Map<number, string>} */
-    const words = new Map();
-    for (const fault of faults) words.set(fault.line, [words.get(fault.line), fault.words].filter(Boolean).join("; "));
-    this.marks.showTexts("faults", (line) => (words.has(line) ? "!" : ""), (line) => words.get(line) || "");
-    this.editor.showFaults(faults.flatMap((fault) => this.underline(fault)));
+    const messages = new Map();
+    for (const fault of faults) messages.set(fault.line, [messages.get(fault.line), fault.words].filter(Boolean).join("; "));
+    this.marks.showTexts("faults", (line) => (messages.has(line) ? "!" : ""), (line) => messages.get(line) || "");
+    this.editor.showErrors(faults.flatMap((fault) => this.underline(fault)));
     this.list.replaceChildren(...faults.map((fault) => this.makeEntry(fault)), ...(footnote ? [element("li", {}, footnote)] : []));
     this.list.hidden = faults.length === 0;
   }
@@ -53,7 +53,7 @@ export class ErrorView {
     const start = to > from ? from : Math.max(0, Math.min(from, length) - 1);
     const end = Math.max(to, start + 1);
     const [begin, stop] = [start, end].map((ch) => this.editor.offset({ line: line - 1, ch }));
-    return begin < stop ? [underlineMark("fault", words).range(begin, stop)] : [];
+    return begin < stop ? [makeUnderlineMark("fault", words).range(begin, stop)] : [];
   }
 
   /** @param {Fault} fault */

@@ -4,9 +4,9 @@ import { Cell, element, onClick } from "../ui/dom.js";
 import * as say from "../../words/text.js";
 
 /**
- * A question to the user: `label` is the field's label, `value` the field's initial text, and `word` the button's label. `act` receives the
- * typed text and returns "", or an error message if the text is not valid.
- * @typedef {{ label: string, value: string, word: string, act: (typed: string) => string }} BarQuestion
+ * A question to the user: `label` is the field's label, `value` the field's initial text, and `buttonLabel` the button's label. `act`
+ * receives the typed text and returns "", or an error message if the text is not valid.
+ * @typedef {{ label: string, value: string, buttonLabel: string, act: (text: string) => string }} BarQuestion
  */
 
 export class FieldBar {
@@ -20,22 +20,22 @@ export class FieldBar {
     this.field = element("input", { autocomplete: "off", spellcheck: false });
     this.status = new Cell(element("p", { role: "status" }));
     this.submitButton = element("button", { type: "button", title: "Enter" }, say.GO);
-    const close = element("button", { type: "button", title: "Escape" }, say.CLOSE);
+    const closeButton = element("button", { type: "button", title: "Escape" }, say.CLOSE);
     this.bar = element("div", { role: "group", className: "search bar", hidden: true },
-      element("label", {}, this.label.node, " ", this.field), this.submitButton, close, this.status.node);
+      element("label", {}, this.label.node, " ", this.field), this.submitButton, closeButton, this.status.node);
     parent.prepend(this.bar);
     /** @type {BarQuestion["act"]} */
     this.submit = () => "";
     onClick(this.submitButton, () => this.submitValue());
-    onClick(close, () => this.close());
+    onClick(closeButton, () => this.close());
     this.field.addEventListener("keydown", (event) => this.handleKey(event));
   }
 
   /** @param {BarQuestion} question */
-  open({ label, value, word, act: action }) {
+  open({ label, value, buttonLabel, act: action }) {
     this.label.set(label);
     this.bar.setAttribute("aria-label", label);
-    this.submitButton.textContent = word;
+    this.submitButton.textContent = buttonLabel;
     this.submit = action;
     this.status.set("");
     this.field.value = value;

@@ -17,7 +17,7 @@ import * as say from "../../words/text.js";
  * @param {import("@codemirror/state").Text} doc
  * @returns {import("../../core/text/folding.js").LineAt}
  */
-function lineReader(doc) {
+function makeLineReader(doc) {
   return (line) => (line < doc.lines ? doc.line(line + 1).text : undefined);
 }
 
@@ -36,11 +36,11 @@ function makePlaceholder(count, unfoldRange) {
  * Returns the CodeMirror extensions for code folding.
  * @param {Parts} parts
  */
-export function folding(parts) {
+export function makeFolding(parts) {
   return [
     foldService.of(({ doc }, from) => {
       const { number, to } = doc.lineAt(from);
-      const lastLine = findFoldEnd(lineReader(doc), number - 1, parts) + 1;
+      const lastLine = findFoldEnd(makeLineReader(doc), number - 1, parts) + 1;
       return lastLine === number ? null : { from: to, to: doc.line(lastLine).to };
     }),
     codeFolding({
@@ -55,11 +55,11 @@ export function folding(parts) {
  * Returns the folding commands for texts in which `parts` finds the foldable ranges.
  * @param {Parts} parts
  */
-export function foldingActions(parts) {
+export function makeFoldingActions(parts) {
   return {
     /** @param {LineEditor} editor */
     fold: (editor) => {
-      const head = findFoldStart(lineReader(editor.doc), editor.getCursor().line, parts);
+      const head = findFoldStart(makeLineReader(editor.doc), editor.getCursor().line, parts);
       if (head < 0) return;
       editor.setCursor({ line: head, ch: Infinity });
       foldCode(editor.view);

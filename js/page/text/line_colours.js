@@ -14,7 +14,7 @@ import { Decoration, ViewPlugin } from "@codemirror/view";
 const marksByStyle = new Map();
 
 /** @param {string} style */
-function styleMark(style) {
+function markOfStyle(style) {
   const mark = marksByStyle.get(style) || Decoration.mark({ class: `cm-${style}` });
   marksByStyle.set(style, mark);
   return mark;
@@ -30,8 +30,8 @@ function colourLines({ state: { doc }, visibleRanges }, colours) {
   for (const { from, to } of visibleRanges) {
     for (let offset = from; offset <= to;) {
       const line = doc.lineAt(offset);
-      for (const word of colours(line.text)) {
-        if (word.to > word.from) ranges.push(styleMark(word.style).range(line.from + word.from, line.from + word.to));
+      for (const range of colours(line.text)) {
+        if (range.to > range.from) ranges.push(markOfStyle(range.style).range(line.from + range.from, line.from + range.to));
       }
       offset = line.to + 1;
     }
@@ -43,7 +43,7 @@ function colourLines({ state: { doc }, visibleRanges }, colours) {
  * Returns the CodeMirror plugin that colours the visible lines.
  * @param {Colours} colours
  */
-export function lineColours(colours) {
+export function makeLineColours(colours) {
   return ViewPlugin.define((view) => ({
     decorations: colourLines(view, colours),
     update(/** @type {import("@codemirror/view").ViewUpdate} */ update) {

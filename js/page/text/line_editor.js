@@ -7,10 +7,11 @@ import { autocompletion, startCompletion } from "@codemirror/autocomplete";
 import { indentUnit } from "@codemirror/language";
 import { ChangeSet, Compartment, EditorState, Prec, Transaction } from "@codemirror/state";
 import { EditorView, dropCursor, highlightSpecialChars, keymap, lineNumbers } from "@codemirror/view";
-import { lineColours } from "./line_colours.js";
-import { belowLayer, elementBelow, gutterLayer, makeLayerGutter, markLayer, lineStyle, textLayer, textMark } from "./line_layers.js";
+import { makeLineColours } from "./line_colours.js";
+import { makeBelowLayer, makeElementBelow, makeGutterLayer, makeLayerGutter, makeMarkLayer, makeTextLayer, makeTextMark, styleOfLine }
+  from "./line_layers.js";
 import { insertRulesIntoSheet } from "./style_rules.js";
-import { descendant } from "../ui/dom.js";
+import { findDescendant } from "../ui/dom.js";
 
 /**
  * @typedef {{ line: number, ch: number }} Position
@@ -22,9 +23,9 @@ import { descendant } from "../ui/dom.js";
  *
  * The options of an editor. `label` and `description` are for screen readers. `gutters` are the names of its gutters. The gutter "numbers"
  * shows line numbers. `indent` is the indentation of a new line, by default that of the previous line. `keys` are additional key bindings,
- * and `more` are further CodeMirror extensions.
+ * and `extensions` are further CodeMirror extensions.
  * @typedef {{ container: HTMLElement, label: string, description: string, colours: import("./line_colours.js").Colours, gutters: string[],
- *   indent?: string, keys: KeyMap, more: Extension[], calls: EditorCalls }} EditorParts
+ *   indent?: string, keys: KeyMap, extensions: Extension[], calls: EditorCalls }} EditorOptions
  */
 
 /**
@@ -60,7 +61,7 @@ function offsetToPosition(doc, offset) {
  * Returns the edits of a transaction, from the end of the text to its beginning. In this order, their positions in the old text stay valid.
  * @param {Transaction} transaction
  */
-function transactionEdits(transaction) {
+function editsOfTransaction(transaction) {
   const { startState: { doc } } = transaction;
   const origin = transaction.annotation(Transaction.userEvent);
   /** @type {Edit[]} */
@@ -77,21 +78,21 @@ function transactionEdits(transaction) {
  * Converts a key name to CodeMirror's form, in which letters are in lower case.
  * @param {string} name
  */
-function keyName(name) {
+function toCodeMirrorKey(name) {
   return name.replace(/-([A-Z])$/, (_, letter) => `-${letter.toLowerCase()}`);
 }
 
 export class LineEditor {
-  /** @param {EditorParts} parts */
+  /** @param {EditorOptions} parts */
   constructor(parts) {
     this.calls = parts.calls;
     this.container = parts.container;
     this.lineWrapping = new Compartment();
     this.wraps = false;
     /** @type {Map<string, Layer>} the layers of marks, by gutter */
-    this.marks = new Map(parts.gutters.filter((name) => name !== "numbers").map((name) => [name, markLayer()]));
-    this.layers = { next: textLayer(), nextNumber: gutterLayer(), lacking: gutterLayer(), faults: textLayer(), values: textLayer(),
-      below: belowLayer() };
+    this.marks = new Map(parts.gutters.filter((name) => name !== "numbers").map((name) => [name, makeMarkLayer()]));
+    this.layers = { next: makeTextLayer(), nextNumber: makeGutterLayer(), lacking: makeGutterLayer(), errors: makeTextLayer(),
+      values: makeTextLayer(), below: makeBelowLayer() };
     /** @type {HTMLElement | null} the element below a line, if there is one */
     this.nodeBelow = null;
     /** @type {(() => void)[]} listeners that are called after each edit */
@@ -103,11 +104,11 @@ export class LineEditor {
   }
 
   /**
-   * @param {EditorParts} parts
+   * @param {EditorOptions} parts
    * @returns {Extension[]}
    */
-  makeExtensions({ label, description, colours, gutters, indent, keys, more }) {
-    const bindings = Object.entries(keys).map(([key, action]) => ({ key: keyName(key), run: () => {
+  makeExtensions({ label, description, colours, gutters, indent, keys, extensions }) {
+    const bindings = Object.entries(keys).map(([key, action]) => ({ key: toCodeMirrorKey(key), run: () => {
       action(this);
       return true;
     } }));
@@ -119,11 +120,11 @@ export class LineEditor {
       indentUnit.of("\t"),
       highlightSpecialChars(),
       dropCursor(),
-      lineColours(colours),
+      makeLineColours(colours),
       ...gutters.map((name) => this.makeGutter(name)),
-      ...more,
+      ...extensions,
       ...[...this.marks.values(), ...Object.values(this.layers)].map(({ field }) => field),
-      autocompletion({ override: [(context) => this.completionResult(context)], activateOnTyping: false, icons: false,
+      autocompletion({ override: [(context) => this.makeCompletionResult(context)], activateOnTyping: false, icons: false,
         interactionDelay: 0 }),
       EditorView.contentAttributes.of({ "aria-label": label, "aria-description": description }),
       EditorState.transactionFilter.of((transaction) => (this.acceptsTransaction(transaction) ? transaction : [])),
@@ -169,7 +170,7 @@ export class LineEditor {
   /** @param {import("@codemirror/view").ViewUpdate} update */
   handleUpdate({ docChanged, selectionSet, transactions }) {
     if (docChanged) {
-      this.calls.handleEdits(transactions.flatMap(transactionEdits));
+      this.calls.handleEdits(transactions.flatMap(editsOfTransaction));
       for (const action of this.editListeners) action();
     }
     if (docChanged || selectionSet) this.calls.handleCaretMove();
@@ -201,14 +202,14 @@ export class LineEditor {
 
   /**
    * Indents or unindents the selected lines. Without a selection, inserts a tab or unindents the caret's line.
-   * @param {boolean} isUnindent true to unindent
+   * @param {boolean} shouldUnindent
    */
-  indent(isUnindent) {
-    return (isUnindent ? indentLess : insertTab)(this.view);
+  indent(shouldUnindent) {
+    return (shouldUnindent ? indentLess : insertTab)(this.view);
   }
 
   /** @param {import("@codemirror/autocomplete").CompletionContext} context */
-  completionResult({ pos }) {
+  makeCompletionResult({ pos }) {
     const { line, ch } = offsetToPosition(this.doc, pos);
     const { from, to, list } = this.calls.complete({ line, ch });
     if (list.length === 0) return null;
@@ -298,12 +299,12 @@ export class LineEditor {
   /**
    * Replaces the selection with a text and puts the caret after the text.
    * @param {string} text
-   * @param {string} [event] the name of the user event; if it is given, the undo step can include text that the user typed before
+   * @param {string} [eventName] the name of the user event; if present, the undo step can include text that the user typed before
    */
-  replaceSelection(text, event) {
+  replaceSelection(text, eventName) {
     const { from, to } = this.state.selection.main;
     this.view.dispatch({ changes: { from, to, insert: text }, selection: { anchor: from + text.length }, scrollIntoView: true,
-      ...(event ? { userEvent: event } : { annotations: isolateHistory.of("full") }) });
+      ...(eventName ? { userEvent: eventName } : { annotations: isolateHistory.of("full") }) });
   }
 
   /**
@@ -345,7 +346,7 @@ export class LineEditor {
    */
   showMarks(gutter, marks) {
     const layer = this.marks.get(gutter);
-    if (layer) layer.show(this.view, marks.map((mark) => textMark(gutter, mark).range(this.doc.line(mark.line + 1).from)));
+    if (layer) layer.show(this.view, marks.map((mark) => makeTextMark(gutter, mark).range(this.doc.line(mark.line + 1).from)));
   }
 
   /**
@@ -366,15 +367,15 @@ export class LineEditor {
    * @param {number[]} lines line numbers from 0, in ascending order
    */
   showLineStyle(name, lines) {
-    const style = lineStyle(name);
+    const style = styleOfLine(name);
     const starts = lines.map((line) => this.doc.line(line + 1).from);
     this.layers[name === "next" ? "nextNumber" : "lacking"].show(this.view, starts.map((from) => style.gutters.range(from)));
     if (name === "next") this.layers.next.show(this.view, starts.map((from) => style.line.range(from)));
   }
 
   /** @param {import("@codemirror/state").Range<any>[]} ranges the underlined ranges */
-  showFaults(ranges) {
-    this.layers.faults.show(this.view, ranges);
+  showErrors(ranges) {
+    this.layers.errors.show(this.view, ranges);
   }
 
   /** @param {import("@codemirror/state").Range<any>[]} ranges the texts after lines */
@@ -390,13 +391,13 @@ export class LineEditor {
   showBelow(line, node) {
     this.nodeBelow = node;
     this.fitElementBelow();
-    this.layers.below.show(this.view, node ? [elementBelow(node).range(this.offset({ line, ch: Infinity }))] : []);
+    this.layers.below.show(this.view, node ? [makeElementBelow(node).range(this.offset({ line, ch: Infinity }))] : []);
   }
 
   /** Limits the width of the element below a line to the visible part of the text. */
   fitElementBelow() {
     if (!this.nodeBelow) return;
-    const gutters = descendant(this.view.dom, ".cm-gutters", HTMLElement).offsetWidth;
+    const gutters = findDescendant(this.view.dom, ".cm-gutters", HTMLElement).offsetWidth;
     this.nodeBelow.style.setProperty("left", `${gutters}px`);
     this.nodeBelow.style.setProperty("max-width", `${this.view.scrollDOM.clientWidth - gutters}px`);
   }

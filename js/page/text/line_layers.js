@@ -12,7 +12,7 @@ import * as say from "../../words/text.js";
  * @typedef {RangeSet<any>} Ranges
  *
  * A mark in a gutter: its line, from 0, its text, and its description.
- * @typedef {{ line: number, text: string, words: string }} GutterMark
+ * @typedef {{ line: number, text: string, description: string }} GutterMark
  */
 
 /** A gutter marker that shows a text. */
@@ -20,11 +20,11 @@ class TextMark extends GutterMarker {
   /**
    * @param {string} name the name of the gutter
    * @param {string} text
-   * @param {string} words
+   * @param {string} description
    */
-  constructor(name, text, words) {
+  constructor(name, text, description) {
     super();
-    this.mark = { textContent: text, title: words, className: `mark-${name}` };
+    this.mark = { textContent: text, title: description, className: `mark-${name}` };
   }
 
   /** @param {TextMark} other */
@@ -49,22 +49,22 @@ class GutterStyle extends GutterMarker {
 /** A text after a line. */
 class TextAfterLine extends WidgetType {
   /**
-   * @param {string} words
+   * @param {string} text
    * @param {string} className
    */
-  constructor(words, className) {
+  constructor(text, className) {
     super();
-    this.words = words;
+    this.text = text;
     this.className = className;
   }
 
   /** @param {TextAfterLine} other */
-  eq({ words, className }) {
-    return words === this.words && className === this.className;
+  eq({ text, className }) {
+    return text === this.text && className === this.className;
   }
 
   toDOM() {
-    return element("span", { className: this.className, title: say.CHANGES_BY_LINE }, this.words);
+    return element("span", { className: this.className, title: say.CHANGES_BY_LINE }, this.text);
   }
 }
 
@@ -104,8 +104,8 @@ export class Layer {
     this.field = StateField.define({
       create: () => RangeSet.empty,
       update: (ranges, transaction) => {
-        const putEffect = transaction.effects.find((effect) => effect.is(this.replaceEffect));
-        return putEffect ? putEffect.value : move(ranges, transaction);
+        const replacement = transaction.effects.find((effect) => effect.is(this.replaceEffect));
+        return replacement ? replacement.value : move(ranges, transaction);
       },
       provide,
     });
@@ -123,12 +123,12 @@ export class Layer {
 }
 
 /** Returns a layer for decorations of the text. */
-export function textLayer() {
+export function makeTextLayer() {
   return new Layer((field) => EditorView.decorations.from(field));
 }
 
 /** Returns a layer for elements below lines. An element stays below its line when the user starts a new line at the end of that line. */
-export function belowLayer() {
+export function makeBelowLayer() {
   return new Layer((field) => EditorView.decorations.from(field), (ranges, { changes, docChanged, newDoc, startState: { doc } }) => {
     if (!docChanged) return ranges;
     const movedRanges = [];
@@ -140,17 +140,17 @@ export function belowLayer() {
 }
 
 /** @param {HTMLElement} node */
-export function elementBelow(node) {
+export function makeElementBelow(node) {
   return Decoration.widget({ widget: new ElementBelow(node), block: true, side: 1 });
 }
 
 /** Returns a layer for styles of the gutters. */
-export function gutterLayer() {
+export function makeGutterLayer() {
   return new Layer((field) => gutterLineClass.from(field));
 }
 
 /** Returns a layer for the marks of one gutter. `makeLayerGutter` returns the gutter that shows them. */
-export function markLayer() {
+export function makeMarkLayer() {
   return new Layer(() => []);
 }
 
@@ -168,32 +168,32 @@ export function makeLayerGutter(name, layer, options) {
  * @param {string} name the name of the gutter
  * @param {GutterMark} mark
  */
-export function textMark(name, { text, words }) {
-  return new TextMark(name, text, words);
+export function makeTextMark(name, { text, description }) {
+  return new TextMark(name, text, description);
 }
 
 /** @type {Map<string, { line: Decoration, gutters: GutterMarker }>} the line styles, by name */
 const lineStyles = new Map();
 
 /** @param {string} name the CSS class of the line; the class of its gutters has the prefix `at-` */
-export function lineStyle(name) {
+export function styleOfLine(name) {
   const style = lineStyles.get(name) || { line: Decoration.line({ class: name }), gutters: new GutterStyle(`at-${name}`) };
   lineStyles.set(name, style);
   return style;
 }
 
 /**
- * @param {string} words
+ * @param {string} text
  * @param {string} className
  */
-export function textAfterLine(words, className) {
-  return Decoration.widget({ widget: new TextAfterLine(words, className), side: 1 });
+export function makeTextAfterLine(text, className) {
+  return Decoration.widget({ widget: new TextAfterLine(text, className), side: 1 });
 }
 
 /**
  * @param {string} className
  * @param {string} title
  */
-export function underlineMark(className, title) {
+export function makeUnderlineMark(className, title) {
   return Decoration.mark({ class: className, attributes: { title } });
 }

@@ -31,7 +31,7 @@ export class LineMarks {
   showTexts(gutter, getText, getDescription = () => "") {
     const marks = indices(this.editor.lineCount()).flatMap((line) => {
       const text = getText(line + 1);
-      return text ? [{ line, text, words: getDescription(line + 1) }] : [];
+      return text ? [{ line, text, description: getDescription(line + 1) }] : [];
     });
     this.editor.showMarks(gutter, marks);
     this.usedGutters.add(gutter);

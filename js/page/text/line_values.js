@@ -1,7 +1,7 @@
 // Grey texts after source lines. Each text shows the values that its line has changed. The texts are not part of the source, but they move
 // with their lines.
 
-import { textAfterLine } from "./line_layers.js";
+import { makeTextAfterLine } from "./line_layers.js";
 
 export class LineValues {
   /** @param {import("./line_editor.js").LineEditor} editor */
@@ -16,10 +16,10 @@ export class LineValues {
     if (lines === this.shownLines || (lines.size === 0 && this.shownLines.size === 0)) return;
     this.shownLines = lines;
     const { editor } = this;
-    const shownEntries = [...lines].filter(([line, words]) => words !== "" && line <= editor.lineCount());
-    editor.showValues(shownEntries.map(([line, words], index) => {
+    const shownEntries = [...lines].filter(([line, text]) => text !== "" && line <= editor.lineCount());
+    editor.showValues(shownEntries.map(([line, text], index) => {
       const className = index === shownEntries.length - 1 ? "line-values last" : "line-values";
-      return textAfterLine(words, className).range(editor.offset({ line: line - 1, ch: Infinity }));
+      return makeTextAfterLine(text, className).range(editor.offset({ line: line - 1, ch: Infinity }));
     }));
   }
 }

@@ -19,7 +19,7 @@ const BELOW_POINTER = 16;
  * Returns a text that identifies the layout of a description without its values. Descriptions with the same layout reuse the same cells.
  * @param {Piece[]} pieces
  */
-function layoutKey(pieces) {
+function layoutKeyOf(pieces) {
   return pieces.map((piece) => (typeof piece === "string" ? piece : piece.place)).join("\n");
 }
 
@@ -28,8 +28,8 @@ export class MeaningView {
   constructor(makeEditable) {
     this.makeEditable = makeEditable;
     this.values = element("span", { className: "values" });
-    this.words = element("span");
-    this.node = element("p", { className: "meaning" }, this.values, this.words);
+    this.meaningNode = element("span");
+    this.node = element("p", { className: "meaning" }, this.values, this.meaningNode);
     this.tooltip = element("p", { className: "value-tip", hidden: true });
     this.tooltip.setAttribute("aria-hidden", "true");
     document.body.append(this.tooltip);
@@ -40,10 +40,10 @@ export class MeaningView {
 
   /**
    * @param {Piece[]} pieces the word's current values
-   * @param {string} words the word's meaning
+   * @param {string} meaning the word's meaning
    */
-  set(pieces, words) {
-    const layout = layoutKey(pieces);
+  set(pieces, meaning) {
+    const layout = layoutKeyOf(pieces);
     if (layout !== this.layout) {
       this.layout = layout;
       this.cells = [];
@@ -53,9 +53,9 @@ export class MeaningView {
     this.cells.forEach((cell, index) => {
       if (cell.textContent !== values[index]) cell.textContent = values[index];
     });
-    const meaning = joinPieces(pieces);
-    const description = meaning === "" ? words : words === "" || meaning.startsWith(words) ? "" : `. ${words}`;
-    if (this.words.textContent !== description) this.words.textContent = description;
+    const valueText = joinPieces(pieces);
+    const description = valueText === "" ? meaning : meaning === "" || valueText.startsWith(meaning) ? "" : `. ${meaning}`;
+    if (this.meaningNode.textContent !== description) this.meaningNode.textContent = description;
   }
 
   /** @param {Value} value */
@@ -79,7 +79,7 @@ export class MeaningView {
     if (pieces.length > 0) putBelow(this.tooltip, { left, bottom: top }, BELOW_POINTER);
   }
 
-  hideTip() {
+  hideTooltip() {
     if (!this.tooltip.hidden) this.tooltip.hidden = true;
   }
 }

@@ -16,25 +16,25 @@ const MAX_LINE_LENGTH = 60;
 
 export class NameView {
   /**
-   * @param {TextEditor} text
+   * @param {TextEditor} textEditor
    * @param {HTMLElement} parent the element that contains the field for typed names and the list of references
-   * @param {{ isInstruction: (word: string) => boolean, showMessage: (words: string) => void }} calls
+   * @param {{ isInstruction: (word: string) => boolean, showMessage: (message: string) => void }} calls
    */
-  constructor(text, parent, calls) {
-    this.text = text;
+  constructor(textEditor, parent, calls) {
+    this.textEditor = textEditor;
     this.calls = calls;
-    this.bar = new FieldBar(parent, () => text.editor.focus());
+    this.bar = new FieldBar(parent, () => textEditor.editor.focus());
     this.list = element("ul", { "className": "places", "aria-label": say.PLACES_OF_NAME, "hidden": true });
     parent.append(this.list);
   }
 
   get lines() {
-    return this.text.text.split("\n");
+    return this.textEditor.text.split("\n");
   }
 
   /** Returns the name at the caret. If there is none, shows a message and returns "". */
   nameAtCaret() {
-    const { line, ch } = this.text.editor.getCursor();
+    const { line, ch } = this.textEditor.editor.getCursor();
     const name = nameAt(this.lines, line, ch);
     if (name === "") this.calls.showMessage(say.NO_NAME);
     return name;
@@ -42,8 +42,8 @@ export class NameView {
 
   /** @param {Reference} reference */
   selectReference({ line, from, to }) {
-    const { editor } = this.text;
-    this.text.goTo({ line: line - 1, ch: from });
+    const { editor } = this.textEditor;
+    this.textEditor.goTo({ line: line - 1, ch: from });
     editor.setSelection({ line: line - 1, ch: from }, { line: line - 1, ch: to });
     editor.scrollIntoView({ line: line - 1, ch: to }, 60);
   }
@@ -61,9 +61,9 @@ export class NameView {
     if (name === "") return;
     const { lines } = this;
     const references = findReferences(lines, name);
-    const close = element("button", { type: "button" }, say.CLOSE);
-    onClick(close, () => this.close());
-    this.list.replaceChildren(element("li", {}, say.nameIsAt(name, formatQuantity(references.length, "place")), close),
+    const closeButton = element("button", { type: "button" }, say.CLOSE);
+    onClick(closeButton, () => this.close());
+    this.list.replaceChildren(element("li", {}, say.nameIsAt(name, formatQuantity(references.length, "place")), closeButton),
       ...references.map((reference) => this.makeRow(reference, lines[reference.line - 1])));
     this.list.hidden = false;
   }
@@ -80,14 +80,14 @@ export class NameView {
 
   close() {
     this.list.hidden = true;
-    this.text.editor.focus();
+    this.textEditor.editor.focus();
   }
 
   /** Asks the user for a new name and renames the name at the caret. */
   askNewName() {
     const name = this.nameAtCaret();
     if (name === "") return;
-    this.bar.open({ label: say.otherName(name), value: name, word: say.RENAME, act: (newName) => this.applyRename(name, newName) });
+    this.bar.open({ label: say.otherName(name), value: name, buttonLabel: say.RENAME, act: (newName) => this.applyRename(name, newName) });
   }
 
   /**
@@ -96,28 +96,29 @@ export class NameView {
    * @param {string} newName
    */
   applyRename(name, newName) {
-    const { lines, calls, text } = this;
-    const fault = findRenamingError(lines, name, newName, calls.isInstruction);
-    if (fault) return fault;
+    const { lines, calls, textEditor } = this;
+    const error = findRenamingError(lines, name, newName, calls.isInstruction);
+    if (error) return error;
     const references = findReferences(lines, name);
-    text.edit([...references].reverse().map(({ line, from, to }) => (
-      { from: text.editor.offset({ line: line - 1, ch: from }), to: text.editor.offset({ line: line - 1, ch: to }), insert: newName })));
+    const { editor } = textEditor;
+    textEditor.edit([...references].reverse().map(({ line, from, to }) => (
+      { from: editor.offset({ line: line - 1, ch: from }), to: editor.offset({ line: line - 1, ch: to }), insert: newName })));
     calls.showMessage(say.renamed(name, newName, formatQuantity(references.length, "place")));
     return "";
   }
 
   /** Asks the user for a line number and goes to that line. */
   goToLine() {
-    const lineCount = this.text.editor.lineCount();
+    const lineCount = this.textEditor.editor.lineCount();
     this.bar.open({
       label: say.lineOfText(lineCount.toLocaleString("en")),
       value: "",
-      word: say.GO,
-      act: (typed) => {
-        const line = /^\d+$/.test(typed) ? Number(typed) : 0;
+      buttonLabel: say.GO,
+      act: (text) => {
+        const line = /^\d+$/.test(text) ? Number(text) : 0;
         if (line < 1 || line > lineCount) return say.lineIs(lineCount.toLocaleString("en"));
-        this.text.goTo({ line: line - 1, ch: 0 });
-        this.text.reveal(line);
+        this.textEditor.goTo({ line: line - 1, ch: 0 });
+        this.textEditor.reveal(line);
         return "";
       },
     });

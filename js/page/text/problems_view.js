@@ -31,7 +31,7 @@ export class ProblemsView {
    * @param {string} name the name of a text's tab
    * @param {Fault[]} faults all current errors of that text
    */
-  setFaults(name, faults) {
+  setErrors(name, faults) {
     if (faults.length === 0 && (this.faults.get(name) || []).length === 0) return;
     this.faults.set(name, faults);
     this.list.replaceChildren(...[...this.faults].flatMap(([textName, textFaults]) => (

@@ -22,10 +22,10 @@ export class TextAppearance {
     this.editors = editors;
     onClick(button("text-smaller"), () => this.resize(this.size - 1));
     onClick(button("text-larger"), () => this.resize(this.size + 1));
-    const wrap = field("text-wrap");
-    wrap.checked = preferences.get("wrap") === "on";
-    wrap.addEventListener("change", () => {
-      preferences.set("wrap", wrap.checked ? "on" : "");
+    const wrapBox = field("text-wrap");
+    wrapBox.checked = preferences.get("wrap") === "on";
+    wrapBox.addEventListener("change", () => {
+      preferences.set("wrap", wrapBox.checked ? "on" : "");
       this.show();
     });
     this.show();

@@ -3,7 +3,7 @@
 
 import { EditorView } from "@codemirror/view";
 import { indices } from "../../core/bench/numbers.js";
-import { folding, unfold } from "./fold_view.js";
+import { makeFolding, unfold } from "./fold_view.js";
 import { LineEditor } from "./line_editor.js";
 import { MAX_STORED_LENGTH, toggleComments } from "../../core/text/sendable_text.js";
 import * as say from "../../words/text.js";
@@ -16,7 +16,7 @@ import * as say from "../../words/text.js";
  * The options of an editor: its container, its name for screen readers, its syntax colouring, the gutters besides the error gutter, the
  * indentation of a new line, the foldable parts of its text, and its additional key bindings.
  * @typedef {{ container: HTMLElement, label: string, colours: import("./line_colours.js").Colours, gutters: string[], indent?: string,
- *   folds?: import("../../core/text/folding.js").Parts, keys: KeyMap, calls: TextCalls }} TextParts
+ *   folds?: import("../../core/text/folding.js").Parts, keys: KeyMap, calls: TextCalls }} TextOptions
  *
  * The state of a text that is not visible, and its scroll position in pixels.
  * @typedef {{ state: import("@codemirror/state").EditorState, top: number }} StoredText
@@ -41,7 +41,7 @@ const MAX_STORED_TEXTS = 30;
 const MODIFIER_KEYS = ["Shift", "Control", "Alt", "Meta"];
 
 export class TextEditor {
-  /** @param {TextParts} parts */
+  /** @param {TextOptions} parts */
   constructor(parts) {
     this.calls = parts.calls;
     /** @type {(line: number) => void} the listener for caret moves, which receives the line from 1 */
@@ -61,13 +61,13 @@ export class TextEditor {
     /** @type {Map<string, StoredText>} the stored editor states, by session id */
     this.storedTexts = new Map();
     /** The id of the session whose text is shown. */
-    this.name = "";
+    this.sessionId = "";
     /** @type {string | null} the editor's text; null after an edit, until the text is read again */
     this.cachedText = null;
     const { container, label, colours, gutters, indent, folds, keys } = parts;
     /** @type {LineEditor} */
     this.editor = new LineEditor({ container, label, description: say.TAB_INDENTS, colours, indent, keys, gutters: ["faults", ...gutters],
-      more: [...(folds ? [folding(folds)] : []), this.eventHandlers()], calls: this.editorCalls() });
+      extensions: [...(folds ? [makeFolding(folds)] : []), this.makeEventHandlers()], calls: this.makeEditorCalls() });
     this.editor.onScroll(() => {
       if (this.pendingScrollTop === null && container.offsetHeight > 0) this.top = this.editor.getScrollInfo().top;
     });
@@ -76,7 +76,7 @@ export class TextEditor {
   }
 
   /** @returns {import("./line_editor.js").EditorCalls} */
-  editorCalls() {
+  makeEditorCalls() {
     const { calls } = this;
     return {
       handleEdits: (edits) => {
@@ -98,7 +98,7 @@ export class TextEditor {
   }
 
   /** @returns {import("@codemirror/state").Extension} */
-  eventHandlers() {
+  makeEventHandlers() {
     return EditorView.domEventHandlers({
       blur: () => {
         this.tabMovesFocus = true;
@@ -164,23 +164,23 @@ export class TextEditor {
 
   /**
    * Shows a session's text. If the text has not changed since it was last shown, restores its state.
-   * @param {string} name the session's id
+   * @param {string} sessionId the session's id
    * @param {string} text
    */
-  open(name, text) {
-    const { editor, storedTexts, name: previousName } = this;
+  open(sessionId, text) {
+    const { editor, storedTexts, sessionId: previousId } = this;
     const top = this.pendingScrollTop === null ? this.top : this.pendingScrollTop;
-    const storedText = storedTexts.get(name);
-    storedTexts.delete(name);
+    const storedText = storedTexts.get(sessionId);
+    storedTexts.delete(sessionId);
     const isUnchanged = storedText !== undefined && storedText.state.doc.toString() === text;
     const state = editor.swapState(isUnchanged ? storedText.state : editor.makeState(text));
-    if (previousName) storedTexts.set(previousName, { state, top });
+    if (previousId) storedTexts.set(previousId, { state, top });
     this.pendingLine = 0;
     this.hasCaret = false;
     this.scheduleScroll(isUnchanged ? storedText.top : 0);
-    this.name = name;
+    this.sessionId = sessionId;
     this.cachedText = null;
-    for (const oldestName of [...storedTexts.keys()].slice(0, -MAX_STORED_TEXTS)) storedTexts.delete(oldestName);
+    for (const oldestId of [...storedTexts.keys()].slice(0, -MAX_STORED_TEXTS)) storedTexts.delete(oldestId);
   }
 
   /**

@@ -1,10 +1,10 @@
 // The view of a text: its editor, its errors, its search bar, and a description of the word at the pointer or the caret.
 
-import { Cell, block, descendant, element, onClick } from "../ui/dom.js";
-import { editorKeys } from "../commands/keys.js";
+import { Cell, block, findDescendant, element, onClick } from "../ui/dom.js";
+import { makeEditorBindings } from "../commands/keys.js";
 import { CountMarks } from "./count_marks.js";
 import { ErrorView } from "./error_view.js";
-import { foldingActions } from "./fold_view.js";
+import { makeFoldingActions } from "./fold_view.js";
 import { LineMarks } from "./line_marks.js";
 import { LineValues } from "./line_values.js";
 import { MeaningView } from "./meaning_view.js";
@@ -27,13 +27,14 @@ import * as say from "../../words/text.js";
  *
  * The language of a text. `mark` begins a comment. `indent` is the indentation of a new line, by default that of the previous line. `folds`
  * are its foldable parts. `isInstruction` returns true if a word in upper case is an instruction, and is missing for texts without names.
- * `isUnsent` is true if the text is never sent to the bench. `wordsAt` describes the word at an offset in a line, both from 0. `valuesAt`
- * returns the current values of that word, and `makeEditable` makes a value editable. `complete` returns the completions for the word.
+ * `isUnsent` is true if the text is never sent to the bench. `describeWord` describes the word at an offset in a line, both from 0.
+ * `valuesAt` returns the current values of that word, and `makeEditable` makes a value editable. `complete` returns the completions for the
+ * word.
  * @typedef {{ mark: import("../../core/text/sendable_text.js").CommentMark, colours: import("./line_colours.js").Colours,
  *   gutters: string[], indent?: string,
  *   folds?: import("../../core/text/folding.js").Parts, isInstruction?: (word: string) => boolean,
  *   isUnsent?: boolean,
- *   wordsAt: (lines: string[], line: number, offset: number) => string,
+ *   describeWord: (lines: string[], line: number, offset: number) => string,
  *   valuesAt?: (text: string, offset: number) => Piece[], makeEditable?: import("./meaning_view.js").MakeEditable,
  *   complete: (lines: string[], line: number, offset: number) => Completion }} Language
  */
@@ -45,8 +46,8 @@ import * as say from "../../words/text.js";
  * @property {() => void} send Sends the text to the bench.
  * @property {() => void} [prove] Proves the properties in the text. Missing for other texts.
  * @property {(line: number) => void} toggleBreakpoint Sets or removes the breakpoint at a line.
- * @property {(line: number, what: BreakpointField) => void} [editBreakpoint] Opens a field of the breakpoint at a line. Missing for texts
- *   without breakpoints.
+ * @property {(line: number, fieldName: BreakpointField) => void} [editBreakpoint] Opens a field of the breakpoint at a line. Missing for
+ *   texts without breakpoints.
  * @property {(line: number, point: { left: number, bottom: number }) => void} [openMarginMenu] Opens the margin menu of a line at a point
  *   of the window, in pixels. Missing for texts without this menu.
  */
@@ -64,45 +65,46 @@ export class EditorView {
     this.language = language;
     this.calls = calls;
     const root = block(id);
-    const panel = descendant(root, ".paper", HTMLElement);
+    const panel = findDescendant(root, ".paper", HTMLElement);
     const container = element("div", { className: "text" });
     const list = element("ul", { "className": "fault-list", "aria-label": say.ERRORS });
     this.meaning = new MeaningView(language.makeEditable || (() => {}));
     this.sizeCell = new Cell(element("p", { className: "size" }));
     panel.append(container, list, element("div", { className: "strip" }, this.meaning.node, this.sizeCell.node));
-    this.status = new Cell(descendant(root, ".status-text", HTMLElement));
-    const label = descendant(root, "h2", HTMLElement).textContent || "";
+    this.status = new Cell(findDescendant(root, ".status-text", HTMLElement));
+    const label = findDescendant(root, "h2", HTMLElement).textContent || "";
     const { colours, gutters, indent, folds, isInstruction = () => false } = language;
-    this.editor = new TextEditor({ container, label, colours, gutters, indent, folds, keys: this.keys(), calls: this.textCalls() });
+    const [keys, textCalls] = [this.makeKeyMap(), this.makeTextCalls()];
+    this.editor = new TextEditor({ container, label, colours, gutters, indent, folds, keys, calls: textCalls });
     const { editor } = this.editor;
     /** @type {(faults: Fault[]) => void} the listener for changes of the errors */
-    this.onFaultsChange = () => {};
+    this.onErrorsChange = () => {};
     this.marks = new LineMarks(editor);
     this.counts = new CountMarks(editor, this.marks);
     this.lineValues = new LineValues(editor);
-    this.faults = new ErrorView(editor, this.marks, list, (fault) => this.goToFault(fault));
+    this.errorView = new ErrorView(editor, this.marks, list, (fault) => this.goToError(fault));
     this.search = new SearchBar(editor, panel, label);
-    this.names = new NameView(this.editor, panel, { isInstruction, showMessage: (words) => this.status.set(words) });
+    this.names = new NameView(this.editor, panel, { isInstruction, showMessage: (message) => this.status.set(message) });
     /** The timer that starts the description of the word at the pointer or the caret. */
     this.descriptionTimer = 0;
     /** The timer that updates the displayed size of the text. */
     this.sizeTimer = 0;
     this.listenToPointer(editor.getWrapperElement());
-    editor.onScroll(() => this.meaning.hideTip());
-    onClick(descendant(root, ".send", HTMLButtonElement), () => calls.send());
+    editor.onScroll(() => this.meaning.hideTooltip());
+    onClick(findDescendant(root, ".send", HTMLButtonElement), () => calls.send());
   }
 
   /** @returns {import("./text_editor.js").KeyMap} */
-  keys() {
+  makeKeyMap() {
     // CodeMirror has its own key bindings for undo and redo.
-    const actionEntries = Object.entries(this.editingActions()).filter(([name]) => name !== "undo" && name !== "redo");
+    const actionEntries = Object.entries(this.makeEditingActions()).filter(([name]) => name !== "undo" && name !== "redo");
     return {
-      ...editorKeys("text.assembleAndRun", () => this.calls.send()),
+      ...makeEditorBindings("text.assembleAndRun", () => this.calls.send()),
       ...Object.assign({}, ...actionEntries.map(([name, action]) => (
-        editorKeys(/** @type {import("../commands/command_table.js").CommandId} */ (`text.${name}`), action)))),
-      ...(this.calls.prove ? editorKeys("properties.prove", this.calls.prove) : {}),
-      ...editorKeys("debug.breakpoint", () => this.toggleBreakpoint()),
-      ...editorKeys("debug.condition", () => this.editBreakpoint("condition")),
+        makeEditorBindings(/** @type {import("../commands/command_table.js").CommandId} */ (`text.${name}`), action)))),
+      ...(this.calls.prove ? makeEditorBindings("properties.prove", this.calls.prove) : {}),
+      ...makeEditorBindings("debug.breakpoint", () => this.toggleBreakpoint()),
+      ...makeEditorBindings("debug.condition", () => this.editBreakpoint("condition")),
     };
   }
 
@@ -110,10 +112,12 @@ export class EditorView {
    * Returns the editing actions of this text, by their names in the command table.
    * @returns {Partial<Record<TextAction, () => void>>}
    */
-  editingActions() {
+  makeEditingActions() {
     const { folds, isInstruction, mark } = this.language;
-    const folding = Object.entries(folds ? foldingActions(folds) : {}).map(([name, action]) => [name, () => action(this.editor.editor)]);
+    const foldingActions = folds ? makeFoldingActions(folds) : {};
+    const folding = Object.entries(foldingActions).map(([name, action]) => [name, () => action(this.editor.editor)]);
     return {
+
       find: () => this.search.open(),
       replace: () => this.search.open(true),
       line: () => this.names.goToLine(),
@@ -133,13 +137,13 @@ export class EditorView {
    * @param {TextAction} name
    */
   performAction(name) {
-    const action = this.editingActions()[name];
+    const action = this.makeEditingActions()[name];
     if (!action) return;
     this.editor.editor.focus();
     action();
   }
 
-  /** Sets or clears a breakpoint at the caret's line. */
+  /** Sets or removes the breakpoint at the caret's line. */
   toggleBreakpoint() {
     this.calls.toggleBreakpoint(this.editor.editor.getCursor().line + 1);
   }
@@ -154,7 +158,7 @@ export class EditorView {
   }
 
   /** @returns {import("./text_editor.js").TextCalls} */
-  textCalls() {
+  makeTextCalls() {
     return {
       handleEdits: (edits) => this.handleEdits(edits),
       handleCaretMove: () => this.scheduleDescription(),
@@ -181,12 +185,12 @@ export class EditorView {
   /** @param {HTMLElement} wrapper */
   listenToPointer(wrapper) {
     wrapper.addEventListener("pointermove", (event) => {
-      this.meaning.hideTip();
+      this.meaning.hideTooltip();
       clearTimeout(this.descriptionTimer);
       this.descriptionTimer = window.setTimeout(() => this.describeAtPointer(event.clientX, event.clientY), REST_DELAY_MS);
     });
     wrapper.addEventListener("pointerleave", () => {
-      this.meaning.hideTip();
+      this.meaning.hideTooltip();
       this.scheduleDescription();
     });
   }
@@ -217,7 +221,7 @@ export class EditorView {
   /** Describes the word at the caret. */
   describeAtCaret() {
     const position = this.editor.editor.getCursor();
-    this.meaning.hideTip();
+    this.meaning.hideTooltip();
     this.meaning.set(this.valuesAt(position), this.messageOrHelpAt(position));
   }
 
@@ -226,7 +230,7 @@ export class EditorView {
    * @param {Position} position
    */
   messageOrHelpAt(position) {
-    return this.faults.messageAt(position) || this.language.wordsAt(this.lines, position.line, position.ch);
+    return this.errorView.messageAt(position) || this.language.describeWord(this.lines, position.line, position.ch);
   }
 
   /** Schedules the description of the word at the caret. The delay of REST_DELAY_MS keeps typing fast. */
@@ -240,7 +244,7 @@ export class EditorView {
   }
 
   set text(text) {
-    this.open(this.editor.name, text);
+    this.open(this.editor.sessionId, text);
   }
 
   /** The text as it is sent to the bench. */
@@ -259,16 +263,16 @@ export class EditorView {
 
   /**
    * Shows a session's text.
-   * @param {string} session the session's id
+   * @param {string} sessionId the session's id
    * @param {string} text
    */
-  open(session, text) {
+  open(sessionId, text) {
     this.counts.clear();
     this.lineValues.show(new Map());
     this.marks.forget();
-    this.showFaults([]);
+    this.showErrors([]);
     this.status.set("");
-    this.editor.open(session, text);
+    this.editor.open(sessionId, text);
     this.updateSize();
     this.meaning.set([], "");
   }
@@ -318,23 +322,23 @@ export class EditorView {
    * @param {Fault[]} faults
    * @param {string} [footnote]
    */
-  showFaults(faults, footnote = "") {
-    this.faults.show(faults, footnote);
-    this.onFaultsChange(faults);
+  showErrors(faults, footnote = "") {
+    this.errorView.show(faults, footnote);
+    this.onErrorsChange(faults);
     this.scheduleDescription();
   }
 
   /** @param {Fault} fault the error to go to */
-  goToFault({ line, from }) {
+  goToError({ line, from }) {
     this.editor.goTo({ line: line - 1, ch: from });
   }
 
   /**
    * Shows a message about the text.
-   * @param {string} words
+   * @param {string} message
    */
-  showMessage(words) {
-    this.status.set(words);
+  showMessage(message) {
+    this.status.set(message);
   }
 
   /** @param {Edit[]} edits */

@@ -17,8 +17,8 @@ import { COLOURS } from "../../core/text/test_colours.js";
 /**
  * The callbacks to the tab that contains the editor.
  * @typedef {object} TabCalls
- * @property {() => Promise<TextFault[]>} faults Resolves to the errors of the board, the program and this text.
- * @property {(count: number) => void} showFaultCount Shows the number of errors in this text.
+ * @property {() => Promise<TextFault[]>} findErrors Resolves to the errors of the board, the program and this text.
+ * @property {(count: number) => void} showErrorCount Shows the number of errors in this text.
  * @property {() => void} send Performs the action of the tab's first button.
  * @property {() => void} [prove] Proves the properties in the text. Missing for tests.
  */
@@ -36,8 +36,8 @@ import { COLOURS } from "../../core/text/test_colours.js";
  * A kind of text: tests or properties. `name` is also a part of the editor's id. `firstButton` is the id of the button that inserts
  * `firstText`. `forms` are the syntax forms of its lines. `wordsAt` describes a word, and `complete` completes it.
  * @template Forms
- * @typedef {{ name: "tests" | "properties", firstButton: string, firstText: (names: Names) => string | Promise<string>, forms: Forms,
- *   wordsAt: (lines: string[], line: number, offset: number, forms: Forms) => string,
+ * @typedef {{ name: "tests" | "properties", insertButton: string, firstText: (names: Names) => string | Promise<string>, forms: Forms,
+ *   describeWord: (lines: string[], line: number, offset: number, forms: Forms) => string,
  *   complete: (lines: string[], line: number, offset: number, names: Names, forms: Forms) => Completion }} TextKind
  */
 
@@ -60,7 +60,7 @@ export class TextTab {
       gutters: ["numbers"],
       folds: PARTS.tests,
       isUnsent: true,
-      wordsAt: (lines, line, offset) => kind.wordsAt(lines, line, offset, kind.forms),
+      describeWord: (lines, line, offset) => kind.describeWord(lines, line, offset, kind.forms),
       complete: (lines, line, offset) => kind.complete(lines, line, offset, this.names(), kind.forms),
     }, {
       handleEdits: () => this.handleEdit(),
@@ -68,8 +68,8 @@ export class TextTab {
       prove: tabCalls.prove,
       toggleBreakpoint: () => {},
     });
-    this.faults = new LiveErrors(() => this.findFaults(), (faults) => this.showFaults(faults), calls.reportFailure);
-    onClick(button(kind.firstButton), () => this.insertFirstText().catch(calls.reportFailure));
+    this.liveErrors = new LiveErrors(() => this.findErrors(), (faults) => this.showErrors(faults), calls.reportFailure);
+    onClick(button(kind.insertButton), () => this.insertFirstText().catch(calls.reportFailure));
   }
 
   /** @returns {Names} */
@@ -88,13 +88,13 @@ export class TextTab {
 
   handleEdit() {
     this.offerFirstText();
-    this.faults.handleEdit();
+    this.liveErrors.handleEdit();
     this.calls.handleEdit();
   }
 
   /** Shows the button for a first text only while the editor is empty. */
   offerFirstText() {
-    button(this.kind.firstButton).hidden = this.editor.text.trim() !== "";
+    button(this.kind.insertButton).hidden = this.editor.text.trim() !== "";
   }
 
   /**
@@ -103,22 +103,22 @@ export class TextTab {
    */
   refresh() {
     this.offerFirstText();
-    this.faults.checkNow().catch(this.calls.reportFailure);
+    this.liveErrors.checkNow().catch(this.calls.reportFailure);
   }
 
   /** Resolves to the errors of the board, the program and this text. Resolves to an empty list if this text is empty. */
-  async findFaults() {
-    return this.editor.text.trim() === "" ? [] : this.tabCalls.faults();
+  async findErrors() {
+    return this.editor.text.trim() === "" ? [] : this.tabCalls.findErrors();
   }
 
   /** @param {TextFault[]} faults the errors of the board, the program and this text */
-  showFaults(faults) {
+  showErrors(faults) {
     const { lines } = this.editor;
     const entries = faults.filter(({ text }) => text === this.kind.name).map(({ line, number, words }) => {
       const text = lines[line - 1] || "";
       return { number, line, from: text.length - text.trimStart().length, to: text.length, words };
     });
-    this.editor.showFaults(entries.slice(0, MAX_LISTED_ERRORS), moreErrors(entries, MAX_LISTED_ERRORS));
-    this.tabCalls.showFaultCount(entries.length);
+    this.editor.showErrors(entries.slice(0, MAX_LISTED_ERRORS), moreErrors(entries, MAX_LISTED_ERRORS));
+    this.tabCalls.showErrorCount(entries.length);
   }
 }

@@ -35,7 +35,7 @@ export class Clock {
     this.mustRunAgain = false;
     /** The id of the requested animation frame. */
     this.frameRequest = 0;
-    this.time = new RealTime(0, 0);
+    this.realTime = new RealTime(0, 0);
   }
 
   get isFull() {
@@ -53,8 +53,8 @@ export class Clock {
   }
 
   /** The time in milliseconds up to which cycles have been simulated. */
-  get now() {
-    return this.isFull ? performance.now() : this.time.reached;
+  get simulatedTime() {
+    return this.isFull ? performance.now() : this.realTime.reached;
   }
 
   /**
@@ -63,7 +63,7 @@ export class Clock {
    * @param {number} cycles
    */
   displayDuration(cycles) {
-    return this.isFull || this.speed.isByInstruction ? Infinity : (1000 * cycles) / this.time.perSecond;
+    return this.isFull || this.speed.isByInstruction ? Infinity : (1000 * cycles) / this.realTime.perSecond;
   }
 
   start() {
@@ -82,7 +82,7 @@ export class Clock {
    */
   setSpeed(speed) {
     this.speed = speed;
-    this.time.perSecond = speed.isByInstruction ? 1 : CYCLES_PER_SECOND / speed.slowdown;
+    this.realTime.perSecond = speed.isByInstruction ? 1 : CYCLES_PER_SECOND / speed.slowdown;
     if (this.isRunning) this.continueRun();
   }
 
@@ -92,14 +92,14 @@ export class Clock {
       this.calls.runFull().catch(this.calls.reportFailure);
       return;
     }
-    this.time.restart(performance.now(), Date.now());
-    if (document.hidden) this.time.hide();
+    this.realTime.restart(performance.now(), Date.now());
+    if (document.hidden) this.realTime.hide();
     this.requestFrame();
   }
 
   /** Records that the page is hidden. */
   handlePageHidden() {
-    this.time.hide();
+    this.realTime.hide();
   }
 
   requestFrame() {
@@ -134,9 +134,9 @@ export class Clock {
   runFrame(now, earlyTime = 0, key = null) {
     // Some browsers still send animation frames to a hidden page. Cycles that become due during a call run in the next frame.
     if (document.hidden || this.isBusy) return false;
-    const skippedGap = this.time.skipGap(now, Date.now());
+    const skippedGap = this.realTime.skipGap(now, Date.now());
     if (skippedGap && skippedGap.gap >= MIN_GAP_MS) this.calls.reportStandstill(skippedGap.gap, skippedGap.wasHidden);
-    const dueCycles = this.time.takeDueCycles(now, earlyTime);
+    const dueCycles = this.realTime.takeDueCycles(now, earlyTime);
     if (dueCycles > 0) this.runDueCycles(dueCycles, key);
     return dueCycles > 0;
   }

@@ -16,11 +16,11 @@ export class CyclesView {
     this.lastShowTime = 0;
     this.resetCell = new Cell(element("b"));
     this.stopCell = new Cell(element("b"));
-    this.markWord = new Cell(element("span"));
+    this.markLabel = new Cell(element("span"));
     this.cyclesSinceMark = new Cell(element("b"));
     const title = say.MARKS_CYCLE;
-    const mark = element("button", { id: "mark", type: "button", title }, say.MARK);
-    onClick(mark, () => {
+    const markButton = element("button", { id: "mark", type: "button", title }, say.MARK);
+    onClick(markButton, () => {
       this.cycles.mark();
       this.show();
       onMark();
@@ -29,7 +29,7 @@ export class CyclesView {
     root.replaceChildren(
       element("span", { title: say.OR_SINCE_BEGUN }, say.SINCE_RESET, this.resetCell.node),
       element("span", { title: say.IN_LAST_RUN }, say.SINCE_STOP, this.stopCell.node),
-      element("span", {}, mark, " ", this.markWord.node, this.cyclesSinceMark.node),
+      element("span", {}, markButton, " ", this.markLabel.node, this.cyclesSinceMark.node),
     );
     root.hidden = false;
   }
@@ -59,7 +59,7 @@ export class CyclesView {
     const { sinceReset, sinceStop, marked } = this.cycles.counts;
     this.resetCell.set(formatCycles(sinceReset));
     this.stopCell.set(formatCycles(sinceStop));
-    this.markWord.set(marked === null ? "" : this.cycles.marks.length === 1 ? say.SINCE_MARK : say.BETWEEN_MARKS);
+    this.markLabel.set(marked === null ? "" : this.cycles.marks.length === 1 ? say.SINCE_MARK : say.BETWEEN_MARKS);
     this.cyclesSinceMark.set(marked === null ? "" : formatCycles(marked));
   }
 }

@@ -14,11 +14,11 @@ import * as say from "../../words/time.js";
 /**
  * The callbacks of the bar.
  * @typedef {object} HistoryCalls
- * @property {(goal: Goal) => void} goOn Runs until a goal is reached.
+ * @property {(goal: Goal) => void} runToGoal Runs until a goal is reached.
  * @property {(goal: BackGoal) => void} goBack Goes back to a goal.
  * @property {() => void} goForward Returns to the state before the last move back.
  * @property {() => import("../../core/conditions/condition_language.js").Names} names Returns the names that conditions can use.
- * @property {(words: string) => void} showMessage Shows a message in the status line.
+ * @property {(message: string) => void} showMessage Shows a message in the status line.
  */
 
 const MAX_INSTRUCTIONS = 10000000;
@@ -50,10 +50,10 @@ export class HistoryView {
     onClick(button("back-breakpoint"), () => calls.goBack({ kind: "arrival", place: "" }));
     onClick(this.forwardButton, () => calls.goForward());
     onClick(button("step-many"), () => this.stepByCount());
-    onClick(button("until-change"), () => this.useTypedGoal((goal) => calls.goOn(goal)));
+    onClick(button("until-change"), () => this.useTypedGoal((goal) => calls.runToGoal(goal)));
     onClick(button("back-change"), () => this.useTypedGoal((goal) => calls.goBack(goal)));
     this.onEnter(this.countField, () => this.stepByCount());
-    this.onEnter(this.placeField, () => this.useTypedGoal((goal) => calls.goOn(goal)));
+    this.onEnter(this.placeField, () => this.useTypedGoal((goal) => calls.runToGoal(goal)));
   }
 
   /**
@@ -94,7 +94,7 @@ export class HistoryView {
   stepByCount() {
     const count = parseCount(this.countField.value, MAX_INSTRUCTIONS);
     this.countField.setAttribute("aria-invalid", String(count === 0));
-    if (count > 0) this.calls.goOn({ kind: "count", count });
+    if (count > 0) this.calls.runToGoal({ kind: "count", count });
     else this.calls.showMessage(say.enterCount(MAX_INSTRUCTIONS.toLocaleString("en")));
   }
 

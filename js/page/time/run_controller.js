@@ -97,15 +97,15 @@ export class RunController {
     return this.clock.isRunning && !this.clock.isSlow;
   }
 
-  /** @param {string} words the text of the status line */
-  showMessage(words) {
+  /** @param {string} message the text of the status line */
+  showMessage(message) {
     // A narrow status bar truncates long messages, so the tooltip shows them in full.
-    if (this.status.set(words)) this.status.node.title = words;
+    if (this.status.set(message)) this.status.node.title = message;
   }
 
   /** Starts a new measurement of the simulation rate. */
   startRateMeasurement() {
-    this.rate = new Rate(this.clock.now);
+    this.rate = new Rate(this.clock.simulatedTime);
     this.showRate();
   }
 
@@ -143,7 +143,7 @@ export class RunController {
     else delete session.record.goal;
   }
 
-  /** Forgets the goal after a reset, because the subroutine that it waits for can no longer return. */
+  /** Forgets the goal after a reset, because the subroutine that the goal waits for can no longer return. */
   forgetGoal() {
     this.goal = null;
   }
@@ -207,9 +207,9 @@ export class RunController {
 
   /**
    * Ends the run and shows why time is paused.
-   * @param {string} words the reason
+   * @param {string} reason the reason
    */
-  endRun(words) {
+  endRun(reason) {
     const { bench, currentSession, calls } = this;
     this.clock.stop();
     this.goal = null;
@@ -217,7 +217,7 @@ export class RunController {
     if (currentSession.session) currentSession.session.record.runs = false;
     this.storeGoal(null);
     this.showRunning(false);
-    this.showMessage(words);
+    this.showMessage(reason);
     this.showRate();
     calls.drawSlowViews();
     calls.drawListing();
@@ -260,7 +260,7 @@ export class RunController {
    */
   handleFrame(frame) {
     const { currentSession } = this;
-    const isNewRate = this.rate.add(frame.cycles, this.clock.now);
+    const isNewRate = this.rate.add(frame.cycles, this.clock.simulatedTime);
     if (frame.stop) this.clock.stop();
     this.sound.playLevels(frame.heard);
     this.calls.showFrame(frame);

@@ -4,8 +4,8 @@ import { element } from "./dom.js";
 import * as say from "../../words/page.js";
 
 /**
- * @typedef {{ title: string, words: (string | HTMLElement)[], accept: string, refuse: string }} Question a question to the user; `words`
- *   are its paragraphs, `accept` and `refuse` the labels of its buttons
+ * @typedef {{ title: string, paragraphs: (string | HTMLElement)[], acceptLabel: string, refuseLabel: string }} Question a question to the
+ *   user; if `acceptLabel` is "", the dialog has no accept button
  */
 
 const ACCEPTED = "accepted";
@@ -13,11 +13,11 @@ const ACCEPTED = "accepted";
 export class ConfirmDialog {
   constructor() {
     this.title = element("h2", { id: "ask-title" });
-    this.words = element("div");
-    this.accept = this.button(say.YES, ACCEPTED);
-    this.refuse = this.button(say.NO, "");
-    this.dialog = element("dialog", { id: "ask", "aria-labelledby": "ask-title" }, this.title, this.words,
-      element("div", { className: "bar" }, this.accept, this.refuse));
+    this.body = element("div");
+    this.acceptButton = this.makeButton(say.YES, ACCEPTED);
+    this.refuseButton = this.makeButton(say.NO, "");
+    this.dialog = element("dialog", { id: "ask", "aria-labelledby": "ask-title" }, this.title, this.body,
+      element("div", { className: "bar" }, this.acceptButton, this.refuseButton));
     /** @type {(isAccepted: boolean) => void} */
     this.resolveQuestion = () => {};
     // If the dialog has been opened again, this event belongs to an earlier question, so ignore it.
@@ -31,7 +31,7 @@ export class ConfirmDialog {
    * @param {string} word
    * @param {string} value the dialog's return value
    */
-  button(word, value) {
+  makeButton(word, value) {
     const node = element("button", { type: "button" }, word);
     node.addEventListener("click", () => this.dialog.close(value));
     return node;
@@ -42,14 +42,14 @@ export class ConfirmDialog {
    * @param {Question} question
    * @returns {Promise<boolean>}
    */
-  ask({ title, words, accept, refuse }) {
+  ask({ title, paragraphs, acceptLabel, refuseLabel }) {
     this.resolveQuestion(false);
     if (this.dialog.open) this.dialog.close("");
     this.title.textContent = title;
-    this.words.replaceChildren(...words.map((part) => (typeof part === "string" ? element("p", {}, part) : part)));
-    this.accept.textContent = accept;
-    this.accept.hidden = accept === "";
-    this.refuse.textContent = refuse;
+    this.body.replaceChildren(...paragraphs.map((part) => (typeof part === "string" ? element("p", {}, part) : part)));
+    this.acceptButton.textContent = acceptLabel;
+    this.acceptButton.hidden = acceptLabel === "";
+    this.refuseButton.textContent = refuseLabel;
     this.dialog.returnValue = "";
     return new Promise((resolve) => {
       this.resolveQuestion = resolve;

@@ -37,7 +37,7 @@ export const field = (id) => byId(id, HTMLInputElement);
  * @param {new () => Kind} kind
  * @returns {Kind}
  */
-export function descendant(root, selector, kind) {
+export function findDescendant(root, selector, kind) {
   const node = root.querySelector(selector);
   if (!(node instanceof kind)) throw new Error(`${root.id} has no ${selector}`);
   return node;
@@ -155,10 +155,10 @@ export function makeOneTabStop(root, columns) {
     const index = buttons.findIndex((node) => node === document.activeElement);
     if (index < 0) return;
     event.preventDefault();
-    const next = buttons[index + moves[event.key]()];
-    if (!next) return;
-    for (const node of buttons) node.tabIndex = node === next ? 0 : -1;
-    next.focus();
+    const nextButton = buttons[index + moves[event.key]()];
+    if (!nextButton) return;
+    for (const node of buttons) node.tabIndex = node === nextButton ? 0 : -1;
+    nextButton.focus();
   });
   root.addEventListener("focusin", (event) => {
     for (const node of root.querySelectorAll("button")) node.tabIndex = node === event.target ? 0 : -1;

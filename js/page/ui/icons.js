@@ -48,8 +48,8 @@ export const ICONS = /** @type {IconName[]} */ (Object.keys(SHAPES));
  * @returns {SVGElement}
  */
 export function icon(name) {
-  const [lines, filled = ""] = SHAPES[name].split("|");
+  const [lines, filledShapes = ""] = SHAPES[name].split("|");
   const parts = [...(lines ? [svgElement("path", { d: lines })] : []),
-    ...(filled ? [svgElement("path", { class: "filled", d: filled })] : [])];
+    ...(filledShapes ? [svgElement("path", { class: "filled", d: filledShapes })] : [])];
   return svgElement("svg", { "class": "icon", "viewBox": "0 0 16 16", "aria-hidden": "true", "focusable": "false" }, ...parts);
 }

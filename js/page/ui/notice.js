@@ -17,7 +17,7 @@ import * as say from "../../words/page.js";
  * - "": any other error.
  * @typedef {"" | "kept" | "session" | "store" | "refusal" | "share" | "file" | "left" | "unended" | "undo"} NoticeKind
  * @typedef {{ word: string, act: () => void }} NoticeAction a button in the notice
- * @typedef {{ kind: NoticeKind, words: string, node: HTMLElement, message: import("./notice_list.js").Message, timer: number }} Row
+ * @typedef {{ kind: NoticeKind, text: string, node: HTMLElement, message: import("./notice_list.js").Message, timer: number }} Row
  */
 
 /**
@@ -37,11 +37,11 @@ const MAX_VISIBLE_NOTICES = 3;
 /**
  * Returns the notices to remove so that at most MAX_VISIBLE_NOTICES remain: first the oldest success notices, then the oldest others. The
  * newest notice stays.
- * @template {{ kind: NoticeKind }} Each
- * @param {Each[]} rows the notices, newest first
- * @returns {Each[]}
+ * @template {{ kind: NoticeKind }} AnyRow
+ * @param {AnyRow[]} rows the notices, newest first
+ * @returns {AnyRow[]}
  */
-export function noticesToRemove(rows) {
+export function findNoticesToRemove(rows) {
   const olderRows = rows.slice(1).reverse();
   const successes = olderRows.filter(({ kind }) => SUCCESS_KINDS.has(kind));
   const removalOrder = [...successes, ...olderRows.filter(({ kind }) => !SUCCESS_KINDS.has(kind))];
@@ -51,7 +51,7 @@ export function noticesToRemove(rows) {
 export class Notice {
   constructor() {
     this.block = block("notice");
-    this.list = new NoticeList((message, action) => this.act(message, action));
+    this.list = new NoticeList((message, action) => this.executeAction(message, action));
     /** @type {Row[]} the visible notices, newest first */
     this.rows = [];
     /** @type {Map<NoticeKind, string>} the texts of dismissed notices about lasting errors */
@@ -59,31 +59,31 @@ export class Notice {
     /** @type {HTMLElement | null} the element that had the focus before a notice received the focus */
     this.priorFocus = null;
     this.block.addEventListener("focusin", (event) => {
-      const from = event.relatedTarget;
-      if (from instanceof HTMLElement && !this.block.contains(from)) this.priorFocus = from;
+      const previousFocus = event.relatedTarget;
+      if (previousFocus instanceof HTMLElement && !this.block.contains(previousFocus)) this.priorFocus = previousFocus;
     });
   }
 
   /**
    * Shows a notice, unless a notice about the same lasting error is visible or was dismissed.
-   * @param {string} words
+   * @param {string} text
    * @param {NoticeKind} kind
    * @param {NoticeAction[]} actions
    */
-  show(words, kind = "", ...actions) {
-    if (this.dismissedTexts.get(kind) === words) return;
-    if (LASTING_KINDS.has(kind) && this.rows.some((row) => row.kind === kind && row.words === words)) return;
+  show(text, kind = "", ...actions) {
+    if (this.dismissedTexts.get(kind) === text) return;
+    if (LASTING_KINDS.has(kind) && this.rows.some((row) => row.kind === kind && row.text === text)) return;
     if (!MULTIPLE_KINDS.has(kind)) this.hide(kind);
-    const message = { words, time: new Date(), actions };
+    const message = { text, time: new Date(), actions };
     this.list.add(message);
-    const row = { kind, words, node: element("div", { className: "notice", role: "alert" }, element("p", {}, words)), message, timer: 0 };
+    const row = { kind, text, node: element("div", { className: "notice", role: "alert" }, element("p", {}, text)), message, timer: 0 };
     row.node.append(...actions.map((action) => (
-      this.button(action.word, say.noticeText(action.word, words), () => this.act(message, action)))));
-    row.node.append(this.button(say.DISMISS, say.DISMISS_NOTICE, () => this.dismiss(row), "dismiss"));
+      this.makeButton(action.word, say.noticeText(action.word, text), () => this.executeAction(message, action)))));
+    row.node.append(this.makeButton(say.DISMISS, say.DISMISS_NOTICE, () => this.dismiss(row), "dismiss"));
     this.rows.unshift(row);
     this.block.prepend(row.node);
     this.block.hidden = false;
-    for (const oldRow of noticesToRemove(this.rows)) this.remove(oldRow);
+    for (const oldRow of findNoticesToRemove(this.rows)) this.remove(oldRow);
     if (SUCCESS_KINDS.has(kind)) this.removeLater(row);
   }
 
@@ -109,7 +109,7 @@ export class Notice {
 
   /** @param {Row} row */
   dismiss(row) {
-    if (LASTING_KINDS.has(row.kind)) this.dismissedTexts.set(row.kind, row.words);
+    if (LASTING_KINDS.has(row.kind)) this.dismissedTexts.set(row.kind, row.text);
     this.remove(row);
   }
 
@@ -118,7 +118,7 @@ export class Notice {
    * @param {import("./notice_list.js").Message} message
    * @param {NoticeAction} action
    */
-  act(message, action) {
+  executeAction(message, action) {
     message.actions = [];
     for (const row of this.rows.filter((candidate) => candidate.message === message)) this.remove(row);
     action.act();
@@ -143,16 +143,16 @@ export class Notice {
   /**
    * @param {string} word
    * @param {string} label
-   * @param {() => void} act
+   * @param {() => void} action
    * @param {string} className
    */
-  button(word, label, act, className = "") {
+  makeButton(word, label, action, className = "") {
     const node = element("button", { type: "button", className }, word);
     node.setAttribute("aria-label", label);
     node.addEventListener("click", (event) => {
       // After a click with the pointer, the board must receive the keys again.
       if (event.detail > 0) node.blur();
-      act();
+      action();
     });
     return node;
   }

@@ -5,7 +5,7 @@ import * as say from "../../words/page.js";
 
 /**
  * @typedef {import("./notice.js").NoticeAction} NoticeAction
- * @typedef {{ words: string, time: Date, actions: NoticeAction[] }} Message a notice: its text, its time, and its actions; the
+ * @typedef {{ text: string, time: Date, actions: NoticeAction[] }} Message a notice: its text, its time, and its actions; the
  *   list of actions is empty after the user has executed an action
  */
 
@@ -19,9 +19,9 @@ export class NoticeList {
     /** @type {Message[]} the past notices, newest first */
     this.messages = [];
     this.list = element("ul", { "aria-label": say.NOTICES });
-    const close = makeButton(say.CLOSE, () => this.dialog.close());
+    const closeButton = makeButton(say.CLOSE, () => this.dialog.close());
     this.dialog = element("dialog", { "id": "notices", "aria-labelledby": "notices-title" },
-      element("div", { className: "bar" }, element("h2", { id: "notices-title" }, say.NOTICES), close), this.list);
+      element("div", { className: "bar" }, element("h2", { id: "notices-title" }, say.NOTICES), closeButton), this.list);
     document.body.append(this.dialog);
   }
 
@@ -42,7 +42,7 @@ export class NoticeList {
     const buttons = message.actions.map((action) => makeButton(action.word, () => {
       this.dialog.close();
       this.act(message, action);
-    }, { "aria-label": say.noticeText(action.word, message.words) }));
-    return element("li", {}, element("small", {}, time), element("span", { className: "grow" }, message.words), ...buttons);
+    }, { "aria-label": say.noticeText(action.word, message.text) }));
+    return element("li", {}, element("small", {}, time), element("span", { className: "grow" }, message.text), ...buttons);
   }
 }

@@ -6,7 +6,7 @@ import * as say from "../../words/workbench.js";
 
 /**
  * @typedef {import("./preferences.js").Preferences} Preferences
- * @typedef {{ id: string, name: string, node: HTMLElement, isOpen: Switch, checkBox: HTMLInputElement }} Panel
+ * @typedef {{ id: string, name: string, node: HTMLElement, openSwitch: Switch, checkBox: HTMLInputElement }} Panel
  */
 
 /** The key of the stored preference for the maximised panel. */
@@ -16,7 +16,7 @@ const MAXIMIZED_KEY = "full";
  * Returns the row at the top of a panel: the panel's row of tabs, or a new row that contains its heading.
  * @param {HTMLElement} panel
  */
-function panelHead(panel) {
+function prepareHead(panel) {
   const head = panel.querySelector(".tab-row, h2") || panel;
   if (!head.matches("h2")) return head;
   const row = element("div", { className: "panel-head" });
@@ -35,7 +35,7 @@ export class Panels {
     this.resetOtherParts = reset;
     this.menu = block("view-menu");
     this.viewButton = button("view-button");
-    this.isMenuOpen = new Switch((isOpen) => {
+    this.menuSwitch = new Switch((isOpen) => {
       this.menu.hidden = !isOpen;
       this.viewButton.setAttribute("aria-expanded", String(isOpen));
     });
@@ -57,21 +57,21 @@ export class Panels {
   makePanel(id, name) {
     const node = block(id);
     const checkBox = element("input", { type: "checkbox", autocomplete: "off" });
-    const isOpen = new Switch((isOn) => node.classList.toggle("closed", !isOn));
-    isOpen.set(this.preferences.get(`panel.${id}`) !== "closed");
-    checkBox.checked = isOpen.isOn;
+    const openSwitch = new Switch((isOn) => node.classList.toggle("closed", !isOn));
+    openSwitch.set(this.preferences.get(`panel.${id}`) !== "closed");
+    checkBox.checked = openSwitch.isOn;
     checkBox.addEventListener("change", () => this.open(id, checkBox.checked));
     const tools = element("span", { className: "panel-tools" },
       makeButton("\u25A1", () => this.toggleFull(id), { "title": say.fullSize(name), "aria-label": say.fullSize(name), "tabIndex": -1 }),
       makeButton("\u00D7", () => this.open(id, false), { "title": say.closes(name), "aria-label": say.closes(name), "tabIndex": -1 }));
-    panelHead(node).append(tools);
-    return { id, name, node, isOpen, checkBox };
+    prepareHead(node).append(tools);
+    return { id, name, node, openSwitch, checkBox };
   }
 
   /** @param {Panel} panel */
   makeMenuItem({ id, name, checkBox }) {
     const fullButton = makeButton(say.FULL_SIZE, () => {
-      this.isMenuOpen.set(false);
+      this.menuSwitch.set(false);
       this.open(id, true);
       this.setFull(id);
     }, { "aria-label": say.fullSize(name) });
@@ -79,15 +79,15 @@ export class Panels {
   }
 
   addListeners() {
-    onClick(this.viewButton, () => this.isMenuOpen.set(!this.isMenuOpen.isOn));
+    onClick(this.viewButton, () => this.menuSwitch.set(!this.menuSwitch.isOn));
     document.addEventListener("pointerdown", ({ target }) => {
-      if (target instanceof Node && !this.menu.contains(target) && !this.viewButton.contains(target)) this.isMenuOpen.set(false);
+      if (target instanceof Node && !this.menu.contains(target) && !this.viewButton.contains(target)) this.menuSwitch.set(false);
     });
     for (const node of [this.menu, this.viewButton]) {
       node.addEventListener("keydown", (event) => {
-        if (event.key !== "Escape" || !this.isMenuOpen.isOn) return;
+        if (event.key !== "Escape" || !this.menuSwitch.isOn) return;
         event.stopPropagation();
-        this.isMenuOpen.set(false);
+        this.menuSwitch.set(false);
         this.viewButton.focus();
       });
     }
@@ -106,7 +106,7 @@ export class Panels {
     const panel = this.find(id);
     if (!panel) return;
     if (!isOpen && this.maximizedId === id) this.setFull("");
-    panel.isOpen.set(isOpen);
+    panel.openSwitch.set(isOpen);
     panel.checkBox.checked = isOpen;
     this.preferences.set(`panel.${id}`, isOpen ? "" : "closed");
     this.updateColumns();
@@ -115,15 +115,15 @@ export class Panels {
   /** @param {string} id */
   toggle(id) {
     const panel = this.find(id);
-    if (panel) this.open(id, !panel.isOpen.isOn);
+    if (panel) this.open(id, !panel.openSwitch.isOn);
   }
 
   /** Hides the columns that have no open panels, so that the other columns use their space. */
   updateColumns() {
     const side = block("side");
     const { classList } = document.body;
-    classList.toggle("no-front", !this.panels.some(({ id, isOpen }) => id === "front" && isOpen.isOn));
-    classList.toggle("no-side", !this.panels.some(({ node, isOpen }) => side.contains(node) && isOpen.isOn));
+    classList.toggle("no-front", !this.panels.some(({ id, openSwitch }) => id === "front" && openSwitch.isOn));
+    classList.toggle("no-side", !this.panels.some(({ node, openSwitch }) => side.contains(node) && openSwitch.isOn));
   }
 
   /** @param {string} id */
@@ -144,7 +144,7 @@ export class Panels {
 
   /** Restores the initial layout. */
   reset() {
-    this.isMenuOpen.set(false);
+    this.menuSwitch.set(false);
     this.setFull("");
     for (const { id } of this.panels) this.open(id, true);
     this.resetOtherParts();

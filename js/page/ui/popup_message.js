@@ -2,7 +2,7 @@
 
 import { element } from "./dom.js";
 
-/** For this time in milliseconds after a click, messages appear at the position of the click. */
+/** The time in milliseconds after a click during which messages appear at the position of the click. */
 const CLICK_ANCHOR_MS = 3000;
 /** The distance in pixels between a message and the element above it, and between a message and the edges of the window. */
 const GAP = 4;
@@ -33,17 +33,17 @@ export class PopupMessage {
   }
 
   /**
-   * @param {string} words
+   * @param {string} message
    * @param {HTMLElement} [anchor] the element above the message; by default, the position of the last click, or the focused element
    */
-  show(words, anchor) {
-    this.node.textContent = words;
+  show(message, anchor) {
+    this.node.textContent = message;
     this.node.hidden = false;
-    putBelow(this.node, this.anchorBox(anchor), GAP);
+    putBelow(this.node, this.findAnchorBox(anchor), GAP);
   }
 
   /** @param {HTMLElement} [anchor] */
-  anchorBox(anchor) {
+  findAnchorBox(anchor) {
     const { left, bottom, time } = this.lastClick;
     if (!anchor && performance.now() - time < CLICK_ANCHOR_MS) return { left, bottom: bottom + GAP };
     return (anchor || document.activeElement || document.body).getBoundingClientRect();

@@ -18,16 +18,16 @@ export class Regions {
     this.preferences = preferences;
     this.marks = REGIONS.map((name) => {
       onClick(button(`region-${name}`), () => this.show(name));
-      return { name, isPressed: pressedSwitch(button(`region-${name}`)) };
+      return { name, buttonSwitch: pressedSwitch(button(`region-${name}`)) };
     });
-    this.drawer = new Switch((isOpen) => {
+    this.drawerSwitch = new Switch((isOpen) => {
       button("drawer-button").setAttribute("aria-expanded", String(isOpen));
       document.body.classList.toggle("drawer-open", isOpen);
     });
-    onClick(button("drawer-button"), () => this.drawer.set(!this.drawer.isOn));
+    onClick(button("drawer-button"), () => this.drawerSwitch.set(!this.drawerSwitch.isOn));
     block("side").addEventListener("keydown", (event) => {
-      if (event.key !== "Escape" || !this.drawer.isOn || event.defaultPrevented) return;
-      this.drawer.set(false);
+      if (event.key !== "Escape" || !this.drawerSwitch.isOn || event.defaultPrevented) return;
+      this.drawerSwitch.set(false);
       button("drawer-button").focus();
     });
     this.draw(REGIONS.find((name) => name === preferences.get(REGION_KEY)) || "board");
@@ -42,7 +42,7 @@ export class Regions {
   /** @param {RegionName} name */
   draw(name) {
     for (const mark of this.marks) {
-      mark.isPressed.set(mark.name === name);
+      mark.buttonSwitch.set(mark.name === name);
       document.body.classList.toggle(`region-${mark.name}`, mark.name === name);
     }
   }
@@ -54,7 +54,7 @@ export class Regions {
   reveal(panel) {
     if (block("side").contains(panel)) {
       this.show("debug");
-      this.drawer.set(true);
+      this.drawerSwitch.set(true);
     } else if (block("dock").contains(panel)) this.show("more");
     else this.show(block("texts").contains(panel) ? "source" : "board");
   }

@@ -24,16 +24,16 @@ const SIZE_CHANGES_BY_KEY = {
 export class Splitter {
   /**
    * @param {Preferences} preferences
-   * @param {SplitterOptions} border
+   * @param {SplitterOptions} options
    */
-  constructor(preferences, border) {
+  constructor(preferences, options) {
     this.preferences = preferences;
-    this.border = border;
-    this.node = block(border.id);
-    this.panel = block(border.panel);
-    this.isUpright = border.side === "left" || border.side === "right";
-    this.node.setAttribute("aria-valuemin", String(border.min));
-    this.node.setAttribute("aria-valuemax", String(border.max));
+    this.options = options;
+    this.node = block(options.id);
+    this.panel = block(options.panel);
+    this.isUpright = options.side === "left" || options.side === "right";
+    this.node.setAttribute("aria-valuemin", String(options.min));
+    this.node.setAttribute("aria-valuemax", String(options.max));
     /** The panel's size minus the pointer's position at the start of the drag. */
     this.dragOffset = 0;
     this.node.addEventListener("pointerdown", (event) => {
@@ -47,12 +47,12 @@ export class Splitter {
     this.node.addEventListener("focus", () => this.showValue());
     this.node.addEventListener("keydown", (event) => this.handleKey(event));
     this.node.addEventListener("dblclick", () => this.reset());
-    this.show(Number(preferences.get(this.name)) || 0);
+    this.show(Number(preferences.get(this.storageKey)) || 0);
   }
 
   /** The key of the stored preference for the panel's size. */
-  get name() {
-    return `size.${this.border.panel}`;
+  get storageKey() {
+    return `size.${this.options.panel}`;
   }
 
   /** The panel's current width or height in pixels. */
@@ -66,42 +66,42 @@ export class Splitter {
    * @param {{ clientX: number, clientY: number }} point
    */
   axisPosition({ clientX, clientY }) {
-    const { side } = this.border;
+    const { side } = this.options;
     const coordinate = this.isUpright ? clientX : clientY;
     return side === "left" || side === "top" ? -coordinate : coordinate;
   }
 
   /** @param {number} size the size in pixels */
   set(size) {
-    const { min, max } = this.border;
+    const { min, max } = this.options;
     const boundedSize = Math.round(Math.min(max, Math.max(min, size)));
-    this.preferences.set(this.name, String(boundedSize));
+    this.preferences.set(this.storageKey, String(boundedSize));
     this.show(boundedSize);
   }
 
   /** Restores the panel's initial size. */
   reset() {
-    this.preferences.set(this.name, "");
+    this.preferences.set(this.storageKey, "");
     this.show(0);
   }
 
   /** @param {number} size the size in pixels; 0 for the initial size */
   show(size) {
     const { style } = document.documentElement;
-    if (size > 0) style.setProperty(this.border.property, `${size}px`);
-    else style.removeProperty(this.border.property);
+    if (size > 0) style.setProperty(this.options.property, `${size}px`);
+    else style.removeProperty(this.options.property);
     this.showValue();
   }
 
   showValue() {
-    this.node.setAttribute("aria-valuenow", String(Math.round(this.size) || this.border.min));
+    this.node.setAttribute("aria-valuenow", String(Math.round(this.size) || this.options.min));
   }
 
   /** @param {KeyboardEvent} event */
   handleKey(event) {
-    const moves = SIZE_CHANGES_BY_KEY[this.border.side];
+    const sizeChanges = SIZE_CHANGES_BY_KEY[this.options.side];
     if (event.key === "Home" || event.key === "Escape") this.reset();
-    else if (event.key in moves) this.set(this.size + moves[event.key]);
+    else if (event.key in sizeChanges) this.set(this.size + sizeChanges[event.key]);
     else return;
     event.preventDefault();
   }

@@ -8,21 +8,21 @@ export class StatusView {
     this.romText = new Cell(block("rom-status"));
     this.saveText = new Cell(block("saved"));
     const bar = block("statusbar");
-    this.isPaused = new Switch((isOn) => bar.classList.toggle("paused", isOn));
+    this.pausedSwitch = new Switch((isOn) => bar.classList.toggle("paused", isOn));
   }
 
   /**
    * @param {boolean} isMatching true if the source is the program in ROM
-   * @param {string} words the tooltip that says how ROM and the source differ; "" if there is no source
+   * @param {string} tooltip the tooltip that says how ROM and the source differ; "" if there is no source
    */
-  showRom(isMatching, words) {
-    this.romText.set(isMatching ? say.ROM_MATCHES : words === "" ? "" : say.ROM_DIFFERS);
-    this.romText.node.title = words;
+  showRom(isMatching, tooltip) {
+    this.romText.set(isMatching ? say.ROM_MATCHES : tooltip === "" ? "" : say.ROM_DIFFERS);
+    this.romText.node.title = tooltip;
   }
 
   /** @param {boolean} isRunning true if time is running */
   showRunning(isRunning) {
-    this.isPaused.set(!isRunning);
+    this.pausedSwitch.set(!isRunning);
   }
 
   /** @param {"example" | "saved" | "failed"} state */

@@ -8,14 +8,14 @@ export class Tabs {
   /**
    * Creates the tabs. The tab NAME is the element with the id `NAME-tab`. Its `aria-controls` attribute is the id of its panel.
    * @param {string[]} names
-   * @param {string} firstName the name of the tab that is initially in front
+   * @param {string} initialName the name of the tab that is initially in front
    * @param {(name: string) => void} onChoice called after the user has chosen a tab
    */
-  constructor(names, firstName, onChoice) {
+  constructor(names, initialName, onChoice) {
     this.onChoice = onChoice;
     this.tabs = names.map((name) => this.makeTab(name));
     this.frontTab = this.tabs[0];
-    this.show(firstName);
+    this.show(initialName);
   }
 
   /**
@@ -76,23 +76,23 @@ export class Tabs {
   /**
    * Shows or hides a tab, for example while the tab has no contents.
    * @param {string} name
-   * @param {boolean} isOffered
+   * @param {boolean} isVisible
    */
-  offer(name, isOffered = true) {
+  offer(name, isVisible = true) {
     const entry = this.find(name);
-    entry.tab.hidden = !isOffered;
-    if (!isOffered && this.frontTab === entry) this.show(this.tabs[0].name);
+    entry.tab.hidden = !isVisible;
+    if (!isVisible && this.frontTab === entry) this.show(this.tabs[0].name);
   }
 
   /**
    * Sets the short text that a tab shows about its contents; "" removes the text.
    * @param {string} name
-   * @param {string} words
+   * @param {string} label
    * @param {boolean} isGood true if the text reports a success
    */
-  setMark(name, words, isGood = false) {
+  setMark(name, label, isGood = false) {
     const { mark } = this.find(name);
-    if (mark.textContent !== words) mark.textContent = words;
+    if (mark.textContent !== label) mark.textContent = label;
     mark.classList.toggle("good", isGood);
   }
 
@@ -101,10 +101,10 @@ export class Tabs {
     const visibleTabs = this.tabs.filter((entry) => !entry.tab.hidden);
     const index = visibleTabs.indexOf(this.frontTab);
     /** @type {Record<string, number>} */
-    const next = { ArrowRight: index + 1, ArrowLeft: index - 1, Home: 0, End: -1 };
-    if (!(event.key in next) || event.ctrlKey || event.altKey || event.metaKey) return;
+    const targetIndices = { ArrowRight: index + 1, ArrowLeft: index - 1, Home: 0, End: -1 };
+    if (!(event.key in targetIndices) || event.ctrlKey || event.altKey || event.metaKey) return;
     event.preventDefault();
-    this.choose(visibleTabs[(next[event.key] + visibleTabs.length) % visibleTabs.length].name);
+    this.choose(visibleTabs[(targetIndices[event.key] + visibleTabs.length) % visibleTabs.length].name);
     this.frontTab.tab.focus();
   }
 }

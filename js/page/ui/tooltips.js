@@ -4,7 +4,7 @@
 
 import { element } from "./dom.js";
 
-/** @typedef {{ words: string, key: string }} Tip the contents of a tooltip: a text, and a key binding or "" */
+/** @typedef {{ text: string, key: string }} Tip the contents of a tooltip: a text, and a key binding or "" */
 
 /** The time in milliseconds for which the pointer must rest before the tooltip opens. */
 const HOVER_DELAY_MS = 500;
@@ -119,10 +119,10 @@ export class Tooltips {
   /** @param {HTMLElement} node */
   show(node) {
     const tip = this.tips.get(node);
-    const { words, key } = tip ? tip() : { words: node.title, key: "" };
-    if (!words || !node.isConnected) return;
+    const { text, key } = tip ? tip() : { text: node.title, key: "" };
+    if (!text || !node.isConnected) return;
     this.describedElement = node;
-    this.node.replaceChildren(words, ...(key ? [" ", element("kbd", {}, key)] : []));
+    this.node.replaceChildren(text, ...(key ? [" ", element("kbd", {}, key)] : []));
     // An open dialog covers all elements outside it, so the tooltip must be inside.
     (node.closest("dialog[open]") || document.body).append(this.node);
     this.node.hidden = false;

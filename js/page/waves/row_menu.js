@@ -27,16 +27,16 @@ export class RowMenu {
    * @param {{ left: number, bottom: number }} point
    */
   open(row, point) {
-    this.menu.open(row.line < 0 ? this.groupItems(row) : this.lineItems(row), point);
+    this.menu.open(row.line < 0 ? this.makeGroupItems(row) : this.makeLineItems(row), point);
   }
 
   /** @returns {MenuItem[]} */
   get moveItems() {
     const { view } = this;
-    const { selected } = view;
+    const { selectedIndex } = view;
     return [
-      { words: say.MOVE_UP, key: "Alt+Up", act: () => view.moveRow(selected, selected - 1) },
-      { words: say.MOVE_DOWN, key: "Alt+Down", act: () => view.moveRow(selected, selected + 1) },
+      { label: say.MOVE_UP, key: "Alt+Up", act: () => view.moveRow(selectedIndex, selectedIndex - 1) },
+      { label: say.MOVE_DOWN, key: "Alt+Down", act: () => view.moveRow(selectedIndex, selectedIndex + 1) },
     ];
   }
 
@@ -44,14 +44,14 @@ export class RowMenu {
    * @param {WaveRow} row
    * @returns {MenuItem[]}
    */
-  groupItems({ group }) {
+  makeGroupItems({ group }) {
     const { view } = this;
     const memberNames = () => view.names.filter((name) => view.arrangement.groupOf(name) === group);
     return [
-      { words: say.FOLD, key: "Enter", act: () => view.toggleFold(group) },
-      { words: say.RENAME,
+      { label: say.FOLD, key: "Enter", act: () => view.toggleFold(group) },
+      { label: say.RENAME,
         act: () => this.askName(say.nameOf(group), group, (word) => word && view.changeLines(memberNames(), { group: word })) },
-      { words: say.UNGROUP, act: () => view.changeLines(memberNames(), { group: "" }) },
+      { label: say.UNGROUP, act: () => view.changeLines(memberNames(), { group: "" }) },
       ...this.moveItems,
     ];
   }
@@ -60,20 +60,20 @@ export class RowMenu {
    * @param {WaveRow} row
    * @returns {MenuItem[]}
    */
-  lineItems({ name, title, colour, group }) {
+  makeLineItems({ name, title, colour, group }) {
     const { view } = this;
-    const leaveItem = { words: say.LEAVE_GROUP, act: () => view.changeLines([name], { group: "" }) };
+    const leaveItem = { label: say.LEAVE_GROUP, act: () => view.changeLines([name], { group: "" }) };
     const joinItem = {
-      words: say.GROUP, act: () => this.askName(say.groupOf(name), "", (word) => view.changeLines([name], { group: word })),
+      label: say.GROUP, act: () => this.askName(say.groupOf(name), "", (word) => view.changeLines([name], { group: word })),
     };
     const colourItems = /** @type {const} */ (["", ...ROW_COLOURS]).map((choice) => (
-      { words: say.COLOURS[choice], isChosen: () => colour === choice, act: () => view.changeLines([name], { colour: choice }) }));
+      { label: say.COLOURS[choice], isChosen: () => colour === choice, act: () => view.changeLines([name], { colour: choice }) }));
     return [
-      { words: say.RENAME, act: () => this.askName(say.nameOf(name), title || name,
+      { label: say.RENAME, act: () => this.askName(say.nameOf(name), title || name,
         (word) => view.changeLines([name], { title: word === name ? "" : word })) },
       group === "" ? joinItem : leaveItem,
       ...this.moveItems,
-      { words: say.HIDE, act: () => view.calls.hide(name) },
+      { label: say.HIDE, act: () => view.calls.hide(name) },
       ...colourItems,
     ];
   }
@@ -85,8 +85,8 @@ export class RowMenu {
    * @param {(word: string) => void} action
    */
   askName(label, value, action) {
-    this.nameBar.open({ label, value, word: say.NAME, act: (typed) => {
-      action(typed.slice(0, MAX_NAME_LENGTH));
+    this.nameBar.open({ label, value, buttonLabel: say.NAME, act: (text) => {
+      action(text.slice(0, MAX_NAME_LENGTH));
       return "";
     } });
   }

@@ -1,6 +1,6 @@
 // The logic analyser: records the board's lines over time, shows them, and saves them as a VCD file or a picture.
 
-import { Cell, block, button, byId, descendant, field, onClick } from "../ui/dom.js";
+import { Cell, block, button, byId, findDescendant, field, onClick } from "../ui/dom.js";
 import { download } from "../session/download.js";
 import { LiveWaves } from "../../core/waves/live_waves.js";
 import { findLineByName, lineNameInEdge } from "../../core/waves/trigger.js";
@@ -28,7 +28,7 @@ import * as say from "../../words/waves.js";
  * @property {(cycles: number, isBefore: boolean, values: string[]) => Promise<Recording | null>} record Records the last `cycles` cycles
  *   if `isBefore` is true, otherwise the next `cycles` cycles. `values` are the names of registers and nibbles to
  *   include. Resolves to null after a failure. A failure has already been reported.
- * @property {(wanted: { trigger: string } & LiveSetup, values: string[]) => Promise<{ recorded: Recording | null, fault: string } | null>}
+ * @property {(setup: { trigger: string } & LiveSetup, values: string[]) => Promise<{ recorded: Recording | null, fault: string } | null>}
  *   startLive Starts a recording that lasts until `endLive`. Resolves to the first part of the recording or to the error in the trigger's
  *   condition, or to null after a failure.
  * @property {() => Promise<LivePart | null>} endLive Ends the recording. Resolves to its last part, or to null if there is none.
@@ -58,7 +58,7 @@ function listenToPanels() {
     panel.addEventListener("keydown", (event) => {
       if (event.key !== "Escape") return;
       panel.open = false;
-      descendant(panel, "summary", HTMLElement).focus();
+      findDescendant(panel, "summary", HTMLElement).focus();
     });
   }
 }
@@ -74,10 +74,10 @@ export class Scope {
   constructor(calls) {
     this.calls = calls;
     this.status = new Cell(block("scope-status"));
-    this.count = new Cell(block("scope-count"));
+    this.lengthStatus = new Cell(block("scope-count"));
     this.searchStatus = new Cell(block("wave-search-status"));
-    this.recordWord = new Cell(button("record"));
-    this.recordWord.set(say.RECORD);
+    this.recordLabel = new Cell(button("record"));
+    this.recordLabel.set(say.RECORD);
     /** @type {WaveView} */
     this.view = new WaveView({ goTo: calls.goTo, hide: (name) => this.choice.select(name, false), storeRows: calls.storeRows });
     /** @type {WaveChoice} */
@@ -113,8 +113,8 @@ export class Scope {
       if (event.key === "Enter") this.find(!event.shiftKey);
       if (event.key === "Escape") this.view.canvas.focus();
     });
-    const base = byId("wave-base", HTMLSelectElement);
-    base.addEventListener("change", () => this.view.setBase(/** @type {NumberBase} */ (base.value)));
+    const baseSelect = byId("wave-base", HTMLSelectElement);
+    baseSelect.addEventListener("change", () => this.view.setBase(/** @type {NumberBase} */ (baseSelect.value)));
   }
 
   get isLive() {
@@ -161,9 +161,9 @@ export class Scope {
   async recordOnce(isBefore) {
     const cycles = this.readCycleField("record-cycles", 1);
     if (cycles < 0) return;
-    const recorded = await this.calls.record(cycles, isBefore, this.choice.values);
-    if (!recorded) return;
-    const waves = new Waves(recorded);
+    const recording = await this.calls.record(cycles, isBefore, this.choice.valueNames);
+    if (!recording) return;
+    const waves = new Waves(recording);
     this.status.set(describeRecording(waves, cycles, isBefore));
     if (waves.length > 0 || !isBefore) this.show(waves);
   }
@@ -181,7 +181,7 @@ export class Scope {
    * Returns the settings of the recording. If a field has no valid number, shows a message and returns null.
    * @returns {RecordingSettings | null}
    */
-  readLiveChoice() {
+  readLiveSettings() {
     const trigger = field("trigger").value.trim();
     const maxCycles = this.readCycleField("record-cycles", 1);
     const cyclesAfter = maxCycles < 0 || trigger === "" ? 0 : this.readCycleField("behind", 0);
@@ -193,17 +193,17 @@ export class Scope {
   }
 
   async beginLive() {
-    const choice = this.readLiveChoice();
-    if (!choice) return;
-    this.selectTriggerLine(choice.trigger);
-    const { trigger, behind: cyclesAfter, stopsTime } = choice;
-    const result = await this.calls.startLive({ trigger, behind: cyclesAfter, stopsTime }, this.choice.values);
+    const settings = this.readLiveSettings();
+    if (!settings) return;
+    this.selectTriggerLine(settings.trigger);
+    const { trigger, behind: cyclesAfter, stopsTime } = settings;
+    const result = await this.calls.startLive({ trigger, behind: cyclesAfter, stopsTime }, this.choice.valueNames);
     if (!result) return;
     const { recorded, fault } = result;
     field("trigger").setAttribute("aria-invalid", String(fault !== ""));
     if (fault) this.status.set(say.triggerFault(fault));
     if (!recorded) return;
-    this.liveWaves = new LiveWaves(recorded, choice);
+    this.liveWaves = new LiveWaves(recorded, settings);
     this.show(this.liveWaves.waves);
     this.showLive(this.liveWaves);
   }
@@ -259,7 +259,7 @@ export class Scope {
     else if (!liveWaves.isOn) this.view.fit();
     this.choice.handleGrowth();
     this.showLive(liveWaves);
-    const { endReason: endReason } = liveWaves;
+    const { endReason } = liveWaves;
     // A change of the program or the board ends the recording. The user usually wants the same recording again, so restart it.
     if (endReason === "board" || endReason === "program") this.beginLive();
   }
@@ -275,8 +275,8 @@ export class Scope {
   /** @param {LiveWaves} liveWaves */
   showLive(liveWaves) {
     this.status.set(liveWaves.words);
-    this.count.set(liveWaves.isOn ? liveWaves.lengthText : "");
-    this.recordWord.set(liveWaves.isOn ? say.STOP_RECORDING : say.RECORD);
+    this.lengthStatus.set(liveWaves.isOn ? liveWaves.lengthText : "");
+    this.recordLabel.set(liveWaves.isOn ? say.STOP_RECORDING : say.RECORD);
     this.calls.showRecording(liveWaves.isOn);
   }
 
@@ -309,8 +309,8 @@ export class Scope {
     this.view.waves = null;
     this.choice.forget();
     this.status.set("");
-    this.count.set("");
-    this.recordWord.set(say.RECORD);
+    this.lengthStatus.set("");
+    this.recordLabel.set(say.RECORD);
     this.calls.showRecording(false);
     block("waves").hidden = block("wave-tools").hidden = true;
   }
@@ -319,24 +319,24 @@ export class Scope {
    * The recording to save, or null if no row is visible. In that case, shows a message.
    * @returns {Waves | null}
    */
-  get savedWaves() {
+  get wavesToSave() {
     const { waves, lines } = this.view;
     if (waves && lines.length === 0) this.status.set(say.NO_LINE_CHOSEN);
     return lines.length === 0 ? null : waves;
   }
 
   save() {
-    const { savedWaves } = this;
-    if (savedWaves) download(this.calls.name(), ".vcd", new Blob([...vcdParts(savedWaves, this.view.lines)], { type: "text/plain" }));
+    const { wavesToSave: waves } = this;
+    if (waves) download(this.calls.name(), ".vcd", new Blob([...vcdParts(waves, this.view.lines)], { type: "text/plain" }));
   }
 
   savePng() {
-    const { savedWaves } = this;
-    if (savedWaves) renderPng(this.view.picture(savedWaves), (blob) => download(this.calls.name(), ".png", blob));
+    const { wavesToSave: waves } = this;
+    if (waves) renderPng(this.view.makePicture(waves), (blob) => download(this.calls.name(), ".png", blob));
   }
 
   saveSvg() {
-    const { savedWaves } = this;
-    if (savedWaves) download(this.calls.name(), ".svg", new Blob([toSvg(this.view.picture(savedWaves))], { type: "image/svg+xml" }));
+    const { wavesToSave: waves } = this;
+    if (waves) download(this.calls.name(), ".svg", new Blob([toSvg(this.view.makePicture(waves))], { type: "image/svg+xml" }));
   }
 }

@@ -14,7 +14,7 @@ import { tickMoments } from "../../core/waves/wave_window.js";
  * @typedef {{ ink: string, faint: string, grid: string, sheet: string, chosen: string, first: string, second: string, measured: string }
  *   & Record<RowColour, string>} Colours
  * @typedef {{ row: number, from: number, to: number }} RowRange the part of a row between two moments
- * @typedef {{ waves: Waves, rows: WaveRow[], selected: number, view: WaveWindow, top: number, gutter: number, height: number, trigger:
+ * @typedef {{ waves: Waves, rows: WaveRow[], selectedIndex: number, view: WaveWindow, top: number, gutter: number, height: number, trigger:
  *   number, measured: RowRange | null, colours: Colours, font: string }} Picture the picture to draw: `top` is the vertical scroll position
  *   in pixels, `gutter` the width of the gutter in pixels, `trigger` the moment of the trigger (-1 for none), and `measured` the measured
  *   range at the pointer
@@ -45,10 +45,10 @@ export function drawWaves(context, picture) {
   context.textBaseline = "middle";
   context.lineWidth = 1;
   drawTicks(context, picture);
-  const first = Math.max(0, Math.floor(top / ROW_HEIGHT));
-  const last = Math.min(rows.length, Math.ceil((top + height - AXIS_HEIGHT) / ROW_HEIGHT));
+  const firstRow = Math.max(0, Math.floor(top / ROW_HEIGHT));
+  const endRow = Math.min(rows.length, Math.ceil((top + height - AXIS_HEIGHT) / ROW_HEIGHT));
   drawClipped(context, [0, AXIS_HEIGHT, width, height - AXIS_HEIGHT], () => {
-    for (let row = first; row < last; row++) drawRow(context, picture, row, AXIS_HEIGHT + row * ROW_HEIGHT - top);
+    for (let row = firstRow; row < endRow; row++) drawRow(context, picture, row, AXIS_HEIGHT + row * ROW_HEIGHT - top);
   });
   drawClipped(context, [gutter - FLAG_WIDTH, 0, view.width + FLAG_WIDTH, height], () => {
     if (picture.trigger >= view.begin) {
@@ -88,10 +88,10 @@ function drawTicks(context, { view, gutter, height, colours }) {
     const { width } = context.measureText(text);
     // The number is beside its tick, so that a cursor at the tick does not cover it.
     const textLeft = x + FLAG_WIDTH / 2 + 2;
-    const begin = textLeft + width > gutter + view.width ? x - 3 - width : textLeft;
-    if (begin < nextFreeX) continue;
-    context.fillText(text, begin, 10);
-    nextFreeX = begin + width + 6;
+    const textX = textLeft + width > gutter + view.width ? x - 3 - width : textLeft;
+    if (textX < nextFreeX) continue;
+    context.fillText(text, textX, 10);
+    nextFreeX = textX + width + 6;
   }
   context.fillStyle = colours.faint;
   context.fillText("cycles", 4, 10);
@@ -114,9 +114,9 @@ function strokeLine(context, ...points) {
  * @param {number} y
  */
 function drawRow(context, picture, row, y) {
-  const { waves, rows, selected, view, gutter, colours, measured } = picture;
+  const { waves, rows, selectedIndex, view, gutter, colours, measured } = picture;
   const { line, title, colour, group, isFolded } = rows[row];
-  if (row === selected) {
+  if (row === selectedIndex) {
     context.fillStyle = colours.chosen;
     context.fillRect(0, y, gutter + view.width, ROW_HEIGHT);
   }
@@ -127,8 +127,8 @@ function drawRow(context, picture, row, y) {
     context.fillText(`${isFolded ? "\u25B8" : "\u25BE"} ${title}`, 4, y + ROW_HEIGHT / 2);
     return;
   }
-  const name = `${row === selected ? "\u25B8" : ""}${title || gutterName(waves.lines[line])}`;
-  const value = gutterValue(picture, line);
+  const name = `${row === selectedIndex ? "\u25B8" : ""}${title || nameInGutter(waves.lines[line])}`;
+  const value = valueInGutter(picture, line);
   const valueWidth = Math.min(88, context.measureText(value).width);
   const ink = colour === "" ? colours.ink : colours[colour];
   context.fillStyle = ink;
@@ -154,9 +154,9 @@ function drawRow(context, picture, row, y) {
  * @param {number} y
  */
 function drawMeasured(context, { view, gutter, colours }, { from, to }, y) {
-  const [begin, end] = [from, to].map((moment) => Math.min(Math.max(view.xAt(moment), -2), view.width + 2));
+  const [startX, endX] = [from, to].map((moment) => Math.min(Math.max(view.xAt(moment), -2), view.width + 2));
   context.fillStyle = colours.measured;
-  context.fillRect(gutter + begin, y + ROW_HEIGHT - 4, Math.max(1, end - begin), 3);
+  context.fillRect(gutter + startX, y + ROW_HEIGHT - 4, Math.max(1, endX - startX), 3);
 }
 
 /**
@@ -164,7 +164,7 @@ function drawMeasured(context, { view, gutter, colours }, { from, to }, y) {
  * title.
  * @param {import("../../core/waves/wave_lines.js").WaveLine} line
  */
-function gutterName(line) {
+function nameInGutter(line) {
   const { name, title, kind } = line;
   if (isDecoder(line)) return title;
   return kind === "port" && title !== "" ? `${title} ${name}` : name;
@@ -175,7 +175,7 @@ function gutterName(line) {
  * @param {Picture} picture
  * @param {number} line
  */
-function gutterValue({ waves, view }, line) {
+function valueInGutter({ waves, view }, line) {
   return waves.lines[line].kind === "label" || isDecoder(waves.lines[line]) ? "" : waves.valueAt(line, view.moment);
 }
 
@@ -197,14 +197,14 @@ function drawLevels(context, { waves, view, gutter }, line, y) {
   context.moveTo(gutter, level ? high : low);
   while (changeIndex < changes.length && view.xAt(changes[changeIndex]) < end) {
     const x = view.xAt(changes[changeIndex]);
-    const next = countUpTo(changes, view.cyclesAt(x + 1));
-    if (next > changeIndex + 1) {
+    const nextIndex = countUpTo(changes, view.cyclesAt(x + 1));
+    if (nextIndex > changeIndex + 1) {
       // Several edges are in the same pixel column, so draw a solid block.
       context.lineTo(gutter + x, level ? high : low);
       context.fillRect(gutter + x, high, 1, low - high);
-      level ^= (next - changeIndex) & 1;
+      level ^= (nextIndex - changeIndex) & 1;
       context.moveTo(gutter + x + 1, level ? high : low);
-      changeIndex = next;
+      changeIndex = nextIndex;
       continue;
     }
     context.lineTo(gutter + x, level ? high : low);

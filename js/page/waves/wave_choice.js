@@ -13,7 +13,7 @@ import * as say from "../../words/waves.js";
  * The callbacks of the selection.
  * @typedef {object} ChoiceCalls
  * @property {() => WaveLine[]} boardLines Returns all lines of the board, recorded or not.
- * @property {(chosen: number[]) => void} showLines Shows the lines of the recording with the indices `chosen`, in this order.
+ * @property {(lines: number[]) => void} showLines Shows the lines of the recording with the indices `lines`, in this order.
  * @property {() => void} handleMissingValues Called when the user selects values that the recording does not include.
  */
 
@@ -29,7 +29,7 @@ export class WaveChoice {
     this.isUserSelection = false;
     this.status = new Cell(block("signals-status"));
     /** @type {Map<string, HTMLInputElement>} the check boxes, by line name */
-    this.boxes = new Map();
+    this.checkBoxes = new Map();
     onClick(button("waves-changing"), () => this.selectChanging());
     onClick(button("waves-all"), () => this.waves && this.setSelection(this.waves.lines.map(({ name }) => name), true));
     onClick(button("waves-none"), () => this.setSelection([], true));
@@ -38,7 +38,7 @@ export class WaveChoice {
   }
 
   /** The names of the selected registers and nibbles, which must be recorded. */
-  get values() {
+  get valueNames() {
     return chosenValueNames(this.calls.boardLines(), this.selectedNames);
   }
 
@@ -49,13 +49,13 @@ export class WaveChoice {
     if (!isLineSelected) this.isUserSelection = false;
     if (!this.isUserSelection) this.selectChangingIn(waves);
     this.draw();
-    this.showCount();
+    this.showSelection();
   }
 
   /** Selects the lines that change, unless the user has selected lines. Called when the recording has grown. */
   handleGrowth() {
     if (this.isUserSelection || !this.waves) return;
-    if (this.selectChangingIn(this.waves)) this.showCount();
+    if (this.selectChangingIn(this.waves)) this.showSelection();
   }
 
   /**
@@ -74,7 +74,7 @@ export class WaveChoice {
 
   selectChanging() {
     this.isUserSelection = false;
-    if (this.waves && this.selectChangingIn(this.waves)) this.showCount();
+    if (this.waves && this.selectChangingIn(this.waves)) this.showSelection();
   }
 
   /** Forgets the recording and the selection. */
@@ -92,7 +92,7 @@ export class WaveChoice {
     const { lines, more: moreText } = searchLines(this.calls.boardLines(), field("signal-search").value, this.selectedNames);
     /** @type {Map<string, HTMLElement>} */
     const groups = new Map();
-    this.boxes.clear();
+    this.checkBoxes.clear();
     for (const line of lines) {
       const root = groups.get(line.group) || element("fieldset", {}, element("legend", {}, groupTitle(line.group)));
       root.append(this.makeCheckBox(line));
@@ -107,12 +107,12 @@ export class WaveChoice {
   makeCheckBox({ name, title }) {
     const box = element("input", { type: "checkbox", autocomplete: "off", name });
     box.addEventListener("change", () => this.select(name, box.checked));
-    this.boxes.set(name, box);
+    this.checkBoxes.set(name, box);
     return element("label", {}, box, name, ...(title === "" ? [] : [element("small", {}, ` ${title}`)]));
   }
 
   updateCheckBoxes() {
-    for (const [name, box] of this.boxes) box.checked = this.selectedNames.has(name);
+    for (const [name, box] of this.checkBoxes) box.checked = this.selectedNames.has(name);
   }
 
   /**
@@ -134,21 +134,22 @@ export class WaveChoice {
     this.selectedNames = new Set(names);
     this.isUserSelection = isUserSelection;
     this.updateCheckBoxes();
-    this.showCount();
-    if (this.missingValues.length > 0) this.calls.handleMissingValues();
+    this.showSelection();
+    if (this.missingValueNames.length > 0) this.calls.handleMissingValues();
   }
 
   /** The names of the selected values that the recording does not include. */
-  get missingValues() {
+  get missingValueNames() {
     const { waves } = this;
-    return waves ? this.values.filter((name) => waves.lines.every((line) => line.name !== name)) : [];
+    return waves ? this.valueNames.filter((name) => waves.lines.every((line) => line.name !== name)) : [];
   }
 
-  showCount() {
-    const { waves, missingValues } = this;
+  /** Shows the selected lines, and the names of the selected values that only the next recording will include. */
+  showSelection() {
+    const { waves, missingValueNames } = this;
     if (!waves) return;
-    const names = missingValues.slice(0, 3).join(", ") + (missingValues.length > 3 ? " .." : "");
-    this.status.set(missingValues.length === 0 ? "" : say.recordedNext(names, missingValues.length === 1));
+    const names = missingValueNames.slice(0, 3).join(", ") + (missingValueNames.length > 3 ? " .." : "");
+    this.status.set(missingValueNames.length === 0 ? "" : say.recordedNext(names, missingValueNames.length === 1));
     this.calls.showLines(waves.lines.map((_, line) => line).filter((line) => this.selectedNames.has(waves.lines[line].name)));
   }
 }

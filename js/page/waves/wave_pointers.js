@@ -41,9 +41,9 @@ export class WavePointers {
     this.holdsCursor = false;
     this.holdsRow = false;
     node.addEventListener("pointerleave", () => calls.hover(null));
-    node.addEventListener("pointerdown", (event) => this.begin(event));
-    node.addEventListener("pointermove", (event) => this.move(event));
-    node.addEventListener("pointerup", (event) => this.end(event));
+    node.addEventListener("pointerdown", (event) => this.handlePointerDown(event));
+    node.addEventListener("pointermove", (event) => this.handlePointerMove(event));
+    node.addEventListener("pointerup", (event) => this.handlePointerUp(event));
     node.addEventListener("pointercancel", (event) => this.pressedPointers.delete(event.pointerId));
     node.addEventListener("wheel", (event) => this.handleWheel(event), { passive: false });
   }
@@ -52,15 +52,15 @@ export class WavePointers {
    * @param {MouseEvent} event
    * @returns {Point}
    */
-  eventPoint(event) {
+  pointOf(event) {
     const box = this.node.getBoundingClientRect();
     return { x: event.clientX - box.left, y: event.clientY - box.top };
   }
 
   /** @param {PointerEvent} event */
-  begin(event) {
+  handlePointerDown(event) {
     if (event.button !== 0) return;
-    const point = this.eventPoint(event);
+    const point = this.pointOf(event);
     this.node.setPointerCapture(event.pointerId);
     this.pressedPointers.set(event.pointerId, point);
     this.hasMoved = this.pressedPointers.size > 1;
@@ -71,9 +71,9 @@ export class WavePointers {
   }
 
   /** @param {PointerEvent} event */
-  move(event) {
+  handlePointerMove(event) {
     const previousPoint = this.pressedPointers.get(event.pointerId);
-    const point = this.eventPoint(event);
+    const point = this.pointOf(event);
     if (!previousPoint) {
       if (event.pointerType === "mouse") this.calls.hover(point);
       return;
@@ -101,9 +101,9 @@ export class WavePointers {
   }
 
   /** @param {PointerEvent} event */
-  end(event) {
+  handlePointerUp(event) {
     if (!this.pressedPointers.delete(event.pointerId)) return;
-    if (!this.hasMoved) this.calls.click(this.eventPoint(event), event.shiftKey);
+    if (!this.hasMoved) this.calls.click(this.pointOf(event), event.shiftKey);
   }
 
   /**
@@ -113,7 +113,7 @@ export class WavePointers {
    */
   handleWheel(event) {
     const { deltaX, deltaY, shiftKey, ctrlKey, metaKey } = event;
-    const point = this.eventPoint(event);
+    const point = this.pointOf(event);
     const isSideways = shiftKey || Math.abs(deltaX) > Math.abs(deltaY);
     if (!ctrlKey && !metaKey && !isSideways && this.calls.isOnRowName(point)) return;
     event.preventDefault();

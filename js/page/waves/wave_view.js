@@ -68,11 +68,11 @@ export class WaveView {
     this.draggedRow = null;
     /** @type {Point | null} the position of the hovering pointer; null if it has left or is pressed */
     this.pointer = null;
-    this.measure = block("wave-measure");
-    this.measureCell = new Cell(this.measure);
+    this.measurementBlock = block("wave-measure");
+    this.measurementCell = new Cell(this.measurementBlock);
     this.menu = new RowMenu(this);
     /** The index of the selected row, or -1 if there is none. The buttons for the next and previous edge search this row. */
-    this.selected = -1;
+    this.selectedIndex = -1;
     this.view = new WaveWindow(0);
     /** True if a drawing has been requested for the next animation frame. */
     this.isDrawingRequested = false;
@@ -80,7 +80,7 @@ export class WaveView {
     this.base = "hex";
     /** The moment of the trigger, or -1 if there is none. */
     this.trigger = -1;
-    this.status = ["wave-first", "wave-second", "wave-between"].map((id) => new Cell(block(id)));
+    this.statusCells = ["wave-first", "wave-second", "wave-between"].map((id) => new Cell(block(id)));
     this.cursorSwitches = [pressedSwitch(button("cursor-a")), pressedSwitch(button("cursor-b"))];
     this.values = new WaveValues(() => this.requestDrawing());
     this.addListeners();
@@ -125,7 +125,7 @@ export class WaveView {
 
   /** The index of the selected row's line, or -1 if there is none. */
   get line() {
-    return this.selected < 0 ? -1 : this.rows[this.selected].line;
+    return this.selectedIndex < 0 ? -1 : this.rows[this.selectedIndex].line;
   }
 
   /** The names of the visible lines, in row order. */
@@ -187,7 +187,7 @@ export class WaveView {
   /** @param {number[]} lines the indices of the lines to show, in board order */
   setChosenLines(lines) {
     this.chosenLines = lines;
-    this.arrange(this.rows[this.selected]);
+    this.arrange(this.rows[this.selectedIndex]);
   }
 
   /**
@@ -198,7 +198,7 @@ export class WaveView {
     const { waves } = this;
     this.rows = waves ? this.arrangement.arrange(waves.lines, this.chosenLines) : [];
     const { length } = this.rows;
-    this.selected = Math.max(selectedRow ? this.indexOfRow(selectedRow) : -1, length > 0 ? 0 : -1);
+    this.selectedIndex = Math.max(selectedRow ? this.indexOfRow(selectedRow) : -1, length > 0 ? 0 : -1);
     this.spacer.style.setProperty("height", `${AXIS_HEIGHT + length * ROW_HEIGHT}px`);
     this.scroll.style.setProperty("height", `${AXIS_HEIGHT + Math.max(1, Math.min(MAX_ROWS, length)) * ROW_HEIGHT}px`);
     if (waves) this.values.draw(waves, this.rows.filter(({ line }) => line >= 0));
@@ -231,7 +231,7 @@ export class WaveView {
    * @param {() => void} action
    */
   rearrange(action) {
-    const selectedRow = this.rows[this.selected];
+    const selectedRow = this.rows[this.selectedIndex];
     action();
     this.arrange(selectedRow);
     this.calls.storeRows(this.arrangement.storedRows);
@@ -239,14 +239,14 @@ export class WaveView {
 
   /**
    * @param {number} index
-   * @param {number} to
+   * @param {number} newIndex
    */
-  moveRow(index, to) {
+  moveRow(index, newIndex) {
     const { names, rows } = this;
-    if (!rows[index] || !rows[to]) return;
+    if (!rows[index] || !rows[newIndex]) return;
     this.selectRow(index);
-    this.rearrange(() => this.arrangement.move(rows, names, index, to));
-    this.selectRow(this.selected);
+    this.rearrange(() => this.arrangement.move(rows, names, index, newIndex));
+    this.selectRow(this.selectedIndex);
   }
 
   /**
@@ -284,10 +284,10 @@ export class WaveView {
     event.preventDefault();
     const { left, top } = this.canvas.getBoundingClientRect();
     const index = this.rowIndexAt({ x: event.clientX - left, y: event.clientY - top });
-    const isPointed = event.button === 2 || event.ctrlKey || (event instanceof PointerEvent && event.pointerType === "touch");
-    if (this.rows[index] && isPointed) this.selectRow(index);
-    const row = this.rows[this.selected];
-    const y = top + AXIS_HEIGHT + this.selected * ROW_HEIGHT - this.scroll.scrollTop;
+    const isPointerEvent = event.button === 2 || event.ctrlKey || (event instanceof PointerEvent && event.pointerType === "touch");
+    if (this.rows[index] && isPointerEvent) this.selectRow(index);
+    const row = this.rows[this.selectedIndex];
+    const y = top + AXIS_HEIGHT + this.selectedIndex * ROW_HEIGHT - this.scroll.scrollTop;
     if (row) this.menu.open(row, { left: Math.max(left, event.clientX), bottom: event.clientY > top ? event.clientY : y });
   }
 
@@ -305,24 +305,24 @@ export class WaveView {
    * @param {Waves} waves
    * @returns {import("./wave_canvas.js").RowRange | null}
    */
-  showMeasure(waves) {
+  showMeasurement(waves) {
     const { pointer, gutter, view } = this;
     const row = pointer ? this.rowIndexAt(pointer) : -1;
     const { line = -1 } = this.rows[row] || {};
     const isOn = pointer !== null && pointer.x >= gutter && line >= 0;
-    if (this.measure.hidden === isOn) this.measure.hidden = !isOn;
+    if (this.measurementBlock.hidden === isOn) this.measurementBlock.hidden = !isOn;
     if (!pointer || !isOn) return null;
     const moment = Math.min(Math.max(Math.floor(view.cyclesAt(pointer.x - gutter)), waves.from), waves.cycles);
-    const measure = measureAt(waves, line, moment);
-    this.measureCell.set(describeMeasurement(waves.valueAt(line, moment), measure));
-    const { offsetWidth, style } = this.measure;
+    const measurement = measureAt(waves, line, moment);
+    this.measurementCell.set(describeMeasurement(waves.valueAt(line, moment), measurement));
+    const { offsetWidth, style } = this.measurementBlock;
     const box = this.canvas.getBoundingClientRect();
     style.setProperty("left", `${Math.max(0, Math.min(box.left + pointer.x + MEASURE_DISTANCE, box.right - offsetWidth))}px`);
     style.setProperty("top", `${box.top + pointer.y + MEASURE_DISTANCE}px`);
-    return { row, from: measure.from, to: measure.to };
+    return { row, from: measurement.from, to: measurement.to };
   }
 
-  // --- actions of the user ---
+  // --- user actions ---
 
   /** @param {() => void} action changes the range of cycles that is visible */
   changeView(action) {
@@ -371,7 +371,7 @@ export class WaveView {
 
   /** Handles Enter: folds the selected group, or shows the instruction at the cursor. */
   handleEnter() {
-    const row = this.rows[this.selected];
+    const row = this.rows[this.selectedIndex];
     if (row && row.line < 0) this.toggleFold(row.group);
     else this.showInstruction();
   }
@@ -387,8 +387,8 @@ export class WaveView {
 
   /** @param {number} row */
   selectRow(row) {
-    this.selected = Math.min(Math.max(row, 0), this.rows.length - 1);
-    const top = this.selected * ROW_HEIGHT;
+    this.selectedIndex = Math.min(Math.max(row, 0), this.rows.length - 1);
+    const top = this.selectedIndex * ROW_HEIGHT;
     const visibleHeight = this.scroll.clientHeight - AXIS_HEIGHT;
     if (top < this.scroll.scrollTop) this.scroll.scrollTop = top;
     else if (top + ROW_HEIGHT > this.scroll.scrollTop + visibleHeight) this.scroll.scrollTop = top + ROW_HEIGHT - visibleHeight;
@@ -417,13 +417,13 @@ export class WaveView {
     const direction = { ArrowUp: -1, ArrowDown: 1 }[event.key];
     if (event.altKey && direction !== undefined) {
       event.preventDefault();
-      this.moveRow(this.selected, this.selected + direction);
+      this.moveRow(this.selectedIndex, this.selectedIndex + direction);
     }
     if (event.altKey) return;
     /** @type {Record<string, (() => void) | undefined>} */
     const actions = {
       ArrowLeft: () => this.moveCursor(view.moment - stepSize), ArrowRight: () => this.moveCursor(view.moment + stepSize),
-      ArrowUp: () => this.selectRow(this.selected - 1), ArrowDown: () => this.selectRow(this.selected + 1),
+      ArrowUp: () => this.selectRow(this.selectedIndex - 1), ArrowDown: () => this.selectRow(this.selectedIndex + 1),
       PageUp: () => this.moveCursor(view.moment - view.span / 2), PageDown: () => this.moveCursor(view.moment + view.span / 2),
       Home: () => this.moveCursor(view.begin), End: () => this.moveCursor(view.end),
       "+": () => this.zoom(ZOOM_FACTOR), "-": () => this.zoom(1 / ZOOM_FACTOR), 0: () => this.changeView(() => view.showAll()),
@@ -454,15 +454,15 @@ export class WaveView {
   show() {
     const { waves, view } = this;
     if (!waves || this.scroll.clientWidth === 0) return;
-    this.draw(waves, this.showMeasure(waves));
-    this.status[0].set(describeCursor("A", view.cursors[0], waves));
-    this.status[1].set(describeCursor("B", view.cursors[1], waves));
-    this.status[2].set(describeDistance(view.cursorDistance));
+    this.draw(waves, this.showMeasurement(waves));
+    this.statusCells[0].set(describeCursor("A", view.cursors[0], waves));
+    this.statusCells[1].set(describeCursor("B", view.cursors[1], waves));
+    this.statusCells[2].set(describeDistance(view.cursorDistance));
     this.cursorSwitches.forEach((cursorSwitch, cursor) => cursorSwitch.set(view.active === cursor));
     this.canvas.setAttribute("aria-valuemin", String(view.begin));
     this.canvas.setAttribute("aria-valuemax", String(view.end));
     this.canvas.setAttribute("aria-valuenow", String(view.moment));
-    const { line = 0, title = "" } = this.rows[this.selected] || {};
+    const { line = 0, title = "" } = this.rows[this.selectedIndex] || {};
     this.canvas.setAttribute("aria-valuetext", (line < 0 ? say.groupIs(title) : "") + screenReaderText(view.moment, waves, this.line));
     this.values.show(waves, view.cursors);
   }
@@ -474,17 +474,17 @@ export class WaveView {
   draw(waves, measured) {
     const { scroll, canvas, gutter } = this;
     const [width, height] = [scroll.clientWidth, scroll.clientHeight];
-    const ratio = devicePixelRatio || 1;
+    const pixelRatio = devicePixelRatio || 1;
     // Setting the size also clears the canvas, even if the size is unchanged.
-    canvas.width = Math.round(width * ratio);
-    canvas.height = Math.round(height * ratio);
+    canvas.width = Math.round(width * pixelRatio);
+    canvas.height = Math.round(height * pixelRatio);
     canvas.style.setProperty("width", `${width}px`);
     canvas.style.setProperty("height", `${height}px`);
     this.view.width = Math.max(1, width - gutter);
     const context = canvas.getContext("2d");
     if (!context) return;
-    context.setTransform(ratio, 0, 0, ratio, 0, 0);
-    drawWaves(context, { ...this.picture(waves), top: scroll.scrollTop, height, measured });
+    context.setTransform(pixelRatio, 0, 0, pixelRatio, 0, 0);
+    drawWaves(context, { ...this.makePicture(waves), top: scroll.scrollTop, height, measured });
   }
 
   /**
@@ -492,13 +492,13 @@ export class WaveView {
    * @param {Waves} waves
    * @returns {Picture}
    */
-  picture(waves) {
+  makePicture(waves) {
     const style = getComputedStyle(this.canvas);
     const colours = Object.fromEntries(Object.entries(COLOUR_PROPERTIES).map(([name, property]) => (
       [name, style.getPropertyValue(property).trim()])));
-    const { rows, selected, view, gutter, trigger } = this;
+    const { rows, selectedIndex, view, gutter, trigger } = this;
     return {
-      waves, rows, selected, view, top: 0, gutter, height: AXIS_HEIGHT + rows.length * ROW_HEIGHT, trigger, measured: null,
+      waves, rows, selectedIndex, view, top: 0, gutter, height: AXIS_HEIGHT + rows.length * ROW_HEIGHT, trigger, measured: null,
       colours: /** @type {Colours} */ (/** @type {unknown} */ (colours)), font: `12px ${style.fontFamily}`,
     };
   }

@@ -1,7 +1,7 @@
 // The bench's worker. The worker serves one request after another. Between requests, the worker continues a run at full speed.
 
 import { BenchCalls } from "../../core/engine/bench_calls.js";
-import { earlySender } from "../bench/early_replies.js";
+import { makeEarlySender } from "../bench/early_replies.js";
 import { packError } from "../../core/bench/bench_errors.js";
 
 /**
@@ -22,21 +22,22 @@ const CHANGING_CALLS = { serve: true, serveTyped: true, goOn: true, goBack: true
 /**
  * Returns true if a call presses a key and runs time. The user is then waiting for the lamps to react.
  * @param {string} call
- * @param {any[]} words
+ * @param {any[]} callArguments
  */
-function pressesKey(call, words) {
-  return call === "advance" && words.length > 1 && words[1] !== null;
+function pressesKey(call, callArguments) {
+  return call === "advance" && callArguments.length > 1 && callArguments[1] !== null;
 }
 
 class BenchWorker {
   /** @param {Scope} scope */
   constructor(scope) {
     this.scope = scope;
-    this.sendEarly = earlySender(scope.name);
+    this.sendEarly = makeEarlySender(scope.name);
     this.calls = new BenchCalls((done, total) => this.reportProgress(done, total));
     /** @type {Request[]} */
     this.requests = [];
     /** The number of the request in progress. */
+
     this.currentRequest = 0;
     /** The number of the last request that the page has cancelled. */
     this.cancelledRequest = 0;
@@ -95,16 +96,16 @@ class BenchWorker {
   }
 
   /** @param {Request} request */
-  async answerRequest({ number, call, words }) {
+  async answerRequest({ number, call, words: callArguments }) {
     this.currentRequest = number;
     this.lastReportTime = performance.now();
     // First report the run that preceded the call.
     if (CHANGING_CALLS[call] && this.calls.bench.fullSpeed.isOn) this.postFrame(this.calls.bench.takeUnreported());
     try {
-      const result = await (/** @type {any} */ (this.calls))[call](...words);
-      if (pressesKey(call, words)) this.sendEarly({ kind: "early", number, result });
+      const result = await (/** @type {any} */ (this.calls))[call](...callArguments);
+      if (pressesKey(call, callArguments)) this.sendEarly({ kind: "early", number, result });
       this.post({ kind: "reply", number, result }, result && result.file instanceof ArrayBuffer ? [result.file] : []);
-      if (pressesKey(call, words)) this.calls.bench.checkLastLines();
+      if (pressesKey(call, callArguments)) this.calls.bench.checkLastLines();
     } catch (fault) {
       this.post({ kind: "reply", number, fault: packError(fault) });
     }
