@@ -1,6 +1,6 @@
 // The watch list: expressions with their names and current values. The values can be edited in place.
 
-import { Cell, block, element, field, onClick } from "../ui/dom.js";
+import { Cell, block, button, element, field, onClick } from "../ui/dom.js";
 import { MAX_WATCH_EXPRESSIONS, parseWatches, parseWatch } from "../../core/debug/watch_expressions.js";
 import * as say from "../../words/machine.js";
 
@@ -33,10 +33,11 @@ export class WatchView {
     this.expressions = [];
     /** @type {Row[]} */
     this.rows = [];
-    block("watched-form").addEventListener("submit", (event) => {
-      event.preventDefault();
-      this.add();
+    // Not a form: Firefox looks for names of users in each text field of a form, which delays the start of the page.
+    field("watched-field").addEventListener("keydown", ({ key, isComposing }) => {
+      if (key === "Enter" && !isComposing) this.add();
     });
+    onClick(button("watched-add"), () => this.add());
   }
 
   /** @param {unknown} texts the expressions that were saved with a session, not yet validated */

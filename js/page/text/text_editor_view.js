@@ -73,7 +73,8 @@ export class EditorView {
     this.status = new Cell(descendant(root, ".status-text", HTMLElement));
     const label = descendant(root, "h2", HTMLElement).textContent || "";
     const { colours, gutters, indent, folds, isInstruction = () => false } = language;
-    this.editor = new TextEditor({ container, label, colours, gutters, indent, folds, keys: this.keys(), calls: this.textCalls() });
+    this.editor = new TextEditor({ container, label, colours, gutters, indent, folds, keys: this.keys(), isInFront: () => !root.hidden,
+      calls: this.textCalls() });
     const { editor } = this.editor;
     /** @type {(faults: Fault[]) => void} the listener for changes of the errors */
     this.onFaultsChange = () => {};
@@ -87,7 +88,7 @@ export class EditorView {
     this.descriptionTimer = 0;
     /** The timer that updates the displayed size of the text. */
     this.sizeTimer = 0;
-    this.listenToPointer(editor.getWrapperElement());
+    this.listenToPointer(container);
     editor.onScroll(() => this.meaning.hideTip());
     onClick(descendant(root, ".send", HTMLButtonElement), () => calls.send());
   }
