@@ -76,11 +76,26 @@ async function unpackEmbedded(id) {
 }
 
 /**
- * Resolves to a function that creates a bench in a new worker. The worker's script is embedded in the page.
+ * Resolves after the browser has handled the waiting events. Firefox needs them to load the script of a worker, and delays timers until the
+ * page has loaded.
+ */
+function yieldToEvents() {
+  return new Promise((resolve) => {
+    const { port1, port2 } = new MessageChannel();
+    port1.onmessage = () => {
+      port1.close();
+      resolve(undefined);
+    };
+    port2.postMessage(0);
+  });
+}
+
+/**
+ * Returns a function that creates a bench in a new worker.
+ * @param {Uint8Array[]} parts the worker's script and the module, which are embedded in the page
  * @param {Example[]} examples
  */
-async function prepareBench(examples) {
-  const [script, module] = await Promise.all([unpackEmbedded("worker"), unpackEmbedded("module")]);
+function prepareBench([script, module], examples) {
   const address = URL.createObjectURL(new Blob([script], { type: "text/javascript" }));
   return () => new Bench(() => startWorker(address), module.buffer, examples);
 }
@@ -145,7 +160,9 @@ function listenToLeaving(page) {
  */
 async function createPage(services, shell, findingLocks, openingStore) {
   const [locks, store] = await Promise.all([findingLocks, openingStore]);
+  await yieldToEvents();
   const page = new Page({ ...services, store, locks });
+  await yieldToEvents();
   if (!store.isPersistent) services.notice.show(say.NO_STORE, "store");
   const guide = makeGuide(page, services.manual);
   const commands = new Commands(page, guide, services.examples, shell);
@@ -156,22 +173,29 @@ async function createPage(services, shell, findingLocks, openingStore) {
   return { page, guide, commands, hasSessions: savedSessions.length > 0 };
 }
 
+/** Starts to unpack the embedded parts of the page, and to open the session store. */
+function beginLoading() {
+  const unpackingParts = Promise.all([unpackEmbedded("worker"), unpackEmbedded("module")]);
+  const findingLocks = Locks.find();
+  return { unpackingParts, findingLocks, openingStore: openStore(findingLocks) };
+}
+
 /**
  * Creates the page and opens its first session.
+ * @param {ReturnType<typeof beginLoading>} loading
  * @param {ErrorMessages} words
  * @param {Notice} notice
  * @param {Shell} shell
  * @param {Data} data
  */
-async function start(words, notice, shell, { examples, manual }) {
-  const findingLocks = Locks.find();
-  const openingStore = openStore(findingLocks);
-  const makeBench = await prepareBench(examples);
+async function start({ unpackingParts, findingLocks, openingStore }, words, notice, shell, { examples, manual }) {
+  const makeBench = prepareBench(await unpackingParts, examples);
   const bench = makeBench();
+  const startingBench = bench.start();
   const services = { bench, makeBench, words, notice, examples, manual };
   // The page creates its views while the worker loads the module.
   const creatingPage = createPage(services, shell, findingLocks, openingStore);
-  const [{ page, guide, commands, hasSessions }] = await Promise.all([creatingPage, bench.start()]);
+  const [{ page, guide, commands, hasSessions }] = await Promise.all([creatingPage, startingBench]);
   // A worker that dies before it has loaded the module is not replaced.
   bench.listener = page.listener();
   const story = requestedStory(location.search);
@@ -197,11 +221,12 @@ async function main() {
     notice.show(say.hasNo(missingName, embeddedText("needs")));
     return;
   }
+  const loading = beginLoading();
   /** @type {Data} */
   const data = JSON.parse(new TextDecoder().decode(await unpackEmbedded("data")));
   const errorMessages = new ErrorMessages(data.refusals);
   try {
-    await start(errorMessages, notice, shell, data);
+    await start(loading, errorMessages, notice, shell, data);
   } catch (fault) {
     notice.show(say.cannotStart(errorMessages.errorMessage(fault), embeddedText("needs")));
   }
