@@ -205,7 +205,7 @@ async function start({ unpackingParts, findingLocks, openingStore }, words, noti
   if (isFirst) commands.showFirstWelcome();
   // The startup time in milliseconds.
   document.body.dataset.ready = String(Math.round(performance.now()));
-  // Editors that no tab has shown yet become complete now.
+  // The editors that no tab has shown yet get their views now.
   for (const { editor } of page.textEditors) setTimeout(() => editor.editor.prepare());
   // When the user leaves the page, Firefox 153 runs a function only if it has run before, so save once now.
   page.currentSession.saveNow();

@@ -22,8 +22,7 @@ import { descendant } from "../ui/dom.js";
  *
  * The options of an editor. `label` and `description` are for screen readers. `gutters` are the names of its gutters. The gutter "numbers"
  * shows line numbers. `indent` is the indentation of a new line, by default that of the previous line. `keys` are additional key bindings,
- * and `more` are further CodeMirror extensions.
- * `isInFront` returns true if no tab hides the editor.
+ * and `more` are further CodeMirror extensions. `isInFront` returns true if no tab hides the editor.
  * @typedef {{ container: HTMLElement, label: string, description: string, colours: import("./line_colours.js").Colours, gutters: string[],
  *   indent?: string, keys: KeyMap, more: Extension[], isInFront: () => boolean, calls: EditorCalls }} EditorParts
  */
