@@ -104,7 +104,7 @@ def check_left(browser):
     browser.click("#never-run button")
     verdict("a line that was never run is shown", browser.script("""
 const editor = document.querySelector('#program-editor .cm-editor').lineEditor;
-return [isShown(editor.getWrapperElement()), editor.getCursor('from').line + 1]"""), [True, line])
+return [isShown(editor.view.dom), editor.getCursor('from').line + 1]"""), [True, line])
     show_text(browser, "properties")
 
 

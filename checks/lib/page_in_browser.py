@@ -26,7 +26,8 @@ document.querySelector("#notices .bar button").click();
 return all"""
 # Closes the cards of a first visit, which cover everything else.
 CLOSE_CARDS = "const cards = document.getElementById('welcome'); if (cards && cards.open) cards.close()"
-IS_READY = "return Boolean(document.body.dataset.ready)"
+# The page is ready, and has prepared the editors of the tabs that are not in front.
+IS_READY = "return Boolean(document.body.dataset.ready) && document.querySelectorAll('.cm-editor').length === 4"
 COUNT_KEYS_DOWN = "return document.querySelectorAll(\"#keys [aria-pressed='true']\").length"
 SET_SPEED = """
 const field = document.getElementById("speed");

@@ -79,7 +79,7 @@ const editor = document.querySelector("#program-editor .cm-editor").lineEditor;
 const [line, word] = arguments;
 editor.scrollIntoView({ line: line - 1, ch: 0 }, 60);
 editor.view.measure();
-editor.getWrapperElement().scrollIntoView({ block: "center" });
+editor.view.dom.scrollIntoView({ block: "center" });
 const at = editor.getLine(line - 1).indexOf(word);
 const { left, top, bottom } = editor.view.coordsAtPos(editor.offset({ line: line - 1, ch: at + 1 }));
 return [left, (top + bottom) / 2]"""

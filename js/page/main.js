@@ -76,11 +76,26 @@ async function unpackEmbedded(id) {
 }
 
 /**
- * Resolves to a function that creates a bench in a new worker. The worker's script is embedded in the page.
+ * Resolves after the browser has handled the waiting events. Firefox needs them to load the script of a worker, and delays timers until the
+ * page has loaded.
+ */
+function yieldToEvents() {
+  return new Promise((resolve) => {
+    const { port1, port2 } = new MessageChannel();
+    port1.onmessage = () => {
+      port1.close();
+      resolve(undefined);
+    };
+    port2.postMessage(0);
+  });
+}
+
+/**
+ * Returns a function that creates a bench in a new worker.
+ * @param {Uint8Array[]} parts the worker's script and the module, which are embedded in the page
  * @param {Example[]} examples
  */
-async function prepareBench(examples) {
-  const [script, module] = await Promise.all([unpackEmbedded("worker"), unpackEmbedded("module")]);
+function prepareBench([script, module], examples) {
   const address = URL.createObjectURL(new Blob([script], { type: "text/javascript" }));
   return () => new Bench(() => startWorker(address), module.buffer, examples);
 }
@@ -145,7 +160,9 @@ function listenToWindow(page) {
  */
 async function createPage(services, pageFrame, locksPromise, storePromise) {
   const [locks, store] = await Promise.all([locksPromise, storePromise]);
+  await yieldToEvents();
   const page = new Page({ ...services, store, locks });
+  await yieldToEvents();
   if (!store.isPersistent) services.notice.show(say.NO_STORE, "store");
   const guide = makeGuide(page, services.manual);
   const commands = new Commands(page, guide, services.examples, pageFrame);
@@ -156,22 +173,29 @@ async function createPage(services, pageFrame, locksPromise, storePromise) {
   return { page, guide, commands, hasSessions: savedSessions.length > 0 };
 }
 
+/** Starts to unpack the embedded parts of the page, and to open the session store. */
+function beginLoading() {
+  const unpackingPromise = Promise.all([unpackEmbedded("worker"), unpackEmbedded("module")]);
+  const locksPromise = Locks.find();
+  return { unpackingPromise, locksPromise, storePromise: openStore(locksPromise) };
+}
+
 /**
  * Creates the page and opens its first session.
+ * @param {ReturnType<typeof beginLoading>} loading
  * @param {ErrorMessages} errorMessages
  * @param {Notice} notice
  * @param {PageFrame} pageFrame
  * @param {Data} data
  */
-async function start(errorMessages, notice, pageFrame, { examples, manual }) {
-  const locksPromise = Locks.find();
-  const storePromise = openStore(locksPromise);
-  const makeBench = await prepareBench(examples);
+async function start({ unpackingPromise, locksPromise, storePromise }, errorMessages, notice, pageFrame, { examples, manual }) {
+  const makeBench = prepareBench(await unpackingPromise, examples);
   const bench = makeBench();
+  const startingBench = bench.start();
   const services = { bench, makeBench, errorMessages, notice, examples, manual };
   // The page creates its views while the worker loads the module.
   const pagePromise = createPage(services, pageFrame, locksPromise, storePromise);
-  const [{ page, guide, commands, hasSessions }] = await Promise.all([pagePromise, bench.start()]);
+  const [{ page, guide, commands, hasSessions }] = await Promise.all([pagePromise, startingBench]);
   // A worker that dies before it has loaded the module is not replaced.
   bench.listener = page.listener();
   const story = readRequestedStory(location.search);
@@ -181,6 +205,8 @@ async function start(errorMessages, notice, pageFrame, { examples, manual }) {
   if (isFirst) commands.showFirstWelcome();
   // The startup time in milliseconds.
   document.body.dataset.ready = String(Math.round(performance.now()));
+  // The editors that no tab has shown yet get their views now.
+  for (const { editor } of page.textEditors) setTimeout(() => editor.editor.prepare());
   // When the user leaves the page, Firefox 153 runs a function only if it has run before, so save once now.
   page.currentSession.saveNow();
 }
@@ -195,11 +221,12 @@ async function main() {
     notice.show(say.featureMissing(missingFeature, readEmbeddedText("needs")));
     return;
   }
+  const loading = beginLoading();
   /** @type {Data} */
   const data = JSON.parse(new TextDecoder().decode(await unpackEmbedded("data")));
   const errorMessages = new ErrorMessages(data.refusals);
   try {
-    await start(errorMessages, notice, pageFrame, data);
+    await start(loading, errorMessages, notice, pageFrame, data);
   } catch (fault) {
     notice.show(say.cannotStart(errorMessages.errorMessage(fault), readEmbeddedText("needs")));
   }

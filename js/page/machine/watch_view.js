@@ -1,6 +1,6 @@
 // The watch list: expressions with their names and current values. The values can be edited in place.
 
-import { Cell, block, element, field, onClick } from "../ui/dom.js";
+import { Cell, block, descendant, element, field, onClick } from "../ui/dom.js";
 import { MAX_WATCH_EXPRESSIONS, parseWatches, parseWatch } from "../../core/debug/watch_expressions.js";
 import * as say from "../../words/machine.js";
 
@@ -33,10 +33,11 @@ export class WatchView {
     this.expressions = [];
     /** @type {Row[]} */
     this.rows = [];
-    block("watched-form").addEventListener("submit", (event) => {
-      event.preventDefault();
-      this.add();
+    // The field is in no form. Firefox examines each text field of a form for a user name, which would delay the start of the page.
+    field("watched-field").addEventListener("keydown", ({ key, isComposing }) => {
+      if (key === "Enter" && !isComposing) this.add();
     });
+    onClick(descendant(block("watched-form"), "button", HTMLButtonElement), () => this.add());
   }
 
   /** @param {unknown} texts the expressions that were saved with a session, not yet validated */

@@ -23,9 +23,9 @@ import { findDescendant } from "../ui/dom.js";
  *
  * The options of an editor. `label` and `description` are for screen readers. `gutters` are the names of its gutters. The gutter "numbers"
  * shows line numbers. `indent` is the indentation of a new line, by default that of the previous line. `keys` are additional key bindings,
- * and `extensions` are further CodeMirror extensions.
+ * and `extensions` are further CodeMirror extensions. `isInFront` returns true if no tab hides the editor.
  * @typedef {{ container: HTMLElement, label: string, description: string, colours: import("./line_colours.js").Colours, gutters: string[],
- *   indent?: string, keys: KeyMap, extensions: Extension[], calls: EditorCalls }} EditorOptions
+ *   indent?: string, keys: KeyMap, extensions: Extension[], isInFront: () => boolean, calls: EditorCalls }} EditorOptions
  */
 
 /**
@@ -87,6 +87,7 @@ export class LineEditor {
   constructor(parts) {
     this.calls = parts.calls;
     this.container = parts.container;
+    this.isInFront = parts.isInFront;
     this.lineWrapping = new Compartment();
     this.wraps = false;
     /** @type {Map<string, Layer>} the layers of marks, by gutter */
@@ -97,10 +98,44 @@ export class LineEditor {
     this.nodeBelow = null;
     /** @type {(() => void)[]} listeners that are called after each edit */
     this.editListeners = [];
+    /** @type {(() => void)[]} listeners that are called when the text scrolls */
+    this.scrollListeners = [];
     this.extensions = this.makeExtensions(parts);
-    this.view = new EditorView({ parent: parts.container, state: this.makeState("") });
+    /** @type {EditorView | null} CodeMirror's view. It is created late, because a view costs much more time than a state. */
+    this.madeView = null;
+    /** The state while there is no view. */
+    this.stateWithoutView = this.makeState("");
+  }
+
+  /** CodeMirror's view. The first use creates it. */
+  get view() {
+    if (this.madeView) return this.madeView;
+    const view = new EditorView({ parent: this.container, state: this.stateWithoutView });
+    this.madeView = view;
+    for (const action of this.scrollListeners) view.scrollDOM.addEventListener("scroll", action);
     // Scripts outside the page, such as tests, find the editor through its element.
-    Object.assign(this.view.dom, { lineEditor: this });
+    Object.assign(view.dom, { lineEditor: this });
+    return view;
+  }
+
+  /** Creates the view if there is none. */
+  prepare() {
+    return this.view;
+  }
+
+  /**
+   * Changes the state. Without a view, only the state changes.
+   * @param {import("@codemirror/state").TransactionSpec} spec
+   */
+  dispatch(spec) {
+    if (this.madeView) {
+      this.madeView.dispatch(spec);
+      return;
+    }
+    const transaction = this.stateWithoutView.update(spec);
+    const { docChanged, selection, state } = transaction;
+    this.stateWithoutView = state;
+    this.handleUpdate({ docChanged, selectionSet: selection !== undefined, transactions: [transaction] });
   }
 
   /**
@@ -160,14 +195,14 @@ export class LineEditor {
   }
 
   get state() {
-    return this.view.state;
+    return this.madeView ? this.madeView.state : this.stateWithoutView;
   }
 
   get doc() {
-    return this.view.state.doc;
+    return this.state.doc;
   }
 
-  /** @param {import("@codemirror/view").ViewUpdate} update */
+  /** @param {Pick<import("@codemirror/view").ViewUpdate, "docChanged" | "selectionSet" | "transactions">} update */
   handleUpdate({ docChanged, selectionSet, transactions }) {
     if (docChanged) {
       this.calls.handleEdits(transactions.flatMap(editsOfTransaction));
@@ -323,7 +358,7 @@ export class LineEditor {
   edit(edits) {
     const changes = edits.reduce((composed, edit) => composed.compose(ChangeSet.of(edit, composed.newLength, this.state.lineBreak)),
       ChangeSet.empty(this.doc.length));
-    this.view.dispatch({ changes, annotations: isolateHistory.of("full") });
+    this.dispatch({ changes, annotations: isolateHistory.of("full") });
   }
 
   /**
@@ -346,7 +381,7 @@ export class LineEditor {
    */
   showMarks(gutter, marks) {
     const layer = this.marks.get(gutter);
-    if (layer) layer.show(this.view, marks.map((mark) => makeTextMark(gutter, mark).range(this.doc.line(mark.line + 1).from)));
+    if (layer) layer.show(this, marks.map((mark) => makeTextMark(gutter, mark).range(this.doc.line(mark.line + 1).from)));
   }
 
   /**
@@ -369,18 +404,18 @@ export class LineEditor {
   showLineStyle(name, lines) {
     const style = styleOfLine(name);
     const starts = lines.map((line) => this.doc.line(line + 1).from);
-    this.layers[name === "next" ? "nextNumber" : "lacking"].show(this.view, starts.map((from) => style.gutters.range(from)));
-    if (name === "next") this.layers.next.show(this.view, starts.map((from) => style.line.range(from)));
+    this.layers[name === "next" ? "nextNumber" : "lacking"].show(this, starts.map((from) => style.gutters.range(from)));
+    if (name === "next") this.layers.next.show(this, starts.map((from) => style.line.range(from)));
   }
 
   /** @param {import("@codemirror/state").Range<any>[]} ranges the underlined ranges */
   showErrors(ranges) {
-    this.layers.errors.show(this.view, ranges);
+    this.layers.errors.show(this, ranges);
   }
 
   /** @param {import("@codemirror/state").Range<any>[]} ranges the texts after lines */
   showValues(ranges) {
-    this.layers.values.show(this.view, ranges);
+    this.layers.values.show(this, ranges);
   }
 
   /**
@@ -391,7 +426,7 @@ export class LineEditor {
   showBelow(line, node) {
     this.nodeBelow = node;
     this.fitElementBelow();
-    this.layers.below.show(this.view, node ? [makeElementBelow(node).range(this.offset({ line, ch: Infinity }))] : []);
+    this.layers.below.show(this, node ? [makeElementBelow(node).range(this.offset({ line, ch: Infinity }))] : []);
   }
 
   /** Limits the width of the element below a line to the visible part of the text. */
@@ -408,10 +443,6 @@ export class LineEditor {
 
   getInputField() {
     return this.view.contentDOM;
-  }
-
-  getWrapperElement() {
-    return this.view.dom;
   }
 
   /**
@@ -434,7 +465,8 @@ export class LineEditor {
 
   /** @param {() => void} action */
   onScroll(action) {
-    this.view.scrollDOM.addEventListener("scroll", action);
+    this.scrollListeners.push(action);
+    if (this.madeView) this.madeView.scrollDOM.addEventListener("scroll", action);
   }
 
   /** @param {() => void} action a listener that is called after each edit */
@@ -463,13 +495,14 @@ export class LineEditor {
   wrap(wraps) {
     if (wraps === this.wraps) return;
     this.wraps = wraps;
-    this.view.dispatch({ effects: this.lineWrapping.reconfigure(wraps ? EditorView.lineWrapping : []) });
+    this.dispatch({ effects: this.lineWrapping.reconfigure(wraps ? EditorView.lineWrapping : []) });
   }
 
   /** Measures the layout again after elements around the text have changed their sizes. */
   refresh() {
+    if (!this.madeView) return;
     this.fitElementBelow();
-    this.view.requestMeasure();
+    this.madeView.requestMeasure();
   }
 
   /** @param {() => void} action called after CodeMirror's next layout measurement, which can change the scroll position */
@@ -493,9 +526,14 @@ export class LineEditor {
    */
   swapState(state) {
     const previousState = this.state;
+    if (!this.madeView) {
+      this.stateWithoutView = this.withWrapping(state);
+      if (this.isInFront()) this.prepare();
+      return previousState;
+    }
     // CodeMirror measures line heights, and would otherwise change the scroll position to keep the same line in place.
     this.scrollTo(0);
-    this.view.setState(this.withWrapping(state));
+    this.madeView.setState(this.withWrapping(state));
     return previousState;
   }
 }

@@ -10,6 +10,8 @@ import * as say from "../../words/text.js";
  * @typedef {import("@codemirror/state").Extension} Extension
  * @typedef {import("@codemirror/state").Transaction} Transaction
  * @typedef {RangeSet<any>} Ranges
+ * @typedef {{ state: import("@codemirror/state").EditorState,
+ *   dispatch: (spec: import("@codemirror/state").TransactionSpec) => void }} Target an editor, with or without a view
  *
  * A mark in a gutter: its line, from 0, its text, and its description.
  * @typedef {{ line: number, text: string, description: string }} GutterMark
@@ -112,13 +114,13 @@ export class Layer {
   }
 
   /**
-   * @param {EditorView} view
+   * @param {Target} editor
    * @param {import("@codemirror/state").Range<any>[]} ranges the new ranges, which replace the previous ranges
    */
-  show(view, ranges) {
-    const oldRanges = view.state.field(this.field);
+  show(editor, ranges) {
+    const oldRanges = editor.state.field(this.field);
     const newRanges = RangeSet.of(ranges, true);
-    if (!RangeSet.eq([oldRanges], [newRanges])) view.dispatch({ effects: this.replaceEffect.of(newRanges) });
+    if (!RangeSet.eq([oldRanges], [newRanges])) editor.dispatch({ effects: this.replaceEffect.of(newRanges) });
   }
 }
 

@@ -14,9 +14,10 @@ import * as say from "../../words/text.js";
  * @typedef {import("../../core/debug/breakpoints.js").Edit} Edit
  *
  * The options of an editor: its container, its name for screen readers, its syntax colouring, the gutters besides the error gutter, the
- * indentation of a new line, the foldable parts of its text, and its additional key bindings.
+ * indentation of a new line, the foldable parts of its text, and its additional key bindings. `isInFront` returns true if no tab hides the
+ * editor.
  * @typedef {{ container: HTMLElement, label: string, colours: import("./line_colours.js").Colours, gutters: string[], indent?: string,
- *   folds?: import("../../core/text/folding.js").Parts, keys: KeyMap, calls: TextCalls }} TextOptions
+ *   folds?: import("../../core/text/folding.js").Parts, keys: KeyMap, isInFront: () => boolean, calls: TextCalls }} TextOptions
  *
  * The state of a text that is not visible, and its scroll position in pixels.
  * @typedef {{ state: import("@codemirror/state").EditorState, top: number }} StoredText
@@ -64,9 +65,10 @@ export class TextEditor {
     this.sessionId = "";
     /** @type {string | null} the editor's text; null after an edit, until the text is read again */
     this.cachedText = null;
-    const { container, label, colours, gutters, indent, folds, keys } = parts;
+    const { container, label, colours, gutters, indent, folds, keys, isInFront } = parts;
     /** @type {LineEditor} */
-    this.editor = new LineEditor({ container, label, description: say.TAB_INDENTS, colours, indent, keys, gutters: ["faults", ...gutters],
+    this.editor = new LineEditor({ container, label, description: say.TAB_INDENTS, colours, indent, keys, isInFront,
+      gutters: ["faults", ...gutters],
       extensions: [...(folds ? [makeFolding(folds)] : []), this.makeEventHandlers()], calls: this.makeEditorCalls() });
     this.editor.onScroll(() => {
       if (this.pendingScrollTop === null && container.offsetHeight > 0) this.top = this.editor.getScrollInfo().top;
@@ -122,6 +124,7 @@ export class TextEditor {
 
   /** Restores the scroll position when a hidden text appears again, because the browser may have changed the position. */
   handleResize() {
+    if (this.container.offsetHeight > 0) this.editor.prepare();
     if (this.container.offsetHeight === 0) this.scheduleScroll(this.pendingScrollTop === null ? this.top : this.pendingScrollTop);
     else if (this.pendingScrollTop === null) this.editor.refresh();
     else this.editor.callAfterLayout(() => this.applyScroll());

@@ -75,7 +75,8 @@ export class EditorView {
     const label = findDescendant(root, "h2", HTMLElement).textContent || "";
     const { colours, gutters, indent, folds, isInstruction = () => false } = language;
     const [keys, textCalls] = [this.makeKeyMap(), this.makeTextCalls()];
-    this.editor = new TextEditor({ container, label, colours, gutters, indent, folds, keys, calls: textCalls });
+    this.editor = new TextEditor({ container, label, colours, gutters, indent, folds, keys, isInFront: () => !root.hidden,
+      calls: textCalls });
     const { editor } = this.editor;
     /** @type {(faults: Fault[]) => void} the listener for changes of the errors */
     this.onErrorsChange = () => {};
@@ -89,7 +90,7 @@ export class EditorView {
     this.descriptionTimer = 0;
     /** The timer that updates the displayed size of the text. */
     this.sizeTimer = 0;
-    this.listenToPointer(editor.getWrapperElement());
+    this.listenToPointer(container);
     editor.onScroll(() => this.meaning.hideTooltip());
     onClick(findDescendant(root, ".send", HTMLButtonElement), () => calls.send());
   }
