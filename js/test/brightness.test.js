@@ -117,7 +117,7 @@ test("a lamp between two lines is lit where both are 1, to the cycle", async () 
 
 test("digits that are lit by turns show what they show longest while they are lit", () => {
   const face = new Face("# display 0: 3 digits of 7 segments with points scanned by 8\n# lamp 11: minus\n");
-  const text = new DisplayText(face.groups, [{ at: 11, text: "minus" }]);
+  const text = new DisplayText(face.groups, [{ lamp: 11, text: "minus" }]);
   const marks = (segments, digits, minus) => segments.padEnd(8, ".") + digits + minus;
   const trace = (...rows) => [`trace ran ${rows.length * 100} end lines ${rows.length - 1} ${rows[0]}`,
     ...rows.slice(1).map((row, at) => `${at * 100 + 99} 000 ${row}`)];

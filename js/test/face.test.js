@@ -12,7 +12,7 @@ const board = readBoard(["board", ...sample("board.toml").trim().split("\n")]);
 
 const textOf = (face) => new DisplayText(
   face.groups.filter(({ kind }) => kind === "display"),
-  [...face.lamps].map(([at, { text }]) => ({ at, text })),
+  [...face.lamps].map(([lamp, { text }]) => ({ lamp, text })),
 );
 
 /** Returns the description of a front panel, with one fact per line. */

@@ -53,8 +53,8 @@ const MAX_WATCHES = 8;
 function parseHitCondition(text) {
   const trimmed = text.trim();
   if (trimmed === "") return { from: 1, words: "" };
-  const found = HIT_CONDITION.exec(trimmed);
-  const from = found ? Number(found[1]) + (trimmed.startsWith(">") && !trimmed.startsWith(">=") ? 1 : 0) : 0;
+  const match = HIT_CONDITION.exec(trimmed);
+  const from = match ? Number(match[1]) + (trimmed.startsWith(">") && !trimmed.startsWith(">=") ? 1 : 0) : 0;
   return from >= 1 ? { from, words: "" } : { from: 1, words: say.HIT_COUNT_SYNTAX };
 }
 
@@ -144,9 +144,9 @@ export class ClientBreakpoints {
     const { map } = this.session;
     return this.setRequestedBreakpoints("labels", optionalList(args, "breakpoints").map((item) => {
       const name = needText(item, "name").trim();
-      const found = map.names.get(name);
-      const message = found && found.isLabel ? "" : noLabel(name);
-      const address = found && found.isLabel ? found.value : -1;
+      const programName = map.names.get(name);
+      const message = programName && programName.isLabel ? "" : noLabel(name);
+      const address = programName && programName.isLabel ? programName.value : -1;
       const line = address < 0 ? 0 : map.lineOf(address);
       return this.newBreakpoint({ ...readCommonFields(item), line, address, ...(message ? { words: message } : {}) });
     }));
@@ -173,7 +173,7 @@ export class ClientBreakpoints {
   async setRequestedBreakpoints(kind, requested) {
     this.requested[kind] = requested;
     const faults = await this.applyBreakpoints();
-    return requested.map((each) => this.toResponse(each, faults.get(each) || ""));
+    return requested.map((breakpoint) => this.toResponse(breakpoint, faults.get(breakpoint) || ""));
   }
 
   /**
@@ -193,8 +193,9 @@ export class ClientBreakpoints {
     /** @type {Map<number, RequestedBreakpoint>} */
     const byAddress = new Map();
     const { lines, labels, addresses } = this.requested;
-    for (const each of [...lines, ...labels, ...addresses]) {
-      if (each.words === "" && each.address >= 0 && !byAddress.has(each.address)) byAddress.set(each.address, each);
+    for (const breakpoint of [...lines, ...labels, ...addresses]) {
+      const { address, words } = breakpoint;
+      if (words === "" && address >= 0 && !byAddress.has(address)) byAddress.set(address, breakpoint);
     }
     for (const address of this.otherAddresses) {
       if (!byAddress.has(address)) byAddress.set(address, { ...DEFAULT_BREAKPOINT, id: 0, address });
@@ -210,16 +211,16 @@ export class ClientBreakpoints {
     /** @type {Map<RequestedBreakpoint, string>} */
     const faults = new Map();
     const breakpoints = [...this.mergeBreakpoints().values()];
-    const isOverLimit = (/** @type {number} */ at) => at >= MAX_ENABLED_BREAKPOINTS;
-    breakpoints.forEach((each, at) => isOverLimit(at) && faults.set(each, say.tooManyEnabled(MAX_ENABLED_BREAKPOINTS)));
+    const isOverLimit = (/** @type {number} */ index) => index >= MAX_ENABLED_BREAKPOINTS;
+    breakpoints.forEach((breakpoint, index) => isOverLimit(index) && faults.set(breakpoint, say.tooManyEnabled(MAX_ENABLED_BREAKPOINTS)));
     const hits = new Map([...this.byId].map(([id, { address }]) => [address, (session.breakpoints.get(id) || { hits: 0 }).hits]));
     session.breakpoints = new BreakpointList();
     this.byId.clear();
-    for (const each of breakpoints.slice(0, Math.min(MAX_ENABLED_BREAKPOINTS, MAX_BREAKPOINTS))) {
-      const { address, condition, from, note } = each;
+    for (const breakpoint of breakpoints.slice(0, Math.min(MAX_ENABLED_BREAKPOINTS, MAX_BREAKPOINTS))) {
+      const { address, condition, from, note } = breakpoint;
       const addedBreakpoint = session.breakpoints.add({ address, condition, from, note });
       addedBreakpoint.hits = hits.get(address) || 0;
-      this.byId.set(addedBreakpoint.id, each);
+      this.byId.set(addedBreakpoint.id, breakpoint);
     }
     const { faults: compileErrors } = await session.applyBreakpoints();
     for (const [id, words] of compileErrors) faults.set(/** @type {RequestedBreakpoint} */ (this.byId.get(id)), stopsEachTime(words));
@@ -232,26 +233,26 @@ export class ClientBreakpoints {
    * @param {number} id the breakpoint id in the debugger's list
    */
   hitBreakpoint(id) {
-    const found = this.byId.get(id);
-    if (!found || found.id === 0) return { id: 0, reason: "breakpoint" };
+    const breakpoint = this.byId.get(id);
+    if (!breakpoint || breakpoint.id === 0) return { id: 0, reason: "breakpoint" };
     const { labels, addresses } = this.requested;
-    if (labels.includes(found)) return { id: found.id, reason: "function breakpoint" };
-    return { id: found.id, reason: addresses.includes(found) ? "instruction breakpoint" : "breakpoint" };
+    if (labels.includes(breakpoint)) return { id: breakpoint.id, reason: "function breakpoint" };
+    return { id: breakpoint.id, reason: addresses.includes(breakpoint) ? "instruction breakpoint" : "breakpoint" };
   }
 
   /** Moves each line breakpoint to its instruction after a program change. Resolves to the breakpoints that moved. */
   async relocateLineBreakpoints() {
     const { map } = this.session;
-    const movedBreakpoints = this.requested.lines.filter((each) => {
-      const { line, address, words } = instructionForLine(Math.max(1, each.line), map);
-      const hasMoved = line !== each.line || address !== each.address;
+    const movedBreakpoints = this.requested.lines.filter((breakpoint) => {
+      const { line, address, words } = instructionForLine(Math.max(1, breakpoint.line), map);
+      const hasMoved = line !== breakpoint.line || address !== breakpoint.address;
       // If the breakpoint had no instruction before, its old error message no longer applies.
-      const remainingError = each.address < 0 ? "" : each.words;
-      Object.assign(each, { line, address, words: address < 0 ? words : remainingError });
+      const remainingError = breakpoint.address < 0 ? "" : breakpoint.words;
+      Object.assign(breakpoint, { line, address, words: address < 0 ? words : remainingError });
       return hasMoved;
     });
     await this.applyBreakpoints();
-    return movedBreakpoints.map((each) => this.toResponse(each, ""));
+    return movedBreakpoints.map((breakpoint) => this.toResponse(breakpoint, ""));
   }
 
   // --- data breakpoints ---
@@ -296,9 +297,9 @@ export class ClientBreakpoints {
     if (lines) await session.debugger.session.serve(lines, async () => true);
     this.clientWatches = watches;
     const benchWatches = readBenchWatches(session);
-    const isWatchedByBench = (/** @type {RequestedDataBreakpoint} */ each) => (
-      unconditional.includes(each) && benchWatches.includes(watchOperand(each.name)));
-    return session.debugger.setWatches(validRequests.filter((each) => !isWatchedByBench(each)), session.names);
+    const isWatchedByBench = (/** @type {RequestedDataBreakpoint} */ request) => (
+      unconditional.includes(request) && benchWatches.includes(watchOperand(request.name)));
+    return session.debugger.setWatches(validRequests.filter((request) => !isWatchedByBench(request)), session.names);
   }
 
   // --- common mistakes ---
@@ -375,8 +376,8 @@ function readBenchWatches(session) {
  */
 export function watchOperand(name) {
   const place = parsePlace(name);
-  const found = place && /^ram\.([0-7])\.0x([0-9A-F]{2})$/.exec(place.name);
-  return found ? `${found[1]} 0x${found[2]}` : "";
+  const match = place && /^ram\.([0-7])\.0x([0-9A-F]{2})$/.exec(place.name);
+  return match ? `${match[1]} 0x${match[2]}` : "";
 }
 
 /**

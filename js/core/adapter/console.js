@@ -75,7 +75,7 @@ export class Console {
     if (line.length > MAX_LENGTH) fail(say.tooLong(MAX_LENGTH));
     const [word, ...operands] = line.split("\n")[0].split(/[ \t]+/);
     if (line === "" || line === "help" || line === "?") return textResult(say.HELP);
-    const hasRowAndColumn = operands.length === 2 && operands.every((each) => !Number.isNaN(parseNumber(each)));
+    const hasRowAndColumn = operands.length === 2 && operands.every((operand) => !Number.isNaN(parseNumber(operand)));
     if ((word === "press" || word === "release") && !hasRowAndColumn) return this.pressOrReleaseKeys(word, operands);
     if (word === "keys" && operands.length > 0) return this.typeKeys(operands);
     if (word === "until" || word === "change" || word === "back" || word === "forward") return this.createMove(word, operands);

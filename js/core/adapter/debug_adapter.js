@@ -144,8 +144,8 @@ export class DebugAdapter {
         const { launchResult } = this.current;
         if (this.isConfigured) fail(say.CONFIGURED_ONCE);
         this.isConfigured = true;
-        const begin = () => (launchResult.stopsOnEntry ? this.sendStopped(this.createMoveEnd("entry")) : this.current.machine.go(null));
-        return new ResponseWithFollowUp(undefined, begin);
+        return new ResponseWithFollowUp(undefined, () => (
+          launchResult.stopsOnEntry ? this.sendStopped(this.createMoveEnd("entry")) : this.current.machine.go(null)));
       },
       restart: (args) => this.restart(args),
       terminate: () => new ResponseWithFollowUp(undefined, () => {
@@ -303,7 +303,7 @@ export class DebugAdapter {
   async changeBreakpoints(act) {
     const { machine, breakpoints } = this.current;
     const sentBreakpoints = await machine.runWhenFree(() => act(breakpoints));
-    return { breakpoints: sentBreakpoints.map((each) => this.toProtocolBreakpoint(each)) };
+    return { breakpoints: sentBreakpoints.map((breakpoint) => this.toProtocolBreakpoint(breakpoint)) };
   }
 
   /** @param {import("./client_breakpoints.js").SentBreakpoint} breakpoint */
@@ -322,8 +322,8 @@ export class DebugAdapter {
     const { queryHandlers, launchResult } = this.current;
     const name = needText(args, "name");
     const reference = needNumber(args, "variablesReference", 0);
-    const found = reference > 0 ? queryHandlers.findWatchPlace(reference, name) : name;
-    const dataBreakpoint = describeDataBreakpoint(found, launchResult.session);
+    const placeName = reference > 0 ? queryHandlers.findWatchPlace(reference, name) : name;
+    const dataBreakpoint = describeDataBreakpoint(placeName, launchResult.session);
     if (!dataBreakpoint) return { dataId: null, description: say.notWatched(name) };
     return { ...dataBreakpoint, accessTypes: ["write"] };
   }
@@ -504,11 +504,11 @@ export class DebugAdapter {
     this.lastStop = moveEnd;
     this.sendFrontPanel();
     const isDataBreakpoint = moveEnd.reason === "data breakpoint";
-    const found = moveEnd.reason === "breakpoint" ? open.breakpoints.hitBreakpoint(moveEnd.id)
+    const hit = moveEnd.reason === "breakpoint" ? open.breakpoints.hitBreakpoint(moveEnd.id)
       : { id: isDataBreakpoint ? moveEnd.id : 0, reason: moveEnd.reason };
     this.connection.sendEvent("stopped", {
-      reason: found.reason, description: moveEnd.words, threadId: THREAD_ID, allThreadsStopped: true,
-      ...(found.id > 0 ? { hitBreakpointIds: [found.id] } : {}),
+      reason: hit.reason, description: moveEnd.words, threadId: THREAD_ID, allThreadsStopped: true,
+      ...(hit.id > 0 ? { hitBreakpointIds: [hit.id] } : {}),
     });
   }
 

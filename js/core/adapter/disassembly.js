@@ -27,7 +27,7 @@ function listInstructions(session, from, to) {
   const instructions = [];
   for (let address = from; address < to;) {
     const batch = readListing(session.debugger.session.ask(`list ${address} ${MAX_LISTING_LINES}\n`));
-    instructions.push(...batch.filter((each) => each.address < to));
+    instructions.push(...batch.filter((instruction) => instruction.address < to));
     address = nextAddress(batch[batch.length - 1]);
   }
   return instructions;
@@ -45,18 +45,19 @@ function listInstructions(session, from, to) {
 export function listInstructionRows(session, address, offset, count) {
   // An instruction has at most two bytes. If the source map has an instruction nearby, the listing is aligned to it, so that no row starts
   // at the second byte of an instruction.
-  const begin = Math.max(0, address + 2 * Math.min(0, offset) - 1);
-  const candidates = indices(4).map((more) => begin + more);
-  const alignedStart = candidates.find((each) => each <= address && session.map.beginsInstruction(each)) ?? begin;
+  const start = Math.max(0, address + 2 * Math.min(0, offset) - 1);
+  const candidates = indices(4).map((more) => start + more);
+  const alignedStart = candidates.find((candidate) => candidate <= address && session.map.beginsInstruction(candidate)) ?? start;
   const wholeInstructions = (/** @type {number} */ from, /** @type {number} */ to) => (
-    listInstructions(session, from, to).filter((each) => nextAddress(each) <= to));
-  const instructionsBefore = [...wholeInstructions(begin, alignedStart), ...wholeInstructions(alignedStart, address)];
+    listInstructions(session, from, to).filter((instruction) => nextAddress(instruction) <= to));
+  const instructionsBefore = [...wholeInstructions(start, alignedStart), ...wholeInstructions(alignedStart, address)];
   const instructionsAfter = listInstructions(session, address, Math.min(LAST_ADDRESS + 1, address + 2 * Math.max(0, offset + count)));
   const instructions = [...instructionsBefore, ...instructionsAfter];
-  return indices(count).map((at) => {
-    const index = instructionsBefore.length + offset + at;
-    const found = instructions[index];
-    return found ? instructionRow(found, session) : emptyRow(index < 0 ? index : LAST_ADDRESS + 1 + index - instructions.length);
+  return indices(count).map((row) => {
+    const index = instructionsBefore.length + offset + row;
+    const instruction = instructions[index];
+    if (instruction) return instructionRow(instruction, session);
+    return emptyRow(index < 0 ? index : LAST_ADDRESS + 1 + index - instructions.length);
   });
 }
 
@@ -85,8 +86,8 @@ function emptyRow(address) {
 export function readRomBytes(session) {
   const bytes = new Uint8Array(LAST_ADDRESS + 1);
   for (const { address, line } of listInstructions(session, 0, LAST_ADDRESS + 1)) {
-    line.slice(4, 9).trim().split(" ").forEach((byte, at) => {
-      bytes[address + at] = parseInt(byte, 16);
+    line.slice(4, 9).trim().split(" ").forEach((byte, offset) => {
+      bytes[address + offset] = parseInt(byte, 16);
     });
   }
   return bytes;

@@ -108,8 +108,8 @@ export function expressionHover(text, context) {
   const trimmed = text.trim();
   /** @type {(name: string) => import("../debug/word_values.js").NamedValue | undefined} */
   const nameOf = (name) => {
-    const found = session.map.names.get(name);
-    return found && { ...found, words: session.map.meaningOf(name) };
+    const programName = session.map.names.get(name);
+    return programName && { ...programName, words: session.map.meaningOf(name) };
   };
   const describeInstruction = (/** @type {string} */ word) => (instructions.get(word) || { does: "" }).does;
   const pieces = valuesAt(trimmed, 0, new MachineState(session.debugger.session.takeSnapshot()), { nameOf, describeInstruction });

@@ -38,14 +38,14 @@ export const OUT_OF_MEMORY = 90;
 
 /**
  * Converts an error to its message representation.
- * @param {unknown} fault
+ * @param {unknown} error
  * @returns {PackedFault}
  */
-export function packError(fault) {
-  if (fault instanceof BenchRefusal) return { kind: "refusal", words: fault.message, number: fault.number };
-  if (fault instanceof BenchTrap) return { kind: "trap", words: fault.message, number: 0 };
-  if (fault instanceof CancelledError) return { kind: "cancelled", words: fault.message, number: 0 };
-  return { kind: "other", words: fault instanceof Error ? fault.message : String(fault), number: 0 };
+export function packError(error) {
+  if (error instanceof BenchRefusal) return { kind: "refusal", words: error.message, number: error.number };
+  if (error instanceof BenchTrap) return { kind: "trap", words: error.message, number: 0 };
+  if (error instanceof CancelledError) return { kind: "cancelled", words: error.message, number: 0 };
+  return { kind: "other", words: error instanceof Error ? error.message : String(error), number: 0 };
 }
 
 /**

@@ -68,7 +68,7 @@ const TRACE_ONLY_SYNTAXES = [
   syntaxOf("romN.N", [MAX_NIBBLE, 3]), syntaxOf("ramN.N.N", [MAX_BANK, 3, 3]), syntaxOf("chainN.N", [3, 79]),
 ];
 /** Place names for completion and suggestions. A name that ends with a dot is incomplete. */
-export const POKE_NAMES = ["acc", "cy", "pc", "dcl", ...indices(16).map((at) => `r${at}`), "rom.", "ram.", "st."];
+export const POKE_NAMES = ["acc", "cy", "pc", "dcl", ...indices(16).map((register) => `r${register}`), "rom.", "ram.", "st."];
 export const TRACE_NAMES = [...POKE_NAMES, "lamps", "ret", "src"];
 
 /** @type {(word: string) => number} returns the value of a numeral; NaN for any other word */
@@ -101,7 +101,7 @@ function findPlaceSyntax(word, syntaxes) {
  */
 function isInRange(word, { pattern, maxima }) {
   const placeNumbers = /** @type {RegExpExecArray} */ (pattern.exec(word)).slice(1).map(Number);
-  return placeNumbers.every((number, at) => number <= maxima[at]);
+  return placeNumbers.every((number, index) => number <= maxima[index]);
 }
 
 /** @type {(word: string, names: string[]) => LineFault} */
@@ -149,8 +149,8 @@ function findWordError([first, ...words]) {
   if (first === "poke") return words.length === 2 ? findPokeError(words[0], words[1]) : syntaxError;
   const ranges = NUMBER_RANGES[first] || [];
   if (words.length !== ranges.length) return syntaxError;
-  const errors = words.map((word, at) => findRangeError(word, ranges[at]));
-  return errors.find((fault) => fault !== null) || null;
+  const errors = words.map((word, index) => findRangeError(word, ranges[index]));
+  return errors.find((error) => error !== null) || null;
 }
 
 /**

@@ -27,24 +27,24 @@ const SET_LINE = /^\s*set(?!\S)(.*)$/;
 export function replaceNames(lines, map) {
   let [message, line] = ["", 0];
   let isOpen = false;
-  /** @type {(error: string, at: number) => void} */
-  const reportError = (error, at) => {
-    if (message === "" && error !== "") [message, line] = [error, at];
+  /** @type {(error: string, lineNumber: number) => void} */
+  const reportError = (error, lineNumber) => {
+    if (message === "" && error !== "") [message, line] = [error, lineNumber];
   };
-  /** @type {(text: string, at: number) => string} */
-  const replaceIn = (text, at) => {
+  /** @type {(text: string, lineNumber: number) => string} */
+  const replaceIn = (text, lineNumber) => {
     const setMatch = SET_LINE.exec(text);
-    if (!setMatch) return replaceNamesIn(text, at);
+    if (!setMatch) return replaceNamesIn(text, lineNumber);
     const { lines: settingLines, fault, column } = readSetting(setMatch[1], map);
-    reportError(fault && `${inColumn(fault, column + text.length - setMatch[1].length)}.`, at);
+    reportError(fault && `${inColumn(fault, column + text.length - setMatch[1].length)}.`, lineNumber);
     return settingLines.trimEnd();
   };
-  /** @type {(text: string, at: number) => string} */
-  const replaceNamesIn = (text, at) => text.replace(NAME_REFERENCE, (found, before, name) => {
+  /** @type {(text: string, lineNumber: number) => string} */
+  const replaceNamesIn = (text, lineNumber) => text.replace(NAME_REFERENCE, (match, before, name) => {
     const value = map ? map.findValue(name) : undefined;
     if (value !== undefined) return `${before}0x${hex(value, 3)}`;
-    reportError(`${found.trim()}: ${map ? say.NO_SUCH_NAME : say.NAMES_UNKNOWN}.`, at);
-    return found;
+    reportError(`${match.trim()}: ${map ? say.NO_SUCH_NAME : say.NAMES_UNKNOWN}.`, lineNumber);
+    return match;
   });
   const changed = lines.split("\n").map((rawLine, index) => {
     const text = stripCarriageReturn(rawLine);

@@ -53,7 +53,7 @@ function completeLength(input, answers, from) {
 function findInvalidLine(input, answers, from, end) {
   const form = ANSWER_FORMATS.get(input.kind);
   const further = form && form.further;
-  for (let at = from + 1; at < Math.min(end, answers.length); at++) if (!further || !further.test(answers[at])) return at;
+  for (let index = from + 1; index < Math.min(end, answers.length); index++) if (!further || !further.test(answers[index])) return index;
   return -1;
 }
 
@@ -84,18 +84,18 @@ class AnswerMatcher {
    */
   takeAnswer(input, line) {
     if (this.isDone) return "";
-    const { answers, nextIndex: at } = this;
-    const first = answers[at];
+    const { answers, nextIndex: start } = this;
+    const first = answers[start];
     const messageAt = (/** @type {number} */ index) => say.noAnswer(index + 1, answers[index], line, input.line);
     const [word, count] = first.split(" ");
-    if (!canBeginAnswer(input, first)) this.message = messageAt(at);
+    if (!canBeginAnswer(input, first)) this.message = messageAt(start);
     else if (word === "ok" && Number(count) !== this.commandCount + 1) {
-      this.message = say.wrongCommandCount(messageAt(at), this.commandCount);
+      this.message = say.wrongCommandCount(messageAt(start), this.commandCount);
     }
     if (this.message !== "") return "";
     if (word === "ok") this.commandCount += 1;
-    const end = at + completeLength(input, answers, at);
-    const invalidLine = findInvalidLine(input, answers, at, end);
+    const end = start + completeLength(input, answers, start);
+    const invalidLine = findInvalidLine(input, answers, start, end);
     if (invalidLine >= 0) this.message = messageAt(invalidLine);
     this.isIncomplete = end > answers.length;
     this.nextIndex = end;

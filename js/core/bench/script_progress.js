@@ -30,7 +30,8 @@ const COMPARED_QUERIES = `seq\nboard\nstate\n${indices(BANK_COUNT).map((bank) =>
 function splitStateAnswers(answers) {
   return answers.flatMap((answer) => {
     const [word, ...items] = answer.split(" ");
-    return word === "state" ? indices(Math.floor(items.length / 2)).map((at) => `${items[2 * at]} ${items[2 * at + 1]}`) : [answer];
+    if (word !== "state") return [answer];
+    return indices(Math.floor(items.length / 2)).map((index) => `${items[2 * index]} ${items[2 * index + 1]}`);
   });
 }
 
@@ -41,7 +42,7 @@ function splitStateAnswers(answers) {
  * @param {string[]} expected
  */
 export function differingLines(actual, expected) {
-  const differs = (/** @type {number} */ at) => actual[at] !== expected[at];
+  const differs = (/** @type {number} */ index) => actual[index] !== expected[index];
   if (actual.length === expected.length) {
     const differingIndexes = indices(actual.length).filter(differs).slice(0, MAX_DIFFERING_LINES / 2);
     return [...differingIndexes.map((index) => `< ${actual[index]}`), ...differingIndexes.map((index) => `> ${expected[index]}`)];
@@ -81,10 +82,10 @@ async function serveScript(engine, lines, yieldToMessages) {
   const state = engine.begin();
   /** @type {string[]} */
   const answers = [];
-  for (let at = 0; at < lines.length;) {
-    const end = findInputEnd(lines, at, MIN_PIECE_LENGTH);
-    for (const answer of engine.serve(state, lines.slice(at, end), state).answers) answers.push(answer);
-    at = end;
+  for (let offset = 0; offset < lines.length;) {
+    const end = findInputEnd(lines, offset, MIN_PIECE_LENGTH);
+    for (const answer of engine.serve(state, lines.slice(offset, end), state).answers) answers.push(answer);
+    offset = end;
     await yieldToMessages();
   }
   return { state, answers };

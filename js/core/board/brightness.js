@@ -179,7 +179,7 @@ export class Brightness {
    * @param {string} marks one mark per lamp, `*` if the lamp is on
    */
   begin(marks) {
-    this.isOn = this.lamps.map((_, at) => isLit(marks, at));
+    this.isOn = this.lamps.map((_, lamp) => isLit(marks, lamp));
     this.lamps = this.isOn.map(Number);
     this.digits = this.displays.map(({ rows }) => Array.from({ length: rows }, () => new PerceivedDigit()));
     this.scannedGroups = this.scannedGroups.map((lamps) => lamps.map(() => 0));
@@ -197,18 +197,18 @@ export class Brightness {
     if (cycles === 0) return;
     const remainingShare = Math.exp(-time / EYE_PERSISTENCE_MS);
     this.updateDuties(this.lamps, litShares.lamps, cycles, remainingShare);
-    this.stillness.forEach((stillness, at) => {
-      stillness.add(litShares.moved[at], cycles, time);
+    this.stillness.forEach((stillness, lamp) => {
+      stillness.add(litShares.moved[lamp], cycles, time);
       const { isSteady: isStill } = stillness;
-      const isLitNow = isLit(litShares.marks, at);
+      const isLitNow = isLit(litShares.marks, lamp);
       // A lamp that goes off fades, so that a short flash stays visible.
-      if (isStill && isLitNow) this.lamps[at] = 1;
-      this.isOn[at] = isStill ? isLitNow : this.lamps[at] >= MIN_ON_DUTY;
+      if (isStill && isLitNow) this.lamps[lamp] = 1;
+      this.isOn[lamp] = isStill ? isLitNow : this.lamps[lamp] >= MIN_ON_DUTY;
     });
-    this.scannedGroups.forEach((parts, at) => this.updateDuties(parts, litShares.scanned[at], cycles, remainingShare));
-    litShares.displays.forEach((display, at) => {
-      this.displayStillness[at].add(display.moved, cycles, time);
-      this.addDisplay(at, display, cycles, remainingShare);
+    this.scannedGroups.forEach((parts, index) => this.updateDuties(parts, litShares.scanned[index], cycles, remainingShare));
+    litShares.displays.forEach((display, index) => {
+      this.displayStillness[index].add(display.moved, cycles, time);
+      this.addDisplay(index, display, cycles, remainingShare);
     });
   }
 
@@ -220,9 +220,9 @@ export class Brightness {
    * @param {number} remainingShare the share of the earlier light that remains, from 0 to 1
    */
   updateDuties(duties, litCycles, cycles, remainingShare) {
-    for (let at = 0; at < duties.length; at++) {
-      const duty = duties[at] * remainingShare + (litCycles[at] / cycles) * (1 - remainingShare);
-      duties[at] = duty < MIN_DUTY ? 0 : duty;
+    for (let index = 0; index < duties.length; index++) {
+      const duty = duties[index] * remainingShare + (litCycles[index] / cycles) * (1 - remainingShare);
+      duties[index] = duty < MIN_DUTY ? 0 : duty;
     }
   }
 

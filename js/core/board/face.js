@@ -75,7 +75,7 @@ export class Face {
     this.isFatal = false;
     /** The number of words read from lists. Reading stops when the number exceeds MAX_WORDS. */
     this.wordCount = 0;
-    text.split("\n").forEach((line, at) => this.readLine(line.replace(/\r$/, ""), at + 1));
+    text.split("\n").forEach((line, index) => this.readLine(line.replace(/\r$/, ""), index + 1));
     for (const word of this.gridWords) this.addToGrid(word);
   }
 
@@ -109,9 +109,9 @@ export class Face {
    * @param {number} line
    */
   readLine(text, line) {
-    const found = this.wordCount <= MAX_WORDS ? parseFaceLine(text) : null;
-    if (!found) return;
-    const { name, kind, first, last, words } = found;
+    const faceLine = this.wordCount <= MAX_WORDS ? parseFaceLine(text) : null;
+    if (!faceLine) return;
+    const { name, kind, first, last, words } = faceLine;
     this.comments += `${text}\n`;
     this.isFatal = kind.isFatal;
     if (kind.counts) this.wordCount += splitWords(words).filter((word) => word !== "_").length;
@@ -154,17 +154,17 @@ export class Face {
    * @param {number} line
    */
   readLamps(first, text, line) {
-    splitWords(text).forEach((name, at) => {
+    splitWords(text).forEach((name, index) => {
       if (name === "_") return;
       const firstLine = this.definitionLines.get(`lamp ${name}`);
-      const namedLamp = this.lamps.get(first + at);
+      const namedLamp = this.lamps.get(first + index);
       if (firstLine !== undefined) this.reportError(line, formatMessage("second name", name, firstLine));
       else if (/^[*.?-]+$/.test(name)) this.reportError(line, formatMessage("a pattern", name));
-      else if (namedLamp) this.reportError(line, formatMessage("named before", first + at, namedLamp.text));
+      else if (namedLamp) this.reportError(line, formatMessage("named before", first + index, namedLamp.text));
       else {
         this.definitionLines.set(`lamp ${name}`, line);
-        this.lamps.set(first + at, { text: name, line });
-        this.lampNumbers.set(name, first + at);
+        this.lamps.set(first + index, { text: name, line });
+        this.lampNumbers.set(name, first + index);
       }
     });
   }
@@ -318,7 +318,7 @@ export class Face {
  * @param {number} count
  */
 function* repeatWord(word, count) {
-  for (let at = 0; at < count; at++) yield word;
+  for (let index = 0; index < count; index++) yield word;
 }
 
 /** @type {(face: Face, line: Line) => void} reads the line of a group of lamps */
@@ -364,5 +364,5 @@ export function moreErrors(faults, maxListed) {
  * @param {Fault[]} faults
  */
 export function sortByLine(faults) {
-  return [...faults].sort((one, other) => one.line - other.line);
+  return [...faults].sort((a, b) => a.line - b.line);
 }

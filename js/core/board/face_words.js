@@ -59,7 +59,7 @@ export const findLimit = (name) => LIMITS.get(name) || 0;
  */
 export function formatMessage(name, ...values) {
   const message = MESSAGES.get(name) || name;
-  return values.reduce((/** @type {string} */ words, value, at) => words.replace(`{${at + 1}}`, () => String(value)), message);
+  return values.reduce((/** @type {string} */ words, value, index) => words.replace(`{${index + 1}}`, () => String(value)), message);
 }
 
 /** @type {(text: string) => string[]} splits a text at blanks and tabs */

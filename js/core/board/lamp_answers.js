@@ -33,7 +33,7 @@ class LampAnswerReader {
     const displays = face.groups.filter(({ kind }) => kind === "display");
     this.requiredLampCount = Math.max(...displays.map(groupEnd));
     this.isScanned = hasScannedDisplay(face);
-    this.text = new DisplayText(displays, [...face.lamps].map(([at, { text }]) => ({ at, text })));
+    this.text = new DisplayText(displays, [...face.lamps].map(([lamp, { text }]) => ({ lamp, text })));
     this.perceivedText = new PerceivedText(face, board.lamps.length);
   }
 
@@ -86,11 +86,11 @@ export function convertLampAnswers(face, board, name, answers) {
   const reader = new LampAnswerReader(face, board, name);
   /** @type {string[]} */
   const lines = [];
-  for (let at = 0; at < answers.length;) {
-    const { text, words, count } = reader.readAnswer(answers, at);
+  for (let index = 0; index < answers.length;) {
+    const { text, words, count } = reader.readAnswer(answers, index);
     if (words !== "") return { lines: [], words };
     if (count > 0) lines.push(text);
-    at += Math.max(1, count);
+    index += Math.max(1, count);
   }
   return { lines, words: lines.length > 0 ? "" : say.NO_LAMPS_SHOWN };
 }

@@ -76,9 +76,9 @@ function checkPlaceCount({ length }) {
 function resultOrError(compile) {
   try {
     return { read: compile(), fault: "", column: -1 };
-  } catch (fault) {
-    if (fault instanceof ConditionError) return { read: null, fault: fault.message, column: Math.max(0, fault.column) };
-    throw fault;
+  } catch (error) {
+    if (error instanceof ConditionError) return { read: null, fault: error.message, column: Math.max(0, error.column) };
+    throw error;
   }
 }
 
@@ -154,8 +154,8 @@ export function compileTestCondition(conditionText, names) {
     checkPlaceCount(places);
     /** @type {(values: string[], extraValues: ExtraValues) => string[]} returns the values of all places, in the order of `allPlaces` */
     const allValues = (values, extraValues) => {
-      let at = 0;
-      return allPlaces.map((place) => (isStatePlace(place) ? extraValues[place] : values[at++]));
+      let index = 0;
+      return allPlaces.map((place) => (isStatePlace(place) ? extraValues[place] : values[index++]));
     };
     const selectValues = statePlaces.length === 0 ? (/** @type {string[]} */ values) => values : allValues;
     return {

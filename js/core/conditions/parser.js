@@ -255,8 +255,8 @@ class Parser {
       const { column } = left;
       this.scanner.next();
       this.requireOperand(text);
-      const [one, other] = [this.requireValue(left), this.requireValue(this.parseOperand())];
-      left = { kind: "sum", sign: text, left: one, right: other, text: this.textFrom(column), column };
+      const [leftValue, rightValue] = [this.requireValue(left), this.requireValue(this.parseOperand())];
+      left = { kind: "sum", sign: text, left: leftValue, right: rightValue, text: this.textFrom(column), column };
     }
   }
 

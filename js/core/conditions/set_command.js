@@ -79,13 +79,13 @@ function makeSetting({ text, column }, value) {
 export function readSetting(text, map, board = null) {
   try {
     const { place, value } = parseSetting(text);
-    const found = parsePlace(place);
-    if (board && found && found.probesOn(board).length === 0) fail(say.boardLacks(place), 0);
+    const parsedPlace = parsePlace(place);
+    if (board && parsedPlace && parsedPlace.probesOn(board).length === 0) fail(say.boardLacks(place), 0);
     const number = evaluateConstant(value, map);
     if (number < 0 || number > maxPlaceValue(place)) fail(say.holds(place, maxPlaceValue(place), value.text), value.column);
     return { place, lines: settingLines(place, number), fault: "", column: -1 };
-  } catch (fault) {
-    if (fault instanceof ConditionError) return { place: "", lines: "", fault: fault.message, column: Math.max(0, fault.column) };
-    throw fault;
+  } catch (error) {
+    if (error instanceof ConditionError) return { place: "", lines: "", fault: error.message, column: Math.max(0, error.column) };
+    throw error;
   }
 }

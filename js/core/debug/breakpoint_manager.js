@@ -151,16 +151,16 @@ export class BreakpointManager {
       return;
     }
     const wantedAddresses = new Set(this.hardAddresses);
-    const newAddresses = addresses.filter((each) => !wantedAddresses.has(each) && !previousAddresses.has(each));
+    const newAddresses = addresses.filter((address) => !wantedAddresses.has(address) && !previousAddresses.has(address));
     for (const address of newAddresses) this.addFromBench(address);
-    const missingAddresses = [...wantedAddresses].filter((each) => previousAddresses.has(each) && !addresses.includes(each));
+    const missingAddresses = [...wantedAddresses].filter((address) => previousAddresses.has(address) && !addresses.includes(address));
     for (const address of missingAddresses) this.removeMissing(address);
     this.apply();
   }
 
   /** The addresses of the enabled breakpoints that stop the machine at every arrival. */
   get hardAddresses() {
-    return this.list.placed.filter((each) => !isSoft(each)).map(({ address }) => address);
+    return this.list.placed.filter((breakpoint) => !isSoft(breakpoint)).map(({ address }) => address);
   }
 
   /**
@@ -168,9 +168,9 @@ export class BreakpointManager {
    * @param {number} address
    */
   addFromBench(address) {
-    const found = this.list.findByAddress(address);
-    if (found) {
-      this.list.change(found.id, { isOn: true });
+    const breakpoint = this.list.findByAddress(address);
+    if (breakpoint) {
+      this.list.change(breakpoint.id, { isOn: true });
       return;
     }
     const { map } = this;
@@ -185,8 +185,8 @@ export class BreakpointManager {
    * @param {number} address
    */
   removeMissing(address) {
-    const found = this.list.findByAddress(address);
-    if (found) this.list.remove(found.id);
+    const breakpoint = this.list.findByAddress(address);
+    if (breakpoint) this.list.remove(breakpoint.id);
   }
 
   /**
@@ -287,8 +287,8 @@ export class BreakpointManager {
    */
   get savedBreakpoints() {
     const { list, typedEdit } = this;
-    return list.savedBreakpoints.map((each, at) => (
-      typedEdit && typedEdit.id === list.all[at].id ? { ...each, ...typedEdit.changes } : each));
+    return list.savedBreakpoints.map((breakpoint, index) => (
+      typedEdit && typedEdit.id === list.all[index].id ? { ...breakpoint, ...typedEdit.changes } : breakpoint));
   }
 
   /**
@@ -297,11 +297,11 @@ export class BreakpointManager {
    * @param {Partial<SavedBreakpoint>} changes the changed fields
    */
   change(id, changes) {
-    const found = this.list.get(id);
-    if (!found) return;
+    const breakpoint = this.list.get(id);
+    if (!breakpoint) return;
     if (this.typedEdit && this.typedEdit.id === id) this.typedEdit = null;
-    else if (JSON.stringify({ ...found, ...changes }) === JSON.stringify(found)) return;
-    if (changes.isOn && !found.isOn && this.list.enabledCount >= MAX_ENABLED_BREAKPOINTS) {
+    else if (JSON.stringify({ ...breakpoint, ...changes }) === JSON.stringify(breakpoint)) return;
+    if (changes.isOn && !breakpoint.isOn && this.list.enabledCount >= MAX_ENABLED_BREAKPOINTS) {
       this.calls.showMessage(TOO_MANY_ENABLED);
       this.calls.changed();
       return;
@@ -354,7 +354,7 @@ export class BreakpointManager {
     const { placed } = this.list;
     // A name in a condition can have another meaning in another source text, so the comparison includes the texts.
     const names = placed.some(isSoft) ? [this.map ? this.map.text : "", this.watchTexts] : [];
-    const request = JSON.stringify([names, placed.map((each) => ({ ...each, line: 0, hits: 0 }))]);
+    const request = JSON.stringify([names, placed.map((breakpoint) => ({ ...breakpoint, line: 0, hits: 0 }))]);
     const isNothingSet = placed.length === 0 && this.benchAddresses !== null && this.benchAddresses.size === 0;
     if (request === this.lastRequest || (this.lastRequest === "" && isNothingSet)) return;
     this.lastRequest = request;

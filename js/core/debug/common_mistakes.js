@@ -102,16 +102,16 @@ export class CommonMistakes {
 
   /**
    * Returns the mistakes in the next lines, up to the first mistake that stops the machine.
-   * @param {PlannedLine[]} planned the next lines
+   * @param {PlannedLine[]} plannedLines the next lines
    * @param {Uint8Array} [file] the session before the lines, if the lines have already run
    * @returns {FoundMistakes}
    */
-  searchLines(planned, file = this.session.file) {
-    const maxCycles = this.cyclesToCheck(planned);
+  searchLines(plannedLines, file = this.session.file) {
+    const maxCycles = this.cyclesToCheck(plannedLines);
     if (maxCycles === 0 || (this.reportedKinds.size === KIND_COUNT && this.conditions.size === 0)) return NO_MISTAKES;
-    const found = this.findMistakes(truncateLines(planned, maxCycles), file);
-    const stoppingMistake = found.find((fault) => this.stopsMachine(fault, planned, file));
-    const faults = found.filter(({ isRepeat }) => !isRepeat);
+    const mistakes = this.findMistakes(truncateLines(plannedLines, maxCycles), file);
+    const stoppingMistake = mistakes.find((fault) => this.stopsMachine(fault, plannedLines, file));
+    const faults = mistakes.filter(({ isRepeat }) => !isRepeat);
     if (!stoppingMistake) return { faults, stop: -1 };
     this.stopAddress = stoppingMistake.address;
     return { faults: faults.filter((fault) => fault.cycles <= stoppingMistake.cycles), stop: stoppingMistake.cycles };
@@ -120,14 +120,14 @@ export class CommonMistakes {
   /**
    * Returns whether a mistake stops the machine.
    * @param {CommonMistake} fault
-   * @param {PlannedLine[]} planned the lines with the mistake
+   * @param {PlannedLine[]} plannedLines the lines with the mistake
    * @param {Uint8Array} file the session before these lines
    */
-  stopsMachine({ kind, cycles }, planned, file) {
+  stopsMachine({ kind, cycles }, plannedLines, file) {
     if (!this.stoppingKinds.has(kind)) return false;
     const condition = this.conditions.get(kind);
     if (!condition) return true;
-    const linesBefore = truncateLines(planned, cycles);
+    const linesBefore = truncateLines(plannedLines, cycles);
     const probes = new Probes(condition.places);
     const lines = linesBefore.map(({ line }) => `${line}\n`).join("") + probes.lines;
     const answers = new ForecastAnswers(this.session.engine.ask(file, lines).answers);
@@ -138,11 +138,11 @@ export class CommonMistakes {
   /**
    * Returns the number of cycles to check in the next lines. All cycles are checked soon after the machine starts or a key changes, and
    * whenever mistakes stop the machine. Otherwise only a sample is checked, because a check runs each cycle three more times.
-   * @param {PlannedLine[]} planned
+   * @param {PlannedLine[]} plannedLines
    */
-  cyclesToCheck(planned) {
-    const cycles = planned.reduce((sum, each) => sum + plannedCycles(each), 0);
-    if (planned.some(({ change }) => change !== null)) this.remainingCycles = FULLY_CHECKED_CYCLES;
+  cyclesToCheck(plannedLines) {
+    const cycles = plannedLines.reduce((sum, plannedLine) => sum + plannedCycles(plannedLine), 0);
+    if (plannedLines.some(({ change }) => change !== null)) this.remainingCycles = FULLY_CHECKED_CYCLES;
     this.callCount += 1;
     const isAll = this.stoppingKinds.size > 0 && cycles <= MAX_CYCLES_PER_CALL;
     const sample = this.callCount % CALLS_PER_SAMPLE === 0 ? SAMPLE_CYCLES : 0;
@@ -161,22 +161,22 @@ export class CommonMistakes {
 
   /**
    * Returns all mistakes in the given lines.
-   * @param {PlannedLine[]} planned
+   * @param {PlannedLine[]} plannedLines
    * @param {Uint8Array} file the session before the lines
    */
-  findMistakes(planned, file) {
+  findMistakes(plannedLines, file) {
     const { engine } = this.session;
     const { codes, selection } = this.readRom();
-    const lines = planned.map((each) => {
-      const cycles = plannedCycles(each);
-      return each.change ? `${each.line}\n` : `trace ${cycles} src dcl ret\ntrace ${cycles}\n${each.line}\n`;
+    const lines = plannedLines.map((plannedLine) => {
+      const cycles = plannedCycles(plannedLine);
+      return plannedLine.change ? `${plannedLine.line}\n` : `trace ${cycles} src dcl ret\ntrace ${cycles}\n${plannedLine.line}\n`;
     });
     const answers = new ForecastAnswers(engine.ask(file, `state\n${lines.join("")}`).answers);
     selection.begin(answers.take());
     /** @type {CommonMistake[]} */
     const faults = [];
     let done = 0;
-    for (const { change } of planned) {
+    for (const { change } of plannedLines) {
       if (change) {
         answers.take();
         continue;
@@ -246,9 +246,9 @@ export class CommonMistakes {
     const code = codes[address];
     if (this.isOutsideProgram(address)) return { kind: "bytes", words: say.LEFT_PROGRAM };
     if (!isCall(code) && !isReturn(code)) return null;
-    const returns = values[2].split(",").map((each) => parseInt(each, 16));
-    const [newest, , oldest] = returns.map((each) => hex(each, 3));
-    const liveFlags = findLiveReturns(returns, returns.map((each) => hex(codes[callAddress(each)], 2)), this.map);
+    const returns = values[2].split(",").map((digits) => parseInt(digits, 16));
+    const [newest, , oldest] = returns.map((returnAddress) => hex(returnAddress, 3));
+    const liveFlags = findLiveReturns(returns, returns.map((returnAddress) => hex(codes[callAddress(returnAddress)], 2)), this.map);
     if (isReturn(code)) return liveFlags[0] ? null : { kind: "return", words: say.returnWithoutCall(newest) };
     return liveFlags[2] ? { kind: "calls", words: say.returnAddressLost(oldest) } : null;
   }

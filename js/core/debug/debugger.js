@@ -92,16 +92,16 @@ export const NO_TALLY = { hits: [], notes: [], noted: 0, usual: [] };
 
 /**
  * Joins the events of two tallies.
- * @param {Tally} one
- * @param {Tally} other the later tally
+ * @param {Tally} earlier
+ * @param {Tally} later
  * @returns {Tally}
  */
-export function joinTallies(one, other) {
+export function joinTallies(earlier, later) {
   return {
-    hits: [...one.hits, ...other.hits],
-    notes: [...one.notes, ...other.notes].slice(-MAX_NOTES),
-    noted: one.noted + other.noted,
-    usual: [...one.usual, ...other.usual],
+    hits: [...earlier.hits, ...later.hits],
+    notes: [...earlier.notes, ...later.notes].slice(-MAX_NOTES),
+    noted: earlier.noted + later.noted,
+    usual: [...earlier.usual, ...later.usual],
   };
 }
 
@@ -153,14 +153,14 @@ export class Debugger {
   setBreakpoints(placed, names) {
     /** @type {[number, string][]} */
     const faults = [];
-    const softBreakpoints = placed.filter(isSoft).flatMap((each) => {
-      const { soft, fault } = compileBreakpoint(each, names);
-      if (fault) faults.push([each.id, fault]);
+    const softBreakpoints = placed.filter(isSoft).flatMap((breakpoint) => {
+      const { soft, fault } = compileBreakpoint(breakpoint, names);
+      if (fault) faults.push([breakpoint.id, fault]);
       return soft;
     });
     this.names = names;
     this.arrivals = this.createStopFinder(softBreakpoints);
-    this.hardBreakpoints = new Map(placed.filter((each) => !isSoft(each)).map(({ id, address }) => [address, id]));
+    this.hardBreakpoints = new Map(placed.filter((breakpoint) => !isSoft(breakpoint)).map(({ id, address }) => [address, id]));
     return { lines: this.breakLines(), faults };
   }
 
@@ -218,18 +218,18 @@ export class Debugger {
   advance(cycles, isHurried = false) {
     const { session } = this;
     const { engine, file } = session;
-    let planned = session.queue.plan(cycles);
-    const cyclesBeforeGoal = this.watcher ? cyclesToGoal(engine, file, planned, this.watcher) : -1;
-    if (cyclesBeforeGoal >= 0) planned = truncateLines(planned, cyclesBeforeGoal);
-    const events = this.arrivals.searchLines(engine, file, planned);
-    if (events.cycles >= 0) planned = truncateLines(planned, events.cycles);
+    let plannedLines = session.queue.plan(cycles);
+    const cyclesBeforeGoal = this.watcher ? cyclesToGoal(engine, file, plannedLines, this.watcher) : -1;
+    if (cyclesBeforeGoal >= 0) plannedLines = truncateLines(plannedLines, cyclesBeforeGoal);
+    const events = this.arrivals.searchLines(engine, file, plannedLines);
+    if (events.cycles >= 0) plannedLines = truncateLines(plannedLines, events.cycles);
     const isLate = isHurried && this.commonMistakes.stoppingKinds.size === 0 && session.recording === null;
-    const mistakes = isLate ? { faults: [], stop: -1 } : this.commonMistakes.searchLines(planned);
-    if (mistakes.stop >= 0) planned = truncateLines(planned, mistakes.stop);
+    const mistakes = isLate ? { faults: [], stop: -1 } : this.commonMistakes.searchLines(plannedLines);
+    if (mistakes.stop >= 0) plannedLines = truncateLines(plannedLines, mistakes.stop);
     const countBefore = session.count.total;
-    const frame = session.advanceBy(planned);
+    const frame = session.advanceBy(plannedLines);
     this.arrivals.count(events);
-    this.uncheckedLines = isLate ? planned : null;
+    this.uncheckedLines = isLate ? plannedLines : null;
     const stop = this.findMistakeOrRecordingStop(frame, mistakes.stop) || this.findStop(frame, events, cyclesBeforeGoal);
     if (stop) this.endMove();
     const tally = { ...this.createTally(events, stop, countBefore), usual: [...this.takeLateMistakes(), ...mistakes.faults] };
@@ -370,8 +370,8 @@ export class Debugger {
     const copy = file.slice();
     for (let done = 0; done < cycles;) {
       const piece = Math.min(SEARCH_PIECE_CYCLES, cycles - done);
-      const planned = runLines(piece).trimEnd().split("\n").map((line) => ({ line, change: null }));
-      const events = this.arrivals.searchLines(engine, copy, planned);
+      const plannedLines = runLines(piece).trimEnd().split("\n").map((line) => ({ line, change: null }));
+      const events = this.arrivals.searchLines(engine, copy, plannedLines);
       for (const [id, hits] of events.hits) all.hits.set(id, (all.hits.get(id) || 0) + hits);
       all.notes = [...all.notes, ...events.notes.map((note) => ({ ...note, cycles: note.cycles + done }))];
       all.noted += events.noted;
@@ -402,9 +402,9 @@ export class Debugger {
       this.commonMistakes.forget();
       const tallies = runs.map(({ events, done }) => this.createTally(events, null, countBefore + done));
       return { result, typed: { ...stop, cycles: session.count.total - countBefore, tally: tallies.reduce(joinTallies, NO_TALLY) } };
-    } catch (fault) {
+    } catch (error) {
       arrivals.restoreHits(hits);
-      throw fault;
+      throw error;
     }
   }
 
@@ -432,9 +432,9 @@ export class Debugger {
   async goBack(goal, shouldContinue) {
     this.begin();
     const { session } = this;
-    const { moment, present: found, ...report } = await this.findBackTarget(goal, shouldContinue);
+    const { moment, present: knownPresent, ...report } = await this.findBackTarget(goal, shouldContinue);
     if (!moment) return { ...report, isDone: false, wires: false, cycles: 0 };
-    const present = found || await session.timeline.sessionAt(session.engine, moment, shouldContinue);
+    const present = knownPresent || await session.timeline.sessionAt(session.engine, moment, shouldContinue);
     session.timeline.goBack(moment, session);
     return { ...report, ...this.enterMoment(present) };
   }
@@ -521,8 +521,8 @@ export class Debugger {
     const probes = places.map((place) => (place ? place.probesOn(board) : []));
     const answers = this.readPlaces(probes.flat());
     let from = 0;
-    return places.map((place, at) => {
-      const values = answers.slice(from, from += probes[at].length);
+    return places.map((place, index) => {
+      const values = answers.slice(from, from += probes[index].length);
       return place && values.length > 0 ? place.value(values) : "";
     });
   }

@@ -129,7 +129,7 @@ function countWatcher(count, isSecondCyclePending) {
     before: (cycles) => `count ${cycles}\n`,
     after: "regs\n",
     take: (answers) => {
-      const startedCount = answers.takeCounts().reduce((sum, each) => sum + each.begun, 0);
+      const startedCount = answers.takeCounts().reduce((sum, instruction) => sum + instruction.begun, 0);
       const run = answers.takeRun();
       const isNowSecondCyclePending = parseCounter(answers.take()).isSecondCyclePending;
       instructionsLeft -= startedCount + Number(wasSecondCyclePending) - Number(isNowSecondCyclePending);

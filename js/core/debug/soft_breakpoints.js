@@ -57,9 +57,9 @@ export function compileNote(text, names) {
   const pieces = text.trim().split(/(\{[^{}]*\})/).map((piece) => {
     const pieceStart = start;
     start += piece.length;
-    const found = /^\{(.*)\}$/.exec(piece);
-    if (!found) return () => piece;
-    const { note, fault: bracesError, column } = compileBracedText(found[1], names);
+    const match = /^\{(.*)\}$/.exec(piece);
+    if (!match) return () => piece;
+    const { note, fault: bracesError, column } = compileBracedText(match[1], names);
     if (!note) {
       fault = fault || inColumn(say.noteAsks(piece, bracesError), pieceStart + 1 + column);
       return () => piece;

@@ -107,7 +107,7 @@ export class SrcSelection {
     if (isWrite && !/[01]/.test(port)) return { kind: "lines", words: say.noOutputs(action, this.description) };
     if (!isWrite && !port.includes("i")) return { kind: "lines", words: say.noInputs(action, this.description) };
     const lastChip = this.lastChips.get(address);
-    const otherKind = [...this.instructionKinds].find((each) => each !== name);
+    const otherKind = [...this.instructionKinds].find((instructionKind) => instructionKind !== name);
     if (otherKind === undefined || lastChip === undefined || lastChip === chip) return null;
     const message = say.selectedByEarlierSrc(action, lastChip, this.srcAddress < 0 ? "" : say.atAddress(hex(this.srcAddress, 3)));
     return { kind: "source", words: say.sourceWasFor(message, otherKind) };

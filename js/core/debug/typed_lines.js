@@ -44,13 +44,13 @@ export async function planTypedLines(engine, file, arrivals, lines, shouldContin
   if (arrivals.isEmpty || !/\brun\b/.test(lines)) return { ...plan, lines };
   const copy = file.slice();
   let [pendingLines, done] = ["", 0];
-  for (let at = 0; at < lines.length;) {
-    const end = findInputEnd(lines, at, 1);
-    const [input] = readInputs(lines.slice(at, end));
+  for (let offset = 0; offset < lines.length;) {
+    const end = findInputEnd(lines, offset, 1);
+    const [input] = readInputs(lines.slice(offset, end));
     const cycles = runCycles(input);
-    let servedLines = lines.slice(at, end);
+    let servedLines = lines.slice(offset, end);
     pendingLines += servedLines;
-    [plan.id, plan.cut, at] = [0, "", end];
+    [plan.id, plan.cut, offset] = [0, "", end];
     if (cycles > 0) {
       const linesBefore = pendingLines.slice(0, -servedLines.length);
       if (linesBefore) engine.serve(copy, linesBefore, copy);
@@ -63,7 +63,7 @@ export async function planTypedLines(engine, file, arrivals, lines, shouldContin
       const run = readRun(engine.serve(copy, servedLines, copy).answers[0]);
       done += run ? run.cycles : 0;
       pendingLines = "";
-      if (!(await shouldContinue(at))) throw new CancelledError();
+      if (!(await shouldContinue(offset))) throw new CancelledError();
     }
     plan.lines += servedLines;
   }

@@ -73,9 +73,10 @@ function registerReader(place) {
  * @returns {ValueReader | null}
  */
 function memoryReader(place) {
-  const [kind, bank, at, number] = place.split(".");
-  if (kind === "ram") return editableReader(place, (machineState) => machineState.character(Number(bank), Number(at)));
-  return kind === "st" ? editableReader(place, (machineState) => machineState.status(Number(bank), Number(at), Number(number))) : null;
+  const [kind, ...numberTexts] = place.split(".");
+  const [bank, byteOrRegister, statusNumber] = numberTexts.map(Number);
+  if (kind === "ram") return editableReader(place, (machineState) => machineState.character(bank, byteOrRegister));
+  return kind === "st" ? editableReader(place, (machineState) => machineState.status(bank, byteOrRegister, statusNumber)) : null;
 }
 
 /**
@@ -143,20 +144,20 @@ function splitWatchExpression(text) {
 /**
  * Returns the error message for an expression, with a column; "" if there is no error. If `names` is null, only the syntax is checked.
  * @param {string} value
- * @param {number} begin the column at which the expression starts
+ * @param {number} startColumn the column at which the expression starts
  * @param {Names | null} names
  */
-function expressionError(value, begin, names) {
+function expressionError(value, startColumn, names) {
   if (names) {
     const { fault, column } = compileExpression(value, names);
-    return fault && inColumn(fault, begin + column);
+    return fault && inColumn(fault, startColumn + column);
   }
   try {
     parseExpression(value);
     return "";
-  } catch (fault) {
-    if (fault instanceof ConditionError) return inColumn(fault.message, begin + Math.max(0, fault.column));
-    throw fault;
+  } catch (error) {
+    if (error instanceof ConditionError) return inColumn(error.message, startColumn + Math.max(0, error.column));
+    throw error;
   }
 }
 

@@ -85,7 +85,7 @@ function selectionPieces(byte, machineState) {
   const rom = machineState.romPort(chip) ? [say.romChip(chip)] : [];
   const hasRam = machineState.latchedSource() !== undefined;
   if (!hasRam) return rom.length > 0 ? rom : [say.NOTHING_THERE];
-  return [...rom.map((each) => `${each}; `), ...characterPieces(machineState.bank, byte, machineState)];
+  return [...rom.map((description) => `${description}; `), ...characterPieces(machineState.bank, byte, machineState)];
 }
 
 /**
@@ -175,13 +175,13 @@ function numberPieces(numberText, value, { head }, machineState) {
 /**
  * Describes the current value of the word at an index in a line. Returns no pieces if the word has no value.
  * @param {string} text the line
- * @param {number} at the index
+ * @param {number} index the index
  * @param {MachineState} machineState
  * @param {Program} program
  * @returns {Piece[]}
  */
-export function valuesAt(text, at, machineState, { nameOf, describeInstruction }) {
-  const word = wordAt(text, at);
+export function valuesAt(text, index, machineState, { nameOf, describeInstruction }) {
+  const word = wordAt(text, index);
   const parts = splitStatement(text);
   if (!word || word.from >= parts.comment) return [];
   const mnemonic = word.text.toUpperCase();

@@ -88,7 +88,7 @@ function addTestPinPart(editedBoard, kind) {
  */
 function connectLine(editedBoard, name, target) {
   const { board, draft } = editedBoard;
-  const line = boardLines(board).find((each) => each.name === name);
+  const line = boardLines(board).find((boardLine) => boardLine.name === name);
   if (!line || !inputLines(board).has(target)) throw new ImpossibleAction(say.boardHasNo(line ? target : name));
   if (!canConnect(board, line, target)) throw new ImpossibleAction(wireErrorMessage(line, target));
   const [kind, number] = splitTarget(target);
@@ -126,17 +126,17 @@ function wireErrorMessage({ name, kind, isInput }, target) {
  * @param {string} mode `i` for an input, `0` or `1` for an output that RDR reads as this value
  */
 function setLineMode(editedBoard, line, mode) {
-  const [chip, at] = line.replace("rom", "").split(".").map(Number);
+  const [chip, portLine] = line.replace("rom", "").split(".").map(Number);
   const { draft, board } = editedBoard;
   const entry = draft.partByNumber("rom", chip);
   const port = String(draft.requireKey(entry, "port").value.inner);
   const targets = [...inputLines(board)].filter(([target, name]) => name === line && target !== BUZZER).map(([target]) => target);
-  const changesDirection = (port[3 - at] === "i") !== (mode === "i");
+  const changesDirection = (port[3 - portLine] === "i") !== (mode === "i");
   if (changesDirection && targets.length > 0) {
     throw new ImpossibleAction(say.lineInUse(line, targets.map(targetName).join(say.AND)));
   }
-  checkFrontPanelOutputs(editedBoard, (each) => changesDirection && each === line);
-  editedBoard.edit([setValue(draft, entry, "port", port.slice(0, 3 - at) + mode + port.slice(4 - at))]);
+  checkFrontPanelOutputs(editedBoard, (outputLine) => changesDirection && outputLine === line);
+  editedBoard.edit([setValue(draft, entry, "port", port.slice(0, 3 - portLine) + mode + port.slice(4 - portLine))]);
 }
 
 /**
@@ -166,7 +166,7 @@ function copyPart(editedBoard, part) {
  */
 function renameLamp(editedBoard, lamp, name) {
   /** @type {(text: string) => string} */
-  const describeGrid = (text) => new Face(text).grid.map((each) => `${each.row} ${each.column} ${each.lamp}`).join();
+  const describeGrid = (text) => new Face(text).grid.map((gridLamp) => `${gridLamp.row} ${gridLamp.column} ${gridLamp.lamp}`).join();
   const grid = describeGrid(editedBoard.text);
   editedBoard.edit(setLampName(editedBoard.draft, lamp, name));
   if (describeGrid(editedBoard.text) !== grid) throw new ImpossibleAction(say.GRID_DIFFERS);
@@ -293,14 +293,14 @@ export function applyAction(text, action) {
   if (!editedBoard.draft.isToml || !editedBoard.draft.boardAnswers) return { ...unchanged, refusal: say.TEXT_HAS_ERRORS };
   try {
     const [part, message] = perform(editedBoard, action);
-    const fault = findNewPanelError(text, editedBoard.text);
-    if (fault) return { ...unchanged, refusal: fault };
+    const panelError = findNewPanelError(text, editedBoard.text);
+    if (panelError) return { ...unchanged, refusal: panelError };
     const alsoAdded = editedBoard.addedParts.length > 0 ? say.withAlso(say.listOf(editedBoard.addedParts)) : "";
     const { edits, deletedChains } = editedBoard;
     return { edits, text: editedBoard.text, part, words: `${message}${alsoAdded}.`, deletedChains, refusal: "" };
-  } catch (fault) {
-    if (!(fault instanceof ImpossibleAction)) throw fault;
-    return { ...unchanged, refusal: fault.message };
+  } catch (error) {
+    if (!(error instanceof ImpossibleAction)) throw error;
+    return { ...unchanged, refusal: error.message };
   }
 }
 

@@ -45,7 +45,7 @@ function textField(label, value, act) {
  * @returns {Field}
  */
 function choiceField(label, value, options, act) {
-  return { label, value, options: options.map((each) => (typeof each === "string" ? { value: each, words: each } : each)), act };
+  return { label, value, options: options.map((option) => (typeof option === "string" ? { value: option, words: option } : option)), act };
 }
 
 /**
@@ -103,9 +103,9 @@ const deleteButton = (part, word = say.DELETE) => ({ word, act: { kind: "delete"
  */
 function romForm(board, face, part) {
   const chip = splitTarget(part)[1];
-  const rom = board.roms.find((each) => Number(each.chip) === chip);
+  const rom = board.roms.find((romChip) => Number(romChip.chip) === chip);
   const port = rom ? rom.port : "0000";
-  const lines = indices(4).map((at) => directionField(`rom${chip}.${at}`, port));
+  const lines = indices(4).map((portLine) => directionField(`rom${chip}.${portLine}`, port));
   const fields = [portNameField(face, part), ...lines];
   return { title: say.romWithPort(chip), part, fields, buttons: [copyButton(part), deleteButton(part)] };
 }
@@ -135,7 +135,7 @@ function chainForm(board, face, part) {
 function keysForm(board, face) {
   const rows = choiceField("rows", String(board.rows), rangeNumbers(VALUE_RANGES["keys.rows"]), (value) => (
     { kind: "rows", rows: Number(value) }));
-  const columns = indices(board.columns).map((at) => lineField(board, `column ${at}`, `column ${at}`));
+  const columns = indices(board.columns).map((column) => lineField(board, `column ${column}`, `column ${column}`));
   const names = indices(board.rows).flatMap((row) => indices(board.columns).map((column) => {
     const faceText = face.keys.get(`${row} ${column}`);
     return textField(`key ${row}.${column}`, faceText ? faceText.text : "", (name) => (
@@ -199,7 +199,7 @@ function ramForm(face, part) {
  * @returns {SelectionForm}
  */
 function lineForm(board, name) {
-  const line = boardLines(board).find((each) => each.name === name);
+  const line = boardLines(board).find((boardLine) => boardLine.name === name);
   const rom = line && line.kind === "rom" ? board.roms.find(({ chip }) => name.startsWith(`rom${chip}.`)) : null;
   const isInput = line !== undefined && line.isInput;
   /** @type {Button[]} */

@@ -38,7 +38,7 @@ export const MAX_MEASURED_CYCLES = 20000;
  * @param {number} count
  */
 function lampsDiffer(marks, marksBefore, first, count) {
-  for (let at = first; at < first + count; at++) if (marks.charCodeAt(at) !== marksBefore.charCodeAt(at)) return true;
+  for (let lamp = first; lamp < first + count; lamp++) if (marks.charCodeAt(lamp) !== marksBefore.charCodeAt(lamp)) return true;
   return false;
 }
 
@@ -223,13 +223,14 @@ export class BrightnessMeter {
   take(answerLists) {
     for (const answers of answerLists) if (answers.length > 0) this.add(answers);
     const { number: face, cycles, marks, litCycles, lastCountTime, changeTimes } = this;
-    for (let at = 0; at < litCycles.length; at++) {
-      if (isLit(marks, at)) litCycles[at] += cycles - lastCountTime[at];
-      lastCountTime[at] = 0;
+    for (let lamp = 0; lamp < litCycles.length; lamp++) {
+      if (isLit(marks, lamp)) litCycles[lamp] += cycles - lastCountTime[lamp];
+      lastCountTime[lamp] = 0;
     }
     const litShares = {
-      face, cycles, marks, lamps: litCycles.slice(), moved: changeTimes.map((each) => each.take(cycles)),
-      displays: this.displays.map((each) => each.take(cycles)), scanned: this.scannedLamps.map((each) => each.take(marks, cycles)),
+      face, cycles, marks, lamps: litCycles.slice(), moved: changeTimes.map((times) => times.take(cycles)),
+      displays: this.displays.map((display) => display.take(cycles)),
+      scanned: this.scannedLamps.map((group) => group.take(marks, cycles)),
     };
     litCycles.fill(0);
     this.cycles = 0;
@@ -262,11 +263,11 @@ export class BrightnessMeter {
       for (const display of this.displays) display.begin(marks);
       return;
     }
-    for (let at = 0; at < litCycles.length; at++) {
-      if (marks.charCodeAt(at) === marksBefore.charCodeAt(at)) continue;
-      if (isLit(marksBefore, at)) litCycles[at] += cycles - lastCountTime[at];
-      lastCountTime[at] = cycles;
-      changeTimes[at].add(cycles);
+    for (let lamp = 0; lamp < litCycles.length; lamp++) {
+      if (marks.charCodeAt(lamp) === marksBefore.charCodeAt(lamp)) continue;
+      if (isLit(marksBefore, lamp)) litCycles[lamp] += cycles - lastCountTime[lamp];
+      lastCountTime[lamp] = cycles;
+      changeTimes[lamp].add(cycles);
     }
     for (const display of this.displays) display.recordChange(marks, marksBefore, cycles);
     for (const group of this.scannedLamps) group.countTimeUntil(marksBefore, cycles);

@@ -118,8 +118,8 @@ class Instance {
 function startInstance(module) {
   try {
     return /** @type {ModuleExports} */ (/** @type {unknown} */ (new WebAssembly.Instance(module, {}).exports));
-  } catch (fault) {
-    throw fault instanceof RangeError ? new BenchRefusal(OUT_OF_MEMORY) : fault;
+  } catch (error) {
+    throw error instanceof RangeError ? new BenchRefusal(OUT_OF_MEMORY) : error;
   }
 }
 
@@ -153,10 +153,10 @@ export class Engine {
   call(callModule) {
     try {
       return callModule(this.instance.calls) !== 0;
-    } catch (fault) {
+    } catch (error) {
       this.currentInstance = null;
       this.currentInstance = new Instance(this.module);
-      throw new BenchTrap(fault instanceof Error ? fault.message : String(fault));
+      throw new BenchTrap(error instanceof Error ? error.message : String(error));
     }
   }
 

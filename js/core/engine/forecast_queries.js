@@ -23,9 +23,9 @@ import { ForecastAnswers } from "./forecast_answers.js";
  */
 export function linesWithQueries(plannedLines, querySources) {
   const afterChange = querySources.some(({ needsStates }) => needsStates) ? "state\n" : "";
-  return plannedLines.map((each) => {
-    if (each.change) return `${each.line}\n${afterChange}`;
-    return `${querySources.map((source) => source.queries(plannedCycles(each))).join("")}${each.line}\n`;
+  return plannedLines.map((plannedLine) => {
+    if (plannedLine.change) return `${plannedLine.line}\n${afterChange}`;
+    return `${querySources.map((source) => source.queries(plannedCycles(plannedLine))).join("")}${plannedLine.line}\n`;
   }).join("");
 }
 
@@ -48,13 +48,13 @@ export function splitAnswers(plannedLines, querySources, allAnswers) {
     if (change) {
       lineAnswers.push(answers.take());
       const state = needsStates ? [answers.take()] : [];
-      querySources.forEach((source, at) => sourceAnswers[at].push(source.needsStates ? state : []));
+      querySources.forEach((source, index) => sourceAnswers[index].push(source.needsStates ? state : []));
       continue;
     }
-    querySources.forEach(({ count }, at) => {
+    querySources.forEach(({ count }, index) => {
       const from = answers.at;
       for (let question = 0; question < count; question++) answers.takeTrace();
-      sourceAnswers[at].push(allAnswers.slice(from, answers.at));
+      sourceAnswers[index].push(allAnswers.slice(from, answers.at));
     });
     lineAnswers.push(answers.take());
   }

@@ -69,8 +69,8 @@ export class FullSpeed {
       warmed: null,
     };
     if (stop) this.isOn = false;
-    const wanted = this.batchCycles * Math.min(2, Math.max(0.5, BATCH_MILLISECONDS / Math.max(1, time)));
-    this.batchCycles = Math.round(Math.min(MAX_BATCH_CYCLES, Math.max(MIN_BATCH_CYCLES, wanted)));
+    const targetCycles = this.batchCycles * Math.min(2, Math.max(0.5, BATCH_MILLISECONDS / Math.max(1, time)));
+    this.batchCycles = Math.round(Math.min(MAX_BATCH_CYCLES, Math.max(MIN_BATCH_CYCLES, targetCycles)));
   }
 
   /**

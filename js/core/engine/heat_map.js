@@ -43,10 +43,10 @@ export function nibbleGroups({ banks }) {
   return banks.flatMap(({ bank, chips }) => indices(chips).flatMap((chip) => [
     ...indices(REGISTERS_PER_CHIP).map((register) => {
       const first = (chip * REGISTERS_PER_CHIP + register) * NIBBLES_PER_REGISTER;
-      return indices(NIBBLES_PER_REGISTER).map((at) => `ram.${bank}.0x${hex(first + at, 2)}`);
+      return indices(NIBBLES_PER_REGISTER).map((index) => `ram.${bank}.0x${hex(first + index, 2)}`);
     }),
     indices(REGISTERS_PER_CHIP).flatMap((register) => (
-      indices(STATUS_CHARACTERS_PER_REGISTER).map((at) => `st.${bank}.${chip * REGISTERS_PER_CHIP + register}.${at}`))),
+      indices(STATUS_CHARACTERS_PER_REGISTER).map((index) => `st.${bank}.${chip * REGISTERS_PER_CHIP + register}.${index}`))),
   ]));
 }
 
@@ -57,8 +57,8 @@ export function nibbleGroups({ banks }) {
  * @returns {Moment}
  */
 function findStart(timeline, cycles) {
-  const found = timeline.before(cycles);
-  if (found) return found;
+  const moment = timeline.before(cycles);
+  if (moment) return moment;
   let { segment } = timeline.end;
   while (timeline.segments[segment].follows) segment -= 1;
   return { segment, entry: 0, cycles: 0 };

@@ -140,8 +140,8 @@ export class LiveRecorder {
     const startMoment = builder.elapsed;
     const instructionCount = builder.moments.count;
     const counts = trigger ? trigger.members.map((member) => builder.tracks[member].moments.count) : [];
-    plannedLines.forEach(({ change }, at) => {
-      const lineAnswers = new ForecastAnswers(tracedAnswers[at]);
+    plannedLines.forEach(({ change }, index) => {
+      const lineAnswers = new ForecastAnswers(tracedAnswers[index]);
       if (change) {
         builder.takeState(lineAnswers.take());
         return;
@@ -149,7 +149,7 @@ export class LiveRecorder {
       const from = builder.elapsed;
       builder.takeForecast(lineAnswers);
       if (this.tracedPlaces) this.triggerOnCondition(lineAnswers, from);
-      builder.takeEnd(readRun(answers[at]) || { cycles: 0, end: answers[at] });
+      builder.takeEnd(readRun(answers[index]) || { cycles: 0, end: answers[index] });
     });
     builder.takeState(answers[plannedLines.length]);
     if (trigger && trigger.edge) this.triggerOnEdge(trigger, counts);
@@ -193,7 +193,7 @@ export class LiveRecorder {
     const edgeMoments = members.flatMap((member, index) => {
       const track = this.builder.tracks[member];
       const moments = [...track.moments.all.subarray(counts[index])];
-      return moments.find((_, at) => level < 0 || track.valueAfter(counts[index] + at + 1) === level) ?? [];
+      return moments.find((_, offset) => level < 0 || track.valueAfter(counts[index] + offset + 1) === level) ?? [];
     });
     if (edgeMoments.length > 0) this.triggerMoment = Math.min(...edgeMoments);
   }
@@ -207,8 +207,8 @@ export class LiveRecorder {
   triggerOnArrival(address, earlierCount) {
     if (this.triggerMoment >= 0) return;
     const [moments, counters] = [this.builder.moments.all, this.builder.counters.all];
-    const found = moments.findIndex((moment, at) => at >= earlierCount && moment > 0 && counters[at] === address);
-    if (found >= 0) this.triggerMoment = moments[found];
+    const arrivalIndex = moments.findIndex((moment, index) => index >= earlierCount && moment > 0 && counters[index] === address);
+    if (arrivalIndex >= 0) this.triggerMoment = moments[arrivalIndex];
   }
 
   /**
@@ -240,11 +240,11 @@ export class LiveRecorder {
     const { engine } = this;
     if (commands.some(({ line }) => /^\s*wire/.test(line))) this.stop("board");
     else if (commands.some(({ line }) => /^\s*(asm|poke\s+rom)/.test(line))) this.stop("program");
-    for (let at = 0; at < commands.length && this.isOn;) {
-      const startIndex = at;
+    for (let index = 0; index < commands.length && this.isOn;) {
+      const startIndex = index;
       const end = Math.min(commands.length, startIndex + RECORDING_PIECE_UNITS);
-      for (let cycles = 0; at < end && cycles < RECORDING_PIECE_CYCLES; at++) cycles += commands[at].cycles;
-      const plannedLines = commands.slice(startIndex, at).map(replayLine);
+      for (let cycles = 0; index < end && cycles < RECORDING_PIECE_CYCLES; index++) cycles += commands[index].cycles;
+      const plannedLines = commands.slice(startIndex, index).map(replayLine);
       const served = engine.serve(file, `${linesWithQueries(plannedLines, [this])}state\n`, file);
       const { sourceAnswers: [tracedAnswers], answers } = splitAnswers(plannedLines, [this], served.answers);
       this.take(plannedLines, tracedAnswers, answers);

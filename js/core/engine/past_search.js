@@ -159,8 +159,8 @@ export async function searchPast(engine, timeline, finder, shouldContinue) {
       const { entries } = timeline.segments[to.segment - 1];
       to = { segment: to.segment - 1, entry: entries.length, cycles: 0 };
     }
-    const wanted = timeline.before(size, to);
-    const from = wanted && wanted.segment === to.segment ? wanted : { segment: to.segment, entry: 0, cycles: 0 };
+    const requestedStart = timeline.before(size, to);
+    const from = requestedStart && requestedStart.segment === to.segment ? requestedStart : { segment: to.segment, entry: 0, cycles: 0 };
     finder.begin(await timeline.sessionAt(engine, from, shouldContinue));
     /** @type {BackSearchResult | null} */
     let match = null;
@@ -201,8 +201,8 @@ export async function findBackTarget(engine, { timeline, file }, goal, shouldCon
   }
   if (goal.kind === "when") {
     const finder = goal.searchCondition ? new LastTrueFinder(engine, goal.searchCondition) : null;
-    const found = finder ? (await searchPast(engine, timeline, finder, shouldContinue)).found : null;
-    return found || searchResult({ why: "short" });
+    const match = finder ? (await searchPast(engine, timeline, finder, shouldContinue)).found : null;
+    return match || searchResult({ why: "short" });
   }
   if (goal.kind === "instruction") return findLastInstruction(engine, timeline, shouldContinue);
   const moment = timeline.lastStop();

@@ -43,10 +43,10 @@ export class SessionRequests {
   recall(segments) {
     try {
       return this.bench.session.timeline.recall(this.bench.engine, segments);
-    } catch (fault) {
+    } catch (error) {
       // The stored bytes are not a valid session file.
-      if (fault instanceof BenchRefusal) return -1;
-      throw fault;
+      if (error instanceof BenchRefusal) return -1;
+      throw error;
     }
   }
 

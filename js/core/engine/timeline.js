@@ -119,8 +119,8 @@ export class Timeline {
    */
   prepend(stored, count) {
     const [first, ...more] = this.segments;
-    const momentBefore = stored.map((each, at) => restoreSegment(
-      at === stored.length - 1 ? { ...each, entries: each.entries.slice(0, count) } : each, at));
+    const momentBefore = stored.map((segment, index) => restoreSegment(
+      index === stored.length - 1 ? { ...segment, entries: segment.entries.slice(0, count) } : segment, index));
     this.segments = [...momentBefore, { ...first, follows: true }, ...more];
     return count;
   }
@@ -182,9 +182,10 @@ export class Timeline {
 
   /** Removes the oldest segment without a stop; if all segments have stops, removes the oldest segment. */
   dropSegment() {
-    const found = this.segments.findIndex(({ entries }, at) => at < this.segments.length - 1 && !entries.some(({ isStop }) => isStop));
-    const droppedIndex = Math.max(0, found);
-    this.segments = this.segments.filter((_, each) => each !== droppedIndex);
+    const olderSegments = this.segments.slice(0, -1);
+    const stoplessIndex = olderSegments.findIndex(({ entries }) => !entries.some(({ isStop }) => isStop));
+    const droppedIndex = Math.max(0, stoplessIndex);
+    this.segments = this.segments.filter((_, index) => index !== droppedIndex);
     this.segments[droppedIndex] = { ...this.segments[droppedIndex], follows: false };
   }
 

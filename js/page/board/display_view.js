@@ -132,7 +132,7 @@ export class DisplayView {
   draw(lines, face) {
     const groups = fittingGroups(face, lines.length).filter(({ kind }) => kind === "display");
     this.displays = groups.map((group) => new Display(group));
-    this.text = new DisplayText(groups, [...face.lamps].map(([index, { text }]) => ({ at: index, text })));
+    this.text = new DisplayText(groups, [...face.lamps].map(([lamp, { text }]) => ({ lamp, text })));
     this.minusIndex = minusLamp(face);
     this.signDigit = new Digit(true, false);
     const displayNodes = this.displays.map(({ group, digits }) => {
