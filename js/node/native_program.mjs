@@ -171,7 +171,7 @@ export async function rejectedTextsError(engine, givenTexts, faults) {
  */
 export async function readCheckedMap(engine, codes, program) {
   const { sessionProgram } = await import("../core/engine/session_program.js");
-  const { faults, other, map } = sessionProgram(engine, codes, program.text);
+  const { faults, difference: other, map } = sessionProgram(engine, codes, program.text);
   if (faults.length > 0) throw await rejectedTextsError(engine, { program }, faults);
   if (other) throw new CommandError(otherProgram(program.name, other.address, other.romByte, other.line + program.before, other.sourceByte));
   return map;

@@ -76,7 +76,7 @@ export class RejectedLines {
    * @param {{ number: number, line: number }} refusal
    */
   describeInput(answeredInput, refusal) {
-    const { input, at } = answeredInput;
+    const { input, lineNumber: at } = answeredInput;
     const { number } = refusal;
     const error = opensText(input.line) ? this.findTextError(answeredInput, refusal) : null;
     const shownLine = this.lines[at + (error ? error.line : 0) - 1];
@@ -97,7 +97,7 @@ export class RejectedLines {
     const lines = openingRefusal ? [say.sessionWasRefusedBy(openingRefusal.number, describeRefusal(openingRefusal.number))] : [];
     if (openingLine === "session 0") this.boardText = "";
     for (const [index, each] of inputs.entries()) {
-      const { input, at, answer } = each;
+      const { input, lineNumber: at, answer } = each;
       if (answer === "") {
         const shownLine = `    ${input.line.slice(0, MAX_SHOWN_LENGTH)}`;
         return [...lines, say.notAnswered(at, index === inputs.length - 1), shownLine, ...this.addressLines(each)];

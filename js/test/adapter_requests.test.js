@@ -79,7 +79,7 @@ test("progress of a long run and of a search in the past is reported, and stoppe
   for (const supportsProgressReporting of [true, false]) {
     const { adapter, begin, ask, messages, until, stops, evaluate } = startAdapter();
     await begin({ ...LOCK, client: { supportsProgressReporting } });
-    adapter.progress.after = 0;
+    adapter.progress.firstReportDelay = 0;
     const events = () => messages.filter(({ event = "" }) => event.startsWith("progress"));
     await ask("continue", { threadId: 1 });
     if (!supportsProgressReporting) {

@@ -22,7 +22,7 @@ test("one stop back undoes what was done last, and forward does it again, to the
     assert.equal((await calls.goBack({ kind: "stop" })).isDone, true);
     assert.deepEqual(calls.ask(ALL), before);
   }
-  assert.equal((await calls.goBack({ kind: "stop" })).why, "short");
+  assert.equal((await calls.goBack({ kind: "stop" })).reason, "short");
   assert.equal(calls.bench.session.count.total, 0);
   for (const after of seen.slice(1)) {
     assert.equal(calls.goForward().isDone, true);
@@ -41,7 +41,7 @@ test("the last change of a place is reported without going there: where going ba
   assert.deepEqual([line, cycles, address], ["poke r9 3", 100, -1]);
   const lamps = await calls.lastChange("lamps");
   assert.equal((await calls.lastChange("r15")).isFound, false);
-  assert.equal((await calls.lastChange("ram.7.0")).why, "lacks");
+  assert.equal((await calls.lastChange("ram.7.0")).reason, "lacks");
   assert.deepEqual(calls.ask(ALL), before);
   const gone = await calls.goBack({ kind: "change", place: "lamps" });
   assert.deepEqual([lamps.from, lamps.to, lamps.cycles], [gone.from, gone.to, gone.cycles]);
@@ -77,7 +77,7 @@ test("an instruction back is where the trace has it, through stops and frames", 
     assert.equal((await other.goBack({ kind: "instruction" })).isDone, true);
     assert.equal(counterOf(other), counter);
   }
-  assert.equal((await other.goBack({ kind: "instruction" })).why, "short");
+  assert.equal((await other.goBack({ kind: "instruction" })).reason, "short");
 });
 
 test("back to the last change: before the instruction or the command that made it", async () => {
@@ -89,8 +89,8 @@ test("back to the last change: before the instruction or the command that made i
   assert.deepEqual(calls.ask("lamps\n"), [`lamps ${lamp.from}`]);
   await calls.serve("step\n");
   assert.deepEqual(calls.ask("lamps\n"), [`lamps ${lamp.to}`]);
-  assert.equal((await calls.goBack({ kind: "change", place: "r9" })).why, "short");
-  assert.equal((await calls.goBack({ kind: "change", place: "ram.7.0" })).why, "lacks");
+  assert.equal((await calls.goBack({ kind: "change", place: "r9" })).reason, "short");
+  assert.equal((await calls.goBack({ kind: "change", place: "ram.7.0" })).reason, "lacks");
 });
 
 test("back to a change far away, made by a command or by an instruction", async () => {

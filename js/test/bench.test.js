@@ -42,7 +42,7 @@ test("a worker is started with the module, and answers requests by their numbers
   const second = bench.call("ask", ["regs\n"]);
   const [one, two] = worker.sent.slice(-2);
   worker.deliver({ kind: "reply", number: two.number, result: ["acc"] });
-  worker.deliver({ kind: "reply", number: one.number, fault: { kind: "refusal", words: "no 90", number: 90 } });
+  worker.deliver({ kind: "reply", number: one.number, error: { kind: "refusal", message: "no 90", number: 90 } });
   assert.deepEqual(await second, ["acc"]);
   await assert.rejects(first, /no 90/);
 });
@@ -72,7 +72,7 @@ test("long work reports its progress, and can be cancelled", async () => {
   worker.deliver({ kind: "progress", number, done: 1, total: 4 });
   controller.abort();
   assert.deepEqual(worker.sent[worker.sent.length - 1], { kind: "cancel", number });
-  worker.deliver({ kind: "reply", number, fault: { kind: "cancelled", words: "", number: 0 } });
+  worker.deliver({ kind: "reply", number, error: { kind: "cancelled", message: "", number: 0 } });
   await assert.rejects(served, CancelledError);
   assert.deepEqual(received, [[1, 4]]);
   mock.timers.tick(5000);

@@ -101,7 +101,7 @@ test("a line break that is typed while the bench is yet to have the list is foll
   const { keeper, bench } = createManager([]);
   keeper.setSourceMap(MAP, "");
   // The bench serves a line after it has received the request, and reports the line before the request has ended.
-  const { calls } = keeper;
+  const { callbacks: calls } = keeper;
   const { set } = calls;
   calls.set = async (placed) => {
     const faults = await set(placed);
@@ -123,7 +123,7 @@ test("a change is sent before the bench has answered the one before, and the ans
   const [{ id }] = keeper.list.all;
   /** The requests that were sent to the bench, each with a function that answers it. */
   const sent = [];
-  keeper.calls.set = ([{ condition }]) => new Promise((answer) => {
+  keeper.callbacks.set = ([{ condition }]) => new Promise((answer) => {
     sent.push({ condition, answer: () => answer([[id, condition]]) });
   });
   keeper.change(id, { condition: "r4 = 7" });
@@ -131,7 +131,7 @@ test("a change is sent before the bench has answered the one before, and the ans
   assert.deepEqual(sent.map(({ condition }) => condition), ["r4 = 7", "r4 = 8"]);
   for (const { answer } of sent.reverse()) answer();
   await keeper.allSent;
-  assert.deepEqual([...keeper.faults], [[id, "r4 = 8"]]);
+  assert.deepEqual([...keeper.errors], [[id, "r4 = 8"]]);
   assert.equal(keeper.isApplying, false);
 });
 
@@ -157,10 +157,10 @@ test("words are kept as they are typed, and the bench gets them once they are en
 test("a bench that fails is reported once, and the next list is sent", async () => {
   const { keeper, seen, bench } = createManager([]);
   keeper.setSourceMap(MAP, "");
-  const { set } = keeper.calls;
-  keeper.calls.set = async () => { throw new Error("it died"); };
+  const { set } = keeper.callbacks;
+  keeper.callbacks.set = async () => { throw new Error("it died"); };
   keeper.toggleAddress(0x700);
-  keeper.calls.set = set;
+  keeper.callbacks.set = set;
   keeper.toggleAddress(0x701);
   await keeper.allSent;
   assert.deepEqual([seen.failed.map(({ message }) => message), bench.breaks, keeper.isApplying], [["it died"], ["700", "701"], false]);
@@ -173,7 +173,7 @@ test("a text that is not what stands in ROM takes breakpoints, which stop once i
   await keeper.allSent;
   assert.deepEqual([linesOf(keeper), bench.breaks], [[[4, -1]], []]);
   assert.match(seen.messages[0], /Assemble to update\. Until then this breakpoint stops nothing\.$/);
-  assert.deepEqual([...breakpointMarks(keeper.list.all, keeper.faults).lines.values()],
+  assert.deepEqual([...breakpointMarks(keeper.list.all, keeper.errors).lines.values()],
     [{ mark: "\u25CB", words: "breakpoint: it stops once the source is assembled" }]);
   keeper.setSourceMap(MAP, "");
   await keeper.allSent;
@@ -199,10 +199,10 @@ test("what cannot be read is reported; one that is off is kept; hits are counted
   keeper.setSourceMap(MAP, "");
   await keeper.allSent;
   const [first, second] = keeper.list.all;
-  assert.deepEqual([[...keeper.faults], bench.breaks], [[[first.id, "it is none"]], []]);
-  keeper.count({ hits: [[second.id, 2], [second.id, 1]], notes: [], noted: 0 });
+  assert.deepEqual([[...keeper.errors], bench.breaks], [[[first.id, "it is none"]], []]);
+  keeper.count({ hits: [[second.id, 2], [second.id, 1]], notes: [], noteCount: 0 });
   assert.equal(second.hits, 3);
-  assert.deepEqual([...breakpointMarks(keeper.list.all, keeper.faults).lines.values()].map(({ mark, words }) => `${mark} ${words}`),
+  assert.deepEqual([...breakpointMarks(keeper.list.all, keeper.errors).lines.values()].map(({ mark, words }) => `${mark} ${words}`),
     ["\u25CF breakpoint if no: it stops every time, because of an error: it is none", "\u25CB breakpoint: it is off"]);
   assert.deepEqual(keeper.list.savedBreakpoints[1], { line: 4, address: 2, isOn: false, condition: "", from: 1, note: "" });
 });

@@ -84,7 +84,7 @@ test("how long lamps are lit, and when they change, is reported to the cycle", a
     const [wanted, moved] = [cyclesOn(calls, cycles), lampChanges(calls, cycles)];
     const [last] = lampAnswers(calls, cycles).slice(-1);
     const { litShares } = calls.advance(cycles);
-    assert.deepEqual([litShares.face, litShares.cycles, litShares.lamps, litShares.moved, litShares.marks],
+    assert.deepEqual([litShares.face, litShares.cycles, litShares.lamps, litShares.changeSummaries, litShares.marks],
       [7, cycles, wanted, moved, last]);
   }
 });
@@ -165,7 +165,7 @@ test("the edges of a line are reported to the cycle, and its samples have its pi
 function oneLamp() {
   const seen = new Brightness(new Face(""), 1);
   const pass = (lit, time, moved = null, marks = lit > 0 ? "*" : ".") => (
-    seen.add({ face: 0, cycles: 100, marks, lamps: [lit * 100], moved: [moved], displays: [], scanned: [] }, time));
+    seen.add({ face: 0, cycles: 100, marks, lamps: [lit * 100], changeSummaries: [moved], displays: [], scanned: [] }, time));
   return { seen, pass };
 }
 

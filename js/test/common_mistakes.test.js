@@ -34,8 +34,8 @@ function openSession(program) {
 
 /** Returns the mistakes that are reported during some frames of a program, each with its source line. */
 function mistakesOf(program, frames = 3, debug = openSession(program)) {
-  const faults = Array.from({ length: frames }, () => debug.advance(1543).tally.usual).flat();
-  return faults.map(({ address, words }) => `${debug.commonMistakes.map.lineOf(address)}: ${words}`);
+  const faults = Array.from({ length: frames }, () => debug.advance(1543).tally.mistakes).flat();
+  return faults.map(({ address, message: words }) => `${debug.commonMistakes.map.lineOf(address)}: ${words}`);
 }
 
 test("each of them is reported once, with its line", () => {
@@ -58,17 +58,17 @@ test("an SRC that still points elsewhere: RAM was used, and the same WRR used an
   const wired = BOARD.replace("}]", '}, { chip = 2, port = "0000" }]');
   const program = "again: FIM P0, 0\nSRC P0\nFIM P1, 0x20\nturn: WRR\nSRC P1\nWRM\nJUN turn\n";
   const session = new DebugSession(engine, { board: wired, program });
-  const mistakes = session.debugger.advance(1543).tally.usual;
+  const mistakes = session.debugger.advance(1543).tally.mistakes;
   assert.deepEqual(mistakes.map(({ kind }) => kind), ["source"]);
-  assert.equal(mistakes[0].words,
+  assert.equal(mistakes[0].message,
     "this WRR writes to ROM 2, and before it used ROM 0: the last SRC, at 006, was for RAM; is an SRC missing?");
 });
 
 test("an SRC for RDR that WRR goes on with", () => {
   const wired = BOARD.replace("iiii", "ii00");
   const program = "again: FIM P0, 0\nSRC P0\nFIM P1, 0x10\nturn: WRR\nSRC P1\nRDR\nJUN turn\n";
-  const mistakes = new DebugSession(engine, { board: wired, program }).debugger.advance(1543).tally.usual;
-  assert.deepEqual(mistakes.map(({ words }) => words),
+  const mistakes = new DebugSession(engine, { board: wired, program }).debugger.advance(1543).tally.mistakes;
+  assert.deepEqual(mistakes.map(({ message: words }) => words),
     ["this WRR writes to ROM 1, and before it used ROM 0: the last SRC, at 006, was for an RDR; is an SRC missing?"]);
 });
 
@@ -82,10 +82,10 @@ test("time stops before one that it is to stop at, and goes on with it", () => {
   const debug = openSession("LDM 1\nFIM P0, 0x10\nSRC P0\nWRR\nLDM 2\nend: JUN end\n");
   debug.commonMistakes.stoppingKinds.add("lines");
   const frame = debug.advance(1543);
-  assert.deepEqual([frame.cycles, frame.stop.why, frame.tally.usual.length, debug.counter], [4, "usual", 1, 4]);
+  assert.deepEqual([frame.cycles, frame.stop.reason, frame.tally.mistakes.length, debug.counter], [4, "usual", 1, 4]);
   debug.begin();
   const next = debug.advance(1543);
-  assert.deepEqual([next.cycles, next.stop, next.tally.usual], [1543, null, []]);
+  assert.deepEqual([next.cycles, next.stop, next.tally.mistakes], [1543, null, []]);
   assert.deepEqual(Object.keys(KINDS).length, 6);
 });
 
@@ -119,15 +119,15 @@ test("where lamps wait for a key it is looked for once they are reported, and re
   const program = "JMS a\nend: JUN end\na: FIM P0, 0x10\nSRC P0\nWRR\nBBL 0\n";
   const [now, later] = [openSession(program), openSession(program)];
   for (const each of [now, later]) each.session.queue.press(pinKey(1));
-  const wanted = now.advance(1543).tally.usual;
+  const wanted = now.advance(1543).tally.mistakes;
   assert.equal(wanted.length, 1);
   const hurried = later.advance(1543, true);
-  assert.deepEqual([hurried.tally.usual, later.lateMistakes], [[], []], "nothing is looked for before that");
+  assert.deepEqual([hurried.tally.mistakes, later.lateMistakes], [[], []], "nothing is looked for before that");
   later.checkLastLines();
   later.checkLastLines();
-  assert.deepEqual(later.advance(1543, true).tally.usual, wanted);
+  assert.deepEqual(later.advance(1543, true).tally.mistakes, wanted);
   later.checkLastLines();
-  assert.deepEqual(later.advance(1543).tally.usual, [], "it is reported once");
+  assert.deepEqual(later.advance(1543).tally.mistakes, [], "it is reported once");
   now.advance(1543);
   now.advance(1543);
   assert.deepEqual(later.session.ask("state\n"), now.session.ask("state\n"), "and what is done is the same");
@@ -138,9 +138,9 @@ test("but at once where time stops in that frame, or is to stop at a fault", () 
   const broken = openSession(program);
   broken.session.changeBreaks("break 7\n");
   const frame = broken.advance(1543, true);
-  assert.deepEqual([frame.stop.why, frame.tally.usual.length], ["break", 1]);
+  assert.deepEqual([frame.stop.reason, frame.tally.mistakes.length], ["break", 1]);
   const stops = openSession(program);
   stops.commonMistakes.stoppingKinds.add("lines");
   const stopped = stops.advance(1543, true);
-  assert.deepEqual([stopped.stop.why, stopped.cycles, stopped.tally.usual.length], ["usual", 3, 1]);
+  assert.deepEqual([stopped.stop.reason, stopped.cycles, stopped.tally.mistakes.length], ["usual", 3, 1]);
 });

@@ -170,7 +170,7 @@ const USES = {
     return new TestSession(engine, file, new ExecutionRecorder(new Uint8Array(4096)), async () => {}).check(action.condition).holds;
   },
   Watch: (text) => {
-    const { watched, fault } = parseWatch(text, names);
+    const { watch: watched, error: fault } = parseWatch(text, names);
     const look = ["state\n", "ram 0\n"].map((line) => session.debugger.session.ask(line).join("\n"));
     return fault || joinPieces(watched.pieces(new MachineState(look), names)) === "true";
   },
@@ -180,16 +180,17 @@ const USES = {
     return /^(true|false)$/.test(printed) ? printed === "true" : printed;
   },
   breakpoint: (text) => {
-    const { soft, fault } = compileBreakpoint({ id: 1, address: 0, condition: text, from: 1, note: "", hits: 0 }, names);
+    const breakpoint = { id: 1, address: 0, condition: text, from: 1, note: "", hits: 0 };
+    const { softBreakpoint: soft, error: fault } = compileBreakpoint(breakpoint, names);
     return fault || soft.holds(currentValues(soft));
   },
   "log message": (text) => {
-    const { note, fault } = compileNote(`{${text}}`, names);
-    return fault || note.words(currentValues(note)) === "true";
+    const { note, error: fault } = compileNote(`{${text}}`, names);
+    return fault || note.textOf(currentValues(note)) === "true";
   },
   evaluate: (text) => resultOrError(() => evaluateExpression(text, conditionContext()) === "true"),
   console: (text) => resultOrError(async () => (
-    (await new Console({ isMoving: false }, conditionContext(), null, {}).serveLine(text)).words === "true")),
+    (await new Console({ isMoving: false }, conditionContext(), null, {}).serveLine(text)).text === "true")),
   trigger: (text) => {
     const { trigger, fault } = readTrigger(text, createBoardLines(names.board, BOARD, true, []), names);
     return fault || trigger.holds(currentValues(trigger));
@@ -230,7 +231,8 @@ test("an error in a condition is the same in each place of use; a breakpoint wit
   for (const [use, holds] of Object.entries(USES)) {
     assert.match(String(await holds("accu = 10")), /accu: no such place; the accumulator is acc/, use);
   }
-  const { soft, fault } = compileBreakpoint({ id: 1, address: 0, condition: "accu = 10", from: 1, note: "", hits: 0 }, names);
+  const breakpoint = { id: 1, address: 0, condition: "accu = 10", from: 1, note: "", hits: 0 };
+  const { softBreakpoint: soft, error: fault } = compileBreakpoint(breakpoint, names);
   assert.equal(fault, "accu: no such place; the accumulator is acc (column 1)");
   assert.equal(soft.holds([]), true);
 });
@@ -264,9 +266,9 @@ test("searches of the past, and on: a condition is found where it became true, i
       const went = await own.goBack({ kind: "when", condition: text });
       // The session is now at the instruction that makes the condition true.
       const want = rises.length === 0 ? all[last] : all[rises[rises.length - 1] - 1];
-      assert.deepEqual([went.isDone, bench.count.total], [rises.length > 0, want.total], `back ${text}: ${went.words}`);
-      if (rises.length > 0) assert.match(went.words, /: this instruction makes .* true\.$/);
-      else assert.match(went.words, /has not become true in the remembered past\.$/);
+      assert.deepEqual([went.isDone, bench.count.total], [rises.length > 0, want.total], `back ${text}: ${went.message}`);
+      if (rises.length > 0) assert.match(went.message, /: this instruction makes .* true\.$/);
+      else assert.match(went.message, /has not become true in the remembered past\.$/);
       if (went.isDone) own.goForward();
       assert.equal(bench.count.total, all[last].total);
       compared += rises.length > 0 ? 1 : 0;
@@ -279,7 +281,7 @@ test("searches of the past, and on: a condition is found where it became true, i
       const [first] = all.flatMap(({ is, total }, at) => (at > 0 && meant(is) && !meant(all[at - 1].is) ? [total] : []));
       if (first === undefined) continue;
       const stop = await begun.runToGoal({ kind: "when", condition: text });
-      assert.equal(stop.why, "goal", `${text}: ${stop.words}`);
+      assert.equal(stop.reason, "goal", `${text}: ${stop.message}`);
       // If the condition becomes true in a two-cycle instruction, time stops after the first cycle.
       const { total } = begun.debugger.session.count;
       assert.ok(total === first || total === first - 1, `${text}: ${total}, ${first}`);
@@ -292,7 +294,7 @@ test("searches of the past, and on: a condition is found where it became true, i
 
 test("what no trace shows is refused where nothing else is asked", () => {
   for (const [text] of INPUT_CONDITIONS) {
-    assert.match(compileTracedCondition(text, names).fault, /^no run changes .*: ask for it at a breakpoint$/);
+    assert.match(compileTracedCondition(text, names).error, /^no run changes .*: ask for it at a breakpoint$/);
   }
 });
 
@@ -311,7 +313,7 @@ test("errors point at their column, and propose", () => {
     ["x".repeat(MAX_LENGTH + 1), MAX_LENGTH - 1, "a condition has at most 2000 characters"],
   ]) {
     const read = compileCondition(text, names);
-    assert.deepEqual([read.fault, read.column], [fault, column], text);
+    assert.deepEqual([read.error, read.column], [fault, column], text);
   }
 });
 
@@ -331,7 +333,7 @@ test("a text of any kind is read in time, and an error is in a column of it", ()
     const setting = (all) => readSetting(all, names.map, names.board);
     const readers = [compileCondition, compileExpression, compileTestCondition, compileTracedCondition, setting];
     for (const read of readers) {
-      const { fault, column } = read(text, names);
+      const { error: fault, column } = read(text, names);
       if (fault === "") taken += 1;
       else assert.ok(column >= 0 && (column < text.length || (column === 0 && text === "")), `${JSON.stringify(text)}: ${fault} ${column}`);
     }
@@ -344,8 +346,8 @@ test("a text of any kind is read in time, and an error is in a column of it", ()
     const line = heads[below(random, heads.length)] + text.replace("+", ",") + [", never cy 1", "", " for 5 ms"][below(random, 3)];
     readCampaign(line, { names, instructions: [] });
     readTests(`test t\nexpect ${text}\nuntil ${text} within 5\nset ${text}\n`, names);
-    for (const fault of [parseWatch(text, names).fault, parseWatch(`x = ${text}`, names).fault, parseGoal(text, names).fault,
-      compileNote(`a {${text}} b`, names).fault, replaceNames(`set ${text}`, session.map).words]) {
+    for (const fault of [parseWatch(text, names).error, parseWatch(`x = ${text}`, names).error, parseGoal(text, names).error,
+      compileNote(`a {${text}} b`, names).error, replaceNames(`set ${text}`, session.map).message]) {
       const column = / \(column (\d+)\)\.?$/.exec(fault);
       assert.ok(fault === "" || column === null || Number(column[1]) <= text.length + 8, `${text}: ${fault}`);
     }
@@ -356,12 +358,12 @@ test("a text of any kind is read in time, and an error is in a column of it", ()
 
 test("`set PLACE = VALUE` in a console stands for the lines that do so", () => {
   const put = (line) => replaceNames(line, session.map);
-  assert.deepEqual(put("set r4 = 0b111\n"), { lines: "poke r4 7\n", words: "", line: 0 });
-  assert.deepEqual(put("set RAM 0 0x12 = limit\nlamps"), { lines: "poke ram.0.0x12 9\nlamps", words: "", line: 0 });
-  assert.deepEqual(put("set P2=0x1F"), { lines: "poke r4 1\npoke r5 15", words: "", line: 0 });
+  assert.deepEqual(put("set r4 = 0b111\n"), { lines: "poke r4 7\n", message: "", line: 0 });
+  assert.deepEqual(put("set RAM 0 0x12 = limit\nlamps"), { lines: "poke ram.0.0x12 9\nlamps", message: "", line: 0 });
+  assert.deepEqual(put("set P2=0x1F"), { lines: "poke r4 1\npoke r5 15", message: "", line: 0 });
   assert.deepEqual([put("set test = 0").lines, put("set pc = @turn").lines], ["test 0", "poke pc 3"]);
-  assert.match(put("set A = 1").words, /^A: no such place; the accumulator is acc \(column 5\)\.$/);
-  assert.equal(put("set cy = 2").words, "cy holds 0 to 1, not 2 (column 10).");
+  assert.match(put("set A = 1").message, /^A: no such place; the accumulator is acc \(column 5\)\.$/);
+  assert.equal(put("set cy = 2").message, "cy holds 0 to 1, not 2 (column 10).");
   assert.equal(put("asm\nset r4 = 1\n.\n").lines, "asm\nset r4 = 1\n.\n");
 });
 
@@ -385,14 +387,14 @@ test("the conditions of the examples' tests mean the same here", () => {
     const { names: own } = new DebugSession(engine, { board, program });
     for (const text of conditions) {
       const [old, read] = [compileTestCondition(text, own), compileCondition(text, own)];
-      assert.equal(old.fault, "", text);
+      assert.equal(old.error, "", text);
       // Forms that are valid only in the lines of a test are still rejected.
       if (old.condition.needs.some((need) => need !== "test")) {
-        assert.match(read.fault, /^(the digits are multiplexed|printed text|no run changes)/, text);
+        assert.match(read.error, /^(the digits are multiplexed|printed text|no run changes)/, text);
         continue;
       }
       if (old.condition.needs.length > 0) continue;
-      assert.deepEqual([read.fault, read.condition?.places], ["", old.condition.places], text);
+      assert.deepEqual([read.error, read.condition?.places], ["", old.condition.places], text);
       for (let round = 0; round < 20; round++) {
         const values = old.condition.places.map((place) => (place === "lamps" ? own.board.lamps.map(() => ".*"[below(random, 2)]).join("")
           : below(random, place === "pc" ? 4096 : 16).toString(16).toUpperCase().padStart(place === "pc" ? 3 : 1, "0")));

@@ -37,7 +37,7 @@ function valuesNow(calls, { places }) {
 }
 
 const read = (text) => {
-  const { condition, fault } = compileCondition(text, names);
+  const { condition, error: fault } = compileCondition(text, names);
   assert.equal(fault, "", text);
   return condition;
 };
@@ -85,7 +85,7 @@ test("places are reported once, and what a query takes is not exceeded", () => {
   assert.deepEqual([read("not @end").address, read("pc > 3").address, read("@end and acc 1").address], [-1, -1, -1]);
   const many = Array.from({ length: MAX_PLACES }, (_, at) => `r${at} 0`).join(" and ");
   assert.equal(read(many).places.length, MAX_PLACES);
-  assert.equal(compileCondition(`${many} and acc 1`, names).fault, "it reads 17 places; at most 16 are allowed");
+  assert.equal(compileCondition(`${many} and acc 1`, names).error, "it reads 17 places; at most 16 are allowed");
 });
 
 test("what cannot be read is reported, with what the board has", () => {
@@ -116,15 +116,15 @@ test("what cannot be read is reported, with what the board has", () => {
     ["ram.0.0 4 < 5", "<: a condition ends before this; join two by and, or"], ["= 3", "a value is missing before ="],
   ];
   for (const [text, fault] of faults) {
-    const shown = compileCondition(text, names).fault;
+    const shown = compileCondition(text, names).error;
     assert.ok(shown.startsWith(fault), `${text}: ${shown}`);
   }
   const bare = { ...names, face: new Face(WIRED) };
-  assert.equal(compileCondition("lamp red on", bare).fault, "the board has no lamp red; its text names no lamps (`# lamp 0: NAME ..`)");
-  assert.equal(compileCondition("display 3", bare).fault, "the board's text names no display (`# display 0: 4 digits`)");
-  assert.match(compileCondition("printed 3", bare).fault, /^the board's text names no printer /);
+  assert.equal(compileCondition("lamp red on", bare).error, "the board has no lamp red; its text names no lamps (`# lamp 0: NAME ..`)");
+  assert.equal(compileCondition("display 3", bare).error, "the board's text names no display (`# display 0: 4 digits`)");
+  assert.match(compileCondition("printed 3", bare).error, /^the board's text names no printer /);
   const printing = { ...names, face: new Face(`${WIRED}\n# printer rom0.0: ram0.0 0 1 feed\n`) };
-  assert.match(compileCondition("printed 3", printing).fault, /^printed text arrives line by line/);
+  assert.match(compileCondition("printed 3", printing).error, /^printed text arrives line by line/);
 });
 
 test("the lines of a test ask for what no trace shows as well", () => {
@@ -140,7 +140,7 @@ test("the lines of a test ask for what no trace shows as well", () => {
   assert.equal(ofTest("cycles at most 6 ms").condition.holds([], extraValues), true);
   assert.equal(ofTest("cycles 537").condition.explain([], extraValues), "cycles are 538, but must be 537");
   assert.equal(ofTest("@end").condition.explain(["00B"], extraValues), "pc is 00B (end), within an instruction, but must be @end");
-  assert.equal(ofTest("cycles").fault, "write `cycles TIME`, `cycles at most TIME` or `cycles at least TIME`");
+  assert.equal(ofTest("cycles").error, "write `cycles TIME`, `cycles at most TIME` or `cycles at least TIME`");
 });
 
 test("times", () => {
@@ -148,5 +148,5 @@ test("times", () => {
     ["1.5", 0], ["ms", 0], ["", 0],
     ["3 x", 0], ["1000000001", 0], ["-3", 0], ["1.5.2 ms", 0]];
   for (const [text, cycles] of shown) assert.equal(parseExactDuration(text.split(" ")), cycles, text);
-  assert.deepEqual(parseDuration(["pace", "43", "ms", "1", "s"], 1), { cycles: 3981, words: 2 });
+  assert.deepEqual(parseDuration(["pace", "43", "ms", "1", "s"], 1), { cycles: 3981, wordCount: 2 });
 });

@@ -53,19 +53,19 @@ test("a session in memory: breakpoints at lines, moves, values, back and forward
   const session = openSession();
   assert.deepEqual(session.rejectedTexts, []);
   session.breakpoints.add({ line: LINE.blank });
-  const { moved, faults } = await session.applyBreakpoints();
-  assert.deepEqual([moved, faults], [["Line 5 puts no bytes into ROM: its breakpoint is at the next instruction, line 6."], []]);
+  const { moved, errors } = await session.applyBreakpoints();
+  assert.deepEqual([moved, errors], [["Line 5 puts no bytes into ROM: its breakpoint is at the next instruction, line 6."], []]);
   const stop = await session.runToGoal();
-  assert.deepEqual([stop.why, stop.id, session.line], ["break", 1, LINE.increment]);
-  assert.equal(stop.words, "Paused at 005 (turn + 2, line 6), at a breakpoint.");
-  assert.equal((await session.stepInto()).words, "At 006 (turn + 3, line 7), after 1 cycle, 0.011 ms.");
+  assert.deepEqual([stop.reason, stop.id, session.line], ["break", 1, LINE.increment]);
+  assert.equal(stop.message, "Paused at 005 (turn + 2, line 6), at a breakpoint.");
+  assert.equal((await session.stepInto()).message, "At 006 (turn + 3, line 7), after 1 cycle, 0.011 ms.");
   assert.deepEqual(session.values(["r4", "lamps", "acc", "nothing"]), ["1", "..", "0", ""]);
-  assert.equal((await session.runToGoal({ kind: "over" })).words, "At 003 (turn, line 4), after 2 cycles, 0.022 ms.");
+  assert.equal((await session.runToGoal({ kind: "over" })).message, "At 003 (turn, line 4), after 2 cycles, 0.022 ms.");
   await session.stepInto();
   assert.deepEqual([session.line, session.returns[0]], [LINE.show, 5]);
   const out = await session.runToGoal({ kind: "out" });
-  assert.deepEqual([out.why, out.returns, session.line], ["goal", true, LINE.increment]);
-  assert.match(out.words, /^Returned to 005 \(turn \+ 2, line 6\), after 37 cycles/);
+  assert.deepEqual([out.reason, out.endsAtReturn, session.line], ["goal", true, LINE.increment]);
+  assert.match(out.message, /^Returned to 005 \(turn \+ 2, line 6\), after 37 cycles/);
   assert.deepEqual(session.values(["lamp 0"]), ["*"]);
   const back = await session.goBack({ kind: "instruction" });
   assert.deepEqual([back.isDone, session.line], [true, LINE.back]);
@@ -94,8 +94,8 @@ test("a condition, a count of hits, and a note in place of a stop; no file has t
   counted.breakpoints.add({ line: LINE.increment, note: "R4 is {r4}, lamps {lamps}, two {two}" });
   await counted.applyBreakpoints();
   const stop = await counted.runToGoal();
-  assert.deepEqual([stop.why, stop.id, counted.values(["r4"])[0]], ["break", id, "4"]);
-  assert.deepEqual(stop.tally.notes.map(({ words }) => words),
+  assert.deepEqual([stop.reason, stop.id, counted.values(["r4"])[0]], ["break", id, "4"]);
+  assert.deepEqual(stop.tally.notes.map(({ text: words }) => words),
     ["R4 is 0, lamps .., two .", "R4 is 1, lamps *., two .", "R4 is 2, lamps .*, two *", "R4 is 3, lamps **, two *"]);
   assert.deepEqual(counted.breakpoints.all.map(({ hits }) => hits), [4, 5]);
   assert.deepEqual(counted.debugger.session.ask("breaks\n"), ["breaks -"]);
@@ -128,12 +128,12 @@ test("a breakpoint stops a move; one that cannot be read says why, and stops eve
   session.breakpoints.add({ line: LINE.write, condition: "r4 = 0" });
   const broken = session.breakpoints.add({ line: LINE.increment, condition: "r44 = 0" });
   const lacking = session.breakpoints.add({ line: LINE.wait, note: "{rom3}" });
-  const { faults } = await session.applyBreakpoints();
-  assert.deepEqual(faults, [[broken.id, "r44: no such place; the registers are r0 to r15 (column 1)"],
+  const { errors } = await session.applyBreakpoints();
+  assert.deepEqual(errors, [[broken.id, "r44: no such place; the registers are r0 to r15 (column 1)"],
     [lacking.id, "the note asks for {rom3}: the board has no ROM 3 (column 2)"]]);
   await session.runToGoal({ kind: "here", address: 3 });
   const stop = await session.runToGoal({ kind: "over" });
-  assert.deepEqual([stop.why, session.line], ["break", LINE.write]);
+  assert.deepEqual([stop.reason, session.line], ["break", LINE.write]);
   const stops = [];
   for (let more = 0; more < 4; more++) stops.push([(await session.runToGoal()).id, session.line]);
   assert.deepEqual(stops, [[lacking.id, LINE.wait], [lacking.id, LINE.wait], [lacking.id, LINE.wait], [lacking.id, LINE.wait]]);
@@ -142,7 +142,7 @@ test("a breakpoint stops a move; one that cannot be read says why, and stops eve
   await session.applyBreakpoints();
   const unsure = await session.runToGoal();
   assert.deepEqual([unsure.id, session.line], [broken.id, LINE.increment]);
-  assert.equal(unsure.words, "Paused at 005 (turn + 2, line 6), at a breakpoint that has an error, "
+  assert.equal(unsure.message, "Paused at 005 (turn + 2, line 6), at a breakpoint that has an error, "
     + "accu: no such place; the accumulator is acc (column 1).");
   assert.equal((await session.runToGoal()).id, broken.id);
   session.breakpoints.change(broken.id, { condition: "R4 == 0b11 || r4 >= 0xF" });
@@ -150,7 +150,7 @@ test("a breakpoint stops a move; one that cannot be read says why, and stops eve
   const mended = [];
   for (let more = 0; more < 3; more++) mended.push([(await session.runToGoal()).id, session.values(["r4"])[0]]);
   assert.deepEqual(mended, [[broken.id, "3"], [broken.id, "F"], [1, "0"]]);
-  assert.match(stop.words, /^Paused at 009 \(show \+ 1, line 9\), at a breakpoint, when r4 = 0, after 3 cycles, .*; the return .* not/);
+  assert.match(stop.message, /^Paused at 009 \(show \+ 1, line 9\), at a breakpoint, when r4 = 0, after 3 cycles, .*; the return .* not/);
 });
 
 test("breakpoints are no part of the past: going back leaves them, and what comes after is done again as it was", async () => {
@@ -206,13 +206,13 @@ test("back to the last arrival at a breakpoint: the stops of the way there, what
     const back = await backToArrival(session);
     assert.deepEqual([bench.count.total, session.values(["r4"])[0], session.line], [cycles, r4, LINE.write]);
     assert.deepEqual([back.isDone, back.end, back.id, back.cycles], [true, "break", 1, from - cycles]);
-    assert.match(back.words, at === 0 ? /^Back at 009 \(show \+ 1, line 9\), 12 cycles, 0.130 ms earlier, at a/ : /at a breakpoint\.$/);
+    assert.match(back.message, at === 0 ? /^Back at 009 \(show \+ 1, line 9\), 12 cycles, 0.130 ms earlier, at a/ : /at a breakpoint\.$/);
   }
   const begin = await backToArrival(session);
   assert.deepEqual([begin.isDone, begin.end, bench.count.total], [true, "beginning", 0]);
-  assert.match(begin.words, /^Back at 000 \(start, line 2\), .* earlier, at the beginning of the remembered past: no breakpoint was/);
+  assert.match(begin.message, /^Back at 000 \(start, line 2\), .* earlier, at the beginning of the remembered past: no breakpoint was/);
   const none = await backToArrival(session);
-  assert.deepEqual([none.isDone, none.words], [false, "Nothing was done: the remembered past reaches no further back."]);
+  assert.deepEqual([none.isDone, none.message], [false, "Nothing was done: the remembered past reaches no further back."]);
   for (let times = 0; times < seen.length + 1; times++) session.goForward();
   assert.equal(bench.count.total, total);
 });
@@ -229,7 +229,7 @@ test("back to an arrival: conditions are asked, counts are not, and breakpoints 
   for (const [cycles] of seen.filter(([, r4]) => r4 === "3").reverse()) {
     const back = await backToArrival(session);
     assert.deepEqual([bench.count.total, back.id], [cycles, id]);
-    assert.match(back.words, /, at a breakpoint, when r4 = 3\.$/);
+    assert.match(back.message, /, at a breakpoint, when r4 = 3\.$/);
   }
   assert.equal((await backToArrival(session)).end, "beginning");
   assert.deepEqual(bench.ask("breaks\n"), ["breaks -"]);
@@ -244,15 +244,15 @@ test("back to an arrival meets what is watched, by the bench or beside it, and s
   await bench.serve("unwatch 0 0\nrun 300\nwatch 0 0\n", async () => true);
   const watched = await backToArrival(session);
   assert.deepEqual([watched.end, watched.place, watched.line], ["change", "ram.0.0x00", ""]);
-  assert.match(watched.words, /: this instruction changes ram\.0\.0x00 from \w to \w\.$/);
+  assert.match(watched.message, /: this instruction changes ram\.0\.0x00 from \w to \w\.$/);
   const old = session.values(["ram.0.0x00"])[0];
   await session.stepInto();
   assert.notEqual(session.values(["ram.0.0x00"])[0], old);
   await bench.serve("unwatch 0 0\n", async () => true);
   const beside = await backToArrival(session, "r4");
   assert.equal(beside.place, "r4");
-  assert.equal((await backToArrival(session, "ram.7.0")).why, "lacks");
-  assert.match((await backToArrival(session, "ram1.0")).words, /^Nothing was done: this board has no ram1\.0\.$/);
+  assert.equal((await backToArrival(session, "ram.7.0")).reason, "lacks");
+  assert.match((await backToArrival(session, "ram1.0")).message, /^Nothing was done: this board has no ram1\.0\.$/);
 });
 
 test("back to an arrival is found in what is kept of a long run, at once", async () => {
@@ -293,17 +293,17 @@ test("a pause ends a run without a stop", async () => {
   const session = openSession("JMS x\nx: JUN x\n");
   await session.runToGoal({ kind: "count", count: 1 });
   const stop = await session.runToGoal({ kind: "out" }, async (done) => done < 1000000);
-  assert.equal(stop.why, "pause");
-  assert.match(stop.words, /^Paused at 002 \(x, line 2\), after .*; the return from the subroutine was not reached\.$/);
+  assert.equal(stop.reason, "pause");
+  assert.match(stop.message, /^Paused at 002 \(x, line 2\), after .*; the return from the subroutine was not reached\.$/);
 });
 
 test("notes report lamps by their names and ports as digits", () => {
   const face = new Face(BOARD);
   const lamps = [0, 1].flatMap((line) => ["[[lamp]]", `line = "ram0.0.${line}"`]);
   const board = readBoard(["board", "[[rom]]", "chip = 0", 'port = "0000"', ...lamps]);
-  const { note, fault } = compileNote("{one}{two} rom {rom0} {", { board, face, map: null });
+  const { note, error: fault } = compileNote("{one}{two} rom {rom0} {", { board, face, map: null });
   assert.deepEqual([fault, note.places.length], ["", 3]);
-  assert.equal(note.words(["1", "0", "9"]), "*. rom 9 {");
+  assert.equal(note.textOf(["1", "0", "9"]), "*. rom 9 {");
 });
 
 const linesAfterEdit = (lines, edit) => {
@@ -351,5 +351,5 @@ test("where a breakpoint has a condition or a count, the words of the stop have 
   const session = openSession();
   session.breakpoints.add({ line: LINE.write, condition: "r4 = 2", from: 2 });
   await session.applyBreakpoints();
-  assert.match((await session.runToGoal()).words, /^Paused at 009 \(show \+ 1, line 9\), at a breakpoint, when r4 = 2, at hit 2\.$/);
+  assert.match((await session.runToGoal()).message, /^Paused at 009 \(show \+ 1, line 9\), at a breakpoint, when r4 = 2, at hit 2\.$/);
 });

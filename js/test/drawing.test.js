@@ -96,7 +96,7 @@ function check(name, text, act, wanted) {
   assert.ok(findFaceErrors(done.text).length <= findFaceErrors(text).length, said);
   const faults = (boardText, board) => missingParts(new Face(boardText), board).length;
   assert.ok(faults(done.text, readBoard(after.board)) <= faults(text, readBoard(first.board)), `${said}\n${done.text}`);
-  assert.match(done.words, /^[A-Z].*\.$/);
+  assert.match(done.message, /^[A-Z].*\.$/);
   return { ...done, board: readBoard(after.board) };
 }
 
@@ -133,24 +133,24 @@ onBench("a buzzer comes from the shelf, is wired, named and deleted, and goes wi
   const first = ({ text }) => text.split("\n", 1)[0];
   const added = check("nothing", "", { kind: "add", part: "buzzer" });
   assert.equal(added.text, '# buzzer rom0.0: buzzer\n\n[[rom]]\nchip = 0\nport = "0000"\n');
-  assert.equal(added.words, "The buzzer was added, with ROM 0.");
+  assert.equal(added.message, "The buzzer was added, with ROM 0.");
   assert.match(applyAction(added.text, { kind: "add", part: "buzzer" }).refusal, /^A board has one buzzer/);
   // The default line of this part is in use.
   assert.match(check("buzzer", added.text, { kind: "add", part: "chain" }).text, /clock = "rom0.1"/);
   const moved = check("buzzer", added.text, { kind: "wire", line: "rom0.2", target: "buzzer 0" });
-  assert.deepEqual([first(moved), moved.words], ["# buzzer rom0.2: buzzer", "Line rom0.2 is wired to the buzzer."]);
+  assert.deepEqual([first(moved), moved.message], ["# buzzer rom0.2: buzzer", "Line rom0.2 is wired to the buzzer."]);
   const named = check("buzzer", moved.text, { kind: "name", part: "buzzer", name: "the horn" });
-  assert.deepEqual([first(named), named.words], ["# buzzer rom0.2: the horn", "The buzzer is called the horn."]);
+  assert.deepEqual([first(named), named.message], ["# buzzer rom0.2: the horn", "The buzzer is called the horn."]);
   assert.equal(applyAction(named.text, { kind: "name", part: "buzzer", name: " " }).refusal, "A buzzer needs a name.");
   const inputs = applyAction(named.text, { kind: "add", part: "inputs" }).text;
   const { refusal } = applyAction(inputs, { kind: "wire", line: "rom1.0", target: "buzzer 0" });
   assert.match(refusal, /rom1.0 is an input line: the buzzer needs/);
   assert.equal(check("buzzer", named.text, { kind: "delete", part: "buzzer" }).text, '[[rom]]\nchip = 0\nport = "0000"\n');
-  assert.equal(check("buzzer", named.text, { kind: "delete", part: "rom 0" }).words, "ROM 0 was deleted, and with it the buzzer.");
+  assert.equal(check("buzzer", named.text, { kind: "delete", part: "rom 0" }).message, "ROM 0 was deleted, and with it the buzzer.");
   const board = { ...named.board, buzzer: "rom0.2" };
   assert.deepEqual(possibleTargets(board, "rom0.3"), ["buzzer 0"]);
   const { title, fields, buttons } = selectionForm(board, new Face(named.text), "buzzer 0");
-  assert.deepEqual([title, ...fields.map(({ value }) => value), ...buttons.map(({ word }) => word)],
+  assert.deepEqual([title, ...fields.map(({ value }) => value), ...buttons.map(({ label: word }) => word)],
     ["The buzzer", "the horn", "rom0.2", "Delete"]);
 });
 
@@ -175,7 +175,7 @@ for (const { name, text } of BOARDS) {
       const isMore = textOf(board).length < textOf(done.board).length || ["button", "switch", "buzzer", "ram"].includes(part);
       assert.ok(isMore, part);
       const gone = check(name, done.text, { kind: "delete", part: done.part });
-      if (!done.words.includes(", with ")) {
+      if (!done.message.includes(", with ")) {
         assert.deepEqual(gone.board, board, `${name}: ${part} and back`);
         if (!OTHERS.some((each) => each.text === text)) assert.equal(gone.text, text, `${name}: ${part} and back`);
       }
@@ -345,7 +345,7 @@ function randomAction(pick, board, face) {
     { kind: "add", part: pick(SHELF_PARTS), digits: pick([1, 2, 3]) },
     { kind: "wire", line, target: pick([...possibleTargets(board, line), "lamp 0"]) },
     ...(field ? [field.act(field.options ? pick(field.options).value : pick(words))] : []),
-    ...buttons.map(({ act }) => act).slice(0, 1 + Number(pick([0, 0, 1]))),
+    ...buttons.map(({ action: act }) => act).slice(0, 1 + Number(pick([0, 0, 1]))),
   ]);
 }
 
@@ -406,7 +406,7 @@ onBench("from nothing to four keys and four lamps", () => {
     ({ text } = done);
     return done;
   };
-  assert.equal(act({ kind: "add", part: "keys" }).words, "The keys were added, with ROM 0, chain 0 and ROM 1.");
+  assert.equal(act({ kind: "add", part: "keys" }).message, "The keys were added, with ROM 0, chain 0 and ROM 1.");
   for (let lamp = 0; lamp < 4; lamp++) assert.equal(act({ kind: "add", part: "lamp" }).part, `lamp ${lamp}`);
   const { board } = act({ kind: "colour", lamp: 3, colour: "green" });
   assert.deepEqual(board.lamps, [0, 1, 2, 3].map((line) => `ram0.0.${line}`));

@@ -51,7 +51,7 @@ async function createDrawnBoard(text = "") {
 test("an empty bench: parts come with what they need, and a wire goes from pin to pin", async () => {
   const desk = await createDrawnBoard();
   const { drawing } = desk;
-  assert.deepEqual([desk.shown.fault, [...desk.shown.shelf.values()].every((why) => why === "")], ["", true]);
+  assert.deepEqual([desk.shown.error, [...desk.shown.shelf.values()].every((why) => why === "")], ["", true]);
   await drawing.performInOrder({ kind: "add", part: "keys" });
   assert.equal(desk.shown.lastMessage, "The keys were added, with ROM 0, chain 0 and ROM 1.");
   assert.deepEqual([desk.shown.selected, desk.shown.shelf.get("keys")],
@@ -108,23 +108,23 @@ test("a text with faults is not drawn in; what was drawn last stays", async () =
   const desk = await createDrawnBoard(boardOf("lock"));
   desk.text = `${desk.text}\n[[lamp]]\n`;
   await desk.drawing.refresh();
-  assert.match(desk.shown.fault, /^The bench rejects the board's text: refusal 2[02]\. Board shows where\.$/);
+  assert.match(desk.shown.error, /^The bench rejects the board's text: refusal 2[02]\. Board shows where\.$/);
   assert.equal(desk.shown.board.lamps.length, 3);
   const text = desk.text.replace("\n[[lamp]]\n", "");
   desk.text = text.replace('"rom1.0"', '"rom1\\u002e0"');
   await desk.drawing.refresh();
-  assert.match(desk.shown.fault, /the picture cannot change/);
+  assert.match(desk.shown.error, /the picture cannot change/);
   await desk.drawing.performInOrder({ kind: "add", part: "rom" });
   assert.match(desk.shown.lastMessage, /^It was not done\. .* the picture cannot change/);
   desk.text = text;
   await desk.drawing.refresh();
-  assert.equal(desk.shown.fault, "");
+  assert.equal(desk.shown.error, "");
 });
 
 test("what is longer than the bench takes is not done", async () => {
   const long = `${'lamp = [] # x\n'}${"rom = []\n".repeat(0)}${" \n".repeat(16370)}`;
   const desk = await createDrawnBoard(long);
-  assert.equal(desk.shown.fault, "");
+  assert.equal(desk.shown.error, "");
   await desk.drawing.performInOrder({ kind: "add", part: "rom" });
   assert.match(desk.shown.lastMessage, /^It was not done\. The bench rejects the board's text: refusal 13\./);
   assert.equal(desk.text, long);
@@ -186,14 +186,14 @@ test("each value that a field offers can be set, or is refused in words; each bu
       const isThere = board.chains.length > 0 || !/chain|keys|clock|column|row/.test(chosen);
       const { title, fields, buttons } = selectionForm(board, face, isThere ? chosen : "");
       assert.ok(title.length > 3);
-      for (const { label, value, options, act } of fields) {
+      for (const { label, value, options, createAction: act } of fields) {
         if (options) assert.ok(options.some((each) => each.value === value), `${name}: ${chosen}: ${label} is ${value}`);
         for (const wanted of options ? options.map((each) => each.value) : ["Other"]) {
-          const { refusal, words } = applyAction(text, act(wanted));
+          const { refusal, message: words } = applyAction(text, act(wanted));
           assert.ok(refusal !== "" || words !== "", `${name}: ${label} ${wanted}`);
         }
       }
-      for (const { act } of buttons) assert.ok(applyAction(text, act).refusal !== "" || applyAction(text, act).edits.length > 0);
+      for (const { action: act } of buttons) assert.ok(applyAction(text, act).refusal !== "" || applyAction(text, act).edits.length > 0);
     }
   }
 });

@@ -332,7 +332,7 @@ test("what stands at places is what trace reports of them", () => {
 
 test("a count that is refused reports nothing", () => {
   const reported = new PlaceValues(["no 11", "count ran 2 end lines 1", "00F 2", "seq 4"]);
-  assert.deepEqual([reported.counts(), reported.counts()], [[], [{ address: 15, begun: 2, jumped: -1 }]]);
+  assert.deepEqual([reported.counts(), reported.counts()], [[], [{ address: 15, startCount: 2, jumpCount: -1 }]]);
   assert.equal(reported.take(), "seq 4");
 });
 
@@ -401,9 +401,9 @@ test("reports are joined: the shortest finds, and all that was run", async () =>
 
 test("what was run is reported with what was not", () => {
   const coverage = new Coverage();
-  assert.ok(coverage.add([{ address: 0, begun: 3, jumped: -1 }, { address: 2, begun: 2, jumped: 2 }]));
-  assert.ok(!coverage.add([{ address: 2, begun: 1, jumped: 1 }]));
-  assert.ok(coverage.add([{ address: 2, begun: 1, jumped: 0 }]));
+  assert.ok(coverage.add([{ address: 0, startCount: 3, jumpCount: -1 }, { address: 2, startCount: 2, jumpCount: 2 }]));
+  assert.ok(!coverage.add([{ address: 2, startCount: 1, jumpCount: 1 }]));
+  assert.ok(coverage.add([{ address: 2, startCount: 1, jumpCount: 0 }]));
   assert.equal(new Coverage(coverage.text).text, "107");
   const at = (line, address, isBranch) => ({ line, address, isBranch });
   assert.deepEqual(coverage.summary([at(1, 0, false), at(2, 2, true), at(3, 4, true)]),

@@ -26,7 +26,7 @@ function wordsOf(face, faults, patterns) {
     ...(face.buzzer ? [`buzzer ${face.buzzer.place} ${face.buzzer.name}`] : []),
     ...(face.printer ? [`printer ${face.printer.strobe} ${face.printer.port} ${face.printer.words.join(" ")}`] : []),
     ...(pin ? [`test ${pin.kind} ${pin.name} ${pin.level}`] : []), ...list("port", face.ports),
-    ...faults.map(({ line, words }) => `fault line ${line}: ${words}`),
+    ...faults.map(({ line, message }) => `fault line ${line}: ${message}`),
     ...patterns.map((pattern) => {
       const { number, names } = textOf(face).read(pattern);
       return `shows ${pattern} ${number}${names && ` ${names}`}`;
@@ -53,7 +53,7 @@ test("a face takes no more time than its text has letters", () => {
   ]) {
     // Measure processor time, so that other work on the machine does not count.
     const begun = process.cpuUsage();
-    assert.ok(new Face(text).faults.length >= faults);
+    assert.ok(new Face(text).errors.length >= faults);
     assert.ok(process.cpuUsage(begun).user < 1000000);
   }
 });

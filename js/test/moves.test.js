@@ -115,7 +115,7 @@ test("over a subroutine that waits for a key: the key is pressed while time runs
   for (let frame = 0; frame < 40; frame++) assert.equal(calls.advance(1543).stop, null);
   await calls.serve("test 1\n");
   const { stop } = runUntilStop(calls, 1543);
-  assert.deepEqual([stop.why, stop.returns, counterOf(calls)], ["goal", true, "002"]);
+  assert.deepEqual([stop.reason, stop.endsAtReturn, counterOf(calls)], ["goal", true, "002"]);
   assert.ok(stop.cycles > 40 * 1543 && stop.cycles < 41 * 1543);
 });
 
@@ -160,7 +160,7 @@ test("a goal among presses of keys comes at the cycle at which it is reached", a
   const begun = calls.bench.session.count.total;
   let travelled = calls.advance(5000, matrixKey(2, 1));
   for (let frame = 0; !travelled.stop && frame < 100; frame++) travelled = calls.advance(1543);
-  assert.deepEqual([travelled.stop.why, travelled.stop.cycles], ["goal", calls.bench.session.count.total - begun]);
+  assert.deepEqual([travelled.stop.reason, travelled.stop.cycles], ["goal", calls.bench.session.count.total - begun]);
   assert.notEqual(calls.ask("lamps\n")[0], before);
   // One cycle before the change, the lamps were unchanged.
   const again = await begin("calculator");

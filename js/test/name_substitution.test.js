@@ -15,6 +15,6 @@ test("names have their values in lines, but not in texts", () => {
 test("what is no name is refused in words", () => {
   assert.deepEqual(replaceNames("seq\nbreak @going\nbreak @gone\n", MAP),
     { lines: "seq\nbreak @going\nbreak @gone\n", words: "@going: the program has no such name.", line: 2 });
-  assert.equal(replaceNames("break @go\n", null).words, "@go: names are known only while the source is the same as ROM.");
-  assert.equal(replaceNames("break @\n", MAP).words, "@: the program has no such name.");
+  assert.equal(replaceNames("break @go\n", null).message, "@go: names are known only while the source is the same as ROM.");
+  assert.equal(replaceNames("break @\n", MAP).message, "@: the program has no such name.");
 });

@@ -115,7 +115,7 @@ const questionOf = (text, own = subject) => (
 test("comparisons mean what their condition means", () => {
   const all = [...randomStates()];
   for (const text of CONDITIONS) {
-    const { condition, fault } = compileTracedCondition(text, subject.names);
+    const { condition, error: fault } = compileTracedCondition(text, subject.names);
     assert.ok(condition, `${text}: ${fault}`);
     for (const wanted of [true, false]) {
       const lists = listComparisons(condition, wanted, board);

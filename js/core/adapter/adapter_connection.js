@@ -45,9 +45,9 @@ export class AdapterConnection extends MessageStream {
     this.stopTask = (id) => fail(say.noProgress(id));
   }
 
-  /** @param {string} words */
-  reportStreamError(words) {
-    this.rejectRequest(0, "", new AdapterError(words));
+  /** @param {string} message */
+  reportStreamError(message) {
+    this.rejectRequest(0, "", new AdapterError(message));
   }
 
   /** @param {string} text */

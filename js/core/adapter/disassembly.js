@@ -8,9 +8,9 @@ import { MAX_LISTING_LINES } from "../bench/rom_bytes.js";
  * @typedef {import("../debug/debug_session.js").DebugSession} DebugSession
  * @typedef {import("../bench/answers.js").ListingLine} ListingLine
  *
- * A row of the disassembly. `address` can be outside ROM. `bytes` are the bytes in hexadecimal, and `words` is the instruction as text.
+ * A row of the disassembly. `address` can be outside ROM. `bytes` are the bytes in hexadecimal, and `text` is the instruction as text.
  * `line` is the source line (0 for none), and `name` the label ("" for none).
- * @typedef {{ address: number, bytes: string, words: string, line: number, name: string }} InstructionRow
+ * @typedef {{ address: number, bytes: string, text: string, line: number, name: string }} InstructionRow
  */
 
 /** @type {(listed: ListingLine) => number} returns the address of the instruction after a listed instruction */
@@ -68,7 +68,7 @@ export function listInstructionRows(session, address, offset, count) {
  */
 function instructionRow({ address, line }, { map }) {
   const sourceLine = map.lineOf(address);
-  return { address, bytes: line.slice(4, 9).trim(), words: line.slice(10).trim(), line: sourceLine, name: map.labelsAt(address)[0] || "" };
+  return { address, bytes: line.slice(4, 9).trim(), text: line.slice(10).trim(), line: sourceLine, name: map.labelsAt(address)[0] || "" };
 }
 
 /**
@@ -76,7 +76,7 @@ function instructionRow({ address, line }, { map }) {
  * @returns {InstructionRow}
  */
 function emptyRow(address) {
-  return { address, bytes: "", words: "", line: 0, name: "" };
+  return { address, bytes: "", text: "", line: 0, name: "" };
 }
 
 /**

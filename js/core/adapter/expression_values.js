@@ -92,8 +92,8 @@ export function evaluateExpression(text, context, base = "usual") {
   const value = registerValue(trimmed, session, base) || convertToBase(nameValue(trimmed, session), base)
     || placeValue(trimmed, context, base);
   if (value) return value;
-  const { expression, fault, column } = compileExpression(trimmed, session.names);
-  if (!expression) throw new AdapterError(inColumn(fault, column));
+  const { expression, error, column } = compileExpression(trimmed, session.names);
+  if (!expression) throw new AdapterError(inColumn(error, column));
   const answers = session.debugger.readPlaces(expression.places);
   return expression.number && base !== "usual" ? formatInBase(expression.number(answers), base) : expression.textOf(answers);
 }
@@ -109,7 +109,7 @@ export function expressionHover(text, context) {
   /** @type {(name: string) => import("../debug/word_values.js").NamedValue | undefined} */
   const nameOf = (name) => {
     const programName = session.map.names.get(name);
-    return programName && { ...programName, words: session.map.meaningOf(name) };
+    return programName && { ...programName, description: session.map.meaningOf(name) };
   };
   const describeInstruction = (/** @type {string} */ word) => (instructions.get(word) || { does: "" }).does;
   const pieces = valuesAt(trimmed, 0, new MachineState(session.debugger.session.takeSnapshot()), { nameOf, describeInstruction });

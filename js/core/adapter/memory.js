@@ -14,9 +14,9 @@ import * as say from "../../words/adapter.js";
 /**
  * @typedef {import("../debug/debug_session.js").DebugSession} DebugSession
  *
- * A memory range: ROM, the RAM characters of a bank, or the status characters of a bank. `begin` is the memory reference of its first byte.
+ * A memory range: ROM, the RAM characters of a bank, or the status characters of a bank. `start` is the memory reference of its first byte.
  * `bytes` contains a byte of ROM or one character per element. `place` returns the place in `poke` lines for the byte at an index.
- * @typedef {{ begin: number, bytes: Uint8Array, place: (index: number) => string }} MemoryRange
+ * @typedef {{ start: number, bytes: Uint8Array, place: (index: number) => string }} MemoryRange
  *
  * The location that a request names: a memory range, and an index in this range (`from`). The index can be out of bounds.
  * @typedef {{ range: MemoryRange, from: number }} RequestedLocation
@@ -70,7 +70,7 @@ function parseReference(reference, addressOf) {
  * @returns {MemoryRange | null}
  */
 function findRange(session, number) {
-  if (number <= LAST_ADDRESS) return { begin: 0, bytes: readRomBytes(session), place: (index) => `rom.${index}` };
+  if (number <= LAST_ADDRESS) return { start: 0, bytes: readRomBytes(session), place: (index) => `rom.${index}` };
   const isStatus = number >= STATUS_BASE;
   const bank = Math.floor((number - (isStatus ? STATUS_BASE : CHARACTERS_BASE)) / BANK_SIZE);
   if (bank < 0 || bank >= BANK_COUNT) return null;
@@ -83,7 +83,7 @@ function findRange(session, number) {
     isStatus
       ? `st.${bank}.${Math.floor(index / STATUS_CHARACTERS_PER_REGISTER)}.${index % STATUS_CHARACTERS_PER_REGISTER}`
       : `ram.${bank}.${index}`);
-  return { begin: start, bytes, place };
+  return { start, bytes, place };
 }
 
 /**
@@ -97,7 +97,7 @@ function readRequestedLocation(args, session, addressOf) {
   const reference = needText(args, "memoryReference").trim();
   const number = parseReference(reference, addressOf);
   const range = findRange(session, number) || fail(say.boardHasNo(reference));
-  return { range, from: number - range.begin + needNumber(args, "offset", 0) };
+  return { range, from: number - range.start + needNumber(args, "offset", 0) };
 }
 
 /**
@@ -107,10 +107,10 @@ function readRequestedLocation(args, session, addressOf) {
  * @param {(reference: string) => number} addressOf
  */
 export function readMemory(args, session, addressOf) {
-  const { range: { begin, bytes }, from } = readRequestedLocation(args, session, addressOf);
+  const { range: { start, bytes }, from } = readRequestedLocation(args, session, addressOf);
   const count = needNumber(args, "count");
   if (count < 0) fail(say.COUNT_RANGE);
-  const address = formatReference(begin + from);
+  const address = formatReference(start + from);
   if (from < 0 || from >= bytes.length) return { address, unreadableBytes: count };
   const readBytes = bytes.subarray(from, Math.min(bytes.length, from + count));
   const unreadCount = count - readBytes.length;

@@ -23,8 +23,8 @@ export function evaluateNumber(text, session, startColumn = 0) {
   // A client can send a displayed value with its suffix, such as `0x012, line 9`.
   const valueText = text.trim().replace(/^(\w+),.*$/, "$1");
   if (valueText === "") throw new AdapterError(say.noNumber(say.NOTHING));
-  const { expression, fault, column } = compileExpression(valueText, session.names);
-  if (!expression) throw new AdapterError(inColumn(fault, startColumn + column));
+  const { expression, error, column } = compileExpression(valueText, session.names);
+  if (!expression) throw new AdapterError(inColumn(error, startColumn + column));
   if (!expression.number) throw new AdapterError(say.noNumber(valueText));
   return expression.number(session.debugger.readPlaces(expression.places));
 }

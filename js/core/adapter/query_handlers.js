@@ -232,8 +232,8 @@ export class QueryHandlers {
     const rows = listInstructionRows(this.session, startAddress, needNumber(args, "instructionOffset", 0), count)
       .filter(({ address }) => address >= 0);
     return {
-      instructions: rows.map(({ address, bytes, words, line, name }) => ({
-        address: formatReference(address), instruction: words || "nothing",
+      instructions: rows.map(({ address, bytes, text, line, name }) => ({
+        address: formatReference(address), instruction: text || "nothing",
         ...(bytes ? { instructionBytes: bytes } : { presentationHint: "invalid" }),
         ...(name ? { symbol: name } : {}), ...(line > 0 ? { location: this.source, line: line - 1 + this.firstLine } : {}),
       })),

@@ -173,8 +173,8 @@ function sessionFromTexts(engine, requestedFiles, host, messages) {
 async function sessionFromTest(engine, test, host) {
   const sources = test.tests.map((name) => ({ name, text: host.read(name) || "" }));
   const texts = { boardText: readBenchText(test.board, "#", host), programText: readBenchText(test.program, ";", host), sources };
-  const { session, words } = await createTestSession(engine, texts, test, host.pause);
-  return { session, writer: null, note: words };
+  const { session, result } = await createTestSession(engine, texts, test, host.pause);
+  return { session, writer: null, note: result };
 }
 
 /**

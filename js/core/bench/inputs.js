@@ -55,7 +55,7 @@ export const SEQ_ANSWER = /^seq \d+$/;
  * @param {string} lines
  */
 export function readNumberedInputs(lines) {
-  /** @type {{ input: Input, at: number }[]} */
+  /** @type {{ input: Input, lineNumber: number }[]} */
   const inputs = [];
   /** @type {Input | null} */
   let openInput = null;
@@ -70,7 +70,7 @@ export function readNumberedInputs(lines) {
     if (words.length === 0 && line.length <= MAX_LINE_LENGTH) return;
     /** @type {Input} */
     const input = { line, words, kind: line.length > MAX_LINE_LENGTH ? "" : words[0], text: [] };
-    inputs.push({ input, at: index + 1 });
+    inputs.push({ input, lineNumber: index + 1 });
     if (opensText(line)) openInput = input;
   });
   return inputs;

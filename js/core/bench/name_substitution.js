@@ -10,9 +10,9 @@ import { inColumn } from "../../words/conditions.js";
 /**
  * @typedef {import("../machine/source_map.js").SourceMap} SourceMap
  *
- * The lines after the replacement. If a line has an error, `words` is the first error message and `line` the line number; otherwise they
+ * The lines after the replacement. If a line has an error, `message` is the first error message and `line` the line number; otherwise they
  * are "" and 0.
- * @typedef {{ lines: string, words: string, line: number }} ReplacedLines
+ * @typedef {{ lines: string, message: string, line: number }} ReplacedLines
  */
 
 const NAME_REFERENCE = /(^|[ \t])@([^ \t]*)/g;
@@ -35,8 +35,8 @@ export function replaceNames(lines, map) {
   const replaceIn = (text, lineNumber) => {
     const setMatch = SET_LINE.exec(text);
     if (!setMatch) return replaceNamesIn(text, lineNumber);
-    const { lines: settingLines, fault, column } = readSetting(setMatch[1], map);
-    reportError(fault && `${inColumn(fault, column + text.length - setMatch[1].length)}.`, lineNumber);
+    const { lines: settingLines, error, column } = readSetting(setMatch[1], map);
+    reportError(error && `${inColumn(error, column + text.length - setMatch[1].length)}.`, lineNumber);
     return settingLines.trimEnd();
   };
   /** @type {(text: string, lineNumber: number) => string} */
@@ -52,5 +52,5 @@ export function replaceNames(lines, map) {
     isOpen = isOpen ? text !== "." : opensText(text);
     return isInText ? rawLine : replaceIn(text, index + 1);
   });
-  return { lines: changed.join("\n"), words: message, line };
+  return { lines: changed.join("\n"), message, line };
 }

@@ -9,10 +9,10 @@ import * as say from "../../words/bench.js";
  * @typedef {import("./inputs.js").Input} Input
  *
  * An input, its line number from 1, and the first line of its answer ("" if it has no answer).
- * @typedef {{ input: Input, at: number, answer: string }} AnsweredInput
+ * @typedef {{ input: Input, lineNumber: number, answer: string }} AnsweredInput
  *
- * The inputs of a script with their answers. `words` is an error message if the answers do not fit the inputs, otherwise "".
- * @typedef {{ inputs: AnsweredInput[], words: string }} AnsweredScript
+ * The inputs of a script with their answers. `message` is an error message if the answers do not fit the inputs, otherwise "".
+ * @typedef {{ inputs: AnsweredInput[], message: string }} AnsweredScript
  */
 
 const SESSION_ANSWER = /^session (\d+)$/;
@@ -112,10 +112,10 @@ class AnswerMatcher {
 export function matchScriptAnswers(script, answers) {
   const inputs = readNumberedInputs(script);
   const unanswered = inputs.map((numberedInput) => ({ ...numberedInput, answer: "" }));
-  if (answers.length > 0 && parseRefusal(answers[0])) return { inputs: unanswered, words: "" };
-  if (answers.length === 0 || !SESSION_ANSWER.test(answers[0])) return { inputs: unanswered, words: say.FIRST_IS_SESSION };
+  if (answers.length > 0 && parseRefusal(answers[0])) return { inputs: unanswered, message: "" };
+  if (answers.length === 0 || !SESSION_ANSWER.test(answers[0])) return { inputs: unanswered, message: say.FIRST_IS_SESSION };
   const matcher = new AnswerMatcher(answers);
-  const answered = inputs.map(({ input, at }) => ({ input, at, answer: matcher.takeAnswer(input, at) }));
+  const answered = inputs.map(({ input, lineNumber }) => ({ input, lineNumber, answer: matcher.takeAnswer(input, lineNumber) }));
   const { message, isDone, nextIndex } = matcher;
-  return { inputs: answered, words: message || (isDone ? "" : say.afterLastAnswer(nextIndex + 1, answers[nextIndex])) };
+  return { inputs: answered, message: message || (isDone ? "" : say.afterLastAnswer(nextIndex + 1, answers[nextIndex])) };
 }

@@ -10,9 +10,9 @@ import * as say from "../../words/bench.js";
  * @typedef {import("../engine/engine_host.js").EngineHost} EngineHost
  * @typedef {import("../engine/engine_host.js").State} State
  *
- * The number of script lines that a session has received. If the session did not start with the script, `words` is an error message.
+ * The number of script lines that a session has received. If the session did not start with the script, `message` is an error message.
  * `differing` then lists the differing answers: `<` marks the answers of the session, `>` those of the script.
- * @typedef {{ lines: number, words: string, differing: string[] }} ScriptComparison
+ * @typedef {{ lines: number, message: string, differing: string[] }} ScriptComparison
  */
 
 const BANK_COUNT = 8;
@@ -64,10 +64,10 @@ export function differingLines(actual, expected) {
 function linesUpTo(inputs, commands) {
   let acceptedCount = 0;
   let lines = 0;
-  for (const { input, at, answer } of inputs) {
+  for (const { input, lineNumber, answer } of inputs) {
     if (acceptedCount === commands) break;
     if (answer.startsWith("ok ")) acceptedCount += 1;
-    lines = opensText(input.line) ? at + input.text.length + 1 : at;
+    lines = opensText(input.line) ? lineNumber + input.text.length + 1 : lineNumber;
   }
   return acceptedCount === commands ? lines : -1;
 }
@@ -103,15 +103,15 @@ export async function compareWithScript(engine, state, script, yieldToMessages) 
   const { opened, answers: actual } = engine.ask(state, COMPARED_QUERIES);
   const commands = Number(opened.slice("session ".length));
   const fullRun = await serveScript(engine, script, yieldToMessages);
-  const { inputs, words } = matchScriptAnswers(script, ["session 0", ...fullRun.answers]);
-  if (words !== "") return { lines: 0, words, differing: [] };
+  const { inputs, message } = matchScriptAnswers(script, ["session 0", ...fullRun.answers]);
+  if (message !== "") return { lines: 0, message, differing: [] };
   const lines = linesUpTo(inputs, commands);
   if (lines < 0) {
     const accepted = inputs.filter(({ answer }) => answer.startsWith("ok ")).length;
-    return { lines: 0, words: say.acceptedMore(commands, accepted), differing: [] };
+    return { lines: 0, message: say.acceptedMore(commands, accepted), differing: [] };
   }
   const partialRun = await serveScript(engine, script.split("\n").slice(0, lines).map((line) => `${line}\n`).join(""), yieldToMessages);
   const expected = engine.ask(partialRun.state, COMPARED_QUERIES).answers;
   const differing = differingLines(splitStateAnswers(actual), splitStateAnswers(expected));
-  return { lines, words: differing.length > 0 ? say.answersDiffer(commands) : "", differing };
+  return { lines, message: differing.length > 0 ? say.answersDiffer(commands) : "", differing };
 }

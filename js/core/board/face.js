@@ -8,7 +8,7 @@ import * as say from "../../words/board.js";
 /**
  * An error in a front-panel line. `isFatal` is true if names or displays depend on the line. A tool that needs names or displays then
  * rejects the text.
- * @typedef {{ line: number, words: string, isFatal: boolean }} Fault
+ * @typedef {{ line: number, message: string, isFatal: boolean }} Fault
  * @typedef {import("./face_words.js").Kind} Kind
  * @typedef {import("./key_place.js").MatrixKey} MatrixKey
  * @typedef {{ text: string, line: number }} FaceText a name or a colour, and the number of its line
@@ -62,7 +62,7 @@ export class Face {
     /** @type {Map<string, FaceText>} the names of the devices at ports and chains, by port or chain (`rom0`, `ram0.0`, `chain0`) */
     this.ports = new Map();
     /** @type {Fault[]} */
-    this.faults = [];
+    this.errors = [];
     /** All front-panel lines as one text. Callers compare this text to find changes of the front panel. */
     this.comments = "";
     /**
@@ -85,7 +85,7 @@ export class Face {
    * @param {string} message
    */
   reportError(line, message) {
-    this.faults.push({ line, words: message, isFatal: this.isFatal });
+    this.errors.push({ line, message, isFatal: this.isFatal });
   }
 
   /**
@@ -114,10 +114,10 @@ export class Face {
     const { name, kind, first, last, words } = faceLine;
     this.comments += `${text}\n`;
     this.isFatal = kind.isFatal;
-    if (kind.counts) this.wordCount += splitWords(words).filter((word) => word !== "_").length;
+    if (kind.countsWords) this.wordCount += splitWords(words).filter((word) => word !== "_").length;
     if (this.wordCount > MAX_WORDS) this.reportError(line, formatMessage("too many words"));
-    else if (!fitsHead(kind, first, last)) this.reportError(line, kind.form);
-    else if (kind.size === "-" && !fitsWords(kind, splitWords(words))) this.reportError(line, kind.other);
+    else if (!fitsHead(kind, first, last)) this.reportError(line, kind.headError);
+    else if (kind.size === "-" && !fitsWords(kind, splitWords(words))) this.reportError(line, kind.wordsError);
     else if (name === "colour" && last !== undefined) this.readRange(Number(first), Number(last), words, line, kind);
     else LINE_READERS[name](this, { name, kind, first: (first || "").toLowerCase(), words, line });
   }
@@ -189,7 +189,7 @@ export class Face {
    */
   readRange(first, last, text, line, kind) {
     const words = splitWords(text.toLowerCase());
-    if (words.length !== 1 || last < first) this.reportError(line, kind.form);
+    if (words.length !== 1 || last < first) this.reportError(line, kind.headError);
     else this.setColours(first, COLOURS.has(words[0]) ? repeatWord(words[0], last - first + 1) : words, line);
   }
 
@@ -246,7 +246,7 @@ export class Face {
   readGroup({ name, kind, first, words, line }) {
     const size = parseSize(kind, splitWords(words));
     const group = size && { kind: name, first: Number(first), ...size, line };
-    if (!group) this.reportError(line, kind.other);
+    if (!group) this.reportError(line, kind.wordsError);
     else if (group.by < 0 || this.checkMultiplexing(group)) this.groups.push(group);
   }
 
@@ -347,7 +347,7 @@ const LINE_READERS = {
  * @returns {Fault[]}
  */
 export function findFaceErrors(text) {
-  return sortByLine(new Face(text).faults);
+  return sortByLine(new Face(text).errors);
 }
 
 /**

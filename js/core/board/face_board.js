@@ -125,7 +125,7 @@ export function missingParts(face, board) {
   const count = board.lamps.length;
   /** @type {(kind: string, line: number, messageName: string, ...values: (string | number)[]) => void} */
   const addFault = (kind, line, messageName, ...values) => {
-    faults.push({ line, words: formatMessage(messageName, ...values), isFatal: isFatal(kind) });
+    faults.push({ line, message: formatMessage(messageName, ...values), isFatal: isFatal(kind) });
   };
   for (const { text, line, key: { row, column } } of face.keys.values()) {
     if (text === "" || (row < board.rows && column < board.columns)) continue;

@@ -138,13 +138,13 @@ function compileKeyword({ words: [head, ...following] }, names, dependencies) {
  * @param {Dependencies} dependencies
  * @returns {CompiledCondition}
  */
-function compilePanelState({ what, name, isOn }, names, dependencies) {
-  const value = what === "lamp" ? lampValue(name, names, dependencies) : keyValue(name, names, dependencies);
-  const stateNames = what === "lamp" ? ["off", "on"] : ["up", "down"];
+function compilePanelState({ subject, name, isOn }, names, dependencies) {
+  const value = subject === "lamp" ? lampValue(name, names, dependencies) : keyValue(name, names, dependencies);
+  const stateNames = subject === "lamp" ? ["off", "on"] : ["up", "down"];
   return {
     address: -1,
     matches: (values) => value.read(values) === Number(isOn),
-    explain: (values, _, isNot) => say.mustBe(`${what} ${name}`, stateNames[value.read(values)], stateNames[Number(isOn)], false, isNot),
+    explain: (values, _, isNot) => say.mustBe(`${subject} ${name}`, stateNames[value.read(values)], stateNames[Number(isOn)], false, isNot),
   };
 }
 

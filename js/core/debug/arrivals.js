@@ -11,18 +11,18 @@ import { plannedCycles } from "./goal_search.js";
  * @typedef {import("../engine/key_queue.js").PlannedLine} PlannedLine
  *
  * A compiled soft breakpoint. `from` is the number of the first hit that stops the machine. `holds` evaluates the condition for the values
- * of `places`. `words` returns the text of the note for these values; `words` is null for a breakpoint that stops the machine.
+ * of `places`. `noteText` returns the text of the note for these values; it is null for a breakpoint that stops the machine.
  * @typedef {{ id: number, address: number, from: number, hits: number, places: string[], holds: (values: string[]) => boolean,
- *   words: ((values: string[]) => string) | null }} SoftBreakpoint
+ *   noteText: ((values: string[]) => string) | null }} SoftBreakpoint
  *
- * @typedef {{ id: number, cycles: number, words: string }} LoggedNote a logged note: the id of its breakpoint, the number of cycles before
+ * @typedef {{ id: number, cycles: number, text: string }} LoggedNote a logged note: the id of its breakpoint, the number of cycles before
  *   the note, and its text
  *
  * The breakpoint events that the next lines will cause. `cycles`: the cycles before the first stop, -1 for no stop. `id`: the id of the
  * breakpoint or watch that stops the machine, 0 for none. `hits`: the numbers of new hits, by breakpoint id. `notes`: the last logged
- * notes; `noted`: the number of all logged notes. `why`: "watch" if a change of a watched place stops the machine; `change` describes this
- * change. `changes`: for each watch id, the number of changes that count (data_watches.js).
- * @typedef {{ cycles: number, id: number, hits: Map<number, number>, notes: LoggedNote[], noted: number, why: "break" | "watch",
+ * notes; `noteCount`: the number of all logged notes. `reason`: "watch" if a change of a watched place stops the machine; `change`
+ * describes this change. `changes`: for each watch id, the number of changes that count (data_watches.js).
+ * @typedef {{ cycles: number, id: number, hits: Map<number, number>, notes: LoggedNote[], noteCount: number, reason: "break" | "watch",
  *   change: string, changes: Map<number, number> }} BreakpointEvents
  */
 
@@ -36,7 +36,7 @@ export const MAX_NOTES = 200;
  * @returns {BreakpointEvents}
  */
 export function createEmptyEvents() {
-  return { cycles: -1, id: 0, hits: new Map(), notes: [], noted: 0, why: "break", change: "", changes: new Map() };
+  return { cycles: -1, id: 0, hits: new Map(), notes: [], noteCount: 0, reason: "break", change: "", changes: new Map() };
 }
 
 /** Finds arrivals at soft breakpoints. */
@@ -161,16 +161,16 @@ export class Arrivals {
     const breakpoint = this.byAddress.get(parseInt(row[0], 16));
     // A breakpoint that is not in this list is a hard breakpoint of the session, which always stops the machine.
     if (!breakpoint) return true;
-    const { id, holds, words, from } = breakpoint;
+    const { id, holds, noteText, from } = breakpoint;
     const values = this.breakpointValues(breakpoint, row);
     if (!holds(values)) return false;
     const hits = (events.hits.get(id) || 0) + 1;
     events.hits.set(id, hits);
     if (breakpoint.hits + hits < from) return false;
-    if (words) {
-      events.noted += 1;
+    if (noteText) {
+      events.noteCount += 1;
       if (events.notes.length === MAX_NOTES) events.notes.shift();
-      events.notes.push({ id, cycles, words: words(values) });
+      events.notes.push({ id, cycles, text: noteText(values) });
       return false;
     }
     events.cycles = cycles;

@@ -236,12 +236,12 @@ export class BreakpointList {
    */
   locate(map) {
     /** @type {string[]} */
-    const words = [];
+    const messages = [];
     /** @type {Map<number, Breakpoint>} */
     const byAddress = new Map();
     for (const breakpoint of this.all) {
       const instruction = breakpoint.line > 0 ? instructionForLine(breakpoint.line, map) : instructionAtAddress(breakpoint.address, map);
-      if (instruction.words) words.push(instruction.words);
+      if (instruction.message) messages.push(instruction.message);
       const { line, address } = instruction;
       // Two breakpoints at the same address become one.
       if (address >= 0 && byAddress.has(address)) continue;
@@ -249,7 +249,7 @@ export class BreakpointList {
     }
     this.all = [...byAddress.values()];
     this.sort();
-    return words;
+    return messages;
   }
 
   /**
@@ -317,34 +317,34 @@ function replacedLines({ from, to, text, removed = Array(to.line - from.line + 1
 
 /**
  * Returns the line and the address of the instruction on a line. If the line has no instruction, returns the line and the address of the
- * next instruction, with a message in `words`. If no instruction follows, the address is -1.
+ * next instruction, with a `message`. If no instruction follows, the address is -1.
  * @param {number} line
  * @param {SourceMap} map
  */
 export function instructionForLine(line, map) {
-  const ownAddress = map.addressOf(line);
-  if (ownAddress !== undefined) return { line, address: ownAddress, words: "" };
+  const lineAddress = map.addressOf(line);
+  if (lineAddress !== undefined) return { line, address: lineAddress, message: "" };
   for (let next = line + 1; next <= map.count; next++) {
     const address = map.addressOf(next);
     if (address !== undefined) {
       const message = say.breakpointMovedToLine(line, next);
-      return { line: next, address, words: message };
+      return { line: next, address, message };
     }
   }
-  return { line, address: -1, words: say.nothingFollows(line) };
+  return { line, address: -1, message: say.nothingFollows(line) };
 }
 
 /**
  * Returns the line and the address of the instruction at an address. If the address is the second byte of an instruction, the result is the
- * next instruction, or this instruction if no other follows, with a message in `words`.
+ * next instruction, or this instruction if no other follows, with a `message`.
  * @param {number} address
  * @param {SourceMap} map
  */
 export function instructionAtAddress(address, map) {
-  if (address < 0 || !map.isInside(address)) return { line: address < 0 ? 0 : map.lineOf(address), address, words: "" };
+  if (address < 0 || !map.isInside(address)) return { line: address < 0 ? 0 : map.lineOf(address), address, message: "" };
   const line = map.lineOf(address);
   const digits = address.toString(16).toUpperCase().padStart(3, "0");
   const nextInstruction = instructionForLine(line + 1, map);
-  if (nextInstruction.address < 0) return { line, address: map.addresses[line], words: say.insideInstruction(digits, line) };
-  return { ...nextInstruction, words: say.insideAndMoved(digits, line, nextInstruction.line) };
+  if (nextInstruction.address < 0) return { line, address: map.addresses[line], message: say.insideInstruction(digits, line) };
+  return { ...nextInstruction, message: say.insideAndMoved(digits, line, nextInstruction.line) };
 }

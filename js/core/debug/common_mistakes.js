@@ -9,9 +9,9 @@
 // Before each run, this module asks the bench what the run will do. It does not simulate instructions. src_selection.js tracks the chips
 // and registers that SRC selects.
 //
-//     const mistakes = new CommonMistakes(session);
-//     mistakes.begin();                                  before the machine runs; each kind is then reported once
-//     const { faults, stop } = mistakes.searchLines(lines);     before the lines run
+//     const commonMistakes = new CommonMistakes(session);
+//     commonMistakes.begin();                            before the machine runs; each kind is then reported once
+//     const { mistakes, stop } = commonMistakes.searchLines(lines);     before the lines run
 //     stop                                               the cycles up to a mistake that stops the machine, -1 for none
 
 import { readBoard } from "../bench/answers.js";
@@ -33,9 +33,9 @@ import * as say from "../../words/debug.js";
  *
  * A mistake: the address of the instruction, the number of cycles before it, and a description. `isRepeat` is true if a mistake of the same
  * kind was reported before.
- * @typedef {{ kind: Kind, address: number, cycles: number, words: string, isRepeat?: boolean }} CommonMistake
+ * @typedef {{ kind: Kind, address: number, cycles: number, message: string, isRepeat?: boolean }} CommonMistake
  * @typedef {import("../conditions/condition_language.js").Condition} Condition
- * @typedef {{ faults: CommonMistake[], stop: number }} FoundMistakes the mistakes in some lines, and the number of cycles before the
+ * @typedef {{ mistakes: CommonMistake[], stop: number }} FoundMistakes the mistakes in some lines, and the number of cycles before the
  *   mistake that stops the machine (-1 for none)
  */
 
@@ -56,7 +56,7 @@ const SAMPLE_CYCLES = 2000;
 export const MAX_CYCLES_PER_CALL = 10000;
 
 /** @type {FoundMistakes} */
-const NO_MISTAKES = { faults: [], stop: -1 };
+const NO_MISTAKES = { mistakes: [], stop: -1 };
 
 /** Finds common mistakes in the next lines of a session. */
 export class CommonMistakes {
@@ -109,17 +109,17 @@ export class CommonMistakes {
   searchLines(plannedLines, file = this.session.file) {
     const maxCycles = this.cyclesToCheck(plannedLines);
     if (maxCycles === 0 || (this.reportedKinds.size === KIND_COUNT && this.conditions.size === 0)) return NO_MISTAKES;
-    const mistakes = this.findMistakes(truncateLines(plannedLines, maxCycles), file);
-    const stoppingMistake = mistakes.find((fault) => this.stopsMachine(fault, plannedLines, file));
-    const faults = mistakes.filter(({ isRepeat }) => !isRepeat);
-    if (!stoppingMistake) return { faults, stop: -1 };
+    const allMistakes = this.findMistakes(truncateLines(plannedLines, maxCycles), file);
+    const stoppingMistake = allMistakes.find((mistake) => this.stopsMachine(mistake, plannedLines, file));
+    const mistakes = allMistakes.filter(({ isRepeat }) => !isRepeat);
+    if (!stoppingMistake) return { mistakes, stop: -1 };
     this.stopAddress = stoppingMistake.address;
-    return { faults: faults.filter((fault) => fault.cycles <= stoppingMistake.cycles), stop: stoppingMistake.cycles };
+    return { mistakes: mistakes.filter((mistake) => mistake.cycles <= stoppingMistake.cycles), stop: stoppingMistake.cycles };
   }
 
   /**
    * Returns whether a mistake stops the machine.
-   * @param {CommonMistake} fault
+   * @param {CommonMistake} mistake
    * @param {PlannedLine[]} plannedLines the lines with the mistake
    * @param {Uint8Array} file the session before these lines
    */
@@ -174,7 +174,7 @@ export class CommonMistakes {
     const answers = new ForecastAnswers(engine.ask(file, `state\n${lines.join("")}`).answers);
     selection.begin(answers.take());
     /** @type {CommonMistake[]} */
-    const faults = [];
+    const mistakes = [];
     let done = 0;
     for (const { change } of plannedLines) {
       if (change) {
@@ -182,12 +182,12 @@ export class CommonMistakes {
         continue;
       }
       const [changes, instructions] = [answers.takeTrace(), answers.takeTrace()];
-      this.checkRun({ codes, selection, done }, changes, instructions.lines, faults);
+      this.checkRun({ codes, selection, done }, changes, instructions.lines, mistakes);
       const { cycles, end } = answers.takeRun();
       done += cycles;
       if (end !== "end") break;
     }
-    return faults;
+    return mistakes;
   }
 
   /**
@@ -196,9 +196,9 @@ export class CommonMistakes {
    *   cycles before the run
    * @param {Trace} changes the trace of the places `src`, `dcl` and `ret`
    * @param {string[]} instructions the trace lines of all instructions
-   * @param {CommonMistake[]} faults receives the mistakes
+   * @param {CommonMistake[]} mistakes receives the mistakes
    */
-  checkRun({ codes, selection, done }, changes, instructions, faults) {
+  checkRun({ codes, selection, done }, changes, instructions, mistakes) {
     let values = rowValues(changes.row);
     let changeIndex = 0;
     for (const line of instructions) {
@@ -208,7 +208,8 @@ export class CommonMistakes {
       const hasChanged = changeIndex < changes.lines.length && changes.lines[changeIndex].startsWith(line);
       if (hasChanged || usesSelection(code) || isCall(code) || isReturn(code) || this.isOutsideProgram(address)) {
         const cycles = done + Number(line.slice(0, blank));
-        this.addMistake(faults, address, cycles, this.findMistake(codes, address, values) || selection.findMistake(code, address, values));
+        const mistake = this.findMistake(codes, address, values) || selection.findMistake(code, address, values);
+        this.addMistake(mistakes, address, cycles, mistake);
         if (hasChanged) {
           values = rowValues(changes.lines[changeIndex].slice(line.length));
           changeIndex += 1;
@@ -220,19 +221,19 @@ export class CommonMistakes {
 
   /**
    * Adds a mistake. Ignores a mistake whose kind was reported before, unless that kind has a condition.
-   * @param {CommonMistake[]} faults receives the mistake
+   * @param {CommonMistake[]} mistakes receives the mistake
    * @param {number} address the address of the instruction
    * @param {number} cycles the cycles before the instruction
-   * @param {{ kind: Kind, words: string } | null} fault null if the instruction has no mistake
+   * @param {{ kind: Kind, message: string } | null} mistake null if the instruction has no mistake
    */
-  addMistake(faults, address, cycles, fault) {
+  addMistake(mistakes, address, cycles, mistake) {
     const isSkipped = cycles === 0 && address === this.skippedAddress;
     if (cycles === 0) this.skippedAddress = -1;
-    if (!fault || isSkipped) return;
-    const isRepeat = this.reportedKinds.has(fault.kind);
-    if (isRepeat && !this.conditions.has(fault.kind)) return;
-    this.reportedKinds.add(fault.kind);
-    faults.push({ ...fault, address, cycles, ...(isRepeat ? { isRepeat } : {}) });
+    if (!mistake || isSkipped) return;
+    const isRepeat = this.reportedKinds.has(mistake.kind);
+    if (isRepeat && !this.conditions.has(mistake.kind)) return;
+    this.reportedKinds.add(mistake.kind);
+    mistakes.push({ ...mistake, address, cycles, ...(isRepeat ? { isRepeat } : {}) });
   }
 
   /**
@@ -240,17 +241,17 @@ export class CommonMistakes {
    * @param {Uint8Array} codes the bytes of ROM
    * @param {number} address
    * @param {string[]} values the values of src, dcl and ret before the instruction
-   * @returns {{ kind: Kind, words: string } | null}
+   * @returns {{ kind: Kind, message: string } | null}
    */
   findMistake(codes, address, values) {
     const code = codes[address];
-    if (this.isOutsideProgram(address)) return { kind: "bytes", words: say.LEFT_PROGRAM };
+    if (this.isOutsideProgram(address)) return { kind: "bytes", message: say.LEFT_PROGRAM };
     if (!isCall(code) && !isReturn(code)) return null;
     const returns = values[2].split(",").map((digits) => parseInt(digits, 16));
     const [newest, , oldest] = returns.map((returnAddress) => hex(returnAddress, 3));
     const liveFlags = findLiveReturns(returns, returns.map((returnAddress) => hex(codes[callAddress(returnAddress)], 2)), this.map);
-    if (isReturn(code)) return liveFlags[0] ? null : { kind: "return", words: say.returnWithoutCall(newest) };
-    return liveFlags[2] ? { kind: "calls", words: say.returnAddressLost(oldest) } : null;
+    if (isReturn(code)) return liveFlags[0] ? null : { kind: "return", message: say.returnWithoutCall(newest) };
+    return liveFlags[2] ? { kind: "calls", message: say.returnAddressLost(oldest) } : null;
   }
 
   /**

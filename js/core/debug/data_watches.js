@@ -41,30 +41,30 @@ const MAX_QUERY_CYCLES = 50000;
 const createEmptyResult = () => ({ cycles: -1, id: 0, change: "", hits: new Map() });
 
 /**
- * Compiles requested watches. `faults` contains the error messages of watches that cannot be compiled, by watch id.
+ * Compiles requested watches. `errors` contains the error messages of watches that cannot be compiled, by watch id.
  * @param {RequestedWatch[]} requestedWatches
  * @param {Names} names
- * @returns {{ watches: DataWatch[], faults: Map<number, string> }}
+ * @returns {{ watches: DataWatch[], errors: Map<number, string> }}
  */
 export function compileWatches(requestedWatches, names) {
   /** @type {Map<number, string>} */
-  const faults = new Map();
+  const errors = new Map();
   const places = new Set();
   const watches = requestedWatches.flatMap(({ id, name, condition: text, from }) => {
     const place = parsePlace(name);
     const probes = place ? place.probesOn(names.board) : [];
     const isUnconditional = text.trim() === "";
-    const { condition, fault, column } = isUnconditional ? { condition: null, fault: "", column: -1 } : compileTracedCondition(text, names);
+    const { condition, error, column } = isUnconditional ? { condition: null, error: "", column: -1 } : compileTracedCondition(text, names);
     const allPlaces = new Set([...places, ...probes, ...(condition ? condition.places : [])]);
     const placeError = !place || probes.length === 0 ? boardLacks(name)
-      : name === UNWATCHABLE_PLACE ? CHANGES_ALWAYS : fault && inColumn(fault, column);
+      : name === UNWATCHABLE_PLACE ? CHANGES_ALWAYS : error && inColumn(error, column);
     const message = placeError || (allPlaces.size > MAX_PLACES ? tooManyPlaces(allPlaces.size, MAX_PLACES) : "");
-    if (message) faults.set(id, message);
+    if (message) errors.set(id, message);
     if (message || !place) return [];
     for (const usedPlace of allPlaces) places.add(usedPlace);
     return [{ id, place, probes, condition, from, hits: 0 }];
   });
-  return { watches, faults };
+  return { watches, errors };
 }
 
 /** Finds the changes of the watched places in the next lines. */
@@ -263,7 +263,7 @@ export class SoftStopFinder {
     const { hits, ...changed } = this.dataWatches.searchLines(engine, file, limitedLines, this.codes);
     if (changed.cycles < 0 || changed.cycles === events.cycles) return { ...events, changes: hits };
     const earlierEvents = this.arrivals.searchLines(engine, file, truncateLines(plannedLines, changed.cycles));
-    return { ...earlierEvents, ...changed, why: "watch", changes: hits };
+    return { ...earlierEvents, ...changed, reason: "watch", changes: hits };
   }
 
   /**

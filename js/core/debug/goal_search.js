@@ -50,8 +50,8 @@ function searchAnswers(answers, watcher) {
  * @param {Engine} engine
  * @param {Uint8Array} file the session file; not changed
  * @param {Goal} goal
- * @param {(done: number) => Promise<boolean>} shouldContinue called after each piece with the number of cycles searched. If it returns
- *   false, `searchGoal` throws `CancelledError`
+ * @param {(done: number) => Promise<boolean>} shouldContinue called after each piece with the number of cycles searched. If it resolves
+ *   to false, `searchGoal` throws `CancelledError`
  * @param {number} maxCycles the maximum number of cycles to search
  * @param {() => Uint8Array} [codes] returns the contents of ROM
  * @returns {Promise<SearchResult>}

@@ -133,14 +133,14 @@ export async function findLastArrival(session, breakpoints, { place, watches }, 
   const { engine, file, timeline } = session;
   const places = [...watchedPlaces(session.ask("watches\n")[0]), ...(place === "" ? [] : [place])];
   const changes = places.map((placeName) => makeChangeFinder(engine, file, placeName));
-  if (changes.some((finder) => finder === null)) return searchResult({ why: "lacks", place });
+  if (changes.some((finder) => finder === null)) return searchResult({ reason: "lacks", place });
   const finders = [...changes.flatMap((finder) => (finder ? [finder] : [])), ...(watches ? watches.createFinders(engine) : [])];
   const all = combineFinders([...(breakpoints.length > 0 ? [new LastArrivalFinder(session, breakpoints)] : []), ...finders]);
-  const { found, beginning } = await searchPast(engine, timeline, all, shouldContinue);
-  if (found) return found;
+  const { lastMatch, start } = await searchPast(engine, timeline, all, shouldContinue);
+  if (lastMatch) return lastMatch;
   const { end } = timeline;
-  const isHere = beginning.segment === end.segment && end.entry === 0;
-  return isHere ? searchResult({ why: "short" }) : searchResult({ moment: beginning, end: "beginning" });
+  const isHere = start.segment === end.segment && end.entry === 0;
+  return isHere ? searchResult({ reason: "short" }) : searchResult({ moment: start, end: "beginning" });
 }
 
 /**
@@ -153,10 +153,10 @@ export async function findLastArrival(session, breakpoints, { place, watches }, 
  */
 export async function findLastCall(session, call, returns, shouldContinue) {
   const holds = (/** @type {string[]} */ [answer]) => returns.every((returnAddress, index) => answer.split(",")[index] === returnAddress);
-  const finder = new LastArrivalFinder(session, [{ id: 0, address: call, from: 1, hits: 0, places: ["ret"], holds, words: null }]);
-  const { found } = await searchPast(session.engine, session.timeline, finder, shouldContinue);
+  const finder = new LastArrivalFinder(session, [{ id: 0, address: call, from: 1, hits: 0, places: ["ret"], holds, noteText: null }]);
+  const { lastMatch } = await searchPast(session.engine, session.timeline, finder, shouldContinue);
   const cyclesBack = session.count.total - finder.lastArrivalTotal - JMS_CYCLES;
-  if (!found || cyclesBack < 0) return searchResult({ why: "short" });
+  if (!lastMatch || cyclesBack < 0) return searchResult({ reason: "short" });
   const moment = cyclesBack === 0 ? session.timeline.end : session.timeline.before(cyclesBack);
-  return moment ? searchResult({ moment }) : searchResult({ why: "short" });
+  return moment ? searchResult({ moment }) : searchResult({ reason: "short" });
 }

@@ -1,7 +1,7 @@
 // Parses watch expressions, to which the user can give names: `count = R5`, `digit = ram 0 0x12`, `r5 + 1 > limit`.
 //
-//     const { watched, fault } = parseWatch("digit = ram 0 0x12", names);
-//     watched.pieces(machineState, names)    the current value as pieces (word_values.js)
+//     const { watch, error } = parseWatch("digit = ram 0 0x12", names);
+//     watch.pieces(machineState, names)    the current value as pieces (word_values.js)
 
 import { compileExpression } from "../conditions/condition_language.js";
 import { KEYWORDS, parseExpression } from "../conditions/parser.js";
@@ -119,8 +119,8 @@ function placeReader(place) {
  */
 function expressionReader(text) {
   return (machineState, names) => {
-    const { expression, fault } = compileExpression(text, names);
-    if (!expression) return [fault];
+    const { expression, error } = compileExpression(text, names);
+    if (!expression) return [error];
     const answers = expression.places.map((place) => readPlaceValue(place, machineState, names.board));
     const number = expression.number ? expression.number(answers) : 0;
     const value = expression.textOf(answers);
@@ -149,8 +149,8 @@ function splitWatchExpression(text) {
  */
 function expressionError(value, startColumn, names) {
   if (names) {
-    const { fault, column } = compileExpression(value, names);
-    return fault && inColumn(fault, startColumn + column);
+    const { error, column } = compileExpression(value, names);
+    return error && inColumn(error, startColumn + column);
   }
   try {
     parseExpression(value);
@@ -162,36 +162,36 @@ function expressionError(value, startColumn, names) {
 }
 
 /**
- * Parses a watch expression. `fault` is an error message, "" for none.
+ * Parses a watch expression. `error` is an error message, "" for none.
  * @param {string} text
  * @param {Names | null} [names] the names of the board and the program, if known
- * @returns {{ watched: WatchExpression | null, fault: string }}
+ * @returns {{ watch: WatchExpression | null, error: string }}
  */
 export function parseWatch(text, names = null) {
-  if (text.length > MAX_LENGTH) return { watched: null, fault: say.tooLong(MAX_LENGTH) };
+  if (text.length > MAX_LENGTH) return { watch: null, error: say.tooLong(MAX_LENGTH) };
   const { name, value, column } = splitWatchExpression(text);
-  if (name !== "" && !NAME.test(name)) return { watched: null, fault: say.NAME_SYNTAX };
-  if (value === "") return { watched: null, fault: say.EXPRESSION_MISSING };
+  if (name !== "" && !NAME.test(name)) return { watch: null, error: say.NAME_SYNTAX };
+  if (value === "") return { watch: null, error: say.EXPRESSION_MISSING };
   const place = parsePlace(value);
-  const fault = place ? "" : expressionError(value, column, names);
-  if (fault) return { watched: null, fault };
+  const error = place ? "" : expressionError(value, column, names);
+  if (error) return { watch: null, error };
   const placeName = place ? place.name : "";
   const pieces = registerReader(placeName) || portReader(placeName) || memoryReader(placeName)
     || (place ? placeReader(place) : expressionReader(value));
   const character = /^(ram|st)\./.test(placeName) ? placeName : "";
-  return { watched: { name: name || value, text: name ? `${name} = ${value}` : value, place: character, value, pieces }, fault: "" };
+  return { watch: { name: name || value, text: name ? `${name} = ${value}` : value, place: character, value, pieces }, error: "" };
 }
 
 /**
- * Parses saved watch expressions, which can be invalid data. `fault` is the first error message, "" for none.
+ * Parses saved watch expressions, which can be invalid data. `error` is the first error message, "" for none.
  * @param {unknown} texts
- * @returns {{ all: WatchExpression[], fault: string }}
+ * @returns {{ all: WatchExpression[], error: string }}
  */
 export function parseWatches(texts) {
-  if (!Array.isArray(texts)) return { all: [], fault: "" };
+  if (!Array.isArray(texts)) return { all: [], error: "" };
   const results = texts.slice(0, MAX_WATCH_EXPRESSIONS).flatMap((text) => (typeof text === "string" ? [parseWatch(text)] : []));
-  const failedResult = results.find(({ fault }) => fault !== "");
-  return { all: results.flatMap(({ watched }) => (watched ? [watched] : [])), fault: failedResult ? failedResult.fault : "" };
+  const failedResult = results.find(({ error }) => error !== "");
+  return { all: results.flatMap(({ watch }) => (watch ? [watch] : [])), error: failedResult ? failedResult.error : "" };
 }
 
 /**

@@ -37,9 +37,9 @@ import * as say from "../../words/drawing.js";
  *   | "buzzer"} ShelfPart a kind of part on the shelf: `rom` is a ROM with outputs, `inputs` a ROM with inputs, `digit` a display with BCD
  *   digits, `segments` a display with seven-segment digits, and `scanned` a multiplexed display
  *
- * The result of an action: the edits in order, the text after all edits, the affected part ("" for none), a message (`words`), and the
+ * The result of an action: the edits in order, the text after all edits, the affected part ("" for none), a message, and the
  * numbers of the deleted chains. If the action is impossible, `refusal` is a message and there are no edits; otherwise `refusal` is "".
- * @typedef {{ edits: TextEdit[], text: string, part: string, words: string, deletedChains: number[], refusal: string }} Result
+ * @typedef {{ edits: TextEdit[], text: string, part: string, message: string, deletedChains: number[], refusal: string }} Result
  */
 
 /** @type {ShelfPart[]} the kinds of parts on the shelf, in order */
@@ -274,11 +274,11 @@ function perform(editedBoard, action) {
  * @param {string} textAfter the text after the action
  */
 function findNewPanelError(textBefore, textAfter) {
-  const oldMessages = new Face(textBefore).faults.map(({ words }) => words.replace(/\d+/g, ""));
-  const { faults } = new Face(textAfter);
-  if (faults.length <= oldMessages.length) return "";
-  const [newError] = faults.filter(({ words }) => !oldMessages.includes(words.replace(/\d+/g, "")));
-  return newError ? `${capitalize(newError.words)}.` : say.FACE_UNREADABLE;
+  const oldMessages = new Face(textBefore).errors.map(({ message }) => message.replace(/\d+/g, ""));
+  const { errors } = new Face(textAfter);
+  if (errors.length <= oldMessages.length) return "";
+  const [newError] = errors.filter(({ message }) => !oldMessages.includes(message.replace(/\d+/g, "")));
+  return newError ? `${capitalize(newError.message)}.` : say.FACE_UNREADABLE;
 }
 
 /**
@@ -288,7 +288,7 @@ function findNewPanelError(textBefore, textAfter) {
  * @returns {Result}
  */
 export function applyAction(text, action) {
-  const unchanged = { edits: [], text, part: "", words: "", deletedChains: [] };
+  const unchanged = { edits: [], text, part: "", message: "", deletedChains: [] };
   const editedBoard = new EditedBoard(text);
   if (!editedBoard.draft.isToml || !editedBoard.draft.boardAnswers) return { ...unchanged, refusal: say.TEXT_HAS_ERRORS };
   try {
@@ -297,7 +297,7 @@ export function applyAction(text, action) {
     if (panelError) return { ...unchanged, refusal: panelError };
     const alsoAdded = editedBoard.addedParts.length > 0 ? say.withAlso(say.listOf(editedBoard.addedParts)) : "";
     const { edits, deletedChains } = editedBoard;
-    return { edits, text: editedBoard.text, part, words: `${message}${alsoAdded}.`, deletedChains, refusal: "" };
+    return { edits, text: editedBoard.text, part, message: `${message}${alsoAdded}.`, deletedChains, refusal: "" };
   } catch (error) {
     if (!(error instanceof ImpossibleAction)) throw error;
     return { ...unchanged, refusal: error.message };

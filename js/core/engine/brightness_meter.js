@@ -13,14 +13,14 @@ import { ForecastAnswers, parseTraceLine } from "./forecast_answers.js";
  * (`longest`), and after the last change (`rest`). Null if nothing changed.
  * @typedef {{ first: number, longest: number, rest: number } | null} ChangeSummary
  *
- * The contents of a display during an interval. `patterns`: the segment pattern of each digit at the end. `moved`: the times between
- * pattern changes. If a pattern changed, `shown` lists for each digit its patterns with their durations in cycles.
- * @typedef {{ patterns: number[], moved: ChangeSummary, shown: [number, number][][] }} ShownDisplay
+ * The contents of a display during an interval. `patterns`: the segment pattern of each digit at the end. `changeSummary`: the times
+ * between pattern changes. If a pattern changed, `patternTimes` lists for each digit its patterns with their durations in cycles.
+ * @typedef {{ patterns: number[], changeSummary: ChangeSummary, patternTimes: [number, number][][] }} ShownDisplay
  *
  * The lamp measurements of an interval of `cycles` cycles. `face`: the number that the page gave to the front panel. `marks`: one character
- * per lamp at the end, `*` for on. `lamps`: the number of cycles for which each lamp was on. `moved`: the times between changes of each
- * lamp. `scanned`: for each multiplexed group except displays, the number of cycles for which each of its lamps was on, row by row.
- * @typedef {{ face: number, cycles: number, marks: string, lamps: number[], moved: ChangeSummary[], displays: ShownDisplay[],
+ * per lamp at the end, `*` for on. `lamps`: the number of cycles for which each lamp was on. `changeSummaries`: the times between changes
+ * of each lamp. `scanned`: for each multiplexed group except displays, the number of cycles for which each of its lamps was on, row by row.
+ * @typedef {{ face: number, cycles: number, marks: string, lamps: number[], changeSummaries: ChangeSummary[], displays: ShownDisplay[],
  *   scanned: number[][] }} LitShares
  */
 
@@ -128,10 +128,10 @@ class PatternTimes {
     const changes = this.changeTimes.take(cycles);
     if (changes) this.countTimeUntil(cycles);
     this.patternStart = 0;
-    if (!changes) return { patterns, moved: changes, shown: [] };
-    const shown = this.patternCycles.map((times) => [...times]);
+    if (!changes) return { patterns, changeSummary: changes, patternTimes: [] };
+    const patternTimes = this.patternCycles.map((times) => [...times]);
     for (const times of this.patternCycles) times.clear();
-    return { patterns, moved: changes, shown };
+    return { patterns, changeSummary: changes, patternTimes };
   }
 }
 
@@ -228,7 +228,7 @@ export class BrightnessMeter {
       lastCountTime[lamp] = 0;
     }
     const litShares = {
-      face, cycles, marks, lamps: litCycles.slice(), moved: changeTimes.map((times) => times.take(cycles)),
+      face, cycles, marks, lamps: litCycles.slice(), changeSummaries: changeTimes.map((times) => times.take(cycles)),
       displays: this.displays.map((display) => display.take(cycles)),
       scanned: this.scannedLamps.map((group) => group.take(marks, cycles)),
     };

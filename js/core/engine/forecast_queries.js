@@ -52,13 +52,13 @@ export function splitAnswers(plannedLines, querySources, allAnswers) {
       continue;
     }
     querySources.forEach(({ count }, index) => {
-      const from = answers.at;
+      const from = answers.nextIndex;
       for (let question = 0; question < count; question++) answers.takeTrace();
-      sourceAnswers[index].push(allAnswers.slice(from, answers.at));
+      sourceAnswers[index].push(allAnswers.slice(from, answers.nextIndex));
     });
     lineAnswers.push(answers.take());
   }
-  return { answers: [...lineAnswers, ...allAnswers.slice(answers.at)], sourceAnswers };
+  return { answers: [...lineAnswers, ...allAnswers.slice(answers.nextIndex)], sourceAnswers };
 }
 
 /** The `change` of a line that is neither a run nor a key change. */

@@ -19,13 +19,14 @@ import { RECORDING_PIECE_CYCLES, RECORDING_PIECE_UNITS } from "./piece_size.js";
  * @typedef {import("./wave_recorder.js").Texts} Texts
  * @typedef {import("../waves/trigger.js").Trigger} Trigger
  *
- * Settings: the number of cycles to record after the trigger (`behind`), and whether the machine stops at the end of the recording.
- * @typedef {{ behind: number, stopsTime: boolean }} LiveSetup
+ * Settings: the number of cycles to record after the trigger (`cyclesAfterTrigger`), and whether the machine stops at the end of the
+ * recording.
+ * @typedef {{ cyclesAfterTrigger: number, stopsMachine: boolean }} LiveSetup
  *
- * A part of a recording. `triggerMoment`: the moment of the trigger, -1 before the trigger. `over`: the reason why the recording ended, or
- * "" while it continues. The reasons are: the user ended it ("hand"), it is complete ("trigger"), the board or the program changed
- * ("board", "program"), the session moved in time ("back"), too many lines were entered ("lines"), or it is too long ("long").
- * @typedef {RecordedPart & { triggerMoment: number, over: string }} LivePart
+ * A part of a recording. `triggerMoment`: the moment of the trigger, -1 before the trigger. `endReason`: the reason why the recording
+ * ended, or "" while it continues. The reasons are: the user ended it ("hand"), it is complete ("trigger"), the board or the program
+ * changed ("board", "program"), the session moved in time ("back"), too many lines were entered ("lines"), or it is too long ("long").
+ * @typedef {RecordedPart & { triggerMoment: number, endReason: string }} LivePart
  */
 
 /** The maximum length of a recording in cycles. A moment is stored in 32 bits. */
@@ -46,9 +47,9 @@ export class LiveRecorder {
     /** @type {Trigger | null} */
     this.trigger = null;
     /** @type {LiveSetup} */
-    this.options = { behind: 0, stopsTime: false };
+    this.options = { cyclesAfterTrigger: 0, stopsMachine: false };
     this.triggerMoment = -1;
-    this.over = "";
+    this.endReason = "";
     /** True if the trigger condition was true at the last check. At first true, because only a change to true triggers. */
     this.wasTrue = true;
     /** True if the machine must stop because the recording is complete. */
@@ -71,12 +72,12 @@ export class LiveRecorder {
   }
 
   get isOn() {
-    return this.over === "";
+    return this.endReason === "";
   }
 
   /** The moment at which the recording ends; Infinity before the trigger. */
   get end() {
-    return this.triggerMoment < 0 ? Infinity : this.triggerMoment + this.options.behind;
+    return this.triggerMoment < 0 ? Infinity : this.triggerMoment + this.options.cyclesAfterTrigger;
   }
 
   /**
@@ -97,15 +98,16 @@ export class LiveRecorder {
     const part = this.builder.take();
     const newAddresses = [...new Set(part.counters)].filter((address) => this.listedAddresses[address] === 0);
     for (const address of newAddresses) this.listedAddresses[address] = 1;
-    return { ...part, listing: listingLinesAt(this.engine, file, newAddresses), triggerMoment: this.triggerMoment, over: this.over };
+    const { engine, triggerMoment, endReason } = this;
+    return { ...part, listing: listingLinesAt(engine, file, newAddresses), triggerMoment, endReason };
   }
 
   /**
    * Ends the recording.
-   * @param {string} reason the reason, as in `over` of LivePart
+   * @param {string} reason the reason, as in `endReason` of LivePart
    */
   stop(reason) {
-    if (this.isOn) this.over = reason;
+    if (this.isOn) this.endReason = reason;
   }
 
   // --- While the machine runs ---
@@ -223,7 +225,7 @@ export class LiveRecorder {
     if (this.triggerMoment >= 0) this.tracedPlaces = "";
     if (builder.elapsed < end) return -1;
     this.stop("trigger");
-    if (!options.stopsTime) return -1;
+    if (!options.stopsMachine) return -1;
     this.mustStopMachine = true;
     const next = builder.moments.all.subarray(earlierCount).find((moment) => moment >= end);
     return (next === undefined ? builder.elapsed : next) - startMoment;

@@ -77,14 +77,14 @@ export class Timeline {
      */
     this.future = [];
     /** @type {PastChanges} */
-    this.news = { isNewPast: true, entries: [] };
+    this.unreportedChanges = { isNewPast: true, entries: [] };
   }
 
   /** Returns the entries since the previous call. */
   takeChanges() {
-    const { news } = this;
-    this.news = { isNewPast: false, entries: [] };
-    return news;
+    const { unreportedChanges } = this;
+    this.unreportedChanges = { isNewPast: false, entries: [] };
+    return unreportedChanges;
   }
 
   /**
@@ -149,12 +149,12 @@ export class Timeline {
     this.future = [];
     const { last } = this;
     const isTooLong = commands.length > MAX_SEGMENT_ENTRIES || commands.some(({ line }) => line.length > MAX_LINE_LENGTH);
-    if (isTooLong) this.news = { isNewPast: true, entries: [] };
+    if (isTooLong) this.unreportedChanges = { isNewPast: true, entries: [] };
     else {
       for (const { line, cycles, resets } of commands) {
         const entry = { line, cycles, resets, isStop: this.isStopped };
         last.entries.push(entry);
-        this.news.entries.push(entry);
+        this.unreportedChanges.entries.push(entry);
         last.cycles += cycles;
         last.characters += line.length;
         this.isStopped = false;
@@ -268,7 +268,7 @@ export class Timeline {
     const cycles = entries.reduce((sum, entry) => sum + entry.cycles, 0);
     const marks = oldSegment.marks.filter(({ entry }) => entry <= moment.entry);
     this.segments = [...segments.slice(0, moment.segment), { ...oldSegment, entries, cycles, marks }];
-    this.news = { isNewPast: true, entries: [] };
+    this.unreportedChanges = { isNewPast: true, entries: [] };
     this.isStopped = true;
   }
 
@@ -280,7 +280,7 @@ export class Timeline {
     const target = this.future.pop();
     if (!target) return null;
     this.segments = target.segments;
-    this.news = { isNewPast: true, entries: [] };
+    this.unreportedChanges = { isNewPast: true, entries: [] };
     this.isStopped = true;
     return target;
   }

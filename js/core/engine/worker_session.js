@@ -39,10 +39,10 @@ import { MAX_SEGMENT_ENTRIES, Timeline } from "./timeline.js";
  * @typedef {{ entries: ServedInput[], first: string, status: number, hasChangedRom: boolean, wires: boolean }} LinesResult
  * @typedef {LinesResult & { snapshot: string[] }} ResultAndSnapshot
  *
- * The result of running cycles. `ran` lists the executed lines. `end` is the answer that ended the run early, or "". `litShares`, `heard`
- * and `warmed` are the lamp brightness, the buzzer levels and the RAM changes; each is null if not requested.
- * @typedef {{ ran: RunEntry[], cycles: number, end: string, changesKeys: boolean, snapshot: string[], litShares: LitShares | null, heard:
- * BuzzerLevels | null, warmed: ChipHeat | null }} Frame
+ * The result of running cycles. `runEntries` lists the executed lines. `end` is the answer that ended the run early, or "". `litShares`,
+ * `heard` and `warmed` are the lamp brightness, the buzzer levels and the RAM changes; each is null if not requested.
+ * @typedef {{ runEntries: RunEntry[], cycles: number, end: string, changesKeys: boolean, snapshot: string[], litShares: LitShares | null,
+ *   heard: BuzzerLevels | null, warmed: ChipHeat | null }} Frame
  */
 
 /** The maximum number of executed inputs in a result. */
@@ -119,7 +119,7 @@ export class WorkerSession {
     return takeSnapshotOf(this.engine, this.file, this.statusQueries);
   }
 
-  /** Replaces the session file by the file in `next`, which the last call has written. */
+  /** Replaces the session file by the file in `nextFile`, which the last call has written. */
   adoptResult() {
     [this.file, this.nextFile] = [this.nextFile, this.file];
   }
@@ -152,7 +152,7 @@ export class WorkerSession {
     const last = answers[answers.length - 1] || "";
     if (isStop(last)) this.timeline.stop();
     return {
-      ran: ranEntries,
+      runEntries: ranEntries,
       cycles: runs.reduce((sum, run) => sum + (run ? run.cycles : 0), 0),
       end: isStop(last) ? last : "",
       changesKeys: servedLines.some((servedLine) => servedLine.change !== null),
@@ -251,7 +251,7 @@ export class WorkerSession {
   }
 
   /**
-   * Executes planned lines together with all queries, in one call of the engine. Writes the new session file to `next`; `file` does not
+   * Executes planned lines together with all queries, in one call of the engine. Writes the new session file to `nextFile`; `file` does not
    * change.
    * @param {PlannedLine[]} plannedLines
    */

@@ -59,8 +59,8 @@ class Digit {
    *   display is not scanned
    */
   showBrightness(perceivedDigit, digitCount) {
-    if (perceivedDigit.steady !== UNLIT_PATTERN) {
-      this.set(perceivedDigit.steady);
+    if (perceivedDigit.steadyPattern !== UNLIT_PATTERN) {
+      this.set(perceivedDigit.steadyPattern);
       return;
     }
     this.isSmeared.set(perceivedDigit.isSmeared);
@@ -167,7 +167,7 @@ export class DisplayView {
    * @param {import("../../core/board/brightness.js").Brightness} brightness
    * @param {number} lamp
    */
-  showSignBrightness({ lamps, isOn, stillness }, lamp) {
+  showSignBrightness({ lamps, isOn, lampSteadiness: stillness }, lamp) {
     const litPattern = isOn[lamp] ? MINUS_PATTERN : 0;
     if (stillness[lamp].isSteady) this.signDigit.set(litPattern);
     else this.signDigit.showDutyCycles(litPattern, SEGMENT_PATHS.map((_, index) => (1 << index === MINUS_PATTERN ? lamps[lamp] : 0)));

@@ -114,9 +114,9 @@ export class FrontView {
    * @param {Face} face
    */
   drawErrors(board, face) {
-    const faults = sortByLine([...face.faults, ...missingParts(face, board)]);
+    const faults = sortByLine([...face.errors, ...missingParts(face, board)]);
     const root = block("face-faults");
-    const messages = faults.slice(0, MAX_LISTED_ERRORS).map(({ line, words }) => say.lineOfBoard(line, words));
+    const messages = faults.slice(0, MAX_LISTED_ERRORS).map(({ line, message: words }) => say.lineOfBoard(line, words));
     root.replaceChildren(...[...messages, moreErrors(faults, MAX_LISTED_ERRORS)].filter(Boolean).map((words) => element("li", {}, words)));
     root.hidden = faults.length === 0;
   }
@@ -153,7 +153,7 @@ export class FrontView {
     keyButton.classList.toggle("at-test", boardKey.key.kind === "pin");
     keyButton.classList.toggle("switch", boardKey.isSwitch);
     if (boardKey.letter && boardKey.letter !== boardKey.legend) keyButton.append(element("kbd", {}, boardKey.letter));
-    keyButton.setAttribute("aria-label", boardKey.words);
+    keyButton.setAttribute("aria-label", boardKey.description);
     this.connectKey(keyButton, boardKey);
     return { ...boardKey, button: keyButton, down: pressedSwitch(keyButton) };
   }

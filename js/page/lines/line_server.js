@@ -74,17 +74,17 @@ export class LineServer {
    */
   async serveTyped(typedLines) {
     const { calls } = this;
-    const { lines, words } = replaceNames(typedLines, calls.map());
+    const { lines, message: words } = replaceNames(typedLines, calls.map());
     if (words !== "") {
       this.notice.show(words);
       return null;
     }
     const result = await this.performWork(say.SENDING_LINES, (options) => this.bench.call("serveTyped", [lines], options));
     if (!result) return null;
-    const { id, cut: cut, cycles, tally } = result.typed;
+    const { id, cutLine: cut, cycles, tally } = result.typedResult;
     calls.countHits(tally);
     if (id !== 0 && !calls.isRunning()) {
-      calls.showMessage(lineEnded(calls.describeStop({ why: "break", id, cycles, returns: false }), cut));
+      calls.showMessage(lineEnded(calls.describeStop({ reason: "break", id, cycles, endsAtReturn: false }), cut));
     }
     return result.first;
   }

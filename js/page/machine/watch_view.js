@@ -41,14 +41,14 @@ export class WatchView {
 
   /** @param {unknown} texts the expressions that were saved with a session, not yet validated */
   open(texts) {
-    const { all: expressions, fault } = parseWatches(texts);
+    const { all: expressions, error: fault } = parseWatches(texts);
     this.status.textContent = fault;
     this.setExpressions(expressions);
   }
 
   add() {
     const input = field("watched-field");
-    const { watched, fault } = parseWatch(input.value, this.calls.names());
+    const { watch: watched, error: fault } = parseWatch(input.value, this.calls.names());
     const isFull = this.expressions.length >= MAX_WATCH_EXPRESSIONS;
     this.status.textContent = isFull ? say.maxWatched(MAX_WATCH_EXPRESSIONS) : fault;
     input.setAttribute("aria-invalid", String(this.status.textContent !== ""));

@@ -95,7 +95,7 @@ class BenchWorker {
   }
 
   /** @param {Request} request */
-  async answerRequest({ number, call, words }) {
+  async answerRequest({ number, call, parameters: words }) {
     this.currentRequest = number;
     this.lastReportTime = performance.now();
     // First report the run that preceded the call.
@@ -106,7 +106,7 @@ class BenchWorker {
       this.post({ kind: "reply", number, result }, result && result.file instanceof ArrayBuffer ? [result.file] : []);
       if (pressesKey(call, words)) this.calls.bench.checkLastLines();
     } catch (fault) {
-      this.post({ kind: "reply", number, fault: packError(fault) });
+      this.post({ kind: "reply", number, error: packError(fault) });
     }
   }
 
@@ -121,7 +121,7 @@ class BenchWorker {
       if (frame) this.postFrame(frame);
     } catch (fault) {
       this.calls.bench.fullSpeed.stop();
-      this.post({ kind: "failed", fault: packError(fault) });
+      this.post({ kind: "failed", error: packError(fault) });
     }
   }
 
