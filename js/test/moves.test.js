@@ -7,7 +7,7 @@ import { matrixKey } from "../core/board/key_place.js";
 
 /** Runs until a goal is reached, for at most `most` cycles. Resolves to the cycles, whether the goal was reached, and why the run ended. */
 async function runToGoal(calls, goal, most) {
-  const { cycles, isReached, end } = (await calls.goOn(goal, most)).found;
+  const { cycles, isReached, end } = (await calls.goOn(goal, most)).searchResult;
   return { cycles, isReached, end };
 }
 
@@ -16,13 +16,13 @@ test("over a JMS: as many cycles as a breakpoint behind it takes, and nothing st
   const calls = await begin("three lamps", "run 7\n");
   assert.equal(counterOf(calls), "007");
   const travelled = await calls.goOn({ kind: "over" });
-  assert.deepEqual([travelled.found.isReached, travelled.found.cycles, counterOf(calls)], [true, travelled.total - 7, "009"]);
+  assert.deepEqual([travelled.searchResult.isReached, travelled.searchResult.cycles, counterOf(calls)], [true, travelled.total - 7, "009"]);
   const sent = travelled.entries.map(({ line, answers }) => [line, answers[0].slice(5)]);
-  assert.deepEqual(sent, [[`run ${travelled.found.cycles}`, `ran ${travelled.found.cycles} end`]]);
+  assert.deepEqual(sent, [[`run ${travelled.searchResult.cycles}`, `ran ${travelled.searchResult.cycles} end`]]);
   assert.deepEqual(calls.ask("breaks\nwatches\n"), ["breaks -", "watches -"]);
   const other = await begin("three lamps", "run 7\nbreak 0x009\n");
   const [answer] = (await other.serve("run 100000\n")).entries[0].answers;
-  assert.equal(answer.split(" ")[3], String(travelled.found.cycles));
+  assert.equal(answer.split(" ")[3], String(travelled.searchResult.cycles));
 });
 
 test("over anything else is one instruction, and out ends behind the JMS", async () => {
@@ -30,7 +30,7 @@ test("over anything else is one instruction, and out ends behind the JMS", async
   assert.deepEqual(await runToGoal(calls, { kind: "over" }), { cycles: 2, isReached: true, end: "" });
   await calls.serve("run 7\n");
   assert.equal(counterOf(calls), "014");
-  assert.equal((await calls.goOn({ kind: "out" })).found.isReached, true);
+  assert.equal((await calls.goOn({ kind: "out" })).searchResult.isReached, true);
   assert.equal(counterOf(calls), "009");
 });
 
@@ -52,17 +52,17 @@ test("to an address, so many instructions, and to a change", async () => {
   assert.deepEqual(await runToGoal(calls, { kind: "count", count: 3 }), { cycles: 6, isReached: true, end: "" });
   const before = calls.ask("lamps\n")[0];
   const travelled = await calls.goOn({ kind: "change", place: "lamps" });
-  assert.equal(travelled.found.isReached, true);
+  assert.equal(travelled.searchResult.isReached, true);
   assert.notEqual(calls.ask("lamps\n")[0], before);
   const fresh = await begin("three lamps");
-  assert.equal((await fresh.goOn({ kind: "change", place: "r4" })).found.cycles, 5);
+  assert.equal((await fresh.goOn({ kind: "change", place: "r4" })).searchResult.cycles, 5);
 });
 
 test("to an address that is far away, also where all breakpoints are taken", async () => {
   const loops = "far: ISZ R0, far\nISZ R1, far\nISZ R2, far\nISZ R3, far\nend: JUN end\n";
   const setup = `wire\n[[rom]]\nchip = 0\nport = "0000"\n.\nasm\n${loops}.\n`;
   const calls = await begin("empty bench", setup);
-  const { found } = await calls.goOn({ kind: "here", address: 8 }, 1000000);
+  const { searchResult: found } = await calls.goOn({ kind: "here", address: 8 }, 1000000);
   assert.deepEqual([found.isReached, counterOf(calls)], [true, "008"]);
   const taken = await begin("empty bench", `${setup}${Array.from({ length: 32 }, (_, at) => `break ${at + 16}\n`).join("")}`);
   const other = await runToGoal(taken, { kind: "here", address: 4 }, 1000000);
@@ -95,9 +95,9 @@ test("over a delay of 24 seconds, and out of it: time that runs, by frames and a
   const calls = await createBench(`JMS wait\nend: JUN end\nwait: ${lines}BBL 0\n`);
   const before = Buffer.from(calls.bench.session.file);
   const near = await calls.goOn({ kind: "over" });
-  assert.deepEqual([near.found.end, near.entries.length, Buffer.compare(before, calls.bench.session.file)], ["bound", 0, 0]);
+  assert.deepEqual([near.searchResult.end, near.entries.length, Buffer.compare(before, calls.bench.session.file)], ["bound", 0, 0]);
   const travelled = runUntilStop(calls, 1543);
-  assert.deepEqual([travelled.stop, counterOf(calls)], [{ why: "goal", id: 0, cycles: cycles + 3, returns: true }, "002"]);
+  assert.deepEqual([travelled.stop, counterOf(calls)], [{ reason: "goal", id: 0, cycles: cycles + 3, endsAtReturn: true }, "002"]);
   assert.ok(travelled.ran.every(({ line }) => /^run \d+$/.test(line)));
   assert.deepEqual(calls.ask("breaks\nwatches\n"), ["breaks -", "watches -"]);
   // With exactly this limit, the goal is still reached. When time runs afterwards, it has no goal.
@@ -105,13 +105,13 @@ test("over a delay of 24 seconds, and out of it: time that runs, by frames and a
   await calls.goBack({ kind: "stop" });
   await calls.serve("reset\nrun 1000\n");
   const out = await calls.goOn({ kind: "out" }, 100000000);
-  assert.deepEqual([out.found.isReached, out.found.cycles, counterOf(calls)], [true, cycles + 3 - 1000, "002"]);
+  assert.deepEqual([out.searchResult.isReached, out.searchResult.cycles, counterOf(calls)], [true, cycles + 3 - 1000, "002"]);
 });
 
 test("over a subroutine that waits for a key: the key is pressed while time runs", async () => {
   const calls = await createBench("main: JMS getkey\nJUN main\ngetkey: JCN 1, getkey\nBBL 0\n");
   await calls.serve("test 0\n");
-  assert.equal((await calls.goOn({ kind: "over" })).found.end, "bound");
+  assert.equal((await calls.goOn({ kind: "over" })).searchResult.end, "bound");
   for (let frame = 0; frame < 40; frame++) assert.equal(calls.advance(1543).stop, null);
   await calls.serve("test 1\n");
   const { stop } = runUntilStop(calls, 1543);
@@ -121,11 +121,11 @@ test("over a subroutine that waits for a key: the key is pressed while time runs
 
 test("a million instructions, from the middle of one on", async () => {
   const calls = await createBench("end: JUN end\n");
-  assert.equal((await calls.goOn({ kind: "count", count: 1000000 })).found.cycles, 2000000);
+  assert.equal((await calls.goOn({ kind: "count", count: 1000000 })).searchResult.cycles, 2000000);
   await calls.serve("run 1\n");
-  assert.equal((await calls.goOn({ kind: "count", count: 3 })).found.cycles, 5);
+  assert.equal((await calls.goOn({ kind: "count", count: 3 })).searchResult.cycles, 5);
   const mixed = await createBench("go: NOP\nNOP\nJUN go\n");
-  assert.equal((await mixed.goOn({ kind: "count", count: 300000 })).found.cycles, 400000);
+  assert.equal((await mixed.goOn({ kind: "count", count: 300000 })).searchResult.cycles, 400000);
 });
 
 test("a change that is far away: a register, a whole port, a lamp, a character", async () => {
@@ -149,14 +149,14 @@ test("a breakpoint and a watch of the user come first; a goal that never comes d
   const empty = await begin("empty bench", "wire\n[[rom]]\nchip = 0\nport = \"0000\"\n.\nasm\nx: JUN x\n.\n");
   const before = Buffer.from(empty.bench.session.file);
   const travelled = await empty.goOn({ kind: "change", place: "r4" }, 5000);
-  assert.deepEqual([travelled.found.end, travelled.entries.length, Buffer.compare(before, empty.bench.session.file)], ["bound", 0, 0]);
+  assert.deepEqual([travelled.searchResult.end, travelled.entries.length, Buffer.compare(before, empty.bench.session.file)], ["bound", 0, 0]);
 });
 
 test("a goal among presses of keys comes at the cycle at which it is reached", async () => {
   const calls = await begin("calculator");
   calls.advance(100000);
   const before = calls.ask("lamps\n")[0];
-  assert.equal((await calls.goOn({ kind: "change", place: "lamps" }, 100000)).found.end, "bound");
+  assert.equal((await calls.goOn({ kind: "change", place: "lamps" }, 100000)).searchResult.end, "bound");
   const begun = calls.bench.session.count.total;
   let travelled = calls.advance(5000, matrixKey(2, 1));
   for (let frame = 0; !travelled.stop && frame < 100; frame++) travelled = calls.advance(1543);
@@ -174,7 +174,7 @@ test("a goal among presses of keys comes at the cycle at which it is reached", a
 
 test("a reset ends a move, and time runs on", async () => {
   const calls = await createBench("end: JUN end\n");
-  assert.equal((await calls.goOn({ kind: "change", place: "r4" })).found.end, "bound");
+  assert.equal((await calls.goOn({ kind: "change", place: "r4" })).searchResult.end, "bound");
   assert.equal(calls.bench.debugger.isMoving, true);
   calls.advance(1543);
   await calls.serve("reset\n");
