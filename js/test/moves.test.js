@@ -98,7 +98,7 @@ test("over a delay of 24 seconds, and out of it: time that runs, by frames and a
   assert.deepEqual([near.searchResult.end, near.entries.length, Buffer.compare(before, calls.bench.session.file)], ["bound", 0, 0]);
   const travelled = runUntilStop(calls, 1543);
   assert.deepEqual([travelled.stop, counterOf(calls)], [{ reason: "goal", id: 0, cycles: cycles + 3, endsAtReturn: true }, "002"]);
-  assert.ok(travelled.ran.every(({ line }) => /^run \d+$/.test(line)));
+  assert.ok(travelled.runEntries.every(({ line }) => /^run \d+$/.test(line)));
   assert.deepEqual(calls.ask("breaks\nwatches\n"), ["breaks -", "watches -"]);
   // With exactly this limit, the goal is still reached. When time runs afterwards, it has no goal.
   assert.equal(calls.advance(1543).stop, null);
