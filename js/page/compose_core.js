@@ -59,8 +59,8 @@ export function makeRunController(page) {
     handleRunStart: () => page.mistakesView.clear(),
     handleRunEnd: () => page.scope.showPaused(),
     showFrame: (frame) => {
-      page.logView.collect(frame.ran);
-      page.mistakesView.show(frame.tally.usual);
+      page.logView.collect(frame.runEntries);
+      page.mistakesView.show(frame.tally.mistakes);
       page.heatView.handleFrame(frame);
       page.show(frame, true, frame.litShares);
       page.breakpoints.count(frame.tally);
@@ -73,8 +73,8 @@ export function makeRunController(page) {
     },
     cycles: () => page.cyclesView.cycles.total,
     describeCounter: () => addressWithName(page.snapshotView.counter, page.source.map),
-    describeCondition: (id) => describeBreakpointCondition(page.breakpoints.manager.list.get(id), page.breakpoints.manager.faults.get(id)),
-    countInvalidBreakpoints: () => page.breakpoints.manager.faults.size,
+    describeCondition: (id) => describeBreakpointCondition(page.breakpoints.manager.list.get(id), page.breakpoints.manager.errors.get(id)),
+    countInvalidBreakpoints: () => page.breakpoints.manager.errors.size,
     describeRefusal: (number) => page.errorMessages.refusalMeaning(number),
     step: () => page.lineServer.serveLines("step\n"),
     reportFailure: (fault) => page.recovery.reportFailure(fault),

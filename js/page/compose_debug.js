@@ -121,7 +121,7 @@ export function makeSourceValues(page) {
     isRunning: () => runController.clock.isRunning,
     nameOf: (word) => {
       const name = source.map && source.map.names.get(word);
-      return name ? { ...name, words: source.meaningOf(word) } : undefined;
+      return name ? { ...name, description: source.meaningOf(word) } : undefined;
     },
     describeInstruction: (word) => (editors.instructions.get(word) || { does: "" }).does,
     map: () => source.map,

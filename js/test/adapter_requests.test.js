@@ -81,7 +81,7 @@ test("the progress of a long run and of a search of the past is reported, and ca
   for (const supportsProgressReporting of [true, false]) {
     const { adapter, startSession, request, messages, waitFor, getStops, evaluate } = startAdapter();
     await startSession({ ...LOCK, client: { supportsProgressReporting } });
-    adapter.progress.after = 0;
+    adapter.progress.firstReportDelay = 0;
     const getProgressEvents = () => messages.filter(({ event = "" }) => event.startsWith("progress"));
     await request("continue", { threadId: 1 });
     if (!supportsProgressReporting) {

@@ -72,7 +72,7 @@ test("forecasts of a run, among other answers", () => {
   const { row, lines, cycles } = answers.takeTrace();
   assert.deepEqual([rowValues(row), lines.map(parseTraceLine), cycles],
     [["0", "-"], [{ cycles: 0, address: 0, row: " 1 -" }, { cycles: 2, address: 10, row: " 2 *" }], 3]);
-  assert.deepEqual(answers.takeCounts(), [{ address: 0, begun: 1, jumped: -1 }, { address: 10, begun: 12, jumped: 3 }]);
+  assert.deepEqual(answers.takeCounts(), [{ address: 0, startCount: 1, jumpCount: -1 }, { address: 10, startCount: 12, jumpCount: 3 }]);
   assert.deepEqual([answers.takeRun(), answers.takeRun()], [{ cycles: 3, end: "code" }, { cycles: 0, end: "no 11" }]);
   assert.equal(answers.isEmpty, true);
 });

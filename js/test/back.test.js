@@ -22,7 +22,7 @@ test("going back by one stop undoes the last lines, and going forward restores t
     assert.equal((await calls.goBack({ kind: "stop" })).isDone, true);
     assert.deepEqual(calls.ask(ALL_QUERIES), snapshot);
   }
-  assert.equal((await calls.goBack({ kind: "stop" })).why, "short");
+  assert.equal((await calls.goBack({ kind: "stop" })).reason, "short");
   assert.equal(calls.bench.session.count.total, 0);
   for (const snapshot of snapshots.slice(1)) {
     assert.equal(calls.goForward().isDone, true);
@@ -41,7 +41,7 @@ test("the last change of a place is reported without going back, and is the chan
   assert.deepEqual([line, cycles, address], ["poke r9 3", 100, -1]);
   const lamps = await calls.lastChange("lamps");
   assert.equal((await calls.lastChange("r15")).isFound, false);
-  assert.equal((await calls.lastChange("ram.7.0")).why, "lacks");
+  assert.equal((await calls.lastChange("ram.7.0")).reason, "lacks");
   assert.deepEqual(calls.ask(ALL_QUERIES), snapshot);
   const travel = await calls.goBack({ kind: "change", place: "lamps" });
   assert.deepEqual([lamps.from, lamps.to, lamps.cycles], [travel.from, travel.to, travel.cycles]);
@@ -77,7 +77,7 @@ test("going back by an instruction follows the trace, across stops and frames", 
     assert.equal((await copy.goBack({ kind: "instruction" })).isDone, true);
     assert.equal(readCounter(copy), counter);
   }
-  assert.equal((await copy.goBack({ kind: "instruction" })).why, "short");
+  assert.equal((await copy.goBack({ kind: "instruction" })).reason, "short");
 });
 
 test("going back to the last change ends before the instruction or the command that made it", async () => {
@@ -90,8 +90,8 @@ test("going back to the last change ends before the instruction or the command t
   assert.deepEqual(calls.ask("lamps\n"), [`lamps ${lampChange.from}`]);
   await calls.serve("step\n");
   assert.deepEqual(calls.ask("lamps\n"), [`lamps ${lampChange.to}`]);
-  assert.equal((await calls.goBack({ kind: "change", place: "r9" })).why, "short");
-  assert.equal((await calls.goBack({ kind: "change", place: "ram.7.0" })).why, "lacks");
+  assert.equal((await calls.goBack({ kind: "change", place: "r9" })).reason, "short");
+  assert.equal((await calls.goBack({ kind: "change", place: "ram.7.0" })).reason, "lacks");
 });
 
 test("going back to a distant change, made by a command or by an instruction", async () => {

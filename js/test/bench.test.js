@@ -42,7 +42,7 @@ test("a worker starts with the module, and its replies are matched to requests b
   const secondReply = bench.call("ask", ["regs\n"]);
   const [firstRequest, secondRequest] = worker.sent.slice(-2);
   worker.deliver({ kind: "reply", number: secondRequest.number, result: ["acc"] });
-  worker.deliver({ kind: "reply", number: firstRequest.number, fault: { kind: "refusal", words: "no 90", number: 90 } });
+  worker.deliver({ kind: "reply", number: firstRequest.number, error: { kind: "refusal", message: "no 90", number: 90 } });
   assert.deepEqual(await secondReply, ["acc"]);
   await assert.rejects(firstReply, /no 90/);
 });
@@ -73,7 +73,7 @@ test("long work reports its progress, and can be cancelled", async () => {
   worker.deliver({ kind: "progress", number, done: 1, total: 4 });
   controller.abort();
   assert.deepEqual(worker.sent[worker.sent.length - 1], { kind: "cancel", number });
-  worker.deliver({ kind: "reply", number, fault: { kind: "cancelled", words: "", number: 0 } });
+  worker.deliver({ kind: "reply", number, error: { kind: "cancelled", message: "", number: 0 } });
   await assert.rejects(reply, CancelledError);
   assert.deepEqual(progressReports, [[1, 4]]);
   mock.timers.tick(5000);

@@ -101,7 +101,7 @@ test("a `break` line that is typed during a request also changes the list", asyn
   const { manager, bench } = createManager([]);
   manager.setSourceMap(MAP, "");
   // The bench serves a line after it has received the request, and reports the line before the request has ended.
-  const { calls } = manager;
+  const { callbacks: calls } = manager;
   const { set: originalSet } = calls;
   calls.set = async (breakpoints) => {
     const errors = await originalSet(breakpoints);
@@ -123,7 +123,7 @@ test("a change is sent before the previous one is answered, and the last change 
   const [{ id }] = manager.list.all;
   /** The requests that were sent to the bench, each with a function that answers it. */
   const requests = [];
-  manager.calls.set = ([{ condition }]) => new Promise((resolve) => {
+  manager.callbacks.set = ([{ condition }]) => new Promise((resolve) => {
     requests.push({ condition, answer: () => resolve([[id, condition]]) });
   });
   manager.change(id, { condition: "r4 = 7" });
@@ -131,7 +131,7 @@ test("a change is sent before the previous one is answered, and the last change 
   assert.deepEqual(requests.map(({ condition }) => condition), ["r4 = 7", "r4 = 8"]);
   for (const { answer } of requests.reverse()) answer();
   await manager.allSent;
-  assert.deepEqual([...manager.faults], [[id, "r4 = 8"]]);
+  assert.deepEqual([...manager.errors], [[id, "r4 = 8"]]);
   assert.equal(manager.isApplying, false);
 });
 
@@ -157,10 +157,10 @@ test("a condition is stored as it is typed, and the bench gets it once it is ent
 test("a failure of the bench is reported once, and the next list is sent", async () => {
   const { manager, log, bench } = createManager([]);
   manager.setSourceMap(MAP, "");
-  const { set: originalSet } = manager.calls;
-  manager.calls.set = async () => { throw new Error("it died"); };
+  const { set: originalSet } = manager.callbacks;
+  manager.callbacks.set = async () => { throw new Error("it died"); };
   manager.toggleAddress(0x700);
-  manager.calls.set = originalSet;
+  manager.callbacks.set = originalSet;
   manager.toggleAddress(0x701);
   await manager.allSent;
   assert.deepEqual([log.failures.map(({ message }) => message), bench.breaks, manager.isApplying], [["it died"], ["700", "701"], false]);
@@ -173,7 +173,7 @@ test("breakpoints can be set in a source that differs from ROM, and stop once it
   await manager.allSent;
   assert.deepEqual([linesAndAddresses(manager), bench.breaks], [[[4, -1]], []]);
   assert.match(log.messages[0], /Assemble to update\. Until then this breakpoint stops nothing\.$/);
-  assert.deepEqual([...breakpointMarks(manager.list.all, manager.faults).lines.values()],
+  assert.deepEqual([...breakpointMarks(manager.list.all, manager.errors).lines.values()],
     [{ mark: "\u25CB", words: "breakpoint: it stops once the source is assembled" }]);
   manager.setSourceMap(MAP, "");
   await manager.allSent;
@@ -199,10 +199,10 @@ test("an invalid condition is reported; a disabled breakpoint is kept; hits are 
   manager.setSourceMap(MAP, "");
   await manager.allSent;
   const [first, second] = manager.list.all;
-  assert.deepEqual([[...manager.faults], bench.breaks], [[[first.id, "it is none"]], []]);
-  manager.count({ hits: [[second.id, 2], [second.id, 1]], notes: [], noted: 0 });
+  assert.deepEqual([[...manager.errors], bench.breaks], [[[first.id, "it is none"]], []]);
+  manager.count({ hits: [[second.id, 2], [second.id, 1]], notes: [], noteCount: 0 });
   assert.equal(second.hits, 3);
-  assert.deepEqual([...breakpointMarks(manager.list.all, manager.faults).lines.values()].map(({ mark, words }) => `${mark} ${words}`),
+  assert.deepEqual([...breakpointMarks(manager.list.all, manager.errors).lines.values()].map(({ mark, words }) => `${mark} ${words}`),
     ["\u25CF breakpoint if no: it stops every time, because of an error: it is none", "\u25CB breakpoint: it is off"]);
   assert.deepEqual(manager.list.savedBreakpoints[1], { line: 4, address: 2, isOn: false, condition: "", from: 1, note: "" });
 });

@@ -84,7 +84,7 @@ test("the lit times and the changes of lamps are reported exactly", async () => 
     const [expected, expectedChanges] = [countLitCycles(calls, cycles), findLampChanges(calls, cycles)];
     const [lastMarks] = queryLamps(calls, cycles).slice(-1);
     const { litShares } = calls.advance(cycles);
-    assert.deepEqual([litShares.face, litShares.cycles, litShares.lamps, litShares.moved, litShares.marks],
+    assert.deepEqual([litShares.face, litShares.cycles, litShares.lamps, litShares.changeSummaries, litShares.marks],
       [7, cycles, expected, expectedChanges, lastMarks]);
   }
 });
@@ -119,7 +119,7 @@ test("a scanned lamp is lit while both of its lines are 1, exactly", async () =>
 
 test("each multiplexed digit shows the pattern that it has longest while it is lit", () => {
   const face = new Face("# display 0: 3 digits of 7 segments with points scanned by 8\n# lamp 11: minus\n");
-  const text = new DisplayText(face.groups, [{ at: 11, text: "minus" }]);
+  const text = new DisplayText(face.groups, [{ lamp: 11, text: "minus" }]);
   const marks = (segments, digits, minus) => segments.padEnd(8, ".") + digits + minus;
   const trace = (...rows) => [`trace ran ${rows.length * 100} end lines ${rows.length - 1} ${rows[0]}`,
     ...rows.slice(1).map((row, index) => `${index * 100 + 99} 000 ${row}`)];
@@ -167,7 +167,7 @@ test("the edges of a line are reported exactly, and its sound samples have the r
 function createLamp() {
   const brightness = new Brightness(new Face(""), 1);
   const simulate = (litShare, time, moved = null, marks = litShare > 0 ? "*" : ".") => (
-    brightness.add({ face: 0, cycles: 100, marks, lamps: [litShare * 100], moved: [moved], displays: [], scanned: [] }, time));
+    brightness.add({ face: 0, cycles: 100, marks, lamps: [litShare * 100], changeSummaries: [moved], displays: [], scanned: [] }, time));
   return { seen: brightness, pass: simulate };
 }
 

@@ -34,8 +34,8 @@ function openSession(program) {
 
 /** Returns the mistakes that are reported during some frames of a program, each with its source line. */
 function findMistakes(program, frames = 3, debug = openSession(program)) {
-  const mistakes = Array.from({ length: frames }, () => debug.advance(1543).tally.usual).flat();
-  return mistakes.map(({ address, words }) => `${debug.commonMistakes.map.lineOf(address)}: ${words}`);
+  const mistakes = Array.from({ length: frames }, () => debug.advance(1543).tally.mistakes).flat();
+  return mistakes.map(({ address, message: words }) => `${debug.commonMistakes.map.lineOf(address)}: ${words}`);
 }
 
 test("each mistake is reported once, with its line", () => {
@@ -59,17 +59,17 @@ test("an outdated SRC is reported if it was for RAM and the same WRR used anothe
   const board = BOARD.replace("}]", '}, { chip = 2, port = "0000" }]');
   const program = "again: FIM P0, 0\nSRC P0\nFIM P1, 0x20\nturn: WRR\nSRC P1\nWRM\nJUN turn\n";
   const session = new DebugSession(engine, { board: board, program });
-  const mistakes = session.debugger.advance(1543).tally.usual;
+  const mistakes = session.debugger.advance(1543).tally.mistakes;
   assert.deepEqual(mistakes.map(({ kind }) => kind), ["source"]);
-  assert.equal(mistakes[0].words,
+  assert.equal(mistakes[0].message,
     "this WRR writes to ROM 2, and before it used ROM 0: the last SRC, at 006, was for RAM; is an SRC missing?");
 });
 
 test("an SRC for RDR that a WRR then uses is reported", () => {
   const board = BOARD.replace("iiii", "ii00");
   const program = "again: FIM P0, 0\nSRC P0\nFIM P1, 0x10\nturn: WRR\nSRC P1\nRDR\nJUN turn\n";
-  const mistakes = new DebugSession(engine, { board: board, program }).debugger.advance(1543).tally.usual;
-  assert.deepEqual(mistakes.map(({ words }) => words),
+  const mistakes = new DebugSession(engine, { board: board, program }).debugger.advance(1543).tally.mistakes;
+  assert.deepEqual(mistakes.map(({ message: words }) => words),
     ["this WRR writes to ROM 1, and before it used ROM 0: the last SRC, at 006, was for an RDR; is an SRC missing?"]);
 });
 
@@ -83,10 +83,10 @@ test("the machine pauses before a selected mistake, and then continues", () => {
   const debug = openSession("LDM 1\nFIM P0, 0x10\nSRC P0\nWRR\nLDM 2\nend: JUN end\n");
   debug.commonMistakes.stoppingKinds.add("lines");
   const frame = debug.advance(1543);
-  assert.deepEqual([frame.cycles, frame.stop.why, frame.tally.usual.length, debug.counter], [4, "usual", 1, 4]);
+  assert.deepEqual([frame.cycles, frame.stop.reason, frame.tally.mistakes.length, debug.counter], [4, "usual", 1, 4]);
   debug.begin();
   const next = debug.advance(1543);
-  assert.deepEqual([next.cycles, next.stop, next.tally.usual], [1543, null, []]);
+  assert.deepEqual([next.cycles, next.stop, next.tally.mistakes], [1543, null, []]);
   assert.deepEqual(Object.keys(KINDS).length, 6);
 });
 
@@ -120,15 +120,15 @@ test("during a key press, mistakes are checked after the lamps are reported, and
   const program = "JMS a\nend: JUN end\na: FIM P0, 0x10\nSRC P0\nWRR\nBBL 0\n";
   const [immediate, deferred] = [openSession(program), openSession(program)];
   for (const session of [immediate, deferred]) session.session.queue.press(pinKey(1));
-  const expected = immediate.advance(1543).tally.usual;
+  const expected = immediate.advance(1543).tally.mistakes;
   assert.equal(expected.length, 1);
   const frame = deferred.advance(1543, true);
-  assert.deepEqual([frame.tally.usual, deferred.lateMistakes], [[], []], "nothing is checked before that");
+  assert.deepEqual([frame.tally.mistakes, deferred.lateMistakes], [[], []], "nothing is checked before that");
   deferred.checkLastLines();
   deferred.checkLastLines();
-  assert.deepEqual(deferred.advance(1543, true).tally.usual, expected);
+  assert.deepEqual(deferred.advance(1543, true).tally.mistakes, expected);
   deferred.checkLastLines();
-  assert.deepEqual(deferred.advance(1543).tally.usual, [], "it is reported once");
+  assert.deepEqual(deferred.advance(1543).tally.mistakes, [], "it is reported once");
   immediate.advance(1543);
   immediate.advance(1543);
   assert.deepEqual(deferred.session.ask("state\n"), immediate.session.ask("state\n"), "both sessions have the same state");
@@ -139,9 +139,9 @@ test("mistakes are checked at once if that frame has a stop, or if mistakes caus
   const withBreakpoint = openSession(program);
   withBreakpoint.session.changeBreaks("break 7\n");
   const frame = withBreakpoint.advance(1543, true);
-  assert.deepEqual([frame.stop.why, frame.tally.usual.length], ["break", 1]);
+  assert.deepEqual([frame.stop.reason, frame.tally.mistakes.length], ["break", 1]);
   const withStop = openSession(program);
   withStop.commonMistakes.stoppingKinds.add("lines");
   const stopFrame = withStop.advance(1543, true);
-  assert.deepEqual([stopFrame.stop.why, stopFrame.cycles, stopFrame.tally.usual.length], ["usual", 3, 1]);
+  assert.deepEqual([stopFrame.stop.reason, stopFrame.cycles, stopFrame.tally.mistakes.length], ["usual", 3, 1]);
 });

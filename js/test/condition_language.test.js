@@ -173,7 +173,7 @@ const USES = {
     return new TestSession(engine, file, new ExecutionRecorder(new Uint8Array(4096)), async () => {}).check(action.condition).holds;
   },
   Watch: (text) => {
-    const { watched, fault } = parseWatch(text, names);
+    const { watch: watched, error: fault } = parseWatch(text, names);
     const snapshot = ["state\n", "ram 0\n"].map((line) => session.debugger.session.ask(line).join("\n"));
     return fault || joinPieces(watched.pieces(new MachineState(snapshot), names)) === "true";
   },
@@ -183,16 +183,17 @@ const USES = {
     return /^(true|false)$/.test(printed) ? printed === "true" : printed;
   },
   breakpoint: (text) => {
-    const { soft, fault } = compileBreakpoint({ id: 1, address: 0, condition: text, from: 1, note: "", hits: 0 }, names);
+    const breakpoint = { id: 1, address: 0, condition: text, from: 1, note: "", hits: 0 };
+    const { softBreakpoint: soft, error: fault } = compileBreakpoint(breakpoint, names);
     return fault || soft.holds(readValues(soft));
   },
   "log message": (text) => {
-    const { note, fault } = compileNote(`{${text}}`, names);
-    return fault || note.words(readValues(note)) === "true";
+    const { note, error: fault } = compileNote(`{${text}}`, names);
+    return fault || note.textOf(readValues(note)) === "true";
   },
   evaluate: (text) => resultOrError(() => evaluateExpression(text, conditionContext()) === "true"),
   console: (text) => resultOrError(async () => (
-    (await new Console({ isMoving: false }, conditionContext(), null, {}).serveLine(text)).words === "true")),
+    (await new Console({ isMoving: false }, conditionContext(), null, {}).serveLine(text)).text === "true")),
   trigger: (text) => {
     const { trigger, fault } = readTrigger(text, createBoardLines(names.board, BOARD, true, []), names);
     return fault || trigger.holds(readValues(trigger));
@@ -233,7 +234,8 @@ test("an error in a condition is the same in each place of use; a breakpoint wit
   for (const [use, evaluate] of Object.entries(USES)) {
     assert.match(String(await evaluate("accu = 10")), /accu: no such place; the accumulator is acc/, use);
   }
-  const { soft, fault } = compileBreakpoint({ id: 1, address: 0, condition: "accu = 10", from: 1, note: "", hits: 0 }, names);
+  const breakpoint = { id: 1, address: 0, condition: "accu = 10", from: 1, note: "", hits: 0 };
+  const { softBreakpoint: soft, error: fault } = compileBreakpoint(breakpoint, names);
   assert.equal(fault, "accu: no such place; the accumulator is acc (column 1)");
   assert.equal(soft.holds([]), true);
 });
@@ -269,9 +271,9 @@ test("searches back and forward find the instructions at which a condition becam
       const travel = await searchSession.goBack({ kind: "when", condition: text });
       // The session is now at the instruction that makes the condition true.
       const expected = rises.length === 0 ? history[last] : history[rises[rises.length - 1] - 1];
-      assert.deepEqual([travel.isDone, bench.count.total], [rises.length > 0, expected.total], `back ${text}: ${travel.words}`);
-      if (rises.length > 0) assert.match(travel.words, /: this instruction makes .* true\.$/);
-      else assert.match(travel.words, /has not become true in the remembered past\.$/);
+      assert.deepEqual([travel.isDone, bench.count.total], [rises.length > 0, expected.total], `back ${text}: ${travel.message}`);
+      if (rises.length > 0) assert.match(travel.message, /: this instruction makes .* true\.$/);
+      else assert.match(travel.message, /has not become true in the remembered past\.$/);
       if (travel.isDone) searchSession.goForward();
       assert.equal(bench.count.total, history[last].total);
       comparedCount += rises.length > 0 ? 1 : 0;
@@ -286,7 +288,7 @@ test("searches back and forward find the instructions at which a condition becam
         .flatMap(({ is, total }, index) => (index > 0 && compute(is) && !compute(history[index - 1].is) ? [total] : []));
       if (first === undefined) continue;
       const stop = await forwardSession.runToGoal({ kind: "when", condition: text });
-      assert.equal(stop.why, "goal", `${text}: ${stop.words}`);
+      assert.equal(stop.reason, "goal", `${text}: ${stop.message}`);
       // If the condition becomes true in a two-cycle instruction, the machine stops after the first cycle.
       const { total } = forwardSession.debugger.session.count;
       assert.ok(total === first || total === first - 1, `${text}: ${total}, ${first}`);
@@ -299,7 +301,7 @@ test("searches back and forward find the instructions at which a condition becam
 
 test("conditions that no trace shows are rejected in traced conditions", () => {
   for (const [text] of INPUT_CONDITIONS) {
-    assert.match(compileTracedCondition(text, names).fault, /^no run changes .*: ask for it at a breakpoint$/);
+    assert.match(compileTracedCondition(text, names).error, /^no run changes .*: ask for it at a breakpoint$/);
   }
 });
 
@@ -318,7 +320,7 @@ test("errors have a column and a suggestion", () => {
     ["x".repeat(MAX_LENGTH + 1), MAX_LENGTH - 1, "a condition has at most 2000 characters"],
   ]) {
     const result = compileCondition(text, names);
-    assert.deepEqual([result.fault, result.column], [fault, column], text);
+    assert.deepEqual([result.error, result.column], [fault, column], text);
   }
 });
 
@@ -338,7 +340,7 @@ test("random texts are parsed in limited time, and errors have a column in the t
     const parseSetting = (assignment) => readSetting(assignment, names.map, names.board);
     const readers = [compileCondition, compileExpression, compileTestCondition, compileTracedCondition, parseSetting];
     for (const parse of readers) {
-      const { fault, column } = parse(text, names);
+      const { error: fault, column } = parse(text, names);
       if (fault === "") acceptedCount += 1;
       else assert.ok(column >= 0 && (column < text.length || (column === 0 && text === "")), `${JSON.stringify(text)}: ${fault} ${column}`);
     }
@@ -352,8 +354,8 @@ test("random texts are parsed in limited time, and errors have a column in the t
       " for 5 ms"][randomBelow(random, 3)];
     readCampaign(line, { names, instructions: [] });
     readTests(`test t\nexpect ${text}\nuntil ${text} within 5\nset ${text}\n`, names);
-    for (const fault of [parseWatch(text, names).fault, parseWatch(`x = ${text}`, names).fault, parseGoal(text, names).fault,
-      compileNote(`a {${text}} b`, names).fault, replaceNames(`set ${text}`, session.map).words]) {
+    for (const fault of [parseWatch(text, names).error, parseWatch(`x = ${text}`, names).error, parseGoal(text, names).error,
+      compileNote(`a {${text}} b`, names).error, replaceNames(`set ${text}`, session.map).message]) {
       const column = / \(column (\d+)\)\.?$/.exec(fault);
       assert.ok(fault === "" || column === null || Number(column[1]) <= text.length + 8, `${text}: ${fault}`);
     }
@@ -364,12 +366,12 @@ test("random texts are parsed in limited time, and errors have a column in the t
 
 test("`set PLACE = VALUE` in a console is replaced by session lines", () => {
   const replaceIn = (line) => replaceNames(line, session.map);
-  assert.deepEqual(replaceIn("set r4 = 0b111\n"), { lines: "poke r4 7\n", words: "", line: 0 });
-  assert.deepEqual(replaceIn("set RAM 0 0x12 = limit\nlamps"), { lines: "poke ram.0.0x12 9\nlamps", words: "", line: 0 });
-  assert.deepEqual(replaceIn("set P2=0x1F"), { lines: "poke r4 1\npoke r5 15", words: "", line: 0 });
+  assert.deepEqual(replaceIn("set r4 = 0b111\n"), { lines: "poke r4 7\n", message: "", line: 0 });
+  assert.deepEqual(replaceIn("set RAM 0 0x12 = limit\nlamps"), { lines: "poke ram.0.0x12 9\nlamps", message: "", line: 0 });
+  assert.deepEqual(replaceIn("set P2=0x1F"), { lines: "poke r4 1\npoke r5 15", message: "", line: 0 });
   assert.deepEqual([replaceIn("set test = 0").lines, replaceIn("set pc = @turn").lines], ["test 0", "poke pc 3"]);
-  assert.match(replaceIn("set A = 1").words, /^A: no such place; the accumulator is acc \(column 5\)\.$/);
-  assert.equal(replaceIn("set cy = 2").words, "cy holds 0 to 1, not 2 (column 10).");
+  assert.match(replaceIn("set A = 1").message, /^A: no such place; the accumulator is acc \(column 5\)\.$/);
+  assert.equal(replaceIn("set cy = 2").message, "cy holds 0 to 1, not 2 (column 10).");
   assert.equal(replaceIn("asm\nset r4 = 1\n.\n").lines, "asm\nset r4 = 1\n.\n");
 });
 
@@ -394,14 +396,14 @@ test("the conditions in the examples' tests have the same meaning elsewhere", ()
     const { names: exampleNames } = new DebugSession(engine, { board, program });
     for (const text of conditions) {
       const [testResult, result] = [compileTestCondition(text, exampleNames), compileCondition(text, exampleNames)];
-      assert.equal(testResult.fault, "", text);
+      assert.equal(testResult.error, "", text);
       // Forms that are valid only in the lines of a test are still rejected.
       if (testResult.condition.needs.some((need) => need !== "test")) {
-        assert.match(result.fault, /^(the digits are multiplexed|printed text|no run changes)/, text);
+        assert.match(result.error, /^(the digits are multiplexed|printed text|no run changes)/, text);
         continue;
       }
       if (testResult.condition.needs.length > 0) continue;
-      assert.deepEqual([result.fault, result.condition?.places], ["", testResult.condition.places], text);
+      assert.deepEqual([result.error, result.condition?.places], ["", testResult.condition.places], text);
       for (let round = 0; round < 20; round++) {
         const values = testResult.condition.places
           .map((place) => (place === "lamps" ? exampleNames.board.lamps.map(() => ".*"[randomBelow(random, 2)]).join("")

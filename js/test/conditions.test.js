@@ -37,7 +37,7 @@ function readValues(calls, { places }) {
 }
 
 const compile = (text) => {
-  const { condition, fault } = compileCondition(text, names);
+  const { condition, error: fault } = compileCondition(text, names);
   assert.equal(fault, "", text);
   return condition;
 };
@@ -85,7 +85,7 @@ test("each place is requested once, and the limit of a query is not exceeded", (
   assert.deepEqual([compile("not @end").address, compile("pc > 3").address, compile("@end and acc 1").address], [-1, -1, -1]);
   const longCondition = Array.from({ length: MAX_PLACES }, (_, register) => `r${register} 0`).join(" and ");
   assert.equal(compile(longCondition).places.length, MAX_PLACES);
-  assert.equal(compileCondition(`${longCondition} and acc 1`, names).fault, "it reads 17 places; at most 16 are allowed");
+  assert.equal(compileCondition(`${longCondition} and acc 1`, names).error, "it reads 17 places; at most 16 are allowed");
 });
 
 test("syntax errors are reported with the names that the board has", () => {
@@ -116,16 +116,16 @@ test("syntax errors are reported with the names that the board has", () => {
     ["ram.0.0 4 < 5", "<: a condition ends before this; join two by and, or"], ["= 3", "a value is missing before ="],
   ];
   for (const [text, expected] of cases) {
-    const actual = compileCondition(text, names).fault;
+    const actual = compileCondition(text, names).error;
     assert.ok(actual.startsWith(expected), `${text}: ${actual}`);
   }
   const namesWithoutFace = { ...names, face: new Face(BOARD_TABLES) };
-  assert.equal(compileCondition("lamp red on", namesWithoutFace).fault,
+  assert.equal(compileCondition("lamp red on", namesWithoutFace).error,
     "the board has no lamp red; its text names no lamps (`# lamp 0: NAME ..`)");
-  assert.equal(compileCondition("display 3", namesWithoutFace).fault, "the board's text names no display (`# display 0: 4 digits`)");
-  assert.match(compileCondition("printed 3", namesWithoutFace).fault, /^the board's text names no printer /);
+  assert.equal(compileCondition("display 3", namesWithoutFace).error, "the board's text names no display (`# display 0: 4 digits`)");
+  assert.match(compileCondition("printed 3", namesWithoutFace).error, /^the board's text names no printer /);
   const namesWithPrinter = { ...names, face: new Face(`${BOARD_TABLES}\n# printer rom0.0: ram0.0 0 1 feed\n`) };
-  assert.match(compileCondition("printed 3", namesWithPrinter).fault, /^printed text arrives line by line/);
+  assert.match(compileCondition("printed 3", namesWithPrinter).error, /^printed text arrives line by line/);
 });
 
 test("conditions in tests can use values that no trace shows", () => {
@@ -142,7 +142,7 @@ test("conditions in tests can use values that no trace shows", () => {
   assert.equal(compileForTest("cycles at most 6 ms").condition.holds([], extraValues), true);
   assert.equal(compileForTest("cycles 537").condition.explain([], extraValues), "cycles are 538, but must be 537");
   assert.equal(compileForTest("@end").condition.explain(["00B"], extraValues), "pc is 00B (end), within an instruction, but must be @end");
-  assert.equal(compileForTest("cycles").fault, "write `cycles TIME`, `cycles at most TIME` or `cycles at least TIME`");
+  assert.equal(compileForTest("cycles").error, "write `cycles TIME`, `cycles at most TIME` or `cycles at least TIME`");
 });
 
 test("durations", () => {
@@ -150,5 +150,5 @@ test("durations", () => {
     ["1.5", 0], ["ms", 0], ["", 0],
     ["3 x", 0], ["1000000001", 0], ["-3", 0], ["1.5.2 ms", 0]];
   for (const [text, cycles] of cases) assert.equal(parseExactDuration(text.split(" ")), cycles, text);
-  assert.deepEqual(parseDuration(["pace", "43", "ms", "1", "s"], 1), { cycles: 3981, words: 2 });
+  assert.deepEqual(parseDuration(["pace", "43", "ms", "1", "s"], 1), { cycles: 3981, wordCount: 2 });
 });

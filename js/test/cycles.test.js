@@ -75,14 +75,14 @@ test("places are parsed, and read from trace values", () => {
 });
 
 test("messages about pauses", () => {
-  const goalStop = { cycles: 538, why: "goal", returns: false };
-  assert.equal(pauseMessage({ kind: "over" }, { ...goalStop, returns: true }, "009"), "Returned to 009, after 538 cycles, 5.810 ms.");
+  const goalStop = { cycles: 538, reason: "goal", endsAtReturn: false };
+  assert.equal(pauseMessage({ kind: "over" }, { ...goalStop, endsAtReturn: true }, "009"), "Returned to 009, after 538 cycles, 5.810 ms.");
   assert.equal(pauseMessage({ kind: "over" }, { ...goalStop, cycles: 1 }, "00D"), "At 00D, after 1 cycle, 0.011 ms.");
   assert.equal(pauseMessage({ kind: "here", address: 20 }, goalStop, "014"), "Paused at 014, as requested, after 538 cycles, 5.810 ms.");
-  assert.equal(pauseMessage({ kind: "out" }, { cycles: 4, why: "break", returns: true }, "016"),
+  assert.equal(pauseMessage({ kind: "out" }, { cycles: 4, reason: "break", endsAtReturn: true }, "016"),
     "Paused at 016, at a breakpoint, after 4 cycles, 0.043 ms; the return from the subroutine was not reached.");
-  assert.equal(pauseMessage(null, { cycles: 4, why: "break", returns: false }, "016"), "Paused at 016, at a breakpoint.");
-  assert.equal(pauseMessage({ kind: "change", place: "rom3" }, { cycles: 0, why: "lacks", returns: false }, "000"),
+  assert.equal(pauseMessage(null, { cycles: 4, reason: "break", endsAtReturn: false }, "016"), "Paused at 016, at a breakpoint.");
+  assert.equal(pauseMessage({ kind: "change", place: "rom3" }, { cycles: 0, reason: "lacks", endsAtReturn: false }, "000"),
     "Nothing was done: this board has no rom3.");
   assert.equal(runningToGoal({ kind: "change", place: "r4" }), "Running to a change of r4.");
   assert.equal(describeUserPause({ kind: "out" }, 4, "016"),

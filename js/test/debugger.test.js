@@ -53,19 +53,19 @@ test("a session in memory: breakpoints at lines, steps, values, and going back a
   const session = openSession();
   assert.deepEqual(session.rejectedTexts, []);
   session.breakpoints.add({ line: LINE.blank });
-  const { moved, faults } = await session.applyBreakpoints();
-  assert.deepEqual([moved, faults], [["Line 5 puts no bytes into ROM: its breakpoint is at the next instruction, line 6."], []]);
+  const { moved, errors } = await session.applyBreakpoints();
+  assert.deepEqual([moved, errors], [["Line 5 puts no bytes into ROM: its breakpoint is at the next instruction, line 6."], []]);
   const stop = await session.runToGoal();
-  assert.deepEqual([stop.why, stop.id, session.line], ["break", 1, LINE.increment]);
-  assert.equal(stop.words, "Paused at 005 (turn + 2, line 6), at a breakpoint.");
-  assert.equal((await session.stepInto()).words, "At 006 (turn + 3, line 7), after 1 cycle, 0.011 ms.");
+  assert.deepEqual([stop.reason, stop.id, session.line], ["break", 1, LINE.increment]);
+  assert.equal(stop.message, "Paused at 005 (turn + 2, line 6), at a breakpoint.");
+  assert.equal((await session.stepInto()).message, "At 006 (turn + 3, line 7), after 1 cycle, 0.011 ms.");
   assert.deepEqual(session.values(["r4", "lamps", "acc", "nothing"]), ["1", "..", "0", ""]);
-  assert.equal((await session.runToGoal({ kind: "over" })).words, "At 003 (turn, line 4), after 2 cycles, 0.022 ms.");
+  assert.equal((await session.runToGoal({ kind: "over" })).message, "At 003 (turn, line 4), after 2 cycles, 0.022 ms.");
   await session.stepInto();
   assert.deepEqual([session.line, session.returns[0]], [LINE.show, 5]);
   const out = await session.runToGoal({ kind: "out" });
-  assert.deepEqual([out.why, out.returns, session.line], ["goal", true, LINE.increment]);
-  assert.match(out.words, /^Returned to 005 \(turn \+ 2, line 6\), after 37 cycles/);
+  assert.deepEqual([out.reason, out.endsAtReturn, session.line], ["goal", true, LINE.increment]);
+  assert.match(out.message, /^Returned to 005 \(turn \+ 2, line 6\), after 37 cycles/);
   assert.deepEqual(session.values(["lamp 0"]), ["*"]);
   const back = await session.goBack({ kind: "instruction" });
   assert.deepEqual([back.isDone, session.line], [true, LINE.back]);
@@ -94,8 +94,8 @@ test("conditions, hit counts and log messages, which the session file does not c
   countedSession.breakpoints.add({ line: LINE.increment, note: "R4 is {r4}, lamps {lamps}, two {two}" });
   await countedSession.applyBreakpoints();
   const stop = await countedSession.runToGoal();
-  assert.deepEqual([stop.why, stop.id, countedSession.values(["r4"])[0]], ["break", id, "4"]);
-  assert.deepEqual(stop.tally.notes.map(({ words }) => words),
+  assert.deepEqual([stop.reason, stop.id, countedSession.values(["r4"])[0]], ["break", id, "4"]);
+  assert.deepEqual(stop.tally.notes.map(({ text: words }) => words),
     ["R4 is 0, lamps .., two .", "R4 is 1, lamps *., two .", "R4 is 2, lamps .*, two *", "R4 is 3, lamps **, two *"]);
   assert.deepEqual(countedSession.breakpoints.all.map(({ hits }) => hits), [4, 5]);
   assert.deepEqual(countedSession.debugger.session.ask("breaks\n"), ["breaks -"]);
@@ -128,12 +128,12 @@ test("a breakpoint stops a step; an invalid one reports its error, and stops eve
   session.breakpoints.add({ line: LINE.write, condition: "r4 = 0" });
   const invalid = session.breakpoints.add({ line: LINE.increment, condition: "r44 = 0" });
   const absentPort = session.breakpoints.add({ line: LINE.wait, note: "{rom3}" });
-  const { faults } = await session.applyBreakpoints();
-  assert.deepEqual(faults, [[invalid.id, "r44: no such place; the registers are r0 to r15 (column 1)"],
+  const { errors } = await session.applyBreakpoints();
+  assert.deepEqual(errors, [[invalid.id, "r44: no such place; the registers are r0 to r15 (column 1)"],
     [absentPort.id, "the note asks for {rom3}: the board has no ROM 3 (column 2)"]]);
   await session.runToGoal({ kind: "here", address: 3 });
   const stop = await session.runToGoal({ kind: "over" });
-  assert.deepEqual([stop.why, session.line], ["break", LINE.write]);
+  assert.deepEqual([stop.reason, session.line], ["break", LINE.write]);
   const stops = [];
   for (let round = 0; round < 4; round++) stops.push([(await session.runToGoal()).id, session.line]);
   assert.deepEqual(stops, [[absentPort.id, LINE.wait], [absentPort.id, LINE.wait], [absentPort.id, LINE.wait], [absentPort.id, LINE.wait]]);
@@ -142,7 +142,7 @@ test("a breakpoint stops a step; an invalid one reports its error, and stops eve
   await session.applyBreakpoints();
   const errorStop = await session.runToGoal();
   assert.deepEqual([errorStop.id, session.line], [invalid.id, LINE.increment]);
-  assert.equal(errorStop.words, "Paused at 005 (turn + 2, line 6), at a breakpoint that has an error, "
+  assert.equal(errorStop.message, "Paused at 005 (turn + 2, line 6), at a breakpoint that has an error, "
     + "accu: no such place; the accumulator is acc (column 1).");
   assert.equal((await session.runToGoal()).id, invalid.id);
   session.breakpoints.change(invalid.id, { condition: "R4 == 0b11 || r4 >= 0xF" });
@@ -150,7 +150,7 @@ test("a breakpoint stops a step; an invalid one reports its error, and stops eve
   const stopsAfterFix = [];
   for (let round = 0; round < 3; round++) stopsAfterFix.push([(await session.runToGoal()).id, session.values(["r4"])[0]]);
   assert.deepEqual(stopsAfterFix, [[invalid.id, "3"], [invalid.id, "F"], [1, "0"]]);
-  assert.match(stop.words, /^Paused at 009 \(show \+ 1, line 9\), at a breakpoint, when r4 = 0, after 3 cycles, .*; the return .* not/);
+  assert.match(stop.message, /^Paused at 009 \(show \+ 1, line 9\), at a breakpoint, when r4 = 0, after 3 cycles, .*; the return .* not/);
 });
 
 test("going back keeps the current breakpoints, and running again repeats the same states", async () => {
@@ -206,15 +206,15 @@ test("going back to breakpoints passes the same stops in reverse order", async (
     const travel = await goBackToArrival(session);
     assert.deepEqual([bench.count.total, session.values(["r4"])[0], session.line], [cycles, r4, LINE.write]);
     assert.deepEqual([travel.isDone, travel.end, travel.id, travel.cycles], [true, "break", 1, totalBefore - cycles]);
-    assert.match(travel.words,
+    assert.match(travel.message,
       index === 0 ? /^Back at 009 \(show \+ 1, line 9\), 12 cycles, 0.130 ms earlier, at a/ : /at a breakpoint\.$/);
   }
   const travelToStart = await goBackToArrival(session);
   assert.deepEqual([travelToStart.isDone, travelToStart.end, bench.count.total], [true, "beginning", 0]);
-  assert.match(travelToStart.words,
+  assert.match(travelToStart.message,
     /^Back at 000 \(start, line 2\), .* earlier, at the beginning of the remembered past: no breakpoint was/);
   const failedTravel = await goBackToArrival(session);
-  assert.deepEqual([failedTravel.isDone, failedTravel.words], [false, "Nothing was done: the remembered past reaches no further back."]);
+  assert.deepEqual([failedTravel.isDone, failedTravel.message], [false, "Nothing was done: the remembered past reaches no further back."]);
   for (let move = 0; move < states.length + 1; move++) session.goForward();
   assert.equal(bench.count.total, total);
 });
@@ -231,7 +231,7 @@ test("going back to breakpoints checks conditions, ignores hit counts, and uses 
   for (const [cycles] of states.filter(([, r4]) => r4 === "3").reverse()) {
     const travel = await goBackToArrival(session);
     assert.deepEqual([bench.count.total, travel.id], [cycles, id]);
-    assert.match(travel.words, /, at a breakpoint, when r4 = 3\.$/);
+    assert.match(travel.message, /, at a breakpoint, when r4 = 3\.$/);
   }
   assert.equal((await goBackToArrival(session)).end, "beginning");
   assert.deepEqual(bench.ask("breaks\n"), ["breaks -"]);
@@ -246,15 +246,15 @@ test("going back also stops before changes of watched places", async () => {
   await bench.serve("unwatch 0 0\nrun 300\nwatch 0 0\n", async () => true);
   const travel = await goBackToArrival(session);
   assert.deepEqual([travel.end, travel.place, travel.line], ["change", "ram.0.0x00", ""]);
-  assert.match(travel.words, /: this instruction changes ram\.0\.0x00 from \w to \w\.$/);
+  assert.match(travel.message, /: this instruction changes ram\.0\.0x00 from \w to \w\.$/);
   const oldValue = session.values(["ram.0.0x00"])[0];
   await session.stepInto();
   assert.notEqual(session.values(["ram.0.0x00"])[0], oldValue);
   await bench.serve("unwatch 0 0\n", async () => true);
   const travelToRegister = await goBackToArrival(session, "r4");
   assert.equal(travelToRegister.place, "r4");
-  assert.equal((await goBackToArrival(session, "ram.7.0")).why, "lacks");
-  assert.match((await goBackToArrival(session, "ram1.0")).words, /^Nothing was done: this board has no ram1\.0\.$/);
+  assert.equal((await goBackToArrival(session, "ram.7.0")).reason, "lacks");
+  assert.match((await goBackToArrival(session, "ram1.0")).message, /^Nothing was done: this board has no ram1\.0\.$/);
 });
 
 test("going back to a breakpoint in a long run is fast", async () => {
@@ -295,17 +295,17 @@ test("a pause ends a run that has no stop", async () => {
   const session = openSession("JMS x\nx: JUN x\n");
   await session.runToGoal({ kind: "count", count: 1 });
   const stop = await session.runToGoal({ kind: "out" }, async (done) => done < 1000000);
-  assert.equal(stop.why, "pause");
-  assert.match(stop.words, /^Paused at 002 \(x, line 2\), after .*; the return from the subroutine was not reached\.$/);
+  assert.equal(stop.reason, "pause");
+  assert.match(stop.message, /^Paused at 002 \(x, line 2\), after .*; the return from the subroutine was not reached\.$/);
 });
 
 test("log messages show lamps by their names and ports as digits", () => {
   const face = new Face(BOARD);
   const lamps = [0, 1].flatMap((line) => ["[[lamp]]", `line = "ram0.0.${line}"`]);
   const board = readBoard(["board", "[[rom]]", "chip = 0", 'port = "0000"', ...lamps]);
-  const { note, fault } = compileNote("{one}{two} rom {rom0} {", { board, face, map: null });
+  const { note, error: fault } = compileNote("{one}{two} rom {rom0} {", { board, face, map: null });
   assert.deepEqual([fault, note.places.length], ["", 3]);
-  assert.equal(note.words(["1", "0", "9"]), "*. rom 9 {");
+  assert.equal(note.textOf(["1", "0", "9"]), "*. rom 9 {");
 });
 
 const linesAfterEdit = (lines, edit) => {
@@ -354,5 +354,5 @@ test("the message about a stop contains the breakpoint's condition and hit count
   const session = openSession();
   session.breakpoints.add({ line: LINE.write, condition: "r4 = 2", from: 2 });
   await session.applyBreakpoints();
-  assert.match((await session.runToGoal()).words, /^Paused at 009 \(show \+ 1, line 9\), at a breakpoint, when r4 = 2, at hit 2\.$/);
+  assert.match((await session.runToGoal()).message, /^Paused at 009 \(show \+ 1, line 9\), at a breakpoint, when r4 = 2, at hit 2\.$/);
 });

@@ -97,7 +97,7 @@ function checkAction(name, text, action, expectedBoard) {
   const countMissingParts = (boardText, board) => missingParts(new Face(boardText), board).length;
   assert.ok(countMissingParts(result.text, readBoard(after.board)) <= countMissingParts(text, readBoard(first.board)),
     `${label}\n${result.text}`);
-  assert.match(result.words, /^[A-Z].*\.$/);
+  assert.match(result.message, /^[A-Z].*\.$/);
   return { ...result, board: readBoard(after.board) };
 }
 
@@ -135,25 +135,25 @@ testOnBench("a buzzer is added, wired, named and deleted, and is deleted with it
   const firstLine = ({ text }) => text.split("\n", 1)[0];
   const addResult = checkAction("nothing", "", { kind: "add", part: "buzzer" });
   assert.equal(addResult.text, '# buzzer rom0.0: buzzer\n\n[[rom]]\nchip = 0\nport = "0000"\n');
-  assert.equal(addResult.words, "The buzzer was added, with ROM 0.");
+  assert.equal(addResult.message, "The buzzer was added, with ROM 0.");
   assert.match(applyAction(addResult.text, { kind: "add", part: "buzzer" }).refusal, /^A board has one buzzer/);
   // The default line of this part is in use.
   assert.match(checkAction("buzzer", addResult.text, { kind: "add", part: "chain" }).text, /clock = "rom0.1"/);
   const wireResult = checkAction("buzzer", addResult.text, { kind: "wire", line: "rom0.2", target: "buzzer 0" });
-  assert.deepEqual([firstLine(wireResult), wireResult.words], ["# buzzer rom0.2: buzzer", "Line rom0.2 is wired to the buzzer."]);
+  assert.deepEqual([firstLine(wireResult), wireResult.message], ["# buzzer rom0.2: buzzer", "Line rom0.2 is wired to the buzzer."]);
   const nameResult = checkAction("buzzer", wireResult.text, { kind: "name", part: "buzzer", name: "the horn" });
-  assert.deepEqual([firstLine(nameResult), nameResult.words], ["# buzzer rom0.2: the horn", "The buzzer is called the horn."]);
+  assert.deepEqual([firstLine(nameResult), nameResult.message], ["# buzzer rom0.2: the horn", "The buzzer is called the horn."]);
   assert.equal(applyAction(nameResult.text, { kind: "name", part: "buzzer", name: " " }).refusal, "A buzzer needs a name.");
   const inputs = applyAction(nameResult.text, { kind: "add", part: "inputs" }).text;
   const { refusal } = applyAction(inputs, { kind: "wire", line: "rom1.0", target: "buzzer 0" });
   assert.match(refusal, /rom1.0 is an input line: the buzzer needs/);
   assert.equal(checkAction("buzzer", nameResult.text, { kind: "delete", part: "buzzer" }).text, '[[rom]]\nchip = 0\nport = "0000"\n');
-  assert.equal(checkAction("buzzer", nameResult.text, { kind: "delete", part: "rom 0" }).words,
+  assert.equal(checkAction("buzzer", nameResult.text, { kind: "delete", part: "rom 0" }).message,
     "ROM 0 was deleted, and with it the buzzer.");
   const board = { ...nameResult.board, buzzer: "rom0.2" };
   assert.deepEqual(possibleTargets(board, "rom0.3"), ["buzzer 0"]);
   const { title, fields, buttons } = selectionForm(board, new Face(nameResult.text), "buzzer 0");
-  assert.deepEqual([title, ...fields.map(({ value }) => value), ...buttons.map(({ word }) => word)],
+  assert.deepEqual([title, ...fields.map(({ value }) => value), ...buttons.map(({ label: word }) => word)],
     ["The buzzer", "the horn", "rom0.2", "Delete"]);
 });
 
@@ -178,7 +178,7 @@ for (const { name, text } of BOARDS) {
       const isMore = boardTextOf(board).length < boardTextOf(result.board).length || ["button", "switch", "buzzer", "ram"].includes(part);
       assert.ok(isMore, part);
       const deletion = checkAction(name, result.text, { kind: "delete", part: result.part });
-      if (!result.words.includes(", with ")) {
+      if (!result.message.includes(", with ")) {
         assert.deepEqual(deletion.board, board, `${name}: ${part} and back`);
         if (!OTHER_BOARDS.some((otherBoard) => otherBoard.text === text)) assert.equal(deletion.text, text, `${name}: ${part} and back`);
       }
@@ -357,7 +357,7 @@ function randomAction(pick, board, face) {
     { kind: "add", part: pick(SHELF_PARTS), digits: pick([1, 2, 3]) },
     { kind: "wire", line, target: pick([...possibleTargets(board, line), "lamp 0"]) },
     ...(field ? [field.act(field.options ? pick(field.options).value : pick(names))] : []),
-    ...buttons.map(({ act }) => act).slice(0, 1 + Number(pick([0, 0, 1]))),
+    ...buttons.map(({ action: act }) => act).slice(0, 1 + Number(pick([0, 0, 1]))),
   ]);
 }
 
@@ -418,7 +418,7 @@ testOnBench("from nothing to four keys and four lamps", () => {
     ({ text } = result);
     return result;
   };
-  assert.equal(perform({ kind: "add", part: "keys" }).words, "The keys were added, with ROM 0, chain 0 and ROM 1.");
+  assert.equal(perform({ kind: "add", part: "keys" }).message, "The keys were added, with ROM 0, chain 0 and ROM 1.");
   for (let lamp = 0; lamp < 4; lamp++) assert.equal(perform({ kind: "add", part: "lamp" }).part, `lamp ${lamp}`);
   const { board } = perform({ kind: "colour", lamp: 3, colour: "green" });
   assert.deepEqual(board.lamps, [0, 1, 2, 3].map((line) => `ram0.0.${line}`));

@@ -51,7 +51,7 @@ async function createDrawnBoard(text = "") {
 test("on an empty bench, parts are added with the parts that they need, and a wire goes from pin to pin", async () => {
   const fixture = await createDrawnBoard();
   const { drawing } = fixture;
-  assert.deepEqual([fixture.view.fault, [...fixture.view.shelf.values()].every((why) => why === "")], ["", true]);
+  assert.deepEqual([fixture.view.error, [...fixture.view.shelf.values()].every((why) => why === "")], ["", true]);
   await drawing.performInOrder({ kind: "add", part: "keys" });
   assert.equal(fixture.view.lastMessage, "The keys were added, with ROM 0, chain 0 and ROM 1.");
   assert.deepEqual([fixture.view.selected, fixture.view.shelf.get("keys")],
@@ -108,23 +108,23 @@ test("a text with errors cannot be edited, and the last valid drawing stays", as
   const fixture = await createDrawnBoard(boardOf("lock"));
   fixture.text = `${fixture.text}\n[[lamp]]\n`;
   await fixture.drawing.refresh();
-  assert.match(fixture.view.fault, /^The bench rejects the board's text: refusal 2[02]\. Board shows where\.$/);
+  assert.match(fixture.view.error, /^The bench rejects the board's text: refusal 2[02]\. Board shows where\.$/);
   assert.equal(fixture.view.board.lamps.length, 3);
   const text = fixture.text.replace("\n[[lamp]]\n", "");
   fixture.text = text.replace('"rom1.0"', '"rom1\\u002e0"');
   await fixture.drawing.refresh();
-  assert.match(fixture.view.fault, /the picture cannot change/);
+  assert.match(fixture.view.error, /the picture cannot change/);
   await fixture.drawing.performInOrder({ kind: "add", part: "rom" });
   assert.match(fixture.view.lastMessage, /^It was not done\. .* the picture cannot change/);
   fixture.text = text;
   await fixture.drawing.refresh();
-  assert.equal(fixture.view.fault, "");
+  assert.equal(fixture.view.error, "");
 });
 
 test("an action is rejected if the text would be too long for the bench", async () => {
   const longText = `${'lamp = [] # x\n'}${"rom = []\n".repeat(0)}${" \n".repeat(16370)}`;
   const fixture = await createDrawnBoard(longText);
-  assert.equal(fixture.view.fault, "");
+  assert.equal(fixture.view.error, "");
   await fixture.drawing.performInOrder({ kind: "add", part: "rom" });
   assert.match(fixture.view.lastMessage, /^It was not done\. The bench rejects the board's text: refusal 13\./);
   assert.equal(fixture.text, longText);
@@ -186,14 +186,14 @@ test("each value that a field offers can be set, or is rejected with a reason; e
       const hasPart = board.chains.length > 0 || !/chain|keys|clock|column|row/.test(selection);
       const { title, fields, buttons } = selectionForm(board, face, hasPart ? selection : "");
       assert.ok(title.length > 3);
-      for (const { label, value, options, act } of fields) {
+      for (const { label, value, options, createAction: act } of fields) {
         if (options) assert.ok(options.some((option) => option.value === value), `${name}: ${selection}: ${label} is ${value}`);
         for (const choice of options ? options.map((each) => each.value) : ["Other"]) {
-          const { refusalOf: refusal, words } = applyAction(text, act(choice));
+          const { refusalOf: refusal, message: words } = applyAction(text, act(choice));
           assert.ok(refusal !== "" || words !== "", `${name}: ${label} ${choice}`);
         }
       }
-      for (const { act } of buttons) assert.ok(applyAction(text, act).refusalOf !== "" || applyAction(text, act).edits.length > 0);
+      for (const { action: act } of buttons) assert.ok(applyAction(text, act).refusalOf !== "" || applyAction(text, act).edits.length > 0);
     }
   }
 });

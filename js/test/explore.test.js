@@ -335,7 +335,7 @@ test("the values of places are those that `trace` reports", () => {
 
 test("a rejected count has no results", () => {
   const values = new PlaceValues(["no 11", "count ran 2 end lines 1", "00F 2", "seq 4"]);
-  assert.deepEqual([values.counts(), values.counts()], [[], [{ address: 15, begun: 2, jumped: -1 }]]);
+  assert.deepEqual([values.counts(), values.counts()], [[], [{ address: 15, startCount: 2, jumpCount: -1 }]]);
   assert.equal(values.take(), "seq 4");
 });
 
@@ -407,9 +407,9 @@ test("joined reports have the shortest counterexamples and the combined coverage
 
 test("coverage is reported with the lines that were not run", () => {
   const coverage = new Coverage();
-  assert.ok(coverage.add([{ address: 0, begun: 3, jumped: -1 }, { address: 2, begun: 2, jumped: 2 }]));
-  assert.ok(!coverage.add([{ address: 2, begun: 1, jumped: 1 }]));
-  assert.ok(coverage.add([{ address: 2, begun: 1, jumped: 0 }]));
+  assert.ok(coverage.add([{ address: 0, startCount: 3, jumpCount: -1 }, { address: 2, startCount: 2, jumpCount: 2 }]));
+  assert.ok(!coverage.add([{ address: 2, startCount: 1, jumpCount: 1 }]));
+  assert.ok(coverage.add([{ address: 2, startCount: 1, jumpCount: 0 }]));
   assert.equal(new Coverage(coverage.text).text, "107");
   const createInstruction = (line, address, isBranch) => ({ line, address, isBranch });
   assert.deepEqual(coverage.summary([createInstruction(1, 0, false), createInstruction(2, 2, true), createInstruction(3, 4, true)]),

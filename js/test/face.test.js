@@ -12,7 +12,7 @@ const board = readBoard(["board", ...sample("board.toml").trim().split("\n")]);
 
 const displayTextOf = (face) => new DisplayText(
   face.groups.filter(({ kind }) => kind === "display"),
-  [...face.lamps].map(([index, { text }]) => ({ at: index, text })),
+  [...face.lamps].map(([lamp, { text }]) => ({ lamp, text })),
 );
 
 /** Returns the description of a front panel, with one fact per line. */
@@ -27,7 +27,7 @@ function describeFace(face, errors, patterns) {
     ...(face.buzzer ? [`buzzer ${face.buzzer.place} ${face.buzzer.name}`] : []),
     ...(face.printer ? [`printer ${face.printer.strobe} ${face.printer.port} ${face.printer.words.join(" ")}`] : []),
     ...(pin ? [`test ${pin.kind} ${pin.name} ${pin.level}`] : []), ...listFacts("port", face.ports),
-    ...errors.map(({ line, words }) => `fault line ${line}: ${words}`),
+    ...errors.map(({ line, message }) => `fault line ${line}: ${message}`),
     ...patterns.map((pattern) => {
       const { number, names } = displayTextOf(face).read(pattern);
       return `shows ${pattern} ${number}${names && ` ${names}`}`;
@@ -54,7 +54,7 @@ test("parsing a front panel takes time proportional to the length of its text", 
   ]) {
     // Measure processor time, so that other work on the machine does not count.
     const startUsage = process.cpuUsage();
-    assert.ok(new Face(text).faults.length >= errorCount);
+    assert.ok(new Face(text).errors.length >= errorCount);
     assert.ok(process.cpuUsage(startUsage).user < 1000000);
   }
 });

@@ -144,9 +144,9 @@ const HEAT = {
 test("five heat levels, and the descriptions of changes", () => {
   assert.deepEqual([...heatLevels(HEAT, "often").values()], [1, 5, 3]);
   assert.deepEqual([...heatLevels(HEAT, "lately").values()], [1, 5, 3]);
-  assert.deepEqual([...heatLevels({ cycles: 5, cells: [{ ...HEAT.cells[0], ago: 0 }] }, "often").values()], [5]);
+  assert.deepEqual([...heatLevels({ cycles: 5, cells: [{ ...HEAT.cells[0], cyclesAgo: 0 }] }, "often").values()], [5]);
   assert.equal(describeChanges(HEAT.cells[1], null), "100 times, last by 009, 1 cycle, 0.011 ms ago");
-  assert.equal(describeChanges({ ...HEAT.cells[2], count: 1, ago: 0 }, null), "once by the line poke c 1");
+  assert.equal(describeChanges({ ...HEAT.cells[2], count: 1, cyclesAgo: 0 }, null), "once by the line poke c 1");
   assert.equal(describeChangesWhileRunning(HEAT.cells[1], null), "100 times as seen while running, last seen by 009");
   assert.equal(describeChangesWhileRunning({ ...HEAT.cells[2], count: 1 }, null),
     "once as seen while running, last seen by the line poke c 1");
@@ -164,7 +164,7 @@ test("names of nibbles come from watches and from constants that FIM loads for S
   const map = new SourceMap(calls.checkProgram(PROGRAM).map, PROGRAM);
   assert.deepEqual(namedSrcBytes(map), [{ name: "digit", byte: 0x12 }, { name: "other", byte: 0x41 }]);
   const texts = ["count = R5", "sum = ram 2 0x41", "ram 0 0x13", "mode = st 0 1 2", "digit = ram 0 0x12"];
-  const watched = texts.map((text) => parseWatch(text).watched);
+  const watched = texts.map((text) => parseWatch(text).watch);
   const board = { banks: [{ bank: 0, chips: 1 }, { bank: 2, chips: 2 }] };
   assert.deepEqual([...nibbleNames(board, watched, map)], [
     ["ram.2.0x41", ["sum", "other"]], ["st.0.1.2", ["mode"]], ["ram.0.0x12", ["digit"]], ["ram.2.0x12", ["digit"]]]);

@@ -83,7 +83,7 @@ test("the message names the wrong word", () => {
     ["seq é", "a line has ASCII characters and tabs; this one has é"],
     ["seq \x01", "a line has ASCII characters and tabs; this one has the byte 01"],
     ["x".repeat(300), "the line has 300 characters; a line has at most 255"],
-  ]) assert.equal(findLineError(line).words, words, line);
+  ]) assert.equal(findLineError(line).message, words, line);
   assert.equal(findLineError("poke ram.0.0x3F 15"), null);
 });
 

@@ -57,7 +57,7 @@ test("frames press keys, run cycles, and reuse returned buffers", async () => {
   }
   const frame = calls.advance(20000);
   assert.equal(frame.cycles, 20000);
-  const changes = frame.ran.filter(({ runs }) => runs === 0).map(({ line }) => line);
+  const changes = frame.runEntries.filter(({ runs }) => runs === 0).map(({ line }) => line);
   assert.deepEqual(changes, ["press 2 1", "release 2 1", "press 3 2", "release 3 2"]);
   assert.equal(frame.file.byteLength, 163856);
   const next = calls.advance(1000);

@@ -7,7 +7,7 @@ import { matrixKey } from "../core/board/key_place.js";
 
 /** Runs until a goal is reached, for at most `most` cycles. Resolves to the cycles, whether the goal was reached, and why the run ended. */
 async function runToGoal(calls, goal, maximum) {
-  const { cycles, isReached, end } = (await calls.goOn(goal, maximum)).found;
+  const { cycles, isReached, end } = (await calls.goOn(goal, maximum)).searchResult;
   return { cycles, isReached, end };
 }
 
@@ -16,13 +16,13 @@ test("a step over a JMS takes as many cycles as a run to a breakpoint after it, 
   const calls = await openExample("three lamps", "run 7\n");
   assert.equal(readCounter(calls), "007");
   const result = await calls.goOn({ kind: "over" });
-  assert.deepEqual([result.found.isReached, result.found.cycles, readCounter(calls)], [true, result.total - 7, "009"]);
+  assert.deepEqual([result.searchResult.isReached, result.searchResult.cycles, readCounter(calls)], [true, result.total - 7, "009"]);
   const sent = result.entries.map(({ line, answers }) => [line, answers[0].slice(5)]);
-  assert.deepEqual(sent, [[`run ${result.found.cycles}`, `ran ${result.found.cycles} end`]]);
+  assert.deepEqual(sent, [[`run ${result.searchResult.cycles}`, `ran ${result.searchResult.cycles} end`]]);
   assert.deepEqual(calls.ask("breaks\nwatches\n"), ["breaks -", "watches -"]);
   const otherCalls = await openExample("three lamps", "run 7\nbreak 0x009\n");
   const [answer] = (await otherCalls.serve("run 100000\n")).entries[0].answers;
-  assert.equal(answer.split(" ")[3], String(result.found.cycles));
+  assert.equal(answer.split(" ")[3], String(result.searchResult.cycles));
 });
 
 test("a step over any other instruction is one instruction, and a step out ends after the JMS", async () => {
@@ -30,7 +30,7 @@ test("a step over any other instruction is one instruction, and a step out ends 
   assert.deepEqual(await runToGoal(calls, { kind: "over" }), { cycles: 2, isReached: true, end: "" });
   await calls.serve("run 7\n");
   assert.equal(readCounter(calls), "014");
-  assert.equal((await calls.goOn({ kind: "out" })).found.isReached, true);
+  assert.equal((await calls.goOn({ kind: "out" })).searchResult.isReached, true);
   assert.equal(readCounter(calls), "009");
 });
 
@@ -52,17 +52,17 @@ test("runs to an address, for a number of instructions, and to a change", async 
   assert.deepEqual(await runToGoal(calls, { kind: "count", count: 3 }), { cycles: 6, isReached: true, end: "" });
   const lampsBefore = calls.ask("lamps\n")[0];
   const result = await calls.goOn({ kind: "change", place: "lamps" });
-  assert.equal(result.found.isReached, true);
+  assert.equal(result.searchResult.isReached, true);
   assert.notEqual(calls.ask("lamps\n")[0], lampsBefore);
   const newCalls = await openExample("three lamps");
-  assert.equal((await newCalls.goOn({ kind: "change", place: "r4" })).found.cycles, 5);
+  assert.equal((await newCalls.goOn({ kind: "change", place: "r4" })).searchResult.cycles, 5);
 });
 
 test("a run to a distant address, also if all breakpoints are in use", async () => {
   const loops = "far: ISZ R0, far\nISZ R1, far\nISZ R2, far\nISZ R3, far\nend: JUN end\n";
   const setup = `wire\n[[rom]]\nchip = 0\nport = "0000"\n.\nasm\n${loops}.\n`;
   const calls = await openExample("empty bench", setup);
-  const { found } = await calls.goOn({ kind: "here", address: 8 }, 1000000);
+  const { searchResult: found } = await calls.goOn({ kind: "here", address: 8 }, 1000000);
   assert.deepEqual([found.isReached, readCounter(calls)], [true, "008"]);
   const callsWithBreakpoints =
     await openExample("empty bench", `${setup}${Array.from({ length: 32 }, (_, index) => `break ${index + 16}\n`).join("")}`);
@@ -96,37 +96,37 @@ test("a step over a delay of 24 seconds, and out of it, in frames and at full sp
   const calls = await createBench(`JMS wait\nend: JUN end\nwait: ${lines}BBL 0\n`);
   const fileBefore = Buffer.from(calls.bench.session.file);
   const result = await calls.goOn({ kind: "over" });
-  assert.deepEqual([result.found.end, result.entries.length, Buffer.compare(fileBefore, calls.bench.session.file)], ["bound", 0, 0]);
+  assert.deepEqual([result.searchResult.end, result.entries.length, Buffer.compare(fileBefore, calls.bench.session.file)], ["bound", 0, 0]);
   const frame = runUntilStop(calls, 1543);
-  assert.deepEqual([frame.stop, readCounter(calls)], [{ why: "goal", id: 0, cycles: cycles + 3, returns: true }, "002"]);
-  assert.ok(frame.ran.every(({ line }) => /^run \d+$/.test(line)));
+  assert.deepEqual([frame.stop, readCounter(calls)], [{ reason: "goal", id: 0, cycles: cycles + 3, endsAtReturn: true }, "002"]);
+  assert.ok(frame.runEntries.every(({ line }) => /^run \d+$/.test(line)));
   assert.deepEqual(calls.ask("breaks\nwatches\n"), ["breaks -", "watches -"]);
   // With exactly this limit, the goal is still reached. A later run has no goal.
   assert.equal(calls.advance(1543).stop, null);
   await calls.goBack({ kind: "stop" });
   await calls.serve("reset\nrun 1000\n");
   const outResult = await calls.goOn({ kind: "out" }, 100000000);
-  assert.deepEqual([outResult.found.isReached, outResult.found.cycles, readCounter(calls)], [true, cycles + 3 - 1000, "002"]);
+  assert.deepEqual([outResult.searchResult.isReached, outResult.searchResult.cycles, readCounter(calls)], [true, cycles + 3 - 1000, "002"]);
 });
 
 test("a step over a subroutine that waits for a key, which is pressed during the run", async () => {
   const calls = await createBench("main: JMS getkey\nJUN main\ngetkey: JCN 1, getkey\nBBL 0\n");
   await calls.serve("test 0\n");
-  assert.equal((await calls.goOn({ kind: "over" })).found.end, "bound");
+  assert.equal((await calls.goOn({ kind: "over" })).searchResult.end, "bound");
   for (let frame = 0; frame < 40; frame++) assert.equal(calls.advance(1543).stop, null);
   await calls.serve("test 1\n");
   const { stop } = runUntilStop(calls, 1543);
-  assert.deepEqual([stop.why, stop.returns, readCounter(calls)], ["goal", true, "002"]);
+  assert.deepEqual([stop.reason, stop.endsAtReturn, readCounter(calls)], ["goal", true, "002"]);
   assert.ok(stop.cycles > 40 * 1543 && stop.cycles < 41 * 1543);
 });
 
 test("runs of many instructions, also from the middle of an instruction", async () => {
   const calls = await createBench("end: JUN end\n");
-  assert.equal((await calls.goOn({ kind: "count", count: 1000000 })).found.cycles, 2000000);
+  assert.equal((await calls.goOn({ kind: "count", count: 1000000 })).searchResult.cycles, 2000000);
   await calls.serve("run 1\n");
-  assert.equal((await calls.goOn({ kind: "count", count: 3 })).found.cycles, 5);
+  assert.equal((await calls.goOn({ kind: "count", count: 3 })).searchResult.cycles, 5);
   const loopCalls = await createBench("go: NOP\nNOP\nJUN go\n");
-  assert.equal((await loopCalls.goOn({ kind: "count", count: 300000 })).found.cycles, 400000);
+  assert.equal((await loopCalls.goOn({ kind: "count", count: 300000 })).searchResult.cycles, 400000);
 });
 
 test("runs to a distant change of a register, a port, a lamp and a RAM character", async () => {
@@ -150,18 +150,18 @@ test("the user's breakpoints stop a move first; a goal that is never reached has
   const emptyBench = await openExample("empty bench", "wire\n[[rom]]\nchip = 0\nport = \"0000\"\n.\nasm\nx: JUN x\n.\n");
   const fileBefore = Buffer.from(emptyBench.bench.session.file);
   const result = await emptyBench.goOn({ kind: "change", place: "r4" }, 5000);
-  assert.deepEqual([result.found.end, result.entries.length, Buffer.compare(fileBefore, emptyBench.bench.session.file)], ["bound", 0, 0]);
+  assert.deepEqual([result.searchResult.end, result.entries.length, Buffer.compare(fileBefore, emptyBench.bench.session.file)], ["bound", 0, 0]);
 });
 
 test("with key presses, a goal stops the run at the cycle in which it is reached", async () => {
   const calls = await openExample("calculator");
   calls.advance(100000);
   const lampsBefore = calls.ask("lamps\n")[0];
-  assert.equal((await calls.goOn({ kind: "change", place: "lamps" }, 100000)).found.end, "bound");
+  assert.equal((await calls.goOn({ kind: "change", place: "lamps" }, 100000)).searchResult.end, "bound");
   const startTotal = calls.bench.session.count.total;
   let frameResult = calls.advance(5000, matrixKey(2, 1));
   for (let frame = 0; !frameResult.stop && frame < 100; frame++) frameResult = calls.advance(1543);
-  assert.deepEqual([frameResult.stop.why, frameResult.stop.cycles], ["goal", calls.bench.session.count.total - startTotal]);
+  assert.deepEqual([frameResult.stop.reason, frameResult.stop.cycles], ["goal", calls.bench.session.count.total - startTotal]);
   assert.notEqual(calls.ask("lamps\n")[0], lampsBefore);
   // One cycle before the change, the lamps were unchanged.
   const secondCalls = await openExample("calculator");
@@ -175,7 +175,7 @@ test("with key presses, a goal stops the run at the cycle in which it is reached
 
 test("a reset ends a move, and the machine can run on", async () => {
   const calls = await createBench("end: JUN end\n");
-  assert.equal((await calls.goOn({ kind: "change", place: "r4" })).found.end, "bound");
+  assert.equal((await calls.goOn({ kind: "change", place: "r4" })).searchResult.end, "bound");
   assert.equal(calls.bench.debugger.isMoving, true);
   calls.advance(1543);
   await calls.serve("reset\n");

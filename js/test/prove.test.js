@@ -117,7 +117,7 @@ const questionOf = (text, usedSubject = subject) => (
 test("comparisons have the same meaning as their condition", () => {
   const states = [...generateRandomStates()];
   for (const text of CONDITIONS) {
-    const { condition, fault } = compileTracedCondition(text, subject.names);
+    const { condition, error: fault } = compileTracedCondition(text, subject.names);
     assert.ok(condition, `${text}: ${fault}`);
     for (const expected of [true, false]) {
       const lists = listComparisons(condition, expected, board);

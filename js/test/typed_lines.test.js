@@ -23,7 +23,7 @@ async function createSession(more) {
 
 /** Resolves to the lines that the bench served, with their first answers, and to the effects of breakpoints. */
 async function serveTypedLines(calls, lines) {
-  const { entries, typed: { id, cut, cycles, tally } } = await calls.serveTyped(lines);
+  const { entries, typedResult: { id, cutLine: cut, cycles, tally } } = await calls.serveTyped(lines);
   return { lines: entries.map(({ line, answers }) => `${line}: ${answers[0].replace(/^ok \d+ ?/, "")}`), id, cut, cycles, hits: tally.hits,
     notes: tally.notes };
 }
@@ -52,7 +52,7 @@ test("hits are counted across lines, and log messages are reported", async () =>
   const noted = await createSession({ note: "R9 is {r9}" });
   const { lines, notes, id } = await serveTypedLines(noted, "run 6\nrun 4\n");
   assert.deepEqual([lines, id], [["run 6: ran 6 end", "run 4: ran 4 end"], 0]);
-  assert.deepEqual(notes.map(({ cycles, words }) => [cycles, words]), [[1, "R9 is 1"], [5, "R9 is 2"], [9, "R9 is 3"]]);
+  assert.deepEqual(notes.map(({ cycles, text }) => [cycles, text]), [[1, "R9 is 1"], [5, "R9 is 2"], [9, "R9 is 3"]]);
 });
 
 test("rejected lines, steps and texts are served unchanged; an unconditional breakpoint ends a run", async () => {

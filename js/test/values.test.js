@@ -177,11 +177,11 @@ test("watched expressions can have names, and invalid expressions are reported",
     ["P2 + acc", "P2 + acc", "101 (0x65)"],
     ["count > 5 and digit = 7", "count > 5 and digit = 7", "true"], ["count + digit", "count + digit", "13 (0xD)"],
     ["total + 1", "total + 1", "14 (0xE)"], ["0b101", "0b101", "5"], ["acc - P2", "acc - P2", "-91"], ["test = 1", "test = 1", "true"]]) {
-    const { watched, fault } = parseWatch(text, names);
+    const { watch: watched, error: fault } = parseWatch(text, names);
     assert.deepEqual([fault, watched?.name, joinPieces(watched?.pieces(machineState, names) || [])], ["", name, wanted], text);
-    assert.equal(parseWatch(watched.text, names).watched.name, name);
+    assert.equal(parseWatch(watched.text, names).watch.name, name);
   }
-  assert.deepEqual(parseWatch("a = P2").watched.pieces(machineState, names).map(({ place }) => place), ["r4", "r5"]);
+  assert.deepEqual(parseWatch("a = P2").watch.pieces(machineState, names).map(({ place }) => place), ["r4", "r5"]);
   for (const [text, fault] of [
     ["", "An expression is missing, as in: "], ["a =", "An expression is missing, as in: "],
     ["loop", "in loop: in loop: in loop: loop uses names that use other names"],
@@ -192,14 +192,14 @@ test("watched expressions can have names, and invalid expressions are reported",
     ["coumt + 1", "coumt: no such place; perhaps count (column 1)"], ["R4 + (1", "this parenthesis is not closed (column 6)"],
   ]) {
     const read = parseWatch(text, names);
-    assert.ok(read.fault.startsWith(fault), `${text}: ${read.fault}`);
+    assert.ok(read.error.startsWith(fault), `${text}: ${read.error}`);
   }
   // An expression with names is checked only when the names are known.
-  assert.equal(parseWatch("r16").fault, "");
-  assert.equal(joinPieces(parseWatch("r16").watched.pieces(machineState, names)), "r16: no such place; the registers are r0 to r15");
-  assert.match(parseWatch("1a = R5").fault, /^A name has letters/);
-  assert.match(parseWatch(`a = ${"x".repeat(200)}`).fault, /^It has more than 200/);
-  const { all, fault } = parseWatches(["a = R1", "r5 +", 5, null, "R2"]);
+  assert.equal(parseWatch("r16").error, "");
+  assert.equal(joinPieces(parseWatch("r16").watch.pieces(machineState, names)), "r16: no such place; the registers are r0 to r15");
+  assert.match(parseWatch("1a = R5").error, /^A name has letters/);
+  assert.match(parseWatch(`a = ${"x".repeat(200)}`).error, /^It has more than 200/);
+  const { all, error: fault } = parseWatches(["a = R1", "r5 +", 5, null, "R2"]);
   assert.deepEqual(all.map(({ text }) => text), ["a = R1", "R2"]);
   assert.match(fault, /^a value is missing after \+ \(column 4\)/);
   assert.deepEqual(parseWatches({ a: 1 }), { all: [], fault: "" });

@@ -17,7 +17,7 @@ const wholeText = (waves) => [...vcdParts(waves, waves.lines.map((_, line) => li
 
 /** Starts a recording, and returns it. Its function `did` takes the answers of calls, which contain parts of the recording. */
 function record(calls, texts, { most = 1000000, behind = 0, trigger = "", stopsTime = false } = {}) {
-  const { recorded, fault } = calls.recordLive(texts, { trigger, behind, stopsTime });
+  const { recorded, error: fault } = calls.recordLive(texts, { trigger, cyclesAfterTrigger: behind, stopsMachine: stopsTime });
   assert.equal(fault, "");
   const live = new LiveWaves(recorded, { most, behind, trigger, stopsTime });
   return { live, did: (shown) => live.take(shown.waves) };
@@ -72,7 +72,7 @@ test("a breakpoint stops the machine and the recording", async () => {
   const { live, did } = record(calls, texts);
   const frame = calls.advance(100000);
   did(frame);
-  assert.equal(frame.stop.why, "break");
+  assert.equal(frame.stop.reason, "break");
   assert.equal(live.waves.cycles, frame.cycles);
   assert.equal(live.waves.counterAt(live.waves.cycles), 0x00c);
 });
@@ -115,7 +115,7 @@ test("the machine stops at an instruction once the cycles after a trigger are re
     frame = calls.advance(1543);
   }
   did(frame);
-  assert.equal(frame.stop.why, "recorded");
+  assert.equal(frame.stop.reason, "recorded");
   assert.deepEqual([live.endReason, live.waves.cycles], ["trigger", live.triggerMoment + 10]);
   assert.match(calls.ask("regs\n")[0], / owed 0 /);
   const after = calls.advance(1543);
@@ -150,7 +150,7 @@ test("the reason for the end of a recording is reported", async () => {
 
 test("an invalid trigger is reported, and nothing is recorded", async () => {
   const { calls, texts } = await beginWith("calculator");
-  const faultOf = (trigger) => calls.recordLive(texts, { trigger, behind: 0, stopsTime: false });
+  const faultOf = (trigger) => calls.recordLive(texts, { trigger, cyclesAfterTrigger: 0, stopsMachine: false });
   const faults = {
     "r99 rises": 'nothing here is called r99; Rows lists the names',
     "rom0 rises": "rom0 is a number: write rom0 changes, or as rom0 = 5",
@@ -160,7 +160,7 @@ test("an invalid trigger is reported, and nothing is recorded", async () => {
     rubbish: /./,
   };
   for (const [trigger, words] of Object.entries(faults)) {
-    const { recorded, fault } = faultOf(trigger);
+    const { recorded, error: fault } = faultOf(trigger);
     assert.equal(recorded, null, trigger);
     if (typeof words === "string") assert.equal(fault, words);
     else assert.match(fault, words);

@@ -18,7 +18,7 @@ test("`advance` runs the cycles and reads a snapshot in one call", () => {
   session.queue.press(matrixKey(0, 1));
   const frame = session.advance(5000);
   assert.equal(engine.calls, 1);
-  assert.deepEqual(frame.ran.map(({ line }) => line), ["press 0 1", "run 5000"]);
+  assert.deepEqual(frame.runEntries.map(({ line }) => line), ["press 0 1", "run 5000"]);
   assert.deepEqual([frame.cycles, frame.end, frame.changesKeys], [5000, "", true]);
   assert.match(frame.snapshot[0], / lamps \. breaks /);
   assert.equal(session.file[0], 2);
@@ -28,7 +28,7 @@ test("after a run that stops early, the later steps are not executed", () => {
   const { engine, session } = startWorkerSession();
   engine.stopAt = 2;
   const frame = session.advance(300000);
-  assert.deepEqual(frame.ran.map(({ answer }) => answer), ["ok 1 ran 100000 end", "ok 2 ran 1 break"]);
+  assert.deepEqual(frame.runEntries.map(({ answer }) => answer), ["ok 1 ran 100000 end", "ok 2 ran 1 break"]);
   assert.deepEqual([frame.cycles, frame.end], [100001, "ok 2 ran 1 break"]);
   assert.equal(session.file[0], 2);
 });
@@ -40,7 +40,7 @@ test("a failed call changes nothing, and the keys stay queued", () => {
   assert.throws(() => session.advance(10), /no 90/);
   assert.equal(session.file[0], 0);
   engine.callLimit = Infinity;
-  assert.equal(session.advance(10).ran[0].line, "press 0 1");
+  assert.equal(session.advance(10).runEntries[0].line, "press 0 1");
 });
 
 test("lines in pieces have the same result as lines at once", async () => {
@@ -91,8 +91,8 @@ test("at full speed, batches are reported together once the page has accepted th
   fullSpeed.runBatch(machine);
   assert.equal(fullSpeed.isReportDue(true), true);
   const result = fullSpeed.takeReport();
-  assert.equal(result.ran.length, 1);
-  assert.equal(result.ran[0].cycles, result.cycles);
+  assert.equal(result.runEntries.length, 1);
+  assert.equal(result.runEntries[0].cycles, result.cycles);
   assert.equal(fullSpeed.takeReport().cycles, 0);
   engine.stopAt = session.file[0] + 1;
   fullSpeed.runBatch(machine);

@@ -41,13 +41,13 @@ export function addressWithName(address, map) {
 /**
  * Returns the message after a move back or forward in time.
  * @param {BackGoal | { kind: "forward" }} goal
- * @param {Pick<TravelResult, "isDone" | "why" | "place" | "from" | "to" | "line" | "end" | "cycles">} travel the result of the move
+ * @param {Pick<TravelResult, "isDone" | "reason" | "place" | "from" | "to" | "line" | "end" | "cycles">} travel the result of the move
  * @param {string} where the address at which the session is paused
  * @param {{ condition: string }} [breakpoint] the breakpoint at that address
  */
 export function describeTimeTravel(goal, travel, where, breakpoint) {
-  const { isDone, why, from, to, line, end, cycles } = travel;
-  if (!isDone) return `Nothing was done: ${travelFailureReason(goal, why)}.`;
+  const { isDone, reason, from, to, line, end, cycles } = travel;
+  if (!isDone) return `Nothing was done: ${travelFailureReason(goal, reason)}.`;
   const distance = cycles === 0 ? "" : `, ${formatCycles(cycles)}`;
   if (goal.kind === "forward") return `Forward again to ${where}${distance}${distance && " later"}.`;
   const before = cycles === 0 ? "" : `${distance} earlier`;
@@ -88,8 +88,8 @@ function travelFailureReason(goal, why) {
  * @param {import("../core/debug/debugger.js").LastChange} change
  * @param {SourceMap | null} map the source map of the program in ROM; null if unknown
  */
-export function lastChangeText(name, { isFound, why, from, to, line, cycles, address }, map) {
-  if (why === "lacks") return "";
+export function lastChangeText(name, { isFound, reason, from, to, line, cycles, address }, map) {
+  if (reason === "lacks") return "";
   if (!isFound) return `${name}: no change in the past that the page remembers.`;
   const who = line ? `the line ${line}` : addressWithName(hex(address, 3), map);
   return `${name}: from ${from} to ${to} by ${who}${cycles === 0 ? "" : `, ${formatCycles(cycles)} ago`}.`;
@@ -132,17 +132,18 @@ function describeReachedGoal(goal, returns, where) {
 /**
  * Returns the message about a pause.
  * @param {Goal | null} goal null if the run had no goal
- * @param {Pick<Stop, "why" | "cycles" | "returns" | "change">} stop
+ * @param {Pick<Stop, "reason" | "cycles" | "endsAtReturn" | "change">} stop
  * @param {string} where the address at which the session is paused
  * @param {string} [when] the condition and hit count of the breakpoint that caused the pause, in words
  */
-export function pauseMessage(goal, { why, cycles, returns, change }, where, when = "") {
-  if (why === "lacks") return `Nothing was done: this board has no ${goal && goal.kind === "change" ? goal.place : "such place"}.`;
-  if (why === "outside") return `Nothing was done: ${NO_CALL_WAITS}.`;
+export function pauseMessage(goal, { reason, cycles, endsAtReturn, change }, where, when = "") {
+  if (reason === "lacks") return `Nothing was done: this board has no ${goal && goal.kind === "change" ? goal.place : "such place"}.`;
+  if (reason === "outside") return `Nothing was done: ${NO_CALL_WAITS}.`;
   const after = `after ${formatCycles(cycles)}`;
-  if (goal && why === "goal") return `${describeReachedGoal(goal, returns, where)}, ${after}.`;
-  const reason = why === "watch" && change ? `after ${change}` : (REASONS[why] || why) + (why === "break" ? when : "");
-  return goal ? `Paused at ${where}, ${reason}, ${after}; ${describeGoal(goal)} was not reached.` : `Paused at ${where}, ${reason}.`;
+  if (goal && reason === "goal") return `${describeReachedGoal(goal, endsAtReturn, where)}, ${after}.`;
+  const reasonText = reason === "watch" && change ? `after ${change}` : (REASONS[reason] || reason) + (reason === "break" ? when : "");
+  if (!goal) return `Paused at ${where}, ${reasonText}.`;
+  return `Paused at ${where}, ${reasonText}, ${after}; ${describeGoal(goal)} was not reached.`;
 }
 
 /**

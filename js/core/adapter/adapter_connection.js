@@ -45,9 +45,9 @@ export class AdapterConnection extends MessageStream {
     this.stopTask = (id) => fail(say.noProgress(id));
   }
 
-  /** @param {string} words */
-  reportStreamError(words) {
-    this.rejectRequest(0, "", new AdapterError(words));
+  /** @param {string} message */
+  reportStreamError(message) {
+    this.rejectRequest(0, "", new AdapterError(message));
   }
 
   /** @param {string} text */
@@ -95,8 +95,8 @@ export class AdapterConnection extends MessageStream {
     const { seq, command } = pending;
     pending.hasBegun = true;
     try {
-      const fault = this.lifecycleError(command);
-      if (fault) throw new AdapterError(fault);
+      const errorText = this.lifecycleError(command);
+      if (errorText) throw new AdapterError(errorText);
       const handler = Object.prototype.hasOwnProperty.call(this.requests, command) && this.requests[command];
       if (!handler) throw new AdapterError(say.noCommand(command));
       const result = await handler(args, pending);

@@ -23,23 +23,23 @@ import { stopsEachTime } from "../../words/machine.js";
  * @typedef {import("../debug/common_mistakes.js").Kind} MistakeKind
  *
  * A breakpoint that the client requested. `address` is -1 if no instruction was found. `from` is the number of the first hit that stops the
- * machine. `note` is the text to log instead of a stop, "" for none. `words` is the error message, "" if the breakpoint can be set.
+ * machine. `note` is the text to log instead of a stop, "" for none. `error` is the error message, "" if the breakpoint can be set.
  * @typedef {{ id: number, line: number, address: number, condition: string, from: number, note: string,
- *   words: string }} RequestedBreakpoint
+ *   error: string }} RequestedBreakpoint
  *
  * A breakpoint in a response; `line` counts from 1.
  * @typedef {{ id: number, verified: boolean, line?: number, message?: string, address: number }} SentBreakpoint
  * @typedef {"lines" | "labels" | "addresses"} BreakpointKind
  *
- * A data breakpoint that the client requested. `name` is the name of the place. `words` is the error message, "" if the place can be
+ * A data breakpoint that the client requested. `name` is the name of the place. `error` is the error message, "" if the place can be
  * watched.
- * @typedef {{ id: number, name: string, condition: string, from: number, words: string }} RequestedDataBreakpoint
+ * @typedef {{ id: number, name: string, condition: string, from: number, error: string }} RequestedDataBreakpoint
  * @typedef {{ kind: string, condition: string }} RequestedFilter a requested exception filter: the kind of mistake, and the text of its
  *   condition ("" for none)
  */
 
 /** @type {Omit<RequestedBreakpoint, "id">} */
-const DEFAULT_BREAKPOINT = { line: 0, address: -1, condition: "", from: 1, note: "", words: "" };
+const DEFAULT_BREAKPOINT = { line: 0, address: -1, condition: "", from: 1, note: "", error: "" };
 /** Matches a hit condition such as `5`, `= 5` or `> 4`, and captures its number. */
 const HIT_CONDITION = /^(?:>=|=|==|>)?\s*(\d{1,9})$/;
 /** The maximum number of RAM characters that the bench can watch. */
@@ -52,10 +52,10 @@ const MAX_WATCHES = 8;
  */
 function parseHitCondition(text) {
   const trimmed = text.trim();
-  if (trimmed === "") return { from: 1, words: "" };
-  const found = HIT_CONDITION.exec(trimmed);
-  const from = found ? Number(found[1]) + (trimmed.startsWith(">") && !trimmed.startsWith(">=") ? 1 : 0) : 0;
-  return from >= 1 ? { from, words: "" } : { from: 1, words: say.HIT_COUNT_SYNTAX };
+  if (trimmed === "") return { from: 1, error: "" };
+  const match = HIT_CONDITION.exec(trimmed);
+  const from = match ? Number(match[1]) + (trimmed.startsWith(">") && !trimmed.startsWith(">=") ? 1 : 0) : 0;
+  return from >= 1 ? { from, error: "" } : { from: 1, error: say.HIT_COUNT_SYNTAX };
 }
 
 /**
@@ -63,8 +63,8 @@ function parseHitCondition(text) {
  * @param {any} item
  */
 function readCommonFields(item) {
-  const { from, words } = parseHitCondition(optionalText(item, "hitCondition"));
-  return { condition: optionalText(item, "condition"), note: optionalText(item, "logMessage"), from, words };
+  const { from, error } = parseHitCondition(optionalText(item, "hitCondition"));
+  return { condition: optionalText(item, "condition"), note: optionalText(item, "logMessage"), from, error };
 }
 
 /**
@@ -76,9 +76,9 @@ function readCommonFields(item) {
 function resolveAddress(reference, offset, addressOf) {
   try {
     const requested = addressOf(reference) + offset;
-    return { requested, words: requested >= 0 && requested <= LAST_ADDRESS ? "" : say.ADDRESSES_ARE };
+    return { requested, error: requested >= 0 && requested <= LAST_ADDRESS ? "" : say.ADDRESSES_ARE };
   } catch (thrown) {
-    return { requested: -1, words: errorMessage(thrown) };
+    return { requested: -1, error: errorMessage(thrown) };
   }
 }
 
@@ -131,8 +131,8 @@ export class ClientBreakpoints {
   setLineBreakpoints(args, lineOf) {
     const { map } = this.session;
     return this.setRequestedBreakpoints("lines", optionalList(args, "breakpoints").map((item) => {
-      const { line, address, words } = instructionForLine(lineOf(needNumber(item, "line")), map);
-      return this.newBreakpoint({ ...readCommonFields(item), line, address, ...(address < 0 ? { words } : {}) });
+      const { line, address, message: error } = instructionForLine(lineOf(needNumber(item, "line")), map);
+      return this.newBreakpoint({ ...readCommonFields(item), line, address, ...(address < 0 ? { error } : {}) });
     }));
   }
 
@@ -144,11 +144,11 @@ export class ClientBreakpoints {
     const { map } = this.session;
     return this.setRequestedBreakpoints("labels", optionalList(args, "breakpoints").map((item) => {
       const name = needText(item, "name").trim();
-      const found = map.names.get(name);
-      const message = found && found.isLabel ? "" : noLabel(name);
-      const address = found && found.isLabel ? found.value : -1;
+      const programName = map.names.get(name);
+      const message = programName && programName.isLabel ? "" : noLabel(name);
+      const address = programName && programName.isLabel ? programName.value : -1;
       const line = address < 0 ? 0 : map.lineOf(address);
-      return this.newBreakpoint({ ...readCommonFields(item), line, address, ...(message ? { words: message } : {}) });
+      return this.newBreakpoint({ ...readCommonFields(item), line, address, ...(message ? { error: message } : {}) });
     }));
   }
 
@@ -160,9 +160,9 @@ export class ClientBreakpoints {
   setAddressBreakpoints(args, addressOf) {
     const { map } = this.session;
     return this.setRequestedBreakpoints("addresses", optionalList(args, "breakpoints").map((item) => {
-      const { requested, words } = resolveAddress(needText(item, "instructionReference"), needNumber(item, "offset", 0), addressOf);
-      const { line, address } = words === "" ? instructionAtAddress(requested, map) : { line: 0, address: -1 };
-      return this.newBreakpoint({ ...readCommonFields(item), line, address, ...(words === "" ? {} : { words }) });
+      const { requested, error } = resolveAddress(needText(item, "instructionReference"), needNumber(item, "offset", 0), addressOf);
+      const { line, address } = error === "" ? instructionAtAddress(requested, map) : { line: 0, address: -1 };
+      return this.newBreakpoint({ ...readCommonFields(item), line, address, ...(error === "" ? {} : { error }) });
     }));
   }
 
@@ -172,17 +172,17 @@ export class ClientBreakpoints {
    */
   async setRequestedBreakpoints(kind, requested) {
     this.requested[kind] = requested;
-    const faults = await this.applyBreakpoints();
-    return requested.map((each) => this.toResponse(each, faults.get(each) || ""));
+    const errors = await this.applyBreakpoints();
+    return requested.map((breakpoint) => this.toResponse(breakpoint, errors.get(breakpoint) || ""));
   }
 
   /**
    * @param {RequestedBreakpoint} requested
-   * @param {string} fault
+   * @param {string} applyError the error from applying the breakpoint, "" for none
    * @returns {SentBreakpoint}
    */
-  toResponse({ id, line, address, words }, fault) {
-    const message = words || fault;
+  toResponse({ id, line, address, error }, applyError) {
+    const message = error || applyError;
     return { id, verified: message === "", ...(line > 0 ? { line } : {}), ...(message ? { message } : {}), address };
   }
 
@@ -193,8 +193,9 @@ export class ClientBreakpoints {
     /** @type {Map<number, RequestedBreakpoint>} */
     const byAddress = new Map();
     const { lines, labels, addresses } = this.requested;
-    for (const each of [...lines, ...labels, ...addresses]) {
-      if (each.words === "" && each.address >= 0 && !byAddress.has(each.address)) byAddress.set(each.address, each);
+    for (const breakpoint of [...lines, ...labels, ...addresses]) {
+      const { address, error } = breakpoint;
+      if (error === "" && address >= 0 && !byAddress.has(address)) byAddress.set(address, breakpoint);
     }
     for (const address of this.otherAddresses) {
       if (!byAddress.has(address)) byAddress.set(address, { ...DEFAULT_BREAKPOINT, id: 0, address });
@@ -208,22 +209,22 @@ export class ClientBreakpoints {
   async applyBreakpoints() {
     const { session } = this;
     /** @type {Map<RequestedBreakpoint, string>} */
-    const faults = new Map();
+    const errors = new Map();
     const breakpoints = [...this.mergeBreakpoints().values()];
-    const isOverLimit = (/** @type {number} */ at) => at >= MAX_ENABLED_BREAKPOINTS;
-    breakpoints.forEach((each, at) => isOverLimit(at) && faults.set(each, say.tooManyEnabled(MAX_ENABLED_BREAKPOINTS)));
+    const isOverLimit = (/** @type {number} */ index) => index >= MAX_ENABLED_BREAKPOINTS;
+    breakpoints.forEach((breakpoint, index) => isOverLimit(index) && errors.set(breakpoint, say.tooManyEnabled(MAX_ENABLED_BREAKPOINTS)));
     const hits = new Map([...this.byId].map(([id, { address }]) => [address, (session.breakpoints.get(id) || { hits: 0 }).hits]));
     session.breakpoints = new BreakpointList();
     this.byId.clear();
-    for (const each of breakpoints.slice(0, Math.min(MAX_ENABLED_BREAKPOINTS, MAX_BREAKPOINTS))) {
-      const { address, condition, from, note } = each;
+    for (const breakpoint of breakpoints.slice(0, Math.min(MAX_ENABLED_BREAKPOINTS, MAX_BREAKPOINTS))) {
+      const { address, condition, from, note } = breakpoint;
       const addedBreakpoint = session.breakpoints.add({ address, condition, from, note });
       addedBreakpoint.hits = hits.get(address) || 0;
-      this.byId.set(addedBreakpoint.id, each);
+      this.byId.set(addedBreakpoint.id, breakpoint);
     }
-    const { faults: compileErrors } = await session.applyBreakpoints();
-    for (const [id, words] of compileErrors) faults.set(/** @type {RequestedBreakpoint} */ (this.byId.get(id)), stopsEachTime(words));
-    return faults;
+    const { errors: compileErrors } = await session.applyBreakpoints();
+    for (const [id, message] of compileErrors) errors.set(/** @type {RequestedBreakpoint} */ (this.byId.get(id)), stopsEachTime(message));
+    return errors;
   }
 
   /**
@@ -232,26 +233,26 @@ export class ClientBreakpoints {
    * @param {number} id the breakpoint id in the debugger's list
    */
   hitBreakpoint(id) {
-    const found = this.byId.get(id);
-    if (!found || found.id === 0) return { id: 0, reason: "breakpoint" };
+    const breakpoint = this.byId.get(id);
+    if (!breakpoint || breakpoint.id === 0) return { id: 0, reason: "breakpoint" };
     const { labels, addresses } = this.requested;
-    if (labels.includes(found)) return { id: found.id, reason: "function breakpoint" };
-    return { id: found.id, reason: addresses.includes(found) ? "instruction breakpoint" : "breakpoint" };
+    if (labels.includes(breakpoint)) return { id: breakpoint.id, reason: "function breakpoint" };
+    return { id: breakpoint.id, reason: addresses.includes(breakpoint) ? "instruction breakpoint" : "breakpoint" };
   }
 
   /** Moves each line breakpoint to its instruction after a program change. Resolves to the breakpoints that moved. */
   async relocateLineBreakpoints() {
     const { map } = this.session;
-    const movedBreakpoints = this.requested.lines.filter((each) => {
-      const { line, address, words } = instructionForLine(Math.max(1, each.line), map);
-      const hasMoved = line !== each.line || address !== each.address;
+    const movedBreakpoints = this.requested.lines.filter((breakpoint) => {
+      const { line, address, message } = instructionForLine(Math.max(1, breakpoint.line), map);
+      const hasMoved = line !== breakpoint.line || address !== breakpoint.address;
       // If the breakpoint had no instruction before, its old error message no longer applies.
-      const remainingError = each.address < 0 ? "" : each.words;
-      Object.assign(each, { line, address, words: address < 0 ? words : remainingError });
+      const remainingError = breakpoint.address < 0 ? "" : breakpoint.error;
+      Object.assign(breakpoint, { line, address, error: address < 0 ? message : remainingError });
       return hasMoved;
     });
     await this.applyBreakpoints();
-    return movedBreakpoints.map((each) => this.toResponse(each, ""));
+    return movedBreakpoints.map((breakpoint) => this.toResponse(breakpoint, ""));
   }
 
   // --- data breakpoints ---
@@ -264,16 +265,16 @@ export class ClientBreakpoints {
     const { board } = this.session.debugger.session.statusQueries;
     this.dataBreakpoints = optionalList(args, "breakpoints").map((item) => {
       const name = needText(item, "dataId");
-      const { from, words } = parseHitCondition(optionalText(item, "hitCondition"));
+      const { from, error: hitConditionError } = parseHitCondition(optionalText(item, "hitCondition"));
       const place = watchablePlace(name, board);
       const access = optionalText(item, "accessType") || "write";
       this.lastId += 1;
-      const error = !place ? say.notWatched(name) : access !== "write" ? say.ONLY_CHANGES : words;
-      return { id: this.lastId, name: place ? place.name : name, condition: optionalText(item, "condition"), from, words: error };
+      const error = !place ? say.notWatched(name) : access !== "write" ? say.ONLY_CHANGES : hitConditionError;
+      return { id: this.lastId, name: place ? place.name : name, condition: optionalText(item, "condition"), from, error };
     });
-    const faults = await this.applyDataBreakpoints();
-    return this.dataBreakpoints.map(({ id, words }) => {
-      const message = words || faults.get(id) || "";
+    const errors = await this.applyDataBreakpoints();
+    return this.dataBreakpoints.map(({ id, error }) => {
+      const message = error || errors.get(id) || "";
       return { id, verified: message === "", ...(message ? { message } : {}) };
     });
   }
@@ -284,7 +285,7 @@ export class ClientBreakpoints {
    */
   async applyDataBreakpoints() {
     const { session, otherWatches } = this;
-    const validRequests = this.dataBreakpoints.filter(({ words }) => words === "");
+    const validRequests = this.dataBreakpoints.filter(({ error }) => error === "");
     const freeCount = MAX_WATCHES - otherWatches.length;
     const unconditional = validRequests.filter(({ name, condition, from }) => (
       watchOperand(name) !== "" && condition.trim() === "" && from === 1));
@@ -296,9 +297,9 @@ export class ClientBreakpoints {
     if (lines) await session.debugger.session.serve(lines, async () => true);
     this.clientWatches = watches;
     const benchWatches = readBenchWatches(session);
-    const isWatchedByBench = (/** @type {RequestedDataBreakpoint} */ each) => (
-      unconditional.includes(each) && benchWatches.includes(watchOperand(each.name)));
-    return session.debugger.setWatches(validRequests.filter((each) => !isWatchedByBench(each)), session.names);
+    const isWatchedByBench = (/** @type {RequestedDataBreakpoint} */ request) => (
+      unconditional.includes(request) && benchWatches.includes(watchOperand(request.name)));
+    return session.debugger.setWatches(validRequests.filter((request) => !isWatchedByBench(request)), session.names);
   }
 
   // --- common mistakes ---
@@ -328,10 +329,10 @@ export class ClientBreakpoints {
       if (!Object.prototype.hasOwnProperty.call(KINDS, kind)) return { verified: false, message: say.noFilter(kind) };
       const mistake = /** @type {MistakeKind} */ (kind);
       const isAlways = text.trim() === "";
-      const { condition, fault, column } = isAlways ? { condition: null, fault: "", column: -1 } : compileCondition(text, session.names);
+      const { condition, error, column } = isAlways ? { condition: null, error: "", column: -1 } : compileCondition(text, session.names);
       commonMistakes.stoppingKinds.add(mistake);
       if (condition) commonMistakes.conditions.set(mistake, condition);
-      return fault ? { verified: false, message: stopsEachTime(errorInColumn(fault, column)) } : { verified: true };
+      return error ? { verified: false, message: stopsEachTime(errorInColumn(error, column)) } : { verified: true };
     });
     // The debugger checks every instruction only in pieces of at most MAX_CYCLES_PER_CALL cycles.
     if (session.maxPieceCycles >= MAX_CYCLES_PER_CALL) {
@@ -375,8 +376,8 @@ function readBenchWatches(session) {
  */
 export function watchOperand(name) {
   const place = parsePlace(name);
-  const found = place && /^ram\.([0-7])\.0x([0-9A-F]{2})$/.exec(place.name);
-  return found ? `${found[1]} 0x${found[2]}` : "";
+  const match = place && /^ram\.([0-7])\.0x([0-9A-F]{2})$/.exec(place.name);
+  return match ? `${match[1]} 0x${match[2]}` : "";
 }
 
 /**

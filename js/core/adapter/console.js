@@ -19,9 +19,9 @@ import { noKey } from "../../words/testing.js";
  * @typedef {import("./expression_values.js").ExpressionContext} ExpressionContext
  * @typedef {import("../bench/error_messages.js").ErrorMessages} ErrorMessages
  *
- * The result of a line. `words` is the text to show. `changes` is true if the line changed the machine. `move` starts the move that the
+ * The result of a line. `text` is the text to show. `changes` is true if the line changed the machine. `move` starts the move that the
  * line requests; the caller first shows the text. It is null if the line requests no move.
- * @typedef {{ words: string, changes: boolean, move: (() => void) | null }} LineResult
+ * @typedef {{ text: string, changes: boolean, move: (() => void) | null }} LineResult
  *
  * A callback that is called between two pieces of a long input, with the number of processed characters. If it resolves to false, the input
  * is cancelled and no line takes effect.
@@ -40,19 +40,19 @@ const COMPARISON_LINE = /^[^\n]*[=<>]/;
 const RUN_WORDS = new Set(["run", "step"]);
 const BREAKPOINT_WORDS = new Set(["break", "unbreak", "watch", "unwatch"]);
 
-/** @type {(words: string) => LineResult} returns the result of a line that only shows a text */
-const textResult = (words) => ({ words, changes: false, move: null });
+/** @type {(text: string) => LineResult} returns the result of a line that only shows a text */
+const textResult = (text) => ({ text, changes: false, move: null });
 
 export class Console {
   /**
    * @param {Machine} machine
    * @param {ExpressionContext} context
    * @param {ErrorMessages} errorMessages the messages for the error numbers of the bench
-   * @param {{ breaksChanged: () => void, romChanged: () => void }} calls callbacks after a line has changed breakpoints or watches, and
+   * @param {{ breaksChanged: () => void, romChanged: () => void }} callbacks callbacks after a line has changed breakpoints or watches, and
    *   after a line has changed ROM
    */
-  constructor(machine, context, errorMessages, calls) {
-    this.calls = calls;
+  constructor(machine, context, errorMessages, callbacks) {
+    this.callbacks = callbacks;
     this.machine = machine;
     this.context = context;
     this.errorMessages = errorMessages;
@@ -75,7 +75,7 @@ export class Console {
     if (line.length > MAX_LENGTH) fail(say.tooLong(MAX_LENGTH));
     const [word, ...operands] = line.split("\n")[0].split(/[ \t]+/);
     if (line === "" || line === "help" || line === "?") return textResult(say.HELP);
-    const hasRowAndColumn = operands.length === 2 && operands.every((each) => !Number.isNaN(parseNumber(each)));
+    const hasRowAndColumn = operands.length === 2 && operands.every((operand) => !Number.isNaN(parseNumber(operand)));
     if ((word === "press" || word === "release") && !hasRowAndColumn) return this.pressOrReleaseKeys(word, operands);
     if (word === "keys" && operands.length > 0) return this.typeKeys(operands);
     if (word === "until" || word === "change" || word === "back" || word === "forward") return this.createMove(word, operands);
@@ -154,7 +154,7 @@ export class Console {
     if (this.machine.isMoving) fail(say.MACHINE_IS_RUNNING);
     const target = operands.join(" ");
     /** @type {(act: () => void) => LineResult} */
-    const move = (act) => ({ words: "", changes: false, move: act });
+    const move = (act) => ({ text: "", changes: false, move: act });
     if (word === "forward") return move(() => this.machine.goForward());
     if (word === "back" && target === "") return move(() => this.machine.goBack({ kind: "instruction" }));
     if (word === "back") {
@@ -176,8 +176,8 @@ export class Console {
    * @param {string} text
    */
   readGoal(text) {
-    const { goal, fault } = parseGoal(text, this.session.names);
-    return goal || fail(fault);
+    const { goal, error } = parseGoal(text, this.session.names);
+    return goal || fail(error);
   }
 
   // --- lines of the bench ---
@@ -189,14 +189,14 @@ export class Console {
    * @returns {Promise<LineResult>}
    */
   async serveBenchLines(line, shouldContinue) {
-    const { lines, words } = replaceNames(`${line}\n`, this.session.map);
-    if (words) fail(words);
+    const { lines, message } = replaceNames(`${line}\n`, this.session.map);
+    if (message) fail(message);
     const kinds = readInputs(lines).map(({ kind }) => kind);
     if (kinds.length > MAX_INPUTS) fail(say.tooManyLines(MAX_INPUTS));
     if (this.machine.isMoving && kinds.some((kind) => RUN_WORDS.has(kind))) fail(say.MACHINE_IS_RUNNING);
     if (kinds.every(isQuery)) return textResult(this.session.debugger.session.ask(lines).join("\n"));
     const result = await this.runBenchLines(lines, shouldContinue);
-    if (kinds.some((kind) => BREAKPOINT_WORDS.has(kind))) this.calls.breaksChanged();
+    if (kinds.some((kind) => BREAKPOINT_WORDS.has(kind))) this.callbacks.breaksChanged();
     return result;
   }
 
@@ -207,8 +207,8 @@ export class Console {
    * @returns {Promise<LineResult>}
    */
   async runBenchLines(lines, shouldContinue) {
-    const { entries, hasChangedRom, tally, words: stopMessage } = await this.session.serve(lines, shouldContinue);
-    if (hasChangedRom) this.calls.romChanged();
+    const { entries, hasChangedRom, tally, message: stopMessage } = await this.session.serve(lines, shouldContinue);
+    if (hasChangedRom) this.callbacks.romChanged();
     const answers = entries.flatMap((entry) => entry.answers);
     const texts = answers.map((answer) => {
       const refusal = parseRefusal(answer);
@@ -216,9 +216,9 @@ export class Console {
     });
     const isRejected = answers.every((answer) => parseRefusal(answer));
     if (isRejected && answers.length > 0) throw new AdapterError(texts.join("\n"));
-    this.machine.reportTally(tally, tally.noted);
+    this.machine.reportTally(tally, tally.noteCount);
     if (answers.some((answer) => readRun(answer))) this.machine.reportFrontPanelText();
-    return { words: [...texts, ...(stopMessage ? [stopMessage] : [])].join("\n"), changes: true, move: null };
+    return { text: [...texts, ...(stopMessage ? [stopMessage] : [])].join("\n"), changes: true, move: null };
   }
 }
 

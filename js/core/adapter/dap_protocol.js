@@ -7,11 +7,11 @@ import { mustBeText } from "../../words/server.js";
 /** The error that a request handler throws to reject its request. */
 export class AdapterError extends Error {
   /**
-   * @param {string} words
+   * @param {string} message
    * @param {boolean} [isShown] true if the client shows the message to the user
    */
-  constructor(words, isShown = false) {
-    super(words);
+  constructor(message, isShown = false) {
+    super(message);
     this.isShown = isShown;
   }
 }
@@ -23,11 +23,11 @@ export const REQUEST_CANCELLED = "cancelled";
 
 /**
  * Throws AdapterError.
- * @param {string} words the message
+ * @param {string} message
  * @returns {never}
  */
-export function fail(words) {
-  throw new AdapterError(words);
+export function fail(message) {
+  throw new AdapterError(message);
 }
 
 /**

@@ -144,8 +144,8 @@ export class DebugAdapter {
         const { launchResult } = this.current;
         if (this.isConfigured) fail(say.CONFIGURED_ONCE);
         this.isConfigured = true;
-        const begin = () => (launchResult.stopsOnEntry ? this.sendStopped(this.createMoveEnd("entry")) : this.current.machine.go(null));
-        return new ResponseWithFollowUp(undefined, begin);
+        return new ResponseWithFollowUp(undefined, () => (
+          launchResult.stopsOnEntry ? this.sendStopped(this.createMoveEnd("entry")) : this.current.machine.go(null)));
       },
       restart: (args) => this.restart(args),
       terminate: () => new ResponseWithFollowUp(undefined, () => {
@@ -179,7 +179,7 @@ export class DebugAdapter {
     /** @type {Machine} */
     const machine = new Machine(session, launchResult.writer, {
       stopped: (moveEnd) => this.sendStopped(moveEnd),
-      output: (words, category) => this.sendOutput(words, category),
+      output: (text, category) => this.sendOutput(text, category),
       pause: this.host.pause,
       stateChanged: () => this.sendFrontPanel(),
       startTask: (title) => this.progress.begin(title, () => machine.pause()),
@@ -303,7 +303,7 @@ export class DebugAdapter {
   async changeBreakpoints(act) {
     const { machine, breakpoints } = this.current;
     const sentBreakpoints = await machine.runWhenFree(() => act(breakpoints));
-    return { breakpoints: sentBreakpoints.map((each) => this.toProtocolBreakpoint(each)) };
+    return { breakpoints: sentBreakpoints.map((breakpoint) => this.toProtocolBreakpoint(breakpoint)) };
   }
 
   /** @param {import("./client_breakpoints.js").SentBreakpoint} breakpoint */
@@ -322,8 +322,8 @@ export class DebugAdapter {
     const { queryHandlers, launchResult } = this.current;
     const name = needText(args, "name");
     const reference = needNumber(args, "variablesReference", 0);
-    const found = reference > 0 ? queryHandlers.findWatchPlace(reference, name) : name;
-    const dataBreakpoint = describeDataBreakpoint(found, launchResult.session);
+    const placeName = reference > 0 ? queryHandlers.findWatchPlace(reference, name) : name;
+    const dataBreakpoint = describeDataBreakpoint(placeName, launchResult.session);
     if (!dataBreakpoint) return { dataId: null, description: say.notWatched(name) };
     return { ...dataBreakpoint, accessTypes: ["write"] };
   }
@@ -370,8 +370,8 @@ export class DebugAdapter {
       loadedSources: () => ({ sources: [this.current.queryHandlers.source] }),
       source: (args) => this.current.queryHandlers.sourceText(args),
       exceptionInfo: () => {
-        const { reason, words } = this.lastStop || { reason: "", words: "" };
-        return { exceptionId: reason || "none", description: words, breakMode: "always" };
+        const { reason, message } = this.lastStop || { reason: "", message: "" };
+        return { exceptionId: reason || "none", description: message, breakMode: "always" };
       },
       evaluate: (args, pending) => this.evaluate(args, pending),
       pressKey: (args) => this.pressOrReleaseKey("press", args),
@@ -434,11 +434,11 @@ export class DebugAdapter {
       return !pending.isCancelled;
     };
     const lineResult = machine.runWhenFree(() => debugConsole.serveLine(expression, shouldContinue, base));
-    const { words, changes, move } = await lineResult.finally(() => task.end());
+    const { text, changes, move } = await lineResult.finally(() => task.end());
     if (move) this.moves.checkPaused();
     const wasPaused = !machine.isMoving && this.isConfigured;
     if (changes && !machine.isMoving) await machine.saveAndReport();
-    return new ResponseWithFollowUp({ result: words, variablesReference: 0 }, () => {
+    return new ResponseWithFollowUp({ result: text, variablesReference: 0 }, () => {
       if (move) move();
       else if (changes && wasPaused) this.sendInvalidated();
     });
@@ -459,9 +459,9 @@ export class DebugAdapter {
   async pressOrReleaseKey(word, args) {
     const { machine, console: debugConsole } = this.current;
     const key = needText(args, "key");
-    const { words } = await machine.runWhenFree(() => debugConsole.pressOrReleaseKeys(word, [key]));
+    const { text } = await machine.runWhenFree(() => debugConsole.pressOrReleaseKeys(word, [key]));
     if (!machine.isMoving) await machine.saveAndReport();
-    return { words };
+    return { words: text };
   }
 
   /**
@@ -491,7 +491,7 @@ export class DebugAdapter {
    * @returns {MoveEnd}
    */
   createMoveEnd(reason) {
-    return { reason, words: stoppedAt(this.current.launchResult.session.counterText), id: 0 };
+    return { reason, message: stoppedAt(this.current.launchResult.session.counterText), id: 0 };
   }
 
   /**
@@ -504,11 +504,11 @@ export class DebugAdapter {
     this.lastStop = moveEnd;
     this.sendFrontPanel();
     const isDataBreakpoint = moveEnd.reason === "data breakpoint";
-    const found = moveEnd.reason === "breakpoint" ? open.breakpoints.hitBreakpoint(moveEnd.id)
+    const hit = moveEnd.reason === "breakpoint" ? open.breakpoints.hitBreakpoint(moveEnd.id)
       : { id: isDataBreakpoint ? moveEnd.id : 0, reason: moveEnd.reason };
     this.connection.sendEvent("stopped", {
-      reason: found.reason, description: moveEnd.words, threadId: THREAD_ID, allThreadsStopped: true,
-      ...(found.id > 0 ? { hitBreakpointIds: [found.id] } : {}),
+      reason: hit.reason, description: moveEnd.message, threadId: THREAD_ID, allThreadsStopped: true,
+      ...(hit.id > 0 ? { hitBreakpointIds: [hit.id] } : {}),
     });
   }
 

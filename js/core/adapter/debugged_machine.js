@@ -19,14 +19,14 @@ import { stoppedAt } from "../../words/stops.js";
  * @typedef {ReturnType<import("./progress.js").Progress["begin"]>} LongTask
  *
  * The end of a move: the stop reason in the protocol, the message, and the id of the breakpoint that stopped the machine (0 for none).
- * @typedef {{ reason: string, words: string, id: number }} MoveEnd
+ * @typedef {{ reason: string, message: string, id: number }} MoveEnd
  */
 
 /**
  * The callbacks of a machine.
  * @typedef {object} MachineCallbacks
  * @property {(moveEnd: MoveEnd) => void} stopped Reports the end of a move, once for each move.
- * @property {(words: string, category: "console" | "stdout" | "stderr") => void} output Prints a text, which ends with a line feed, under
+ * @property {(text: string, category: "console" | "stdout" | "stderr") => void} output Prints a text, which ends with a line feed, under
  *   an output category of the protocol.
  * @property {() => Promise<void>} pause Yields to other tasks, between two pieces of a move.
  * @property {() => void} stateChanged Reports that the machine state has changed, so that views can update.
@@ -49,17 +49,17 @@ export class Machine {
   /**
    * @param {DebugSession} session
    * @param {SessionWriter | null} writer the writer of the session's file; null if the session is not saved
-   * @param {MachineCallbacks} calls
+   * @param {MachineCallbacks} callbacks
    * @param {boolean} [isRealTime] true if the machine runs no faster than on a real 4004
    */
-  constructor(session, writer, calls, isRealTime = false) {
+  constructor(session, writer, callbacks, isRealTime = false) {
     this.isRealTime = isRealTime;
     if (isRealTime) session.maxPieceCycles = FRAME_CYCLES;
     /** The start time of the move, in milliseconds. */
     this.startTime = 0;
     this.session = session;
     this.writer = writer;
-    this.calls = calls;
+    this.callbacks = callbacks;
     this.frontPanelText = new FrontPanelText(session);
     this.isMoving = false;
     this.mustPause = false;
@@ -102,8 +102,8 @@ export class Machine {
     this.beginMove(async () => {
       if (session.address === address) return session.stepInto();
       const stop = await session.runToGoal({ kind: "here", address }, (done, tally) => this.finishPiece(tally, done));
-      if (stop.why !== "goal") return stop;
-      this.reportTally(stop.tally, stop.tally.noted - this.reportedNotes);
+      if (stop.reason !== "goal") return stop;
+      this.reportTally(stop.tally, stop.tally.noteCount - this.reportedNotes);
       return session.stepInto();
     }, () => session.debugger.isMoving);
   }
@@ -125,17 +125,17 @@ export class Machine {
 
   /**
    * Converts the result of a move back or forward in time to the result of a run. If the move did nothing, prints its message.
-   * @param {{ isDone: boolean, words: string, end: string, id: number }} pastMove
-   * @param {string} why the stop reason; "arrival" is replaced by the entry of REASONS_BY_END for `end`
+   * @param {{ isDone: boolean, message: string, end: string, id: number }} pastMove
+   * @param {string} reason the stop reason; "arrival" is replaced by the entry of REASONS_BY_END for `end`
    */
-  toRunResult({ isDone, words, end, id }, why) {
-    if (!isDone) this.calls.output(`${words}\n`, "console");
-    return { why: REASONS_BY_END[end] && why === "arrival" ? REASONS_BY_END[end] : why, words, id, tally: null };
+  toRunResult({ isDone, message, end, id }, reason) {
+    if (!isDone) this.callbacks.output(`${message}\n`, "console");
+    return { reason: REASONS_BY_END[end] && reason === "arrival" ? REASONS_BY_END[end] : reason, message, id, tally: null };
   }
 
   /**
    * Starts a move. Throws AdapterError if the machine is moving already.
-   * @param {() => Promise<Pick<DescribedStop, "why" | "words" | "id"> & { tally: Tally | null }>} act makes the move
+   * @param {() => Promise<Pick<DescribedStop, "reason" | "message" | "id"> & { tally: Tally | null }>} act makes the move
    * @param {() => boolean} allowsTasks returns whether tasks can use the session between two pieces of the move
    * @param {string} [title] the title of the progress report
    */
@@ -146,7 +146,7 @@ export class Machine {
     this.allowsTasks = allowsTasks;
     this.reportedNotes = 0;
     this.startTime = performance.now();
-    this.task = this.isRealTime || !this.calls.startTask ? null : this.calls.startTask(title);
+    this.task = this.isRealTime || !this.callbacks.startTask ? null : this.callbacks.startTask(title);
     this.move = this.runMove(act);
   }
 
@@ -158,14 +158,14 @@ export class Machine {
     /** @type {MoveEnd} */
     let moveEnd;
     try {
-      const { why, words, id, tally } = await act();
-      if (tally) this.reportTally(tally, tally.noted - this.reportedNotes);
-      moveEnd = { reason: PROTOCOL_REASONS[why] || "exception", words, id };
+      const { reason, message, id, tally } = await act();
+      if (tally) this.reportTally(tally, tally.noteCount - this.reportedNotes);
+      moveEnd = { reason: PROTOCOL_REASONS[reason] || "exception", message, id };
     } catch (thrown) {
       const isPause = thrown instanceof CancelledError;
-      if (!isPause) this.calls.output(`${errorMessage(thrown)}\n`, "stderr");
+      if (!isPause) this.callbacks.output(`${errorMessage(thrown)}\n`, "stderr");
       const message = isPause ? stoppedAt(this.session.counterText) : errorMessage(thrown);
-      moveEnd = { reason: isPause ? "pause" : "exception", words: message, id: 0 };
+      moveEnd = { reason: isPause ? "pause" : "exception", message, id: 0 };
     }
     this.allowsTasks = () => false;
     // A task can arrive while the session is saved. The task must run now, because nothing would run it later.
@@ -175,7 +175,7 @@ export class Machine {
     } while (this.waitingTasks.length > 0);
     if (this.task) this.task.end();
     this.isMoving = false;
-    this.calls.stopped(moveEnd);
+    this.callbacks.stopped(moveEnd);
   }
 
   /** Reports the lamps and displays, and saves the session. */
@@ -192,7 +192,7 @@ export class Machine {
     try {
       await writer.write(this.session.debugger.session);
     } catch (thrown) {
-      this.calls.output(`${errorMessage(thrown)}\n`, "stderr");
+      this.callbacks.output(`${errorMessage(thrown)}\n`, "stderr");
     }
   }
 
@@ -202,11 +202,11 @@ export class Machine {
    * @param {number} [done] the number of cycles of the move so far
    */
   async finishPiece(tally, done = 0) {
-    if (tally) this.reportTally(tally, tally.noted);
+    if (tally) this.reportTally(tally, tally.noteCount);
     if (this.task) this.task.reportIfDue(() => formatCycles(done));
     if (performance.now() - this.lastReportTime >= REPORT_INTERVAL_MS && this.allowsTasks()) this.reportFrontPanelText();
     if (this.isRealTime && tally) await this.waitForRealTime(done);
-    await this.calls.pause();
+    await this.callbacks.pause();
     if (this.allowsTasks()) await this.runWaitingTasks();
     return !this.mustPause;
   }
@@ -216,7 +216,7 @@ export class Machine {
    * @param {number} cycles the number of cycles since the start of the move
    */
   async waitForRealTime(cycles) {
-    this.calls.stateChanged();
+    this.callbacks.stateChanged();
     const remainingTime = cycles * CYCLE_MS - (performance.now() - this.startTime);
     if (remainingTime > 0) await new Promise((resolve) => { setTimeout(resolve, remainingTime); });
   }
@@ -256,8 +256,8 @@ export class Machine {
   reportFrontPanelText() {
     this.lastReportTime = performance.now();
     const text = this.frontPanelText.take();
-    if (text) this.calls.output(`${text}\n`, "stdout");
-    this.calls.stateChanged();
+    if (text) this.callbacks.output(`${text}\n`, "stdout");
+    this.callbacks.stateChanged();
   }
 
   /**
@@ -265,10 +265,10 @@ export class Machine {
    * @param {Tally} tally
    * @param {number} count the number of log messages to report
    */
-  reportTally({ notes, usual }, count) {
+  reportTally({ notes, mistakes }, count) {
     this.reportedNotes += count;
-    if (count > notes.length) this.calls.output(`${say.earlierNotesOmitted(count - notes.length)}\n`, "console");
-    for (const { words } of notes.slice(notes.length - Math.min(count, notes.length))) this.calls.output(`${words}\n`, "console");
-    for (const { words } of usual) this.calls.output(`${words}\n`, "console");
+    if (count > notes.length) this.callbacks.output(`${say.earlierNotesOmitted(count - notes.length)}\n`, "console");
+    for (const { text } of notes.slice(notes.length - Math.min(count, notes.length))) this.callbacks.output(`${text}\n`, "console");
+    for (const { message } of mistakes) this.callbacks.output(`${message}\n`, "console");
   }
 }

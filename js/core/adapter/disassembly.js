@@ -8,9 +8,9 @@ import { MAX_LISTING_LINES } from "../bench/rom_bytes.js";
  * @typedef {import("../debug/debug_session.js").DebugSession} DebugSession
  * @typedef {import("../bench/answers.js").ListingLine} ListingLine
  *
- * A row of the disassembly. `address` can be outside ROM. `bytes` are the bytes in hexadecimal, and `words` is the instruction as text.
+ * A row of the disassembly. `address` can be outside ROM. `bytes` are the bytes in hexadecimal, and `text` is the instruction as text.
  * `line` is the source line (0 for none), and `name` the label ("" for none).
- * @typedef {{ address: number, bytes: string, words: string, line: number, name: string }} InstructionRow
+ * @typedef {{ address: number, bytes: string, text: string, line: number, name: string }} InstructionRow
  */
 
 /** @type {(listed: ListingLine) => number} returns the address of the instruction after a listed instruction */
@@ -27,7 +27,7 @@ function listInstructions(session, from, to) {
   const instructions = [];
   for (let address = from; address < to;) {
     const batch = readListing(session.debugger.session.ask(`list ${address} ${MAX_LISTING_LINES}\n`));
-    instructions.push(...batch.filter((each) => each.address < to));
+    instructions.push(...batch.filter((instruction) => instruction.address < to));
     address = nextAddress(batch[batch.length - 1]);
   }
   return instructions;
@@ -45,18 +45,19 @@ function listInstructions(session, from, to) {
 export function listInstructionRows(session, address, offset, count) {
   // An instruction has at most two bytes. If the source map has an instruction nearby, the listing is aligned to it, so that no row starts
   // at the second byte of an instruction.
-  const begin = Math.max(0, address + 2 * Math.min(0, offset) - 1);
-  const candidates = indices(4).map((more) => begin + more);
-  const alignedStart = candidates.find((each) => each <= address && session.map.beginsInstruction(each)) ?? begin;
+  const start = Math.max(0, address + 2 * Math.min(0, offset) - 1);
+  const candidates = indices(4).map((more) => start + more);
+  const alignedStart = candidates.find((candidate) => candidate <= address && session.map.beginsInstruction(candidate)) ?? start;
   const wholeInstructions = (/** @type {number} */ from, /** @type {number} */ to) => (
-    listInstructions(session, from, to).filter((each) => nextAddress(each) <= to));
-  const instructionsBefore = [...wholeInstructions(begin, alignedStart), ...wholeInstructions(alignedStart, address)];
+    listInstructions(session, from, to).filter((instruction) => nextAddress(instruction) <= to));
+  const instructionsBefore = [...wholeInstructions(start, alignedStart), ...wholeInstructions(alignedStart, address)];
   const instructionsAfter = listInstructions(session, address, Math.min(LAST_ADDRESS + 1, address + 2 * Math.max(0, offset + count)));
   const instructions = [...instructionsBefore, ...instructionsAfter];
-  return indices(count).map((at) => {
-    const index = instructionsBefore.length + offset + at;
-    const found = instructions[index];
-    return found ? instructionRow(found, session) : emptyRow(index < 0 ? index : LAST_ADDRESS + 1 + index - instructions.length);
+  return indices(count).map((row) => {
+    const index = instructionsBefore.length + offset + row;
+    const instruction = instructions[index];
+    if (instruction) return instructionRow(instruction, session);
+    return emptyRow(index < 0 ? index : LAST_ADDRESS + 1 + index - instructions.length);
   });
 }
 
@@ -67,7 +68,7 @@ export function listInstructionRows(session, address, offset, count) {
  */
 function instructionRow({ address, line }, { map }) {
   const sourceLine = map.lineOf(address);
-  return { address, bytes: line.slice(4, 9).trim(), words: line.slice(10).trim(), line: sourceLine, name: map.labelsAt(address)[0] || "" };
+  return { address, bytes: line.slice(4, 9).trim(), text: line.slice(10).trim(), line: sourceLine, name: map.labelsAt(address)[0] || "" };
 }
 
 /**
@@ -75,7 +76,7 @@ function instructionRow({ address, line }, { map }) {
  * @returns {InstructionRow}
  */
 function emptyRow(address) {
-  return { address, bytes: "", words: "", line: 0, name: "" };
+  return { address, bytes: "", text: "", line: 0, name: "" };
 }
 
 /**
@@ -85,8 +86,8 @@ function emptyRow(address) {
 export function readRomBytes(session) {
   const bytes = new Uint8Array(LAST_ADDRESS + 1);
   for (const { address, line } of listInstructions(session, 0, LAST_ADDRESS + 1)) {
-    line.slice(4, 9).trim().split(" ").forEach((byte, at) => {
-      bytes[address + at] = parseInt(byte, 16);
+    line.slice(4, 9).trim().split(" ").forEach((byte, offset) => {
+      bytes[address + offset] = parseInt(byte, 16);
     });
   }
   return bytes;

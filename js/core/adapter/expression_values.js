@@ -92,8 +92,8 @@ export function evaluateExpression(text, context, base = "usual") {
   const value = registerValue(trimmed, session, base) || convertToBase(nameValue(trimmed, session), base)
     || placeValue(trimmed, context, base);
   if (value) return value;
-  const { expression, fault, column } = compileExpression(trimmed, session.names);
-  if (!expression) throw new AdapterError(errorInColumn(fault, column));
+  const { expression, error, column } = compileExpression(trimmed, session.names);
+  if (!expression) throw new AdapterError(errorInColumn(error, column));
   const answers = session.debugger.readPlaces(expression.places);
   return expression.number && base !== "usual" ? formatInBase(expression.number(answers), base) : expression.textOf(answers);
 }
@@ -108,8 +108,8 @@ export function expressionHover(text, context) {
   const trimmed = text.trim();
   /** @type {(name: string) => import("../debug/word_values.js").NamedValue | undefined} */
   const nameOf = (name) => {
-    const found = session.map.names.get(name);
-    return found && { ...found, words: session.map.meaningOf(name) };
+    const programName = session.map.names.get(name);
+    return programName && { ...programName, description: session.map.meaningOf(name) };
   };
   const describeInstruction = (/** @type {string} */ word) => (instructions.get(word) || { does: "" }).does;
   const pieces = valuesAt(trimmed, 0, new MachineState(session.debugger.session.takeSnapshot()), { nameOf, describeInstruction });

@@ -22,10 +22,11 @@ export function readStackFrames(session) {
   const calls = returns.map((address) => callAddress(address));
   const lines = session.debugger.session.ask(calls.map((address) => `list ${address} 1\n`).join(""));
   const liveFlags = findLiveReturns(returns, lines.map((line) => line.slice(4, 6)), session.map);
-  const openCalls = calls.filter((_, at) => liveFlags[at]);
+  const openCalls = calls.filter((_, index) => liveFlags[index]);
   const { map } = session;
-  return [session.address, ...openCalls].map((address, at) => ({
-    address, line: map.lineOf(address), name: map.nameOf(address) || hex(address, 3), call: at < openCalls.length ? openCalls[at] : -1,
-    returns: returns.slice(at + 1, openCalls.length).map((each) => hex(each, 3)),
+  return [session.address, ...openCalls].map((address, index) => ({
+    address, line: map.lineOf(address), name: map.nameOf(address) || hex(address, 3),
+    call: index < openCalls.length ? openCalls[index] : -1,
+    returns: returns.slice(index + 1, openCalls.length).map((returnAddress) => hex(returnAddress, 3)),
   }));
 }

@@ -15,7 +15,7 @@ export class FrontPanelText {
     this.face = face;
     this.isScanned = hasScannedDisplay(face);
     this.displays = face.groups.filter(({ kind }) => kind === "display");
-    this.names = [...face.lamps].map(([at, { text }]) => ({ at, text }));
+    this.names = [...face.lamps].map(([lamp, { text }]) => ({ lamp, text }));
     this.reader = new DisplayText(this.displays, this.names);
     this.lastText = this.currentText();
   }

@@ -14,9 +14,9 @@ import * as say from "../../words/adapter.js";
 /**
  * @typedef {import("../debug/debug_session.js").DebugSession} DebugSession
  *
- * A memory range: ROM, the RAM characters of a bank, or the status characters of a bank. `begin` is the memory reference of its first byte.
+ * A memory range: ROM, the RAM characters of a bank, or the status characters of a bank. `start` is the memory reference of its first byte.
  * `bytes` contains a byte of ROM or one character per element. `place` returns the place in `poke` lines for the byte at an index.
- * @typedef {{ begin: number, bytes: Uint8Array, place: (at: number) => string }} MemoryRange
+ * @typedef {{ start: number, bytes: Uint8Array, place: (index: number) => string }} MemoryRange
  *
  * The location that a request names: a memory range, and an index in this range (`from`). The index can be out of bounds.
  * @typedef {{ range: MemoryRange, from: number }} RequestedLocation
@@ -45,8 +45,9 @@ export function referenceNumberForPlace(name) {
   const place = parsePlace(name);
   const [, bank, byte] = /^ram\.(\d)\.(0x..)$/.exec(place ? place.name : "") || [];
   if (bank) return CHARACTERS_BASE + BANK_SIZE * Number(bank) + Number(byte);
-  const [, statusBank, register, at] = /^st\.(\d)\.(\d+)\.(\d)$/.exec(place ? place.name : "") || [];
-  return statusBank ? STATUS_BASE + BANK_SIZE * Number(statusBank) + STATUS_CHARACTERS_PER_REGISTER * Number(register) + Number(at) : -1;
+  const [, statusBank, register, character] = /^st\.(\d)\.(\d+)\.(\d)$/.exec(place ? place.name : "") || [];
+  if (!statusBank) return -1;
+  return STATUS_BASE + BANK_SIZE * Number(statusBank) + STATUS_CHARACTERS_PER_REGISTER * Number(register) + Number(character);
 }
 
 /**
@@ -69,7 +70,7 @@ function parseReference(reference, addressOf) {
  * @returns {MemoryRange | null}
  */
 function findRange(session, number) {
-  if (number <= LAST_ADDRESS) return { begin: 0, bytes: readRomBytes(session), place: (at) => `rom.${at}` };
+  if (number <= LAST_ADDRESS) return { start: 0, bytes: readRomBytes(session), place: (index) => `rom.${index}` };
   const isStatus = number >= STATUS_BASE;
   const bank = Math.floor((number - (isStatus ? STATUS_BASE : CHARACTERS_BASE)) / BANK_SIZE);
   if (bank < 0 || bank >= BANK_COUNT) return null;
@@ -77,12 +78,12 @@ function findRange(session, number) {
   if (registers.size === 0) return null;
   const digits = [...registers.values()].map(({ characters, status }) => (isStatus ? status : characters)).join("");
   const bytes = Uint8Array.from(digits, (digit) => parseInt(digit, 16));
-  const begin = (isStatus ? STATUS_BASE : CHARACTERS_BASE) + BANK_SIZE * bank;
-  const place = (/** @type {number} */ at) => (
+  const start = (isStatus ? STATUS_BASE : CHARACTERS_BASE) + BANK_SIZE * bank;
+  const place = (/** @type {number} */ index) => (
     isStatus
-      ? `st.${bank}.${Math.floor(at / STATUS_CHARACTERS_PER_REGISTER)}.${at % STATUS_CHARACTERS_PER_REGISTER}`
-      : `ram.${bank}.${at}`);
-  return { begin, bytes, place };
+      ? `st.${bank}.${Math.floor(index / STATUS_CHARACTERS_PER_REGISTER)}.${index % STATUS_CHARACTERS_PER_REGISTER}`
+      : `ram.${bank}.${index}`);
+  return { start, bytes, place };
 }
 
 /**
@@ -96,7 +97,7 @@ function readRequestedLocation(args, session, addressOf) {
   const reference = needText(args, "memoryReference").trim();
   const number = parseReference(reference, addressOf);
   const range = findRange(session, number) || fail(say.boardHasNo(reference));
-  return { range, from: number - range.begin + needNumber(args, "offset", 0) };
+  return { range, from: number - range.start + needNumber(args, "offset", 0) };
 }
 
 /**
@@ -106,10 +107,10 @@ function readRequestedLocation(args, session, addressOf) {
  * @param {(reference: string) => number} addressOf
  */
 export function readMemory(args, session, addressOf) {
-  const { range: { begin, bytes }, from } = readRequestedLocation(args, session, addressOf);
+  const { range: { start, bytes }, from } = readRequestedLocation(args, session, addressOf);
   const count = needNumber(args, "count");
   if (count < 0) fail(say.COUNT_RANGE);
-  const address = formatReference(begin + from);
+  const address = formatReference(start + from);
   if (from < 0 || from >= bytes.length) return { address, unreadableBytes: count };
   const readBytes = bytes.subarray(from, Math.min(bytes.length, from + count));
   const unreadCount = count - readBytes.length;
@@ -131,7 +132,7 @@ export async function writeMemory(args, session, addressOf) {
   const isWhole = first === from && end === from + newBytes.length;
   if (!isWhole && !optionalFlag(args, "allowPartial", false)) fail(say.OUTSIDE_OF_MEMORY);
   const dataInRange = end > first ? newBytes.subarray(first - from, end - from) : new Uint8Array(0);
-  const lines = [...dataInRange].map((byte, at) => `poke ${place(first + at)} ${byte}\n`).join("");
+  const lines = [...dataInRange].map((byte, index) => `poke ${place(first + index)} ${byte}\n`).join("");
   const bench = session.debugger.session;
   // `ask` executes the lines on a copy of the session. If the bench rejects a line there, nothing is written.
   const answers = lines === "" ? [] : bench.ask(lines);

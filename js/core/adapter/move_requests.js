@@ -106,11 +106,11 @@ export class MoveHandlers {
   gotoTargets(args) {
     const { current: { launchResult: { session }, queryHandlers }, firstLine } = this.adapter;
     if (!queryHandlers.isProgram(getField(args, "source"))) return { targets: [] };
-    const found = instructionForLine(needNumber(args, "line") + 1 - firstLine, session.map);
-    if (found.address < 0) return { targets: [] };
-    const label = session.map.nameOf(found.address) || hex(found.address, 3);
-    const instructionPointerReference = formatReference(found.address);
-    return { targets: [{ id: found.address, label, line: found.line - 1 + firstLine, instructionPointerReference }] };
+    const instruction = instructionForLine(needNumber(args, "line") + 1 - firstLine, session.map);
+    if (instruction.address < 0) return { targets: [] };
+    const label = session.map.nameOf(instruction.address) || hex(instruction.address, 3);
+    const instructionPointerReference = formatReference(instruction.address);
+    return { targets: [{ id: instruction.address, label, line: instruction.line - 1 + firstLine, instructionPointerReference }] };
   }
 
   /** @param {any} args */

@@ -17,14 +17,14 @@ import { cannotBeSet, errorInColumn } from "../../words/conditions.js";
  * Returns the current value of an expression as a number; throws AdapterError if its value is not a number.
  * @param {string} text a numeral, a program name, a place or a sum
  * @param {DebugSession} session
- * @param {number} [begin] the column in the typed line at which the text starts
+ * @param {number} [startColumn] the column in the typed line at which the text starts
  */
-export function evaluateNumber(text, session, begin = 0) {
+export function evaluateNumber(text, session, startColumn = 0) {
   // A client can send a displayed value with its suffix, such as `0x012, line 9`.
   const valueText = text.trim().replace(/^(\w+),.*$/, "$1");
   if (valueText === "") throw new AdapterError(say.noNumber(say.NOTHING));
-  const { expression, fault, column } = compileExpression(valueText, session.names);
-  if (!expression) throw new AdapterError(errorInColumn(fault, begin + column));
+  const { expression, error, column } = compileExpression(valueText, session.names);
+  if (!expression) throw new AdapterError(errorInColumn(error, startColumn + column));
   if (!expression.number) throw new AdapterError(say.noNumber(valueText));
   return expression.number(session.debugger.readPlaces(expression.places));
 }
@@ -34,16 +34,16 @@ export function evaluateNumber(text, session, begin = 0) {
  * @param {string} place a place from `settablePlace`, or a key in the form `key 0 2`
  * @param {string} text the value as an expression
  * @param {DebugSession} session
- * @param {number} [begin] the column in the typed line at which the text starts
+ * @param {number} [startColumn] the column in the typed line at which the text starts
  */
-function assignmentLines(place, text, session, begin = 0) {
+function assignmentLines(place, text, session, startColumn = 0) {
   const key = place.startsWith("key ") ? parseKey(place.slice("key ".length)) : null;
   if (key) {
     const word = text.trim().toLowerCase();
     if (word !== say.DOWN && word !== say.UP) throw new AdapterError(say.KEY_VALUE_SYNTAX);
     return `${keyLine(word === say.DOWN ? "press" : "release", key)}\n`;
   }
-  const value = evaluateNumber(text, session, begin);
+  const value = evaluateNumber(text, session, startColumn);
   if (value < 0 || value > maxPlaceValue(place)) throw new AdapterError(say.valueRange(place, maxPlaceValue(place)));
   return settingLines(place, value);
 }
@@ -57,8 +57,8 @@ export function compileSetLine(text, session) {
   try {
     const { place, value } = parseSetting(text);
     return assignmentLines(place, value.text, session, value.column);
-  } catch (fault) {
-    throw fault instanceof ConditionError ? new AdapterError(errorInColumn(fault.message, Math.max(0, fault.column))) : fault;
+  } catch (error) {
+    throw error instanceof ConditionError ? new AdapterError(errorInColumn(error.message, Math.max(0, error.column))) : error;
   }
 }
 

@@ -84,8 +84,8 @@ export class QueryHandlers {
     const from = Math.max(0, needNumber(args, "startFrame", 0));
     const levels = needNumber(args, "levels", 0);
     const [isHex, withLine] = [readFormatFlag(args, "hex"), readFormatFlag(args, "line") === true];
-    const frames = stack.map(({ address, line, name, call }, at) => ({
-      id: at + 1, name: formatFrameName(name, isHex) + (withLine && line > 0 ? `, ${lineReference(line)}` : ""),
+    const frames = stack.map(({ address, line, name, call }, index) => ({
+      id: index + 1, name: formatFrameName(name, isHex) + (withLine && line > 0 ? `, ${lineReference(line)}` : ""),
       instructionPointerReference: formatReference(address), canRestart: call >= 0,
       ...(line > 0 ? { line: line - 1 + this.firstLine, column: this.firstColumn, source: this.source }
         : { line: 0, column: 0, presentationHint: "subtle" }),
@@ -151,8 +151,8 @@ export class QueryHandlers {
    * @param {string} name
    */
   findWatchPlace(reference, name) {
-    const found = (this.scopes.variables(reference) || []).find((each) => each.name === name);
-    return found ? found.watchPlace || found.place : "";
+    const variable = (this.scopes.variables(reference) || []).find((candidate) => candidate.name === name);
+    return variable ? variable.watchPlace || variable.place : "";
   }
 
   /** @param {any} args */
@@ -192,7 +192,7 @@ export class QueryHandlers {
     const text = lines[lineIndex] ?? fail(say.NO_LINE);
     const column = Math.min(text.length, Math.max(0, needNumber(args, "column", text.length + this.firstColumn) - this.firstColumn));
     const { words, word } = this.completionWords(text.slice(0, column));
-    const targets = words.filter((each) => each.toLowerCase().startsWith(word.toLowerCase())).slice(0, MAX_COMPLETIONS);
+    const targets = words.filter((completion) => completion.toLowerCase().startsWith(word.toLowerCase())).slice(0, MAX_COMPLETIONS);
     const textLengthBefore = lines.slice(0, lineIndex).reduce((sum, line) => sum + line.length + 1, 0);
     const start = textLengthBefore + column - word.length + this.firstColumn;
     return { targets: targets.map((label) => ({ label, start, length: word.length })) };
@@ -224,16 +224,16 @@ export class QueryHandlers {
    * @param {(reference: string) => number} addressOf
    */
   disassemble(args, addressOf) {
-    const begin = addressOf(needText(args, "memoryReference")) + needNumber(args, "offset", 0);
+    const startAddress = addressOf(needText(args, "memoryReference")) + needNumber(args, "offset", 0);
     const count = needNumber(args, "instructionCount");
-    if (!(begin >= 0 && begin <= LAST_ADDRESS)) fail(say.ADDRESSES_ARE);
+    if (!(startAddress >= 0 && startAddress <= LAST_ADDRESS)) fail(say.ADDRESSES_ARE);
     if (!(count >= 0 && count <= MAX_ROWS)) fail(say.instructionCountRange(MAX_ROWS));
     // Clients cannot read negative addresses, so the response omits rows before ROM.
-    const rows = listInstructionRows(this.session, begin, needNumber(args, "instructionOffset", 0), count)
+    const rows = listInstructionRows(this.session, startAddress, needNumber(args, "instructionOffset", 0), count)
       .filter(({ address }) => address >= 0);
     return {
-      instructions: rows.map(({ address, bytes, words, line, name }) => ({
-        address: formatReference(address), instruction: words || "nothing",
+      instructions: rows.map(({ address, bytes, text, line, name }) => ({
+        address: formatReference(address), instruction: text || "nothing",
         ...(bytes ? { instructionBytes: bytes } : { presentationHint: "invalid" }),
         ...(name ? { symbol: name } : {}), ...(line > 0 ? { location: this.source, line: line - 1 + this.firstLine } : {}),
       })),

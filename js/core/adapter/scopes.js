@@ -74,13 +74,13 @@ function registerVariables({ machineState: { registers: cpu } }) {
     createVariable("acc", toHex(accumulator), "acc"), createDecimalVariable("cy", carry, "cy"),
     { ...createVariable("pc", toHex(counter), "pc"), memory: toHex(counter) },
     createVariable("dcl", toHex(bank), "dcl"), createDecimalVariable("test", test, "test"), createDecimalVariable("owed", owed),
-    ...cpu.registers.map((value, at) => createVariable(`R${at}`, toHex(value), `r${at}`)),
+    ...cpu.registers.map((value, register) => createVariable(`R${register}`, toHex(value), `r${register}`)),
   ];
 }
 
 /** @param {ShownState} state */
 function pairVariables({ machineState }) {
-  return indices(8).map((at) => createVariable(`P${at}`, toHex(machineState.pair(at)), `p${at}`));
+  return indices(8).map((pair) => createVariable(`P${pair}`, toHex(machineState.pair(pair)), `p${pair}`));
 }
 
 /** @param {ShownState} state */
@@ -116,20 +116,20 @@ const placeReference = (place) => formatReference(referenceNumberForPlace(place)
  * @param {number} register
  */
 function characterVariables({ machineState, session }, bank, register) {
-  const found = machineState.ramRegister(bank, register);
-  if (!found) return [];
+  const ramRegister = machineState.ramRegister(bank, register);
+  if (!ramRegister) return [];
   const constants = [...session.map.names.values()].filter(({ isLabel }) => !isLabel);
   return [
-    ...[...found.characters].map((value, at) => {
-      const byte = register * 16 + at;
-      const constantNames = constants.filter((each) => each.value === byte && byte > 15).map(({ name }) => name);
+    ...[...ramRegister.characters].map((value, index) => {
+      const byte = register * 16 + index;
+      const constantNames = constants.filter((constant) => constant.value === byte && byte > 15).map(({ name }) => name);
       const place = `ram.${bank}.0x${hex(byte, 2)}`;
       const name = `0x${hex(byte, 2)}${constantNames.length > 0 ? ` ${constantNames.join(" ")}` : ""}`;
       return { ...createVariable(name, toHex(value), place), memory: placeReference(place) };
     }),
-    ...[...found.status].map((value, at) => {
-      const place = `st.${bank}.${register}.${at}`;
-      return { ...createVariable(`status ${at}`, toHex(value), place), memory: placeReference(place) };
+    ...[...ramRegister.status].map((value, index) => {
+      const place = `st.${bank}.${register}.${index}`;
+      return { ...createVariable(`status ${index}`, toHex(value), place), memory: placeReference(place) };
     }),
   ];
 }
@@ -144,7 +144,7 @@ function portVariables({ machineState, face }) {
     ...roms.map(({ chip, out, in: read }) => (
       createReadOnlyVariable(portName(`rom${chip}`), `out ${toHex(out)}, in ${toHex(read)}`, `rom${chip}`))),
     ...rams.map(({ name, out }) => createReadOnlyVariable(portName(`ram${name}`), `out ${toHex(out)}`, `ram${name}`)),
-    ...chains.map((bits, at) => createReadOnlyVariable(portName(`chain${at}`), bits, `chain${at}`)),
+    ...chains.map((bits, chain) => createReadOnlyVariable(portName(`chain${chain}`), bits, `chain${chain}`)),
     ...sources.map((source) => srcVariable(source)),
   ];
 }
@@ -159,9 +159,9 @@ function srcVariable(source) {
 /** @param {ShownState} state */
 function lampVariables({ session, face, board }) {
   const marks = readItems(session.debugger.session.ask("lamps\n")[0]).join("");
-  return board.lamps.map((line, at) => {
-    const name = (face.lamps.get(at) || { text: "" }).text.replace(/_/g, " ");
-    return createReadOnlyVariable(name || `lamp ${at}`, say.lampIs(marks[at] === "*"), `lamp ${at}`);
+  return board.lamps.map((line, lamp) => {
+    const name = (face.lamps.get(lamp) || { text: "" }).text.replace(/_/g, " ");
+    return createReadOnlyVariable(name || `lamp ${lamp}`, say.lampIs(marks[lamp] === "*"), `lamp ${lamp}`);
   });
 }
 
@@ -225,8 +225,8 @@ export class Scopes {
    */
   variables(reference, base = "usual") {
     const variables = this.rawVariables(reference);
-    return variables && variables.map((each) => (
-      { ...each, value: each.isDecimal ? formatInBase(Number(each.value), base) : convertToBase(each.value, base) }));
+    return variables && variables.map((variable) => (
+      { ...variable, value: variable.isDecimal ? formatInBase(Number(variable.value), base) : convertToBase(variable.value, base) }));
   }
 
   /**
@@ -249,11 +249,11 @@ export class Scopes {
    * @param {Base} base the number base of the result
    */
   async setVariable(reference, name, value, base) {
-    const found = (this.variables(reference) || []).find((each) => each.name === name);
-    if (!found) throw new Error(say.notFoundHere(name));
-    if (found.place === "") throw new Error(say.nothingSets(name));
-    await setPlace(this.session, found.place, value);
-    const newVariable = (this.variables(reference, base) || []).find((each) => each.name === name);
+    const variable = (this.variables(reference) || []).find((candidate) => candidate.name === name);
+    if (!variable) throw new Error(say.notFoundHere(name));
+    if (variable.place === "") throw new Error(say.nothingSets(name));
+    await setPlace(this.session, variable.place, value);
+    const newVariable = (this.variables(reference, base) || []).find((candidate) => candidate.name === name);
     return newVariable ? newVariable.value : value;
   }
 }

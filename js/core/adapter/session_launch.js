@@ -72,7 +72,7 @@ export function readRequestedFiles(args, host) {
     const texts = findTestFiles(test, host.nameOf(file, folder), host.read);
     return { board: texts.board, program: texts.program, session: "", load: false, test: texts };
   }
-  const names = ["project", "board", "program", "session"].map((each) => optionalText(args, each));
+  const names = ["project", "board", "program", "session"].map((field) => optionalText(args, field));
   const [project, ownBoard, ownProgram, session] = names.map((name) => (name === "" ? "" : host.nameOf(name, folder)));
   const projectNames = project === "" ? { board: "", program: "" } : findProjectFiles(project, host);
   const program = ownProgram || projectNames.program;
@@ -111,7 +111,7 @@ function findProjectFiles(name, host) {
  * @param {Host} host
  */
 function findBoardFile(program, host) {
-  const { uri, folder } = findBoard(fileUri(program), (each) => host.read(uriFileName(each)));
+  const { uri, folder } = findBoard(fileUri(program), (candidateUri) => host.read(uriFileName(candidateUri)));
   const board = uriFileName(uri);
   if (folder !== "" && !host.isInside(board, uriFileName(folder))) throw new AdapterError(leadsOut(board), true);
   return board;
@@ -173,8 +173,8 @@ function sessionFromTexts(engine, requestedFiles, host, messages) {
 async function sessionFromTest(engine, test, host) {
   const sources = test.tests.map((name) => ({ name, text: host.read(name) || "" }));
   const texts = { boardText: readBenchText(test.board, "#", host), programText: readBenchText(test.program, ";", host), sources };
-  const { session, words } = await createTestSession(engine, texts, test, host.pause);
-  return { session, writer: null, note: words };
+  const { session, result } = await createTestSession(engine, texts, test, host.pause);
+  return { session, writer: null, note: result };
 }
 
 /**
@@ -265,9 +265,9 @@ export function describeDifference(session) {
 function checkRom(session, engine, { program, session: file }, messages) {
   const { refusal } = readProgram(engine, sentText(session.program, ";"));
   if (refusal) throw refusalError(program, refusal, messages);
-  const fault = describeDifference(session);
-  if (fault === "") return;
-  const difference = say.notInRomOf(baseName(program), baseName(file), fault);
+  const differenceText = describeDifference(session);
+  if (differenceText === "") return;
+  const difference = say.notInRomOf(baseName(program), baseName(file), differenceText);
   throw new AdapterError(say.loadHint(difference), true);
 }
 

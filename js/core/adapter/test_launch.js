@@ -69,5 +69,5 @@ export async function createTestSession(engine, texts, { name, file }, pause) {
   const session = new DebugSession(engine, { file: engine.bytesOf(run.initialFile), board: texts.boardText, program: texts.programText });
   const lines = replayLines(run);
   if (lines !== "") await session.debugger.session.serve(lines, async () => true);
-  return { session, words: outcome.failure ? failureLine(outcome).trim().slice(2) : say.testHasPassed(name) };
+  return { session, result: outcome.failure ? failureLine(outcome).trim().slice(2) : say.testHasPassed(name) };
 }

@@ -41,8 +41,8 @@ import { isListingLine } from "./answer_table.js";
  * @returns {Refusal | null}
  */
 export function parseRefusal(answer) {
-  const found = /^no (\d+)(?: line (\d+)(?: .+)?)?$/.exec(answer);
-  return found && { number: Number(found[1]), line: Number(found[2] || 0) };
+  const match = /^no (\d+)(?: line (\d+)(?: .+)?)?$/.exec(answer);
+  return match && { number: Number(match[1]), line: Number(match[2] || 0) };
 }
 
 /**
@@ -52,8 +52,8 @@ export function parseRefusal(answer) {
  * @returns {Run | null}
  */
 export function readRun(answer) {
-  const found = /^ok \d+ ran (\d+) (\w+)$/.exec(answer);
-  return found && { cycles: Number(found[1]), end: found[2] };
+  const match = /^ok \d+ ran (\d+) (\w+)$/.exec(answer);
+  return match && { cycles: Number(match[1]), end: match[2] };
 }
 
 /**

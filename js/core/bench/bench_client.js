@@ -101,7 +101,7 @@ export class Bench {
       }
       this.pendingRequests.set(number, { done, fail, progress });
       const spareBuffers = this.spare.splice(0);
-      this.send({ kind: "request", number, call: name, words: parameters, spare: spareBuffers }, spareBuffers);
+      this.send({ kind: "request", number, call: name, parameters, spare: spareBuffers }, spareBuffers);
     });
   }
 
@@ -122,7 +122,7 @@ export class Bench {
   handleMessage(message) {
     this.unansweredPings = 0;
     if (message.kind === "frame") this.listener.frame(message.frame);
-    if (message.kind === "failed") this.listener.failed(unpackError(message.fault));
+    if (message.kind === "failed") this.listener.failed(unpackError(message.error));
     if (message.kind !== "reply" && message.kind !== "early" && message.kind !== "progress") return;
     const waiting = this.pendingRequests.get(message.number);
     if (!waiting) return;
@@ -133,7 +133,7 @@ export class Bench {
     // Ignore an early result while older requests wait for their replies. The request then waits for its regular reply.
     if (message.kind === "early" && message.number !== this.oldestRequest) return;
     this.pendingRequests.delete(message.number);
-    if (message.kind === "reply" && message.fault) waiting.fail(unpackError(message.fault));
+    if (message.kind === "reply" && message.error) waiting.fail(unpackError(message.error));
     else waiting.done(message.result);
   }
 

@@ -33,19 +33,19 @@ export const OUT_OF_MEMORY = 90;
 
 /**
  * The representation of an error in a message between page and worker.
- * @typedef {{ kind: "refusal" | "trap" | "cancelled" | "other", words: string, number: number }} PackedFault
+ * @typedef {{ kind: "refusal" | "trap" | "cancelled" | "other", message: string, number: number }} PackedFault
  */
 
 /**
  * Converts an error to its message representation.
- * @param {unknown} fault
+ * @param {unknown} error
  * @returns {PackedFault}
  */
-export function packError(fault) {
-  if (fault instanceof BenchRefusal) return { kind: "refusal", words: fault.message, number: fault.number };
-  if (fault instanceof BenchTrap) return { kind: "trap", words: fault.message, number: 0 };
-  if (fault instanceof CancelledError) return { kind: "cancelled", words: fault.message, number: 0 };
-  return { kind: "other", words: fault instanceof Error ? fault.message : String(fault), number: 0 };
+export function packError(error) {
+  if (error instanceof BenchRefusal) return { kind: "refusal", message: error.message, number: error.number };
+  if (error instanceof BenchTrap) return { kind: "trap", message: error.message, number: 0 };
+  if (error instanceof CancelledError) return { kind: "cancelled", message: error.message, number: 0 };
+  return { kind: "other", message: error instanceof Error ? error.message : String(error), number: 0 };
 }
 
 /**
@@ -53,9 +53,9 @@ export function packError(fault) {
  * @param {PackedFault} fault
  * @returns {Error}
  */
-export function unpackError({ kind, words, number }) {
+export function unpackError({ kind, message, number }) {
   if (kind === "refusal") return new BenchRefusal(number);
-  if (kind === "trap") return new BenchTrap(words);
+  if (kind === "trap") return new BenchTrap(message);
   if (kind === "cancelled") return new CancelledError();
-  return new Error(words);
+  return new Error(message);
 }

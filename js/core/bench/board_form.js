@@ -47,11 +47,11 @@ export function boardLines({ roms, banks, chains }) {
   /** @type {BoardLine[]} */
   const lines = [];
   for (const { chip, port } of roms) {
-    for (const at of PORT_LINES) lines.push({ name: `rom${chip}.${at}`, kind: "rom", isInput: port[3 - at] === "i" });
+    for (const portLine of PORT_LINES) lines.push({ name: `rom${chip}.${portLine}`, kind: "rom", isInput: port[3 - portLine] === "i" });
   }
   for (const { bank, chips } of banks) {
     for (const chip of indices(chips)) {
-      for (const at of PORT_LINES) lines.push({ name: `ram${bank}.${chip}.${at}`, kind: "ram", isInput: false });
+      for (const portLine of PORT_LINES) lines.push({ name: `ram${bank}.${chip}.${portLine}`, kind: "ram", isInput: false });
     }
   }
   chains.forEach(({ chips }, chain) => {

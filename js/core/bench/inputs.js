@@ -55,7 +55,7 @@ export const SEQ_ANSWER = /^seq \d+$/;
  * @param {string} lines
  */
 export function readNumberedInputs(lines) {
-  /** @type {{ input: Input, at: number }[]} */
+  /** @type {{ input: Input, lineNumber: number }[]} */
   const inputs = [];
   /** @type {Input | null} */
   let openInput = null;
@@ -70,7 +70,7 @@ export function readNumberedInputs(lines) {
     if (words.length === 0 && line.length <= MAX_LINE_LENGTH) return;
     /** @type {Input} */
     const input = { line, words, kind: line.length > MAX_LINE_LENGTH ? "" : words[0], text: [] };
-    inputs.push({ input, at: index + 1 });
+    inputs.push({ input, lineNumber: index + 1 });
     if (opensText(line)) openInput = input;
   });
   return inputs;
@@ -92,16 +92,16 @@ export function readInputs(lines) {
  * @param {number} minLength the minimum distance from `from`, in characters
  */
 export function findInputEnd(lines, from, minLength) {
-  let at = from;
+  let offset = from;
   let isOpen = false;
-  while (at < lines.length && (isOpen || at - from < minLength)) {
-    const lineFeed = lines.indexOf("\n", at);
+  while (offset < lines.length && (isOpen || offset - from < minLength)) {
+    const lineFeed = lines.indexOf("\n", offset);
     const end = lineFeed < 0 ? lines.length : lineFeed;
-    const line = stripCarriageReturn(lines.slice(at, end));
+    const line = stripCarriageReturn(lines.slice(offset, end));
     isOpen = isOpen ? line !== "." : opensText(line);
-    at = Math.min(end + 1, lines.length);
+    offset = Math.min(end + 1, lines.length);
   }
-  return at;
+  return offset;
 }
 
 /**
@@ -144,12 +144,12 @@ export function answerLength(input, answers, from) {
   const form = ANSWER_FORMATS.get(input.kind);
   if (!form || !form.further || !form.first.test(answers[from])) return 1;
   const max = maxAnswerLines(input, answers[from], form.count);
-  let at = from + 1;
-  while (at < answers.length && at - from < max && form.further.test(answers[at])) {
-    if (form.count === "list" && !continuesListing(answers[at - 1], answers[at])) break;
-    at++;
+  let index = from + 1;
+  while (index < answers.length && index - from < max && form.further.test(answers[index])) {
+    if (form.count === "list" && !continuesListing(answers[index - 1], answers[index])) break;
+    index++;
   }
-  return at - from;
+  return index - from;
 }
 
 /**

@@ -8,7 +8,7 @@ import * as say from "../../words/lines.js";
 
 /**
  * The error in a line: the bench's error number, and a message that names the wrong word.
- * @typedef {{ number: number, words: string }} LineFault
+ * @typedef {{ number: number, message: string }} LineFault
  *
  * The syntax of a kind of place: the pattern of its name, the maximum of each number in the name (`maxima`), and the maximum value of the
  * place (`maxValue`).
@@ -68,7 +68,7 @@ const TRACE_ONLY_SYNTAXES = [
   syntaxOf("romN.N", [MAX_NIBBLE, 3]), syntaxOf("ramN.N.N", [MAX_BANK, 3, 3]), syntaxOf("chainN.N", [3, 79]),
 ];
 /** Place names for completion and suggestions. A name that ends with a dot is incomplete. */
-export const POKE_NAMES = ["acc", "cy", "pc", "dcl", ...indices(16).map((at) => `r${at}`), "rom.", "ram.", "st."];
+export const POKE_NAMES = ["acc", "cy", "pc", "dcl", ...indices(16).map((register) => `r${register}`), "rom.", "ram.", "st."];
 export const TRACE_NAMES = [...POKE_NAMES, "lamps", "ret", "src"];
 
 /** @type {(word: string) => number} returns the value of a numeral; NaN for any other word */
@@ -82,7 +82,7 @@ const parseNumeral = (word) => (new RegExp(`^${NUMERAL}$`).test(word) ? Number(w
  */
 function findRangeError(word, [first, last]) {
   const number = parseNumeral(word);
-  return number >= first && number <= last ? null : { number: BAD_NUMBER, words: say.notInRange(word, first, last) };
+  return number >= first && number <= last ? null : { number: BAD_NUMBER, message: say.notInRange(word, first, last) };
 }
 
 /**
@@ -101,13 +101,13 @@ function findPlaceSyntax(word, syntaxes) {
  */
 function isInRange(word, { pattern, maxima }) {
   const placeNumbers = /** @type {RegExpExecArray} */ (pattern.exec(word)).slice(1).map(Number);
-  return placeNumbers.every((number, at) => number <= maxima[at]);
+  return placeNumbers.every((number, index) => number <= maxima[index]);
 }
 
 /** @type {(word: string, names: string[]) => LineFault} */
-const unknownPlaceError = (word, names) => ({ number: NOT_A_COMMAND, words: say.noPlace(word, findSimilarWords(word, names)) });
+const unknownPlaceError = (word, names) => ({ number: NOT_A_COMMAND, message: say.noPlace(word, findSimilarWords(word, names)) });
 /** @type {(word: string) => LineFault} */
-const noSuchPlaceError = (word) => ({ number: BAD_NUMBER, words: say.noSuchPlace(word) });
+const noSuchPlaceError = (word) => ({ number: BAD_NUMBER, message: say.noSuchPlace(word) });
 
 /**
  * Returns the error in the words after `poke`; null if there is none.
@@ -129,7 +129,7 @@ function findTraceError(count, places) {
   const syntaxes = [...PLACE_SYNTAXES, ...TRACE_ONLY_SYNTAXES];
   const unknownWord = places.slice(0, MAX_PLACES).find((word) => !findPlaceSyntax(word, syntaxes));
   if (unknownWord !== undefined) return unknownPlaceError(unknownWord, TRACE_NAMES);
-  if (places.length > MAX_PLACES) return { number: NOT_A_COMMAND, words: say.tooManyPlaces(MAX_PLACES) };
+  if (places.length > MAX_PLACES) return { number: NOT_A_COMMAND, message: say.tooManyPlaces(MAX_PLACES) };
   const wrongWord = places.find((word) => !isInRange(word, /** @type {PlaceSyntax} */ (findPlaceSyntax(word, syntaxes))));
   return wrongWord === undefined ? findRangeError(count, [1, MAX_CYCLES]) : noSuchPlaceError(wrongWord);
 }
@@ -142,15 +142,15 @@ function findTraceError(count, places) {
 function findWordError([first, ...words]) {
   if (first === undefined) return null;
   if (!ANSWER_FORMATS.has(first)) {
-    return { number: NOT_A_COMMAND, words: say.noLine(first, findSimilarWords(first, ANSWER_FORMATS.keys())) };
+    return { number: NOT_A_COMMAND, message: say.noLine(first, findSimilarWords(first, ANSWER_FORMATS.keys())) };
   }
-  const syntaxError = { number: NOT_A_COMMAND, words: say.lineSyntax(first) };
+  const syntaxError = { number: NOT_A_COMMAND, message: say.lineSyntax(first) };
   if (first === "trace") return words.length === 0 ? syntaxError : findTraceError(words[0], words.slice(1));
   if (first === "poke") return words.length === 2 ? findPokeError(words[0], words[1]) : syntaxError;
   const ranges = NUMBER_RANGES[first] || [];
   if (words.length !== ranges.length) return syntaxError;
-  const errors = words.map((word, at) => findRangeError(word, ranges[at]));
-  return errors.find((fault) => fault !== null) || null;
+  const errors = words.map((word, index) => findRangeError(word, ranges[index]));
+  return errors.find((error) => error !== null) || null;
 }
 
 /**
@@ -167,8 +167,8 @@ export function invalidCharacterIn(line) {
  * @returns {LineFault | null}
  */
 export function findLineError(line) {
-  if (line.length > MAX_LINE_LENGTH) return { number: LINE_TOO_LONG, words: say.tooLong(MAX_LINE_LENGTH, line.length) };
+  if (line.length > MAX_LINE_LENGTH) return { number: LINE_TOO_LONG, message: say.tooLong(MAX_LINE_LENGTH, line.length) };
   const character = invalidCharacterIn(line);
-  if (character !== "") return { number: NOT_ASCII, words: say.invalidCharacter(character) };
+  if (character !== "") return { number: NOT_ASCII, message: say.invalidCharacter(character) };
   return findWordError(line.split(/[ \t]+/).filter((word) => word !== ""));
 }

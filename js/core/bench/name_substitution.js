@@ -10,9 +10,9 @@ import { errorInColumn } from "../../words/conditions.js";
 /**
  * @typedef {import("../machine/source_map.js").SourceMap} SourceMap
  *
- * The lines after the replacement. If a line has an error, `words` is the first error message and `line` the line number; otherwise they
+ * The lines after the replacement. If a line has an error, `message` is the first error message and `line` the line number; otherwise they
  * are "" and 0.
- * @typedef {{ lines: string, words: string, line: number }} ReplacedLines
+ * @typedef {{ lines: string, message: string, line: number }} ReplacedLines
  */
 
 const NAME_REFERENCE = /(^|[ \t])@([^ \t]*)/g;
@@ -27,24 +27,24 @@ const SET_LINE = /^\s*set(?!\S)(.*)$/;
 export function replaceNames(lines, map) {
   let [message, line] = ["", 0];
   let isOpen = false;
-  /** @type {(error: string, at: number) => void} */
-  const reportError = (error, at) => {
-    if (message === "" && error !== "") [message, line] = [error, at];
+  /** @type {(error: string, lineNumber: number) => void} */
+  const reportError = (error, lineNumber) => {
+    if (message === "" && error !== "") [message, line] = [error, lineNumber];
   };
-  /** @type {(text: string, at: number) => string} */
-  const replaceIn = (text, at) => {
+  /** @type {(text: string, lineNumber: number) => string} */
+  const replaceIn = (text, lineNumber) => {
     const setMatch = SET_LINE.exec(text);
-    if (!setMatch) return replaceNamesIn(text, at);
-    const { lines: settingLines, fault, column } = readSetting(setMatch[1], map);
-    reportError(fault && `${errorInColumn(fault, column + text.length - setMatch[1].length)}.`, at);
+    if (!setMatch) return replaceNamesIn(text, lineNumber);
+    const { lines: settingLines, error, column } = readSetting(setMatch[1], map);
+    reportError(error && `${errorInColumn(error, column + text.length - setMatch[1].length)}.`, lineNumber);
     return settingLines.trimEnd();
   };
-  /** @type {(text: string, at: number) => string} */
-  const replaceNamesIn = (text, at) => text.replace(NAME_REFERENCE, (found, before, name) => {
+  /** @type {(text: string, lineNumber: number) => string} */
+  const replaceNamesIn = (text, lineNumber) => text.replace(NAME_REFERENCE, (match, before, name) => {
     const value = map ? map.findValue(name) : undefined;
     if (value !== undefined) return `${before}0x${hex(value, 3)}`;
-    reportError(`${found.trim()}: ${map ? say.NO_SUCH_NAME : say.NAMES_UNKNOWN}.`, at);
-    return found;
+    reportError(`${match.trim()}: ${map ? say.NO_SUCH_NAME : say.NAMES_UNKNOWN}.`, lineNumber);
+    return match;
   });
   const changed = lines.split("\n").map((rawLine, index) => {
     const text = stripCarriageReturn(rawLine);
@@ -52,5 +52,5 @@ export function replaceNames(lines, map) {
     isOpen = isOpen ? text !== "." : opensText(text);
     return isInText ? rawLine : replaceIn(text, index + 1);
   });
-  return { lines: changed.join("\n"), words: message, line };
+  return { lines: changed.join("\n"), message, line };
 }

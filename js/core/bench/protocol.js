@@ -15,11 +15,11 @@
  *   past: import("../engine/timeline.js").PastChanges, waves: import("../engine/live_recorder.js").LivePart | null,
  *   printed: import("../engine/printer_codes.js").PrintoutData | null, waiting: import("../engine/key_queue.js").Change[] }} PageState
  *
- * The result of a period in which the machine ran. `ran`: the executed lines with their answers. `changesKeys`: true if a key changed.
- * `end`: the answer that ended the run early, or "". `stop`: the reason why the machine stopped, or null. `tally`: breakpoint hits and log
- * messages. `litShares`, `heard`, `warmed`: lamp brightness, sound, and the changes in the displayed RAM chip; each is null if the page
- * does not show it.
- * @typedef {{ ran: RunEntry[], cycles: number, end: string, changesKeys: boolean, stop: Stop | null, tally: Tally,
+ * The result of a period in which the machine ran. `runEntries`: the executed lines with their answers. `changesKeys`: true if a key
+ * changed. `end`: the answer that ended the run early, or "". `stop`: the reason why the machine stopped, or null. `tally`: breakpoint hits
+ * and log messages. `litShares`, `heard`, `warmed`: lamp brightness, sound, and the changes in the displayed RAM chip; each is null if the
+ * page does not show it.
+ * @typedef {{ runEntries: RunEntry[], cycles: number, end: string, changesKeys: boolean, stop: Stop | null, tally: Tally,
  *   litShares: import("../engine/brightness_meter.js").LitShares | null, heard: import("../engine/buzzer_meter.js").BuzzerLevels | null,
  *   warmed: import("../engine/heat_meter.js").ChipHeat | null } & PageState} Frame
  * @typedef {import("../debug/debugger.js").Stop} Stop
@@ -27,16 +27,16 @@
  *
  * @typedef {LinesResult & PageState} LinesReply
  * @typedef {Omit<import("../engine/past_search.js").BackSearchResult, "moment" | "present">} SearchReport
- * @typedef {LinesReply & { typed: import("../debug/debugger.js").TypedResult }} TypedReply the result of lines that the user typed
+ * @typedef {LinesReply & { typedResult: import("../debug/debugger.js").TypedResult }} TypedReply the result of lines that the user typed
  * @typedef {LinesReply & SearchReport & { isDone: boolean, cycles: number }} TravelResult the result of a move back or forward in time, and
  *   the number of cycles moved
- * @typedef {LinesReply & { found: import("../debug/debugger.js").RunResult["found"], tally: Tally }} GoalReply the result of lines that
- *   run to a goal
- * @typedef {LinesReply & { faults: [number, string][] }} BreakpointReply the result of lines with breakpoints; `faults` are the ids of
+ * @typedef {LinesReply & { searchResult: import("../debug/debugger.js").RunResult["searchResult"], tally: Tally }} GoalReply
+ *   the result of lines that run to a goal
+ * @typedef {LinesReply & { errors: [number, string][] }} BreakpointReply the result of lines with breakpoints; `errors` are the ids of
  *   breakpoints that cannot be compiled, each with an error message
  *
  * The messages to the worker.
- * @typedef {{ kind: "request", number: number, call: string, words: any[], spare: ArrayBuffer[] }} Request `words` are the
+ * @typedef {{ kind: "request", number: number, call: string, parameters: any[], spare: ArrayBuffer[] }} Request `parameters` are the
  *   arguments of the call; `spare` are buffers as in `SpareBuffer`
  * @typedef {{ kind: "cancel", number: number }} Cancel cancels a request that serves lines
  * @typedef {{ kind: "ping" }} Ping checks whether the worker responds
@@ -44,12 +44,12 @@
  * @typedef {Request | Cancel | Ping | SpareBuffer} ToWorker
  *
  * The messages to the page.
- * @typedef {{ kind: "reply", number: number, result?: any, fault?: PackedFault }} Reply
+ * @typedef {{ kind: "reply", number: number, result?: any, error?: PackedFault }} Reply
  * @typedef {{ kind: "early", number: number, result: any }} EarlyReply a copy of the result, sent before the reply
  * @typedef {{ kind: "progress", number: number, done: number, total: number }} Progress the completed and the total amount of a request's
  *   work
  * @typedef {{ kind: "frame", frame: Frame }} FrameMessage the result of a period in which the machine ran at full speed
- * @typedef {{ kind: "failed", fault: PackedFault }} FailureMessage the error that stopped the machine at full speed
+ * @typedef {{ kind: "failed", error: PackedFault }} FailureMessage the error that stopped the machine at full speed
  * @typedef {{ kind: "pong" }} Pong
  * @typedef {Reply | EarlyReply | Progress | FrameMessage | FailureMessage | Pong} ToPage
  */

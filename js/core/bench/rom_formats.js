@@ -91,7 +91,9 @@ export function readBnpf(text, from = 0) {
   };
   readLines(text, (rawLine) => {
     const line = rawLine.trim();
-    for (let at = 0; at < line.length; at++) addLetter(line[at].toUpperCase(), /b/i.test(line[at]) && beginsWord(line, at));
+    for (let index = 0; index < line.length; index++) {
+      addLetter(line[index].toUpperCase(), /b/i.test(line[index]) && beginsWord(line, index));
+    }
   });
   const lines = text.replace(/\n$/, "").split("\n").length;
   if (word !== "") throw new ImageError(say.imageLine(lines, say.bnpfWithoutEnd(word)));
@@ -118,9 +120,9 @@ const WORDS_PER_LINE = 4;
  */
 export function writeBnpf(bytes, from, count) {
   let text = "";
-  for (let at = from; at < from + count; at += WORDS_PER_LINE) {
-    const bnpfWords = [...bytes.subarray(at, Math.min(at + WORDS_PER_LINE, from + count))].map(bnpfWord);
-    text += `${String(at).padStart(4)} ${bnpfWords.join(" ")}\n`;
+  for (let address = from; address < from + count; address += WORDS_PER_LINE) {
+    const bnpfWords = [...bytes.subarray(address, Math.min(address + WORDS_PER_LINE, from + count))].map(bnpfWord);
+    text += `${String(address).padStart(4)} ${bnpfWords.join(" ")}\n`;
   }
   return text;
 }
@@ -156,9 +158,9 @@ function isText(bytes) {
 export function detectFormat(name, bytes) {
   if (/\.(hex|ihx)$/i.test(name)) return "hex";
   if (/\.bnpf?$/i.test(name)) return "bnpf";
-  const begin = String.fromCharCode(...bytes.subarray(0, 2));
-  if (begin.startsWith(":")) return "hex";
-  if (/^S\d/.test(begin)) return "srec";
+  const firstCharacters = String.fromCharCode(...bytes.subarray(0, 2));
+  if (firstCharacters.startsWith(":")) return "hex";
+  if (/^S\d/.test(firstCharacters)) return "srec";
   if (containsOnly(bytes, isTextByte) && /B[NP]{8}F/i.test(new TextDecoder("latin1").decode(bytes))) return "bnpf";
   return isText(bytes) ? null : "binary";
 }

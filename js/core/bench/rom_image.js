@@ -40,9 +40,9 @@ export class ImageBytes {
   put(address, data) {
     const from = address + this.offset;
     if (from + data.length > ADDRESS_COUNT) throw new ImageError(say.PAST_LAST);
-    for (let at = 0; at < data.length; at++) {
-      if (this.bytes[from + at] !== NO_BYTE) throw new ImageError(say.duplicateAddress(hex(from + at, 3)));
-      this.bytes[from + at] = data[at];
+    for (let index = 0; index < data.length; index++) {
+      if (this.bytes[from + index] !== NO_BYTE) throw new ImageError(say.duplicateAddress(hex(from + index, 3)));
+      this.bytes[from + index] = data[index];
     }
   }
 }
@@ -69,12 +69,12 @@ export function readBytes(file, from = 0) {
  * @param {(line: string) => void} read
  */
 export function readLines(text, read) {
-  text.split("\n").forEach((line, at) => {
+  text.split("\n").forEach((line, index) => {
     try {
       read(line);
-    } catch (fault) {
-      if (fault instanceof ImageError) fault.message = say.imageLine(at + 1, fault.message);
-      throw fault;
+    } catch (error) {
+      if (error instanceof ImageError) error.message = say.imageLine(index + 1, error.message);
+      throw error;
     }
   });
 }
@@ -153,11 +153,11 @@ function formatRecord(address, type, data) {
  */
 export function writeHex(bytes) {
   let records = "";
-  for (let at = 0; at < ADDRESS_COUNT;) {
-    let end = at;
-    while (end < ADDRESS_COUNT && end < at + BYTES_PER_RECORD && bytes[end] !== NO_BYTE) end += 1;
-    if (end > at) records += formatRecord(at, DATA_TYPE, [...bytes.subarray(at, end)]);
-    at = Math.max(end, at + 1);
+  for (let address = 0; address < ADDRESS_COUNT;) {
+    let end = address;
+    while (end < ADDRESS_COUNT && end < address + BYTES_PER_RECORD && bytes[end] !== NO_BYTE) end += 1;
+    if (end > address) records += formatRecord(address, DATA_TYPE, [...bytes.subarray(address, end)]);
+    address = Math.max(end, address + 1);
   }
   return records + formatRecord(0, END_TYPE, []);
 }

@@ -9,10 +9,10 @@ import * as say from "../../words/bench.js";
  * @typedef {import("./inputs.js").Input} Input
  *
  * An input, its line number from 1, and the first line of its answer ("" if it has no answer).
- * @typedef {{ input: Input, at: number, answer: string }} AnsweredInput
+ * @typedef {{ input: Input, lineNumber: number, answer: string }} AnsweredInput
  *
- * The inputs of a script with their answers. `words` is an error message if the answers do not fit the inputs, otherwise "".
- * @typedef {{ inputs: AnsweredInput[], words: string }} AnsweredScript
+ * The inputs of a script with their answers. `message` is an error message if the answers do not fit the inputs, otherwise "".
+ * @typedef {{ inputs: AnsweredInput[], message: string }} AnsweredScript
  */
 
 const SESSION_ANSWER = /^session (\d+)$/;
@@ -53,7 +53,7 @@ function completeLength(input, answers, from) {
 function findInvalidLine(input, answers, from, end) {
   const form = ANSWER_FORMATS.get(input.kind);
   const further = form && form.further;
-  for (let at = from + 1; at < Math.min(end, answers.length); at++) if (!further || !further.test(answers[at])) return at;
+  for (let index = from + 1; index < Math.min(end, answers.length); index++) if (!further || !further.test(answers[index])) return index;
   return -1;
 }
 
@@ -84,18 +84,18 @@ class AnswerMatcher {
    */
   takeAnswer(input, line) {
     if (this.isDone) return "";
-    const { answers, nextIndex: at } = this;
-    const first = answers[at];
+    const { answers, nextIndex: start } = this;
+    const first = answers[start];
     const messageAt = (/** @type {number} */ index) => say.noAnswer(index + 1, answers[index], line, input.line);
     const [word, count] = first.split(" ");
-    if (!canBeginAnswer(input, first)) this.message = messageAt(at);
+    if (!canBeginAnswer(input, first)) this.message = messageAt(start);
     else if (word === "ok" && Number(count) !== this.commandCount + 1) {
-      this.message = say.wrongCommandCount(messageAt(at), this.commandCount);
+      this.message = say.wrongCommandCount(messageAt(start), this.commandCount);
     }
     if (this.message !== "") return "";
     if (word === "ok") this.commandCount += 1;
-    const end = at + completeLength(input, answers, at);
-    const invalidLine = findInvalidLine(input, answers, at, end);
+    const end = start + completeLength(input, answers, start);
+    const invalidLine = findInvalidLine(input, answers, start, end);
     if (invalidLine >= 0) this.message = messageAt(invalidLine);
     this.isIncomplete = end > answers.length;
     this.nextIndex = end;
@@ -112,10 +112,10 @@ class AnswerMatcher {
 export function matchScriptAnswers(script, answers) {
   const inputs = readNumberedInputs(script);
   const unanswered = inputs.map((numberedInput) => ({ ...numberedInput, answer: "" }));
-  if (answers.length > 0 && parseRefusal(answers[0])) return { inputs: unanswered, words: "" };
-  if (answers.length === 0 || !SESSION_ANSWER.test(answers[0])) return { inputs: unanswered, words: say.FIRST_IS_SESSION };
+  if (answers.length > 0 && parseRefusal(answers[0])) return { inputs: unanswered, message: "" };
+  if (answers.length === 0 || !SESSION_ANSWER.test(answers[0])) return { inputs: unanswered, message: say.FIRST_IS_SESSION };
   const matcher = new AnswerMatcher(answers);
-  const answered = inputs.map(({ input, at }) => ({ input, at, answer: matcher.takeAnswer(input, at) }));
+  const answered = inputs.map(({ input, lineNumber }) => ({ input, lineNumber, answer: matcher.takeAnswer(input, lineNumber) }));
   const { message, isDone, nextIndex } = matcher;
-  return { inputs: answered, words: message || (isDone ? "" : say.afterLastAnswer(nextIndex + 1, answers[nextIndex])) };
+  return { inputs: answered, message: message || (isDone ? "" : say.afterLastAnswer(nextIndex + 1, answers[nextIndex])) };
 }

@@ -10,9 +10,9 @@ import * as say from "../../words/bench.js";
  * @typedef {import("../engine/engine_host.js").EngineHost} EngineHost
  * @typedef {import("../engine/engine_host.js").State} State
  *
- * The number of script lines that a session has received. If the session did not start with the script, `words` is an error message.
+ * The number of script lines that a session has received. If the session did not start with the script, `message` is an error message.
  * `differing` then lists the differing answers: `<` marks the answers of the session, `>` those of the script.
- * @typedef {{ lines: number, words: string, differing: string[] }} ScriptComparison
+ * @typedef {{ lines: number, message: string, differing: string[] }} ScriptComparison
  */
 
 const BANK_COUNT = 8;
@@ -30,7 +30,8 @@ const COMPARED_QUERIES = `seq\nboard\nstate\n${indices(BANK_COUNT).map((bank) =>
 function splitStateAnswers(answers) {
   return answers.flatMap((answer) => {
     const [word, ...items] = answer.split(" ");
-    return word === "state" ? indices(Math.floor(items.length / 2)).map((at) => `${items[2 * at]} ${items[2 * at + 1]}`) : [answer];
+    if (word !== "state") return [answer];
+    return indices(Math.floor(items.length / 2)).map((index) => `${items[2 * index]} ${items[2 * index + 1]}`);
   });
 }
 
@@ -41,7 +42,7 @@ function splitStateAnswers(answers) {
  * @param {string[]} expected
  */
 export function differingLines(actual, expected) {
-  const differs = (/** @type {number} */ at) => actual[at] !== expected[at];
+  const differs = (/** @type {number} */ index) => actual[index] !== expected[index];
   if (actual.length === expected.length) {
     const differingIndexes = indices(actual.length).filter(differs).slice(0, MAX_DIFFERING_LINES / 2);
     return [...differingIndexes.map((index) => `< ${actual[index]}`), ...differingIndexes.map((index) => `> ${expected[index]}`)];
@@ -63,10 +64,10 @@ export function differingLines(actual, expected) {
 function linesUpTo(inputs, commands) {
   let acceptedCount = 0;
   let lines = 0;
-  for (const { input, at, answer } of inputs) {
+  for (const { input, lineNumber, answer } of inputs) {
     if (acceptedCount === commands) break;
     if (answer.startsWith("ok ")) acceptedCount += 1;
-    lines = opensText(input.line) ? at + input.text.length + 1 : at;
+    lines = opensText(input.line) ? lineNumber + input.text.length + 1 : lineNumber;
   }
   return acceptedCount === commands ? lines : -1;
 }
@@ -81,10 +82,10 @@ async function serveScript(engine, lines, yieldToMessages) {
   const state = engine.begin();
   /** @type {string[]} */
   const answers = [];
-  for (let at = 0; at < lines.length;) {
-    const end = findInputEnd(lines, at, MIN_PIECE_LENGTH);
-    for (const answer of engine.serve(state, lines.slice(at, end), state).answers) answers.push(answer);
-    at = end;
+  for (let offset = 0; offset < lines.length;) {
+    const end = findInputEnd(lines, offset, MIN_PIECE_LENGTH);
+    for (const answer of engine.serve(state, lines.slice(offset, end), state).answers) answers.push(answer);
+    offset = end;
     await yieldToMessages();
   }
   return { state, answers };
@@ -102,15 +103,15 @@ export async function compareWithScript(engine, state, script, yieldToMessages) 
   const { opened, answers: actual } = engine.ask(state, COMPARED_QUERIES);
   const commands = Number(opened.slice("session ".length));
   const fullRun = await serveScript(engine, script, yieldToMessages);
-  const { inputs, words } = matchScriptAnswers(script, ["session 0", ...fullRun.answers]);
-  if (words !== "") return { lines: 0, words, differing: [] };
+  const { inputs, message } = matchScriptAnswers(script, ["session 0", ...fullRun.answers]);
+  if (message !== "") return { lines: 0, message, differing: [] };
   const lines = linesUpTo(inputs, commands);
   if (lines < 0) {
     const accepted = inputs.filter(({ answer }) => answer.startsWith("ok ")).length;
-    return { lines: 0, words: say.acceptedMore(commands, accepted), differing: [] };
+    return { lines: 0, message: say.acceptedMore(commands, accepted), differing: [] };
   }
   const partialRun = await serveScript(engine, script.split("\n").slice(0, lines).map((line) => `${line}\n`).join(""), yieldToMessages);
   const expected = engine.ask(partialRun.state, COMPARED_QUERIES).answers;
   const differing = differingLines(splitStateAnswers(actual), splitStateAnswers(expected));
-  return { lines, words: differing.length > 0 ? say.answersDiffer(commands) : "", differing };
+  return { lines, message: differing.length > 0 ? say.answersDiffer(commands) : "", differing };
 }

@@ -90,8 +90,8 @@ export class SnapshotReader {
     if (parts.ports !== previousParts.ports) changed.ports = parsePorts(parts.ports);
     if (parts.breaks !== previousParts.breaks) changed.breakpoints = parseItems(parts.breaks);
     if (parts.watches !== previousParts.watches) changed.watches = parseItems(parts.watches);
-    for (let at = 1; at < snapshot.length; at++) {
-      if (snapshot[at] !== previousSnapshot[at]) (changed.ram = changed.ram || []).push(readRam(snapshot[at].split("\n")));
+    for (let index = 1; index < snapshot.length; index++) {
+      if (snapshot[index] !== previousSnapshot[index]) (changed.ram = changed.ram || []).push(readRam(snapshot[index].split("\n")));
     }
     return changed;
   }

@@ -20,9 +20,9 @@ const STATE_ANSWER = /^state seq \d+ (acc .* test (\d) .*) src (.* keys (\S+)) l
  * @returns {StateParts}
  */
 export function parseState(answer) {
-  const found = STATE_ANSWER.exec(answer);
-  if (!found) throw new Error(`the bench answers state by ${answer}`);
-  const [, registers, test, ports, keys, lamps, breaks, watches] = found;
+  const match = STATE_ANSWER.exec(answer);
+  if (!match) throw new Error(`the bench answers state by ${answer}`);
+  const [, registers, test, ports, keys, lamps, breaks, watches] = match;
   return { registers, test, ports, keys, lamps, breaks, watches };
 }
 

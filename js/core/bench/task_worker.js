@@ -45,9 +45,9 @@ export class TaskWorker {
     try {
       await bench.start();
       return { faults: await work(bench), isStopped: false };
-    } catch (fault) {
-      if (fault instanceof WorkerDiedError) return { faults: [], isStopped: true };
-      throw fault;
+    } catch (error) {
+      if (error instanceof WorkerDiedError) return { faults: [], isStopped: true };
+      throw error;
     } finally {
       bench.end();
     }

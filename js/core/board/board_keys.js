@@ -9,9 +9,9 @@ import * as say from "../../words/board.js";
  *
  * @typedef {import("./key_place.js").Key} Key
  *
- * A key of the board, or the button or switch at the TEST pin. `legend` is the text on the key. `words` is its description. `isNamed` is
+ * A key of the board, or the button or switch at the TEST pin. `legend` is the text on the key. `description` describes it. `isNamed` is
  * true if the front panel defines its legend. `letter` is the keyboard character that presses the key, "" for none.
- * @typedef {{ key: Key, legend: string, words: string, isNamed: boolean, isSwitch: boolean, letter: string }} BoardKey
+ * @typedef {{ key: Key, legend: string, description: string, isNamed: boolean, isSwitch: boolean, letter: string }} BoardKey
  */
 
 /** The keyboard characters for keys whose names contain no free character, in order of preference. */
@@ -49,7 +49,7 @@ export function boardKeys(board, face) {
       const legend = keyName ? keyName.text.replace(/_/g, " ") : `${row}.${column}`;
       const description = say.keyAt(legend, row, column);
       const letter = legend === "" ? "" : takeLetter(legend, keyName ? keyName.text : "");
-      keys.push({ key, legend, words: description, isNamed: Boolean(keyName && legend), isSwitch: false, letter });
+      keys.push({ key, legend, description, isNamed: Boolean(keyName && legend), isSwitch: false, letter });
     }
   }
   return face.test ? [...keys, testKey(face.test, takeLetter)] : keys;
@@ -63,7 +63,7 @@ export function boardKeys(board, face) {
 function testKey({ kind, name, level }, takeLetter) {
   const legend = name.replace(/_/g, " ");
   const description = say.keyAtTest(kind, legend);
-  return { key: pinKey(level), legend, words: description, isNamed: true, isSwitch: kind === "switch", letter: takeLetter(legend, name) };
+  return { key: pinKey(level), legend, description, isNamed: true, isSwitch: kind === "switch", letter: takeLetter(legend, name) };
 }
 
 /**

@@ -86,7 +86,7 @@ export class PerceivedDigit {
     /** @type {Map<number, number>} the share of each pattern in the mixture, by pattern */
     this.shares = new Map();
     /** The pattern of a steady digit; UNLIT_PATTERN for a changing digit. */
-    this.steady = UNLIT_PATTERN;
+    this.steadyPattern = UNLIT_PATTERN;
   }
 
   /**
@@ -94,8 +94,8 @@ export class PerceivedDigit {
    * @param {number} pattern
    */
   showSteady(pattern) {
-    if (pattern === this.steady) return;
-    this.steady = pattern;
+    if (pattern === this.steadyPattern) return;
+    this.steadyPattern = pattern;
     this.shares.clear();
     this.shares.set(pattern, 1);
   }
@@ -105,7 +105,7 @@ export class PerceivedDigit {
    * @param {number} remainingShare the factor by which each share is multiplied, from 0 to 1
    */
   fade(remainingShare) {
-    this.steady = UNLIT_PATTERN;
+    this.steadyPattern = UNLIT_PATTERN;
     for (const [pattern, share] of this.shares) {
       if (share * remainingShare < MIN_DUTY) this.shares.delete(pattern);
       else this.shares.set(pattern, share * remainingShare);
@@ -168,9 +168,9 @@ export class Brightness {
     /** @type {PerceivedDigit[][]} */
     this.digits = [];
     /** @type {SteadinessDetector[]} whether each lamp is steady */
-    this.stillness = [];
+    this.lampSteadiness = [];
     /** @type {SteadinessDetector[]} whether each display is steady */
-    this.displayStillness = [];
+    this.displaySteadiness = [];
     this.begin("");
   }
 
@@ -179,12 +179,12 @@ export class Brightness {
    * @param {string} marks one mark per lamp, `*` if the lamp is on
    */
   begin(marks) {
-    this.isOn = this.lamps.map((_, at) => isLit(marks, at));
+    this.isOn = this.lamps.map((_, lamp) => isLit(marks, lamp));
     this.lamps = this.isOn.map(Number);
     this.digits = this.displays.map(({ rows }) => Array.from({ length: rows }, () => new PerceivedDigit()));
     this.scannedGroups = this.scannedGroups.map((lamps) => lamps.map(() => 0));
-    this.stillness = this.lamps.map(() => new SteadinessDetector());
-    this.displayStillness = this.displays.map(() => new SteadinessDetector());
+    this.lampSteadiness = this.lamps.map(() => new SteadinessDetector());
+    this.displaySteadiness = this.displays.map(() => new SteadinessDetector());
   }
 
   /**
@@ -197,18 +197,18 @@ export class Brightness {
     if (cycles === 0) return;
     const remainingShare = Math.exp(-time / EYE_PERSISTENCE_MS);
     this.updateDuties(this.lamps, litShares.lamps, cycles, remainingShare);
-    this.stillness.forEach((stillness, at) => {
-      stillness.add(litShares.moved[at], cycles, time);
+    this.lampSteadiness.forEach((stillness, lamp) => {
+      stillness.add(litShares.changeSummaries[lamp], cycles, time);
       const { isSteady: isStill } = stillness;
-      const isLitNow = isLit(litShares.marks, at);
+      const isLitNow = isLit(litShares.marks, lamp);
       // A lamp that goes off fades, so that a short flash stays visible.
-      if (isStill && isLitNow) this.lamps[at] = 1;
-      this.isOn[at] = isStill ? isLitNow : this.lamps[at] >= MIN_ON_DUTY;
+      if (isStill && isLitNow) this.lamps[lamp] = 1;
+      this.isOn[lamp] = isStill ? isLitNow : this.lamps[lamp] >= MIN_ON_DUTY;
     });
-    this.scannedGroups.forEach((parts, at) => this.updateDuties(parts, litShares.scanned[at], cycles, remainingShare));
-    litShares.displays.forEach((display, at) => {
-      this.displayStillness[at].add(display.moved, cycles, time);
-      this.addDisplay(at, display, cycles, remainingShare);
+    this.scannedGroups.forEach((parts, index) => this.updateDuties(parts, litShares.scanned[index], cycles, remainingShare));
+    litShares.displays.forEach((display, index) => {
+      this.displaySteadiness[index].add(display.changeSummary, cycles, time);
+      this.addDisplay(index, display, cycles, remainingShare);
     });
   }
 
@@ -220,9 +220,9 @@ export class Brightness {
    * @param {number} remainingShare the share of the earlier light that remains, from 0 to 1
    */
   updateDuties(duties, litCycles, cycles, remainingShare) {
-    for (let at = 0; at < duties.length; at++) {
-      const duty = duties[at] * remainingShare + (litCycles[at] / cycles) * (1 - remainingShare);
-      duties[at] = duty < MIN_DUTY ? 0 : duty;
+    for (let index = 0; index < duties.length; index++) {
+      const duty = duties[index] * remainingShare + (litCycles[index] / cycles) * (1 - remainingShare);
+      duties[index] = duty < MIN_DUTY ? 0 : duty;
     }
   }
 
@@ -233,15 +233,15 @@ export class Brightness {
    * @param {number} cycles the length of the period in cycles
    * @param {number} remainingShare the share of the earlier light that remains, from 0 to 1
    */
-  addDisplay(displayIndex, { patterns, moved, shown }, cycles, remainingShare) {
-    const isStill = this.displayStillness[displayIndex].isSteady && !isMultiplexed(this.displays[displayIndex]);
+  addDisplay(displayIndex, { patterns, changeSummary, patternTimes }, cycles, remainingShare) {
+    const isStill = this.displaySteadiness[displayIndex].isSteady && !isMultiplexed(this.displays[displayIndex]);
     this.digits[displayIndex].forEach((digit, index) => {
       if (isStill) {
         digit.showSteady(patterns[index]);
         return;
       }
       digit.fade(remainingShare);
-      if (moved) for (const [pattern, time] of shown[index]) digit.add(pattern, (time / cycles) * (1 - remainingShare));
+      if (changeSummary) for (const [pattern, time] of patternTimes[index]) digit.add(pattern, (time / cycles) * (1 - remainingShare));
       else if (patterns[index] !== UNLIT_PATTERN) digit.add(patterns[index], 1 - remainingShare);
     });
   }

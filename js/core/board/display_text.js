@@ -8,11 +8,11 @@ import { isLit, digitPatterns, displayedNumber } from "./digit_patterns.js";
 export class DisplayText {
   /**
    * @param {Group[]} displays
-   * @param {{ at: number, text: string }[]} names the named lamps: the number (`at`) and the name (`text`) of each
+   * @param {{ lamp: number, text: string }[]} names the named lamps: the number (`lamp`) and the name (`text`) of each
    */
   constructor(displays, names) {
     this.displays = displays;
-    this.names = [...names].sort((one, other) => one.at - other.at);
+    this.names = [...names].sort((a, b) => a.lamp - b.lamp);
   }
 
   /**
@@ -21,7 +21,7 @@ export class DisplayText {
    * @param {string} marks one mark per lamp, `*` if the lamp is on
    */
   read(marks) {
-    return this.readPerceived(this.displays.map((display) => digitPatterns(display, marks)), (at) => isLit(marks, at));
+    return this.readPerceived(this.displays.map((display) => digitPatterns(display, marks)), (lamp) => isLit(marks, lamp));
   }
 
   /**
@@ -32,8 +32,8 @@ export class DisplayText {
   readPerceived(patterns, isSeen) {
     let minus = "";
     let names = "";
-    for (const { at, text } of this.names) {
-      if (!isSeen(at)) continue;
+    for (const { lamp, text } of this.names) {
+      if (!isSeen(lamp)) continue;
       if (text === "minus") minus = "-";
       else names += `${names && " "}${text.replace(/_/g, " ")}`;
     }

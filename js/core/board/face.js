@@ -8,7 +8,7 @@ import * as say from "../../words/board.js";
 /**
  * An error in a front-panel line. `isFatal` is true if names or displays depend on the line. A tool that needs names or displays then
  * rejects the text.
- * @typedef {{ line: number, words: string, isFatal: boolean }} Fault
+ * @typedef {{ line: number, message: string, isFatal: boolean }} Fault
  * @typedef {import("./face_words.js").Kind} Kind
  * @typedef {import("./key_place.js").MatrixKey} MatrixKey
  * @typedef {{ text: string, line: number }} FaceText a name or a colour, and the number of its line
@@ -62,7 +62,7 @@ export class Face {
     /** @type {Map<string, FaceText>} the names of the devices at ports and chains, by port or chain (`rom0`, `ram0.0`, `chain0`) */
     this.ports = new Map();
     /** @type {Fault[]} */
-    this.faults = [];
+    this.errors = [];
     /** All front-panel lines as one text. Callers compare this text to find changes of the front panel. */
     this.comments = "";
     /**
@@ -75,7 +75,7 @@ export class Face {
     this.isFatal = false;
     /** The number of words read from lists. Reading stops when the number exceeds MAX_WORDS. */
     this.wordCount = 0;
-    text.split("\n").forEach((line, at) => this.readLine(line.replace(/\r$/, ""), at + 1));
+    text.split("\n").forEach((line, index) => this.readLine(line.replace(/\r$/, ""), index + 1));
     for (const word of this.gridWords) this.addToGrid(word);
   }
 
@@ -85,7 +85,7 @@ export class Face {
    * @param {string} message
    */
   reportError(line, message) {
-    this.faults.push({ line, words: message, isFatal: this.isFatal });
+    this.errors.push({ line, message, isFatal: this.isFatal });
   }
 
   /**
@@ -109,15 +109,15 @@ export class Face {
    * @param {number} line
    */
   readLine(text, line) {
-    const found = this.wordCount <= MAX_WORDS ? parseFaceLine(text) : null;
-    if (!found) return;
-    const { name, kind, first, last, words } = found;
+    const faceLine = this.wordCount <= MAX_WORDS ? parseFaceLine(text) : null;
+    if (!faceLine) return;
+    const { name, kind, first, last, words } = faceLine;
     this.comments += `${text}\n`;
     this.isFatal = kind.isFatal;
-    if (kind.counts) this.wordCount += splitWords(words).filter((word) => word !== "_").length;
+    if (kind.countsWords) this.wordCount += splitWords(words).filter((word) => word !== "_").length;
     if (this.wordCount > MAX_WORDS) this.reportError(line, formatMessage("too many words"));
-    else if (!fitsHead(kind, first, last)) this.reportError(line, kind.form);
-    else if (kind.size === "-" && !fitsWords(kind, splitWords(words))) this.reportError(line, kind.other);
+    else if (!fitsHead(kind, first, last)) this.reportError(line, kind.headError);
+    else if (kind.size === "-" && !fitsWords(kind, splitWords(words))) this.reportError(line, kind.wordsError);
     else if (name === "colour" && last !== undefined) this.readRange(Number(first), Number(last), words, line, kind);
     else LINE_READERS[name](this, { name, kind, first: (first || "").toLowerCase(), words, line });
   }
@@ -154,17 +154,17 @@ export class Face {
    * @param {number} line
    */
   readLamps(first, text, line) {
-    splitWords(text).forEach((name, at) => {
+    splitWords(text).forEach((name, index) => {
       if (name === "_") return;
       const firstLine = this.definitionLines.get(`lamp ${name}`);
-      const namedLamp = this.lamps.get(first + at);
+      const namedLamp = this.lamps.get(first + index);
       if (firstLine !== undefined) this.reportError(line, formatMessage("second name", name, firstLine));
       else if (/^[*.?-]+$/.test(name)) this.reportError(line, formatMessage("a pattern", name));
-      else if (namedLamp) this.reportError(line, formatMessage("named before", first + at, namedLamp.text));
+      else if (namedLamp) this.reportError(line, formatMessage("named before", first + index, namedLamp.text));
       else {
         this.definitionLines.set(`lamp ${name}`, line);
-        this.lamps.set(first + at, { text: name, line });
-        this.lampNumbers.set(name, first + at);
+        this.lamps.set(first + index, { text: name, line });
+        this.lampNumbers.set(name, first + index);
       }
     });
   }
@@ -189,7 +189,7 @@ export class Face {
    */
   readRange(first, last, text, line, kind) {
     const words = splitWords(text.toLowerCase());
-    if (words.length !== 1 || last < first) this.reportError(line, kind.form);
+    if (words.length !== 1 || last < first) this.reportError(line, kind.headError);
     else this.setColours(first, COLOURS.has(words[0]) ? repeatWord(words[0], last - first + 1) : words, line);
   }
 
@@ -246,7 +246,7 @@ export class Face {
   readGroup({ name, kind, first, words, line }) {
     const size = parseSize(kind, splitWords(words));
     const group = size && { kind: name, first: Number(first), ...size, line };
-    if (!group) this.reportError(line, kind.other);
+    if (!group) this.reportError(line, kind.wordsError);
     else if (group.by < 0 || this.checkMultiplexing(group)) this.groups.push(group);
   }
 
@@ -318,7 +318,7 @@ export class Face {
  * @param {number} count
  */
 function* repeatWord(word, count) {
-  for (let at = 0; at < count; at++) yield word;
+  for (let index = 0; index < count; index++) yield word;
 }
 
 /** @type {(face: Face, line: Line) => void} reads the line of a group of lamps */
@@ -347,7 +347,7 @@ const LINE_READERS = {
  * @returns {Fault[]}
  */
 export function findFaceErrors(text) {
-  return sortByLine(new Face(text).faults);
+  return sortByLine(new Face(text).errors);
 }
 
 /**
@@ -364,5 +364,5 @@ export function moreErrors(faults, maxListed) {
  * @param {Fault[]} faults
  */
 export function sortByLine(faults) {
-  return [...faults].sort((one, other) => one.line - other.line);
+  return [...faults].sort((a, b) => a.line - b.line);
 }

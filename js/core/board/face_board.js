@@ -69,7 +69,7 @@ export function groupEnd({ first, rows, columns, by }) {
  * @param {Group} group
  */
 export function groupLamps({ first, rows, columns, by }) {
-  const numbersFrom = (/** @type {number} */ start, /** @type {number} */ count) => indices(count).map((at) => start + at);
+  const numbersFrom = (/** @type {number} */ start, /** @type {number} */ count) => indices(count).map((index) => start + index);
   return by < 0 ? numbersFrom(first, rows * columns) : [...numbersFrom(first, columns), ...numbersFrom(by, rows)];
 }
 
@@ -102,7 +102,7 @@ export function lampsOutsideGroups(face, count) {
   const groups = fittingGroups(face, count);
   const placed = new Set([...groups.flatMap(groupLamps), ...face.grid.map(({ lamp }) => lamp)]);
   if (groups.some(({ kind }) => kind === "display")) placed.add(minusLamp(face));
-  return indices(count).filter((at) => !placed.has(at));
+  return indices(count).filter((lamp) => !placed.has(lamp));
 }
 
 /**
@@ -125,7 +125,7 @@ export function missingParts(face, board) {
   const count = board.lamps.length;
   /** @type {(kind: string, line: number, messageName: string, ...values: (string | number)[]) => void} */
   const addFault = (kind, line, messageName, ...values) => {
-    faults.push({ line, words: formatMessage(messageName, ...values), isFatal: isFatal(kind) });
+    faults.push({ line, message: formatMessage(messageName, ...values), isFatal: isFatal(kind) });
   };
   for (const { text, line, key: { row, column } } of face.keys.values()) {
     if (text === "" || (row < board.rows && column < board.columns)) continue;
@@ -151,8 +151,8 @@ export function missingParts(face, board) {
  * @param {string} kind the first word of the line
  */
 function isFatal(kind) {
-  const found = LINE_KINDS.get(kind);
-  return found !== undefined && found.isFatal;
+  const lineKind = LINE_KINDS.get(kind);
+  return lineKind !== undefined && lineKind.isFatal;
 }
 
 /**
@@ -161,7 +161,7 @@ function isFatal(kind) {
  * @param {number} count the number of lamps on the board
  */
 export function lampNames(face, count) {
-  return indices(count).map((at) => (face.lamps.get(at) || { text: "" }).text.replace(/_/g, " "));
+  return indices(count).map((lamp) => (face.lamps.get(lamp) || { text: "" }).text.replace(/_/g, " "));
 }
 
 /**
@@ -170,7 +170,7 @@ export function lampNames(face, count) {
  * @param {number} count the number of lamps on the board
  */
 export function lampColours(face, count) {
-  return indices(count).map((at) => (face.colours.get(at) || { text: "" }).text);
+  return indices(count).map((lamp) => (face.colours.get(lamp) || { text: "" }).text);
 }
 
 /**

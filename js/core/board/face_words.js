@@ -5,10 +5,12 @@ import table from "#face-table";
 
 /**
  * A kind of front-panel line. `head`: the form of the text between the first word and the colon (`N`, `N to N`, `place`, `line`, or `-` for
- * none). `counts`: true if the words count towards the maximum number of words. `isFatal`: true if names or displays depend on the line.
- * `size`: the meaning of the numbers after the colon (`lamps`, `digits` or `rows`), `-` if the line has no size. `words`: the pattern of
- * the text after the colon, null for any text. `form` and `other`: the error messages for a wrong head and for wrong words.
- * @typedef {{ head: string, counts: boolean, isFatal: boolean, size: string, words: RegExp | null, form: string, other: string }} Kind
+ * none). `countsWords`: true if the words count towards the maximum number of words. `isFatal`: true if names or displays depend on the
+ * line. `size`: the meaning of the numbers after the colon (`lamps`, `digits` or `rows`), `-` if the line has no size. `pattern`: the
+ * pattern of the text after the colon, null for any text. `headError` and `wordsError`: the error messages for a wrong head and for wrong
+ * words.
+ * @typedef {{ head: string, countsWords: boolean, isFatal: boolean, size: string, pattern: RegExp | null, headError: string,
+ *   wordsError: string }} Kind
  */
 
 /** The rows of the table, split into columns. */
@@ -25,10 +27,11 @@ const tableRows = (word) => rows.filter((row) => row[0] === word).map((row) => r
  * @param {string[]} columns
  * @returns {[string, Kind]}
  */
-function parseKind([word, head, counts, weight, size, words, form, other]) {
+function parseKind([word, head, counts, weight, size, pattern, headError, wordsError]) {
   return [word, {
-    head, counts: counts === "list", isFatal: weight === "refused", size, words: words === "-" ? null : new RegExp(words), form,
-    other: other === "-" ? form : other,
+    head, countsWords: counts === "list", isFatal: weight === "refused", size, pattern: pattern === "-" ? null : new RegExp(pattern),
+    headError,
+    wordsError: wordsError === "-" ? headError : wordsError,
   }];
 }
 
@@ -59,7 +62,7 @@ export const findLimit = (name) => LIMITS.get(name) || 0;
  */
 export function formatMessage(name, ...values) {
   const message = MESSAGES.get(name) || name;
-  return values.reduce((/** @type {string} */ words, value, at) => words.replace(`{${at + 1}}`, () => String(value)), message);
+  return values.reduce((/** @type {string} */ words, value, index) => words.replace(`{${index + 1}}`, () => String(value)), message);
 }
 
 /** @type {(text: string) => string[]} splits a text at blanks and tabs */
@@ -95,7 +98,7 @@ export function fitsHead({ head }, first, last) {
  * @param {Kind} kind
  * @param {string[]} words
  */
-export function fitsWords({ words: expression }, words) {
+export function fitsWords({ pattern: expression }, words) {
   return expression === null || expression.test(words.join(" "));
 }
 

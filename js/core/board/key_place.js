@@ -35,12 +35,12 @@ export function pinKey(level) {
 
 /**
  * Returns whether two keys are equal.
- * @param {Key} one
- * @param {Key} other
+ * @param {Key} left
+ * @param {Key} right
  */
-export function isSameKey(one, other) {
-  if (one.kind === "matrix") return other.kind === "matrix" && one.row === other.row && one.column === other.column;
-  return other.kind === "pin" && one.level === other.level;
+export function isSameKey(left, right) {
+  if (left.kind === "matrix") return right.kind === "matrix" && left.row === right.row && left.column === right.column;
+  return right.kind === "pin" && left.level === right.level;
 }
 
 /**

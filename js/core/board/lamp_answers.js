@@ -10,8 +10,8 @@ import * as say from "../../words/board.js";
  * @typedef {import("../bench/answers.js").Board} Board
  * @typedef {import("./face.js").Face} Face
  *
- * The display texts, one for each answer about lamps. `words` is an error message, or ""; with an error, there are no texts.
- * @typedef {{ lines: string[], words: string }} DisplayTexts
+ * The display texts, one for each answer about lamps. `error` is a message message, or ""; with an error, there are no texts.
+ * @typedef {{ lines: string[], error: string }} DisplayTexts
  */
 
 /**
@@ -33,7 +33,7 @@ class LampAnswerReader {
     const displays = face.groups.filter(({ kind }) => kind === "display");
     this.requiredLampCount = Math.max(...displays.map(groupEnd));
     this.isScanned = hasScannedDisplay(face);
-    this.text = new DisplayText(displays, [...face.lamps].map(([at, { text }]) => ({ at, text })));
+    this.text = new DisplayText(displays, [...face.lamps].map(([lamp, { text }]) => ({ lamp, text })));
     this.perceivedText = new PerceivedText(face, board.lamps.length);
   }
 
@@ -51,25 +51,25 @@ class LampAnswerReader {
    * Converts the answer that starts at an index of `answers` to display text.
    * @param {string[]} answers
    * @param {number} index
-   * @returns {{ text: string, words: string, count: number }} `count` is the number of lines in the answer, 0 if the answer is not about
+   * @returns {{ text: string, error: string, count: number }} `count` is the number of lines in the answer, 0 if the answer is not about
    *   lamps
    */
   readAnswer(answers, index) {
-    const makeFailure = (/** @type {string} */ error) => ({ text: "", words: error, count: 1 });
+    const makeFailure = (/** @type {string} */ error) => ({ text: "", error, count: 1 });
     const answer = answers[index];
     if (REFUSAL_ANSWER.test(answer)) return makeFailure(say.isRefusal(index + 1, answer));
     const [word, marks = ""] = answer.split(" ");
     if (word === "lamps") {
       const message = this.lampCountError(marks, index + 1) || (this.isScanned ? say.isInstant(index + 1, this.name) : "");
-      return message === "" ? { text: joinDisplayText(this.text.read(marks)), words: message, count: 1 } : makeFailure(message);
+      return message === "" ? { text: joinDisplayText(this.text.read(marks)), error: message, count: 1 } : makeFailure(message);
     }
     const [, rows, first] = TRACE_ANSWER.exec(answer) || [];
-    if (first === undefined) return { text: "", words: "", count: 0 };
+    if (first === undefined) return { text: "", error: "", count: 0 };
     const error = this.lampCountError(first, index + 1);
     if (error !== "") return makeFailure(error);
     const count = 1 + Number(rows);
     if (index + count > answers.length) return makeFailure(say.ENDS_WITHIN_TRACE);
-    return { text: joinDisplayText(this.perceivedText.read(answers.slice(index, index + count))), words: "", count };
+    return { text: joinDisplayText(this.perceivedText.read(answers.slice(index, index + count))), error: "", count };
   }
 }
 
@@ -82,15 +82,15 @@ class LampAnswerReader {
  * @returns {DisplayTexts}
  */
 export function convertLampAnswers(face, board, name, answers) {
-  if (!face.groups.some(({ kind }) => kind === "display")) return { lines: [], words: say.hasNoDisplay(name) };
+  if (!face.groups.some(({ kind }) => kind === "display")) return { lines: [], error: say.hasNoDisplay(name) };
   const reader = new LampAnswerReader(face, board, name);
   /** @type {string[]} */
   const lines = [];
-  for (let at = 0; at < answers.length;) {
-    const { text, words, count } = reader.readAnswer(answers, at);
-    if (words !== "") return { lines: [], words };
+  for (let index = 0; index < answers.length;) {
+    const { text, error, count } = reader.readAnswer(answers, index);
+    if (error !== "") return { lines: [], error };
     if (count > 0) lines.push(text);
-    at += Math.max(1, count);
+    index += Math.max(1, count);
   }
-  return { lines, words: lines.length > 0 ? "" : say.NO_LAMPS_SHOWN };
+  return { lines, error: lines.length > 0 ? "" : say.NO_LAMPS_SHOWN };
 }

@@ -26,7 +26,7 @@ export class PendingKeys {
   send(change) {
     this.changesInTransit.push(change);
     return () => {
-      this.changesInTransit = this.changesInTransit.filter((each) => each !== change);
+      this.changesInTransit = this.changesInTransit.filter((pendingChange) => pendingChange !== change);
     };
   }
 
@@ -38,7 +38,7 @@ export class PendingKeys {
   willBeDown(key, isDown) {
     /** @type {RequestedChange[]} */
     const all = [...this.waitingChanges, ...this.changesInTransit];
-    const last = all.filter((each) => isSameKey(each.key, key)).pop();
+    const last = all.filter((pendingChange) => isSameKey(pendingChange.key, key)).pop();
     return last && last.word !== "forget" ? last.word === "press" : isDown;
   }
 }

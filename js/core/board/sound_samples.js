@@ -41,10 +41,10 @@ export class SampleBuffer {
     this.count += levels.cycles;
     if (this.count < this.minSamples) return null;
     const allSamples = new Float32Array(this.count);
-    let at = 0;
+    let offset = 0;
     for (const piece of this.pieces) {
-      allSamples.set(piece, at);
-      at += piece.length;
+      allSamples.set(piece, offset);
+      offset += piece.length;
     }
     this.forget();
     return allSamples;

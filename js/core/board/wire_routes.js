@@ -54,7 +54,7 @@ export function pointAt(curve, parameter) {
   const opposite = 1 - parameter;
   const weights = [opposite ** 3, 3 * opposite ** 2 * parameter, 3 * opposite * parameter ** 2, parameter ** 3];
   /** @type {(coordinate: (point: Point) => number) => number} */
-  const sum = (coordinate) => curve.reduce((all, point, at) => all + weights[at] * coordinate(point), 0);
+  const sum = (coordinate) => curve.reduce((all, point, index) => all + weights[index] * coordinate(point), 0);
   return { x: sum(({ x }) => x), y: sum(({ y }) => y) };
 }
 
@@ -73,7 +73,7 @@ function isInside({ x, y }, box) {
  * @param {Box} box the box of the part
  */
 export function isCurveCovered(curve, box) {
-  return Array.from({ length: SAMPLE_INTERVALS - 1 }, (_, at) => pointAt(curve, (at + 1) / SAMPLE_INTERVALS))
+  return Array.from({ length: SAMPLE_INTERVALS - 1 }, (_, index) => pointAt(curve, (index + 1) / SAMPLE_INTERVALS))
     .some((point) => isInside(point, box));
 }
 
@@ -86,7 +86,7 @@ function sortedLanes({ from, to }, boxes) {
   /** @type {(lane: number) => number} */
   const detourLength = (lane) => Math.abs(lane - from.y) + Math.abs(lane - to.y);
   return boxes.flatMap(({ y, height }) => [y - LANE_DISTANCE, y + height + LANE_DISTANCE]).filter((lane) => lane > 0)
-    .sort((one, other) => detourLength(one) - detourLength(other));
+    .sort((a, b) => detourLength(a) - detourLength(b));
 }
 
 /**
@@ -99,7 +99,7 @@ function laneAround({ from, to }, boxesBetween) {
   const freeLanes = lanes.filter((lane) => boxesBetween.every(({ y, height }) => lane < y || lane > y + height));
   /** @type {(lane: number) => number} */
   const detourLength = (lane) => Math.abs(lane - from.y) + Math.abs(lane - to.y);
-  return freeLanes.reduce((one, other) => (detourLength(other) < detourLength(one) ? other : one));
+  return freeLanes.reduce((best, lane) => (detourLength(lane) < detourLength(best) ? lane : best));
 }
 
 /**

@@ -28,7 +28,7 @@ export function describesBoard(text, wiredText) {
 export function currentWiredText(answers, text, storedTexts) {
   const board = answers.join("\n");
   if (!storedTexts || new BoardDraft(text).matchesAnswers(answers)) return { text, board };
-  return storedTexts.find((each) => each.board === board) || { text: "", board };
+  return storedTexts.find((storedText) => storedText.board === board) || { text: "", board };
 }
 
 /**

@@ -86,8 +86,8 @@ class Column {
     const y = this.bottom;
     const height = TITLE_HEIGHT + Math.max(left.length, right.length, 1) * PIN_STEP;
     this.bottom += height + PART_GAP;
-    /** @type {(pinX: number) => (pin: UnplacedPin, at: number) => Pin} */
-    const placePin = (pinX) => (pin, at) => ({ ...pin, x: pinX, y: y + TITLE_HEIGHT + at * PIN_STEP + PIN_STEP / 2 });
+    /** @type {(pinX: number) => (pin: UnplacedPin, index: number) => Pin} */
+    const placePin = (pinX) => (pin, index) => ({ ...pin, x: pinX, y: y + TITLE_HEIGHT + index * PIN_STEP + PIN_STEP / 2 });
     return { ...part, x, y, width, height, pins: [...left.map(placePin(x)), ...right.map(placePin(x + width))] };
   }
 }
@@ -103,12 +103,12 @@ class LineUses {
     this.descriptions = new Map();
     /** @type {Map<string, number>} the ranks of the lines, in the order of first use */
     this.ranks = new Map();
-    board.chains.forEach(({ clock, data }, at) => {
-      this.add(clock, say.clocksChain(at));
-      this.add(data, say.isDataOfChain(at));
+    board.chains.forEach(({ clock, data }, chain) => {
+      this.add(clock, say.clocksChain(chain));
+      this.add(data, say.isDataOfChain(chain));
     });
     if (board.matrix) this.addMatrix(board.matrix);
-    board.lamps.forEach((line, at) => this.add(line, say.lightsLamp(at)));
+    board.lamps.forEach((line, lamp) => this.add(line, say.lightsLamp(lamp)));
     if (buzzer) this.add(buzzer.place, say.SOUNDS_BUZZER);
   }
 
@@ -118,7 +118,7 @@ class LineUses {
    */
   addMatrix({ chain, first, rows, columns }) {
     for (let row = 0; row < rows; row++) this.add(`chain${chain}.${first + row}`, say.drivesRow(row));
-    columns.forEach((line, at) => this.add(line, say.readsColumn(at)));
+    columns.forEach((line, column) => this.add(line, say.readsColumn(column)));
   }
 
   /**
@@ -163,7 +163,7 @@ class LineUses {
  * @param {string} chip `rom1` or `ram0.2`
  */
 function portPins(chip) {
-  return PORT_PIN_NUMBERS.map((number, at) => ({ id: `${chip}.${at}`, line: `${chip}.${at}`, number }));
+  return PORT_PIN_NUMBERS.map((number, portLine) => ({ id: `${chip}.${portLine}`, line: `${chip}.${portLine}`, number }));
 }
 
 /**
@@ -205,9 +205,9 @@ function addTestPart(column, test) {
  * @param {LineUses} uses
  */
 function addRom(column, { chip, port }, uses) {
-  const isInput = (/** @type {number} */ at) => port[3 - at] === "i";
-  const pins = portPins(`rom${chip}`).map((pin, at) => ({ ...pin, label: say.portPin(isInput(at), at) }));
-  const descriptions = pins.map(({ line }, at) => uses.describe(say.lineOfPort(line, isInput(at)), line));
+  const isInput = (/** @type {number} */ portLine) => port[3 - portLine] === "i";
+  const pins = portPins(`rom${chip}`).map((pin, index) => ({ ...pin, label: say.portPin(isInput(index), index) }));
+  const descriptions = pins.map(({ line }, index) => uses.describe(say.lineOfPort(line, isInput(index)), line));
   return column.add({ id: `rom ${chip}`, kind: "rom", title: say.romTitle(chip), descriptions }, [], pins);
 }
 
@@ -219,7 +219,7 @@ function addRom(column, { chip, port }, uses) {
  * @param {LineUses} uses
  */
 function addRam(column, bank, chip, uses) {
-  const pins = portPins(`ram${bank}.${chip}`).map((pin, at) => ({ ...pin, label: say.portPin(false, at) }));
+  const pins = portPins(`ram${bank}.${chip}`).map((pin, index) => ({ ...pin, label: say.portPin(false, index) }));
   const descriptions = pins.map(({ line }) => uses.describe(say.lineOfPort(line, false), line));
   return column.add({ id: `ram ${bank}.${chip}`, kind: "ram", title: say.ramTitle(bank, chip), descriptions }, [], pins);
 }
@@ -235,7 +235,7 @@ function addChain(column, { clock, data, chips }, number, uses) {
   const bits = Array.from({ length: BITS_PER_CHIP * chips }, (_, bit) => (
     { id: `chain${number}.${bit}`, line: `chain${number}.${bit}`, label: say.bitPin(bit), number: BIT_PIN_NUMBERS[bit % BITS_PER_CHIP] }));
   const usedBits = bits.filter(({ line }) => uses.descriptionsFor(line).length > 0)
-    .sort((one, other) => uses.usageRank(one.line) - uses.usageRank(other.line));
+    .sort((a, b) => uses.usageRank(a.line) - uses.usageRank(b.line));
   const unusedBits = bits.filter(({ line }) => uses.descriptionsFor(line).length === 0).slice(0, MAX_UNUSED_BITS);
   const descriptions = [say.clockIs(clock), say.dataIs(data), ...usedBits.map(({ line, label }) => uses.describe(label, line))];
   const inputs = [{ id: `clock ${number}`, line: clock, label: say.CLOCK_PIN, number: CLOCK_PIN_NUMBER },
@@ -252,7 +252,7 @@ function addChain(column, { clock, data, chips }, number, uses) {
 function addKeys(column, { chain, first, rows, columns }) {
   const rowPins = Array.from({ length: rows }, (_, row) => (
     { id: `row ${row}`, line: `chain${chain}.${first + row}`, label: say.rowPin(row) }));
-  const columnPins = columns.map((line, at) => ({ id: `column ${at}`, line, label: say.columnPin(at) }));
+  const columnPins = columns.map((line, keyColumn) => ({ id: `column ${keyColumn}`, line, label: say.columnPin(keyColumn) }));
   const descriptions = [...rowPins.map(({ line, label }) => say.drivenBy(label, line)), ...columnPins.map(({ line, label }) => (
     say.readAt(label, line)))];
   const part = { id: "keys", kind: "keys", title: say.keysTitle(rows, columns.length), descriptions };
@@ -266,7 +266,8 @@ function addKeys(column, { chain, first, rows, columns }) {
  * @param {Appearance} appearance
  */
 function addLamps(column, lamps, { names, colours }) {
-  const pins = lamps.map((line, at) => ({ id: `lamp ${at}`, line, label: names[at] || say.lampPin(at), colour: colours[at] || "red" }));
+  const pins = lamps.map((line, lamp) => (
+    { id: `lamp ${lamp}`, line, label: names[lamp] || say.lampPin(lamp), colour: colours[lamp] || "red" }));
   const descriptions = pins.map(({ line, label }) => say.isAt(label, line));
   return column.add({ id: "lamps", kind: "lamps", title: say.lampsTitle(lamps.length), descriptions }, pins, []);
 }
@@ -311,9 +312,9 @@ function collectWires(parts) {
  */
 function layOutColumns(isUsed) {
   let right = MARGIN;
-  return DIAGRAM_COLUMNS.map(({ wireSpace, width }, at) => {
+  return DIAGRAM_COLUMNS.map(({ wireSpace, width }, index) => {
     const column = new Column(right + wireSpace, width);
-    if (isUsed[at]) right += wireSpace + width;
+    if (isUsed[index]) right += wireSpace + width;
     return column;
   });
 }
@@ -348,11 +349,11 @@ export function layOutBoard(board, appearance = { names: [], colours: [], test: 
   const [first, second, third, fourth] = columns;
   const parts = [addProcessor(first, appearance.test)];
   if (appearance.test) parts.push(addTestPart(first, appearance.test));
-  for (const rom of [...board.roms].sort((one, other) => one.chip - other.chip)) parts.push(addRom(second, rom, uses));
+  for (const rom of [...board.roms].sort((a, b) => a.chip - b.chip)) parts.push(addRom(second, rom, uses));
   for (const { bank, chips } of board.banks) {
     for (let chip = 0; chip < chips; chip++) parts.push(addRam(second, bank, chip, uses));
   }
-  board.chains.forEach((chain, at) => parts.push(addChain(third, chain, at, uses)));
+  board.chains.forEach((chain, index) => parts.push(addChain(third, chain, index, uses)));
   if (board.matrix) parts.push(addKeys(fourth, board.matrix));
   if (board.lamps.length > 0) parts.push(addLamps(fourth, board.lamps, appearance));
   if (appearance.buzzer) parts.push(addBuzzer(fourth, appearance.buzzer));

@@ -103,16 +103,16 @@ function compilePlaceValues({ place, values, text, column }, names, dependencies
     return compileComparison({ kind: "compare", sign: "=", left: place, right: first, text, column }, names, dependencies);
   }
   const nibbles = nibbleValues(place, values.length, names, dependencies);
-  const required = values.map((value, at) => {
-    const each = compileValue(value, names, dependencies);
-    checkRange(nibbles[at], value, each);
-    return each;
+  const required = values.map((value, index) => {
+    const requiredValue = compileValue(value, names, dependencies);
+    checkRange(nibbles[index], value, requiredValue);
+    return requiredValue;
   });
-  /** @type {(each: Value[], given: string[]) => string} */
-  const joinValues = (each, answers) => each.map((value) => value.read(answers)).join(" ");
+  /** @type {(compiledValues: Value[], answers: string[]) => string} */
+  const joinValues = (compiledValues, answers) => compiledValues.map((value) => value.read(answers)).join(" ");
   return {
     address: -1,
-    matches: (answers) => nibbles.every((value, at) => value.read(answers) === required[at].read(answers)),
+    matches: (answers) => nibbles.every((value, index) => value.read(answers) === required[index].read(answers)),
     explain: (answers, _, isNot) => (
       say.mustBe(nibbles[0].name, joinValues(nibbles, answers), joinValues(required, answers), false, isNot)
     ),
@@ -138,13 +138,13 @@ function compileKeyword({ words: [head, ...following] }, names, dependencies) {
  * @param {Dependencies} dependencies
  * @returns {CompiledCondition}
  */
-function compilePanelState({ what, name, isOn }, names, dependencies) {
-  const value = what === "lamp" ? lampValue(name, names, dependencies) : keyValue(name, names, dependencies);
-  const stateNames = what === "lamp" ? ["off", "on"] : ["up", "down"];
+function compilePanelState({ subject, name, isOn }, names, dependencies) {
+  const value = subject === "lamp" ? lampValue(name, names, dependencies) : keyValue(name, names, dependencies);
+  const stateNames = subject === "lamp" ? ["off", "on"] : ["up", "down"];
   return {
     address: -1,
     matches: (values) => value.read(values) === Number(isOn),
-    explain: (values, _, isNot) => say.mustBe(`${what} ${name}`, stateNames[value.read(values)], stateNames[Number(isOn)], false, isNot),
+    explain: (values, _, isNot) => say.mustBe(`${subject} ${name}`, stateNames[value.read(values)], stateNames[Number(isOn)], false, isNot),
   };
 }
 

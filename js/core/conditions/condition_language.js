@@ -2,11 +2,11 @@
 // lists the places (registers, RAM nibbles, ports ..) that it depends on. Its method `holds` returns whether the condition is true for
 // given values of these places.
 //
-//     const { condition, fault } = compileCondition("lamp open on and (r9 >= 8 or cy = 1)", { face, board, map });
-//     if (condition) .. `trace 1000 ${condition.places.join(" ")}` ..; condition.holds(valuesOf(row))
+//     const { condition, error } = compileCondition("lamp open on and (r9 >= 8 or cy = 1)", { face, board, map });
+//     if (condition) .. `trace 1000 ${condition.places.join(" ")}` ..; condition.holds(rowValues(row))
 //
 // `places` has at most 16 different entries: places that `trace` reports, and STATE_PLACES, which `state` reports (probes.js queries both).
-// The argument of `holds` contains the values of these places, in the same order. `fault` is an error message, and `column` is the error's
+// The argument of `holds` contains the values of these places, in the same order. `error` is an error message, and `column` is the error's
 // column, from 0.
 //
 // There are three functions that compile conditions:
@@ -41,12 +41,12 @@ import * as say from "../../words/conditions.js";
  * address in a condition `pc = ADDRESS`, otherwise -1.
  * @typedef {{ text: string, negation: string, places: string[], holds: (values: string[], extraValues?: ExtraValues) => boolean,
  *   explain: (values: string[], extraValues?: ExtraValues) => string, needs: string[], address: number }} Condition
- * @typedef {{ condition: Condition, fault: "", column: -1 } | { condition: null, fault: string, column: number }} ConditionResult
+ * @typedef {{ condition: Condition, error: "", column: -1 } | { condition: null, error: string, column: number }} ConditionResult
  *
  * A compiled value or condition. `textOf` returns its value as text: a place as `trace` spells it, any other value in decimal, and a
  * condition as `true` or `false`. `number` returns the value as a number; it is null for a condition.
  * @typedef {{ places: string[], textOf: (values: string[]) => string, number: ((values: string[]) => number) | null }} Expression
- * @typedef {{ expression: Expression, fault: "", column: -1 } | { expression: null, fault: string, column: number }} ExpressionResult
+ * @typedef {{ expression: Expression, error: "", column: -1 } | { expression: null, error: string, column: number }} ExpressionResult
  */
 
 /** @type {ExtraValues} the values that are used if a caller passes none; no second cycle of an instruction is pending */
@@ -67,18 +67,18 @@ function checkPlaceCount({ length }) {
 }
 
 /**
- * Calls a function that parses and compiles a text. Returns the function's result in `read`, or the message and column of the
+ * Calls a function that parses and compiles a text. Returns the function's result in `result`, or the message and column of the
  * `ConditionError` that the function throws.
  * @template Read
  * @param {() => Read} compile
- * @returns {{ read: Read, fault: "", column: -1 } | { read: null, fault: string, column: number }}
+ * @returns {{ result: Read, error: "", column: -1 } | { result: null, error: string, column: number }}
  */
 function resultOrError(compile) {
   try {
-    return { read: compile(), fault: "", column: -1 };
-  } catch (fault) {
-    if (fault instanceof ConditionError) return { read: null, fault: fault.message, column: Math.max(0, fault.column) };
-    throw fault;
+    return { result: compile(), error: "", column: -1 };
+  } catch (error) {
+    if (error instanceof ConditionError) return { result: null, error: error.message, column: Math.max(0, error.column) };
+    throw error;
   }
 }
 
@@ -89,7 +89,7 @@ function resultOrError(compile) {
  * @returns {ConditionResult}
  */
 function conditionOrError(compile) {
-  const { read: condition, ...error } = resultOrError(compile);
+  const { result: condition, ...error } = resultOrError(compile);
   return /** @type {ConditionResult} */ ({ condition, ...error });
 }
 
@@ -154,8 +154,8 @@ export function compileTestCondition(conditionText, names) {
     checkPlaceCount(places);
     /** @type {(values: string[], extraValues: ExtraValues) => string[]} returns the values of all places, in the order of `allPlaces` */
     const allValues = (values, extraValues) => {
-      let at = 0;
-      return allPlaces.map((place) => (isStatePlace(place) ? extraValues[place] : values[at++]));
+      let index = 0;
+      return allPlaces.map((place) => (isStatePlace(place) ? extraValues[place] : values[index++]));
     };
     const selectValues = statePlaces.length === 0 ? (/** @type {string[]} */ values) => values : allValues;
     return {
@@ -178,7 +178,7 @@ export function compileTestCondition(conditionText, names) {
 export function compileTracedCondition(text, names) {
   const read = compileCondition(text, names);
   const statePlace = read.condition ? read.condition.places.find((place) => STATE_PLACES.has(place)) : undefined;
-  return statePlace === undefined ? read : { condition: null, fault: say.noTraceShows(statePlace), column: 0 };
+  return statePlace === undefined ? read : { condition: null, error: say.noTraceShows(statePlace), column: 0 };
 }
 
 /**
@@ -188,7 +188,7 @@ export function compileTracedCondition(text, names) {
  * @returns {ExpressionResult}
  */
 export function compileExpression(text, names) {
-  const { read: expression, ...error } = resultOrError(() => {
+  const { result: expression, ...error } = resultOrError(() => {
     const dependencies = new Dependencies();
     const node = parseExpression(text, createLampNameTest(names));
     if (isCondition(node)) {

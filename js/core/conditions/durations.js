@@ -10,7 +10,7 @@ const UNIT_MILLISECONDS = new Map([["us", 0.001], ["ms", 1], ["s", 1000]]);
 
 /**
  * A duration in cycles (0 if it is invalid), and the number of words that form it.
- * @typedef {{ cycles: number, words: number }} Duration
+ * @typedef {{ cycles: number, wordCount: number }} Duration
  */
 
 /**
@@ -22,15 +22,15 @@ const UNIT_MILLISECONDS = new Map([["us", 0.001], ["ms", 1], ["s", 1000]]);
 export function parseDuration(words, from) {
   const joinedMatch = /^([0-9.]+)(us|ms|s)$/.exec(words[from] || "");
   const [number, unit] = joinedMatch ? joinedMatch.slice(1) : [words[from] || "", words[from + 1] || ""];
-  if (!/^\d+(\.\d+)?$/.test(number) || number.length > 12) return { cycles: 0, words: 0 };
+  if (!/^\d+(\.\d+)?$/.test(number) || number.length > 12) return { cycles: 0, wordCount: 0 };
   const milliseconds = UNIT_MILLISECONDS.get(unit);
   if (milliseconds) {
     const cycles = cyclesFromMilliseconds(Number(number) * milliseconds);
-    return { cycles: cycles > MAX_CYCLES ? 0 : cycles, words: joinedMatch ? 1 : 2 };
+    return { cycles: cycles > MAX_CYCLES ? 0 : cycles, wordCount: joinedMatch ? 1 : 2 };
   }
-  if (number.includes(".")) return { cycles: 0, words: 0 };
+  if (number.includes(".")) return { cycles: 0, wordCount: 0 };
   const hasUnit = unit === "cycles" || unit === "cycle";
-  return { cycles: Number(number) > MAX_CYCLES ? 0 : Number(number), words: hasUnit ? 2 : 1 };
+  return { cycles: Number(number) > MAX_CYCLES ? 0 : Number(number), wordCount: hasUnit ? 2 : 1 };
 }
 
 /**
@@ -38,6 +38,6 @@ export function parseDuration(words, from) {
  * @param {string[]} words
  */
 export function parseExactDuration(words) {
-  const { cycles, words: count } = parseDuration(words, 0);
+  const { cycles, wordCount: count } = parseDuration(words, 0);
   return count === words.length ? cycles : 0;
 }

@@ -47,7 +47,7 @@ function createCondition({ subject, required, isPlural = false, measure, matches
  * @param {string} pattern
  */
 function matchesPattern(text, pattern) {
-  return text.length === pattern.length && [...pattern].every((mark, at) => mark === "?" || mark === text[at]);
+  return text.length === pattern.length && [...pattern].every((mark, index) => mark === "?" || mark === text[index]);
 }
 
 /** @type {(value: string) => string} returns the marks in the value of the place `lamps`, one per lamp; "" if the board has no lamps */
@@ -76,13 +76,13 @@ export function compileLamps(words, names, dependencies) {
   let required = words.join("");
   if (!/^[*.?]+$/.test(required)) {
     const requiredLamps = new Set(words.join(" ") === "none" ? [] : words.map((name) => findLampNumber(name, names)));
-    required = indices(count).map((at) => (requiredLamps.has(at) ? "*" : isDisplayLamp(at, names) ? "?" : ".")).join("");
+    required = indices(count).map((lamp) => (requiredLamps.has(lamp) ? "*" : isDisplayLamp(lamp, names) ? "?" : ".")).join("");
   }
   if (required.length !== count) fail(say.wrongPatternLength(required.length, count));
   const place = dependencies.addPlace("lamps");
   /** @type {(actual: string) => string} */
   const describeLitLamps = (actual) => {
-    const litLamps = [...names.face.lamps].filter(([at]) => actual[at] === "*").sort(([one], [other]) => one - other);
+    const litLamps = [...names.face.lamps].filter(([lamp]) => actual[lamp] === "*").sort(([a], [b]) => a - b);
     return litLamps.length === 0 ? "" : say.litLamps(litLamps.map(([, { text }]) => text).join(" "));
   };
   return createCondition({
@@ -114,7 +114,7 @@ export function compileDisplay(words, names, dependencies) {
       subject: "display", required, matches, measure: (_, extraValues) => displayedWords(seen.read(extraValues.seen)),
     });
   }
-  const reader = new DisplayText(displays, [...face.lamps].map(([at, { text }]) => ({ at, text })));
+  const reader = new DisplayText(displays, [...face.lamps].map(([lamp, { text }]) => ({ lamp, text })));
   const place = dependencies.addPlace("lamps");
   return createCondition({
     subject: "display", required, matches, measure: (values) => displayedWords(reader.read(lampMarks(values[place]))),

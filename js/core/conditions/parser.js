@@ -26,7 +26,7 @@ import * as say from "../../words/conditions.js";
  * @typedef {{ kind: "compare", sign: Sign, left: ValueNode, right: ValueNode, text: string, column: number }} CompareNode
  * @typedef {{ kind: "form", words: Token[], text: string, column: number }} FormNode
  * @typedef {{ kind: "values", place: NameNode, values: ValueNode[], text: string, column: number }} PlaceValuesNode
- * @typedef {{ kind: "panel", what: "lamp" | "key", name: string, isOn: boolean, text: string, column: number }} PanelStateNode
+ * @typedef {{ kind: "panel", subject: "lamp" | "key", name: string, isOn: boolean, text: string, column: number }} PanelStateNode
  * @typedef {{ kind: "at", label: string, text: string, column: number }} AtNode
  * @typedef {JoinedNode | NotNode | CompareNode | FormNode | PlaceValuesNode | PanelStateNode | AtNode} ConditionNode
  * @typedef {ConditionNode | ValueNode} Node
@@ -255,8 +255,8 @@ class Parser {
       const { column } = left;
       this.scanner.next();
       this.requireOperand(text);
-      const [one, other] = [this.requireValue(left), this.requireValue(this.parseOperand())];
-      left = { kind: "sum", sign: text, left: one, right: other, text: this.textFrom(column), column };
+      const [leftValue, rightValue] = [this.requireValue(left), this.requireValue(this.parseOperand())];
+      left = { kind: "sum", sign: text, left: leftValue, right: rightValue, text: this.textFrom(column), column };
     }
   }
 
@@ -379,7 +379,7 @@ class Parser {
     const isOn = state.kind === "word" ? PANEL_STATES.get(state.text.toLowerCase()) : undefined;
     if (isOn !== undefined && (kind === "key") === /^(down|up)$/i.test(state.text)) {
       scanner.next();
-      return { kind: "panel", what: kind, name: name.text, isOn, text: this.textFrom(token.column), column: token.column };
+      return { kind: "panel", subject: kind, name: name.text, isOn, text: this.textFrom(token.column), column: token.column };
     }
     if (/^([=<>!+\-&|]\S*|or|and)$/i.test(name.text) && !this.isLampName(name.text)) {
       scanner.goTo(token.column);

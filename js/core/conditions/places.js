@@ -33,7 +33,8 @@ const MAX_NUMERIC_LAMPS = 52;
 
 /** Place names for completion. These places exist on every board. */
 export const PLACE_WORDS = [
-  "acc", "cy", "pc", "dcl", "src", "test", "lamps", ...indices(16).map((at) => `r${at}`), ...indices(8).map((at) => `p${at}`)];
+  "acc", "cy", "pc", "dcl", "src", "test", "lamps", ...indices(16).map((register) => `r${register}`),
+  ...indices(8).map((pair) => `p${pair}`)];
 
 /** @type {(place: string) => number} returns the maximum value of a place; -1 if the value is not a number */
 export const maxPlaceValue = (place) => MAX_VALUES.get(place) ?? (/^(p\d$|rom\.)/.test(place) ? MAX_BYTE : MAX_DIGIT);
@@ -76,7 +77,7 @@ function linePlace(name, isOn) {
  * @param {number} chip
  */
 function hasRam({ banks }, bank, chip) {
-  return banks.some((each) => each.bank === bank && chip < each.chips);
+  return banks.some((ramBank) => ramBank.bank === bank && chip < ramBank.chips);
 }
 
 /**
@@ -100,12 +101,13 @@ function registerPlace(name) {
  */
 function memoryPlace(text) {
   const [word, ...parts] = text.split(/[\s.]+/);
-  const [bank, at, third = 0] = parts.map(parseNumber);
-  const isCharacter = word === "ram" && parts.length === 2 && at <= MAX_BYTE;
-  const isStatus = word === "st" && parts.length === 3 && at <= MAX_DIGIT && third < STATUS_CHARACTERS_PER_REGISTER;
+  const [bank, byteOrRegister, statusNumber = 0] = parts.map(parseNumber);
+  const isCharacter = word === "ram" && parts.length === 2 && byteOrRegister <= MAX_BYTE;
+  const isStatus = word === "st" && parts.length === 3 && byteOrRegister <= MAX_DIGIT && statusNumber < STATUS_CHARACTERS_PER_REGISTER;
   if (!(bank <= 7) || (!isCharacter && !isStatus)) return null;
-  const chip = (isStatus ? at : at >> 4) >> 2;
-  return singlePlace(isStatus ? `st.${bank}.${at}.${third}` : `ram.${bank}.0x${hex(at, 2)}`, (board) => hasRam(board, bank, chip));
+  const chip = (isStatus ? byteOrRegister : byteOrRegister >> 4) >> 2;
+  const name = isStatus ? `st.${bank}.${byteOrRegister}.${statusNumber}` : `ram.${bank}.0x${hex(byteOrRegister, 2)}`;
+  return singlePlace(name, (board) => hasRam(board, bank, chip));
 }
 
 /**
@@ -114,12 +116,12 @@ function memoryPlace(text) {
  * @returns {Place | null}
  */
 function portPlace(name) {
-  const found = /^(?:(rom)(\d|1[0-5])|ram([0-7])\.([0-3]))(\.[0-3])?$/.exec(name);
-  if (!found) return null;
-  const [, isRom, rom, bank, chip, line] = found;
+  const match = /^(?:(rom)(\d|1[0-5])|ram([0-7])\.([0-3]))(\.[0-3])?$/.exec(name);
+  if (!match) return null;
+  const [, isRom, rom, bank, chip, line] = match;
   /** @type {(board: Board) => boolean} */
   const isOn = (board) => (
-    isRom ? board.roms.some((each) => Number(each.chip) === Number(rom)) : hasRam(board, Number(bank), Number(chip)));
+    isRom ? board.roms.some((romChip) => Number(romChip.chip) === Number(rom)) : hasRam(board, Number(bank), Number(chip)));
   return line ? linePlace(name, isOn) : singlePlace(name, isOn);
 }
 
@@ -128,7 +130,7 @@ function portPlace(name) {
  * @param {string[]} answers
  */
 function marksToNumber([marks]) {
-  return [...marks].reduce((sum, mark, at) => sum + (mark === "*" ? 2 ** at : 0), 0);
+  return [...marks].reduce((sum, mark, lamp) => sum + (mark === "*" ? 2 ** lamp : 0), 0);
 }
 
 /**

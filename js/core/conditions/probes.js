@@ -30,7 +30,7 @@ export class Probes {
     const traced = this.groups.flatMap(() => rowValues(answers.takeTrace().row));
     if (!this.queriesState) return traced;
     const state = answers.take();
-    let at = 0;
-    return this.places.map((place) => (STATE_PLACES.has(place) ? stateValue(state, place) : traced[at++]));
+    let index = 0;
+    return this.places.map((place) => (STATE_PLACES.has(place) ? stateValue(state, place) : traced[index++]));
   }
 }

@@ -63,9 +63,9 @@ export class Scanner {
    */
   match(pattern) {
     pattern.lastIndex = this.index;
-    const found = pattern.exec(this.text);
-    if (found) this.index = pattern.lastIndex;
-    return found;
+    const match = pattern.exec(this.text);
+    if (match) this.index = pattern.lastIndex;
+    return match;
   }
 
   /** Returns the next token without consuming it. */
@@ -115,9 +115,9 @@ export class Scanner {
     this.unpeek();
     this.match(BLANKS);
     const column = this.index;
-    const found = this.match(RAW_WORD);
-    if (!found) return null;
-    const text = isInside && found[0].length > 1 ? found[0].replace(/(.)\)+$/, "$1") : found[0];
+    const match = this.match(RAW_WORD);
+    if (!match) return null;
+    const text = isInside && match[0].length > 1 ? match[0].replace(/(.)\)+$/, "$1") : match[0];
     this.index = column + text.length;
     return { kind: "word", text, column, end: this.index };
   }

@@ -12,8 +12,8 @@ import * as say from "../../words/conditions.js";
  * @typedef {import("./parser.js").ValueNode} ValueNode
  * @typedef {{ place: string, value: ValueNode }} Setting `place` has the spelling that `settablePlace` returns
  *
- * The place and the bench lines that set it. For an error, `fault` is the message and `column` the column in the text after `set`.
- * @typedef {{ place: string, lines: string, fault: string, column: number }} SettingResult
+ * The place and the bench lines that set it. For an error, `error` is the message and `column` the column in the text after `set`.
+ * @typedef {{ place: string, lines: string, error: string, column: number }} SettingResult
  */
 
 /** Matches the places that can be set, except `test` and ROM bytes. */
@@ -79,13 +79,13 @@ function makeSetting({ text, column }, value) {
 export function readSetting(text, map, board = null) {
   try {
     const { place, value } = parseSetting(text);
-    const found = parsePlace(place);
-    if (board && found && found.probesOn(board).length === 0) fail(say.boardLacks(place), 0);
+    const parsedPlace = parsePlace(place);
+    if (board && parsedPlace && parsedPlace.probesOn(board).length === 0) fail(say.boardLacks(place), 0);
     const number = evaluateConstant(value, map);
     if (number < 0 || number > maxPlaceValue(place)) fail(say.valueRange(place, maxPlaceValue(place), value.text), value.column);
-    return { place, lines: settingLines(place, number), fault: "", column: -1 };
-  } catch (fault) {
-    if (fault instanceof ConditionError) return { place: "", lines: "", fault: fault.message, column: Math.max(0, fault.column) };
-    throw fault;
+    return { place, lines: settingLines(place, number), error: "", column: -1 };
+  } catch (error) {
+    if (error instanceof ConditionError) return { place: "", lines: "", error: error.message, column: Math.max(0, error.column) };
+    throw error;
   }
 }

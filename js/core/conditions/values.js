@@ -60,10 +60,10 @@ export class Dependencies {
   /**
    * Adds a value that a test must supply. Throws `ConditionError` if the condition is not in a test.
    * @param {Need} need
-   * @param {string} fault the error message
+   * @param {string} message the error message
    */
-  addNeed(need, fault) {
-    if (!this.isTest) fail(fault);
+  addNeed(need, message) {
+    if (!this.isTest) fail(message);
     if (!this.needs.includes(need)) this.needs.push(need);
   }
 }
@@ -79,16 +79,16 @@ function constantValue(number) {
 
 /**
  * Returns the bitwise AND of two numbers of up to 53 bits.
- * @param {number} one
- * @param {number} other
+ * @param {number} left
+ * @param {number} right
  */
-function bitwiseAnd(one, other) {
-  const high = Math.floor(one / HALF_FACTOR) & Math.floor(other / HALF_FACTOR);
-  return high * HALF_FACTOR + ((one % HALF_FACTOR) & (other % HALF_FACTOR));
+function bitwiseAnd(left, right) {
+  const high = Math.floor(left / HALF_FACTOR) & Math.floor(right / HALF_FACTOR);
+  return high * HALF_FACTOR + ((left % HALF_FACTOR) & (right % HALF_FACTOR));
 }
 
-/** @type {Record<SumNode["sign"], (one: number, other: number) => number>} */
-const OPERATIONS = { "+": (one, other) => one + other, "-": (one, other) => one - other, "&": bitwiseAnd };
+/** @type {Record<SumNode["sign"], (left: number, right: number) => number>} */
+const OPERATIONS = { "+": (left, right) => left + right, "-": (left, right) => left - right, "&": bitwiseAnd };
 
 /**
  * Creates a value that is either 0 or 1.
@@ -110,7 +110,7 @@ export function findLampNumber(name, { face, board }) {
   const named = face.lampNumbers.get(name);
   if (named !== undefined) return named;
   if (/^\d+$/.test(name) && Number(name) < board.lamps.length) return Number(name);
-  const knownNames = [...face.lampNumbers].sort((one, other) => one[1] - other[1]).map(([each]) => each);
+  const knownNames = [...face.lampNumbers].sort((a, b) => a[1] - b[1]).map(([lampName]) => lampName);
   return fail(say.noLamp(name, knownNames.join(" ")));
 }
 
@@ -134,9 +134,9 @@ export function lampValue(name, names, dependencies) {
  * @returns {Value}
  */
 export function keyValue(name, { face }, dependencies) {
-  const key = [...listKeyInputs(face), ...(face.test ? [createTestInput(face)] : [])].find((each) => each.name === name);
+  const key = [...listKeyInputs(face), ...(face.test ? [createTestInput(face)] : [])].find((input) => input.name === name);
   if (!key) {
-    const knownNames = [...listKeyInputs(face), ...(face.test ? [createTestInput(face)] : [])].map((each) => each.name);
+    const knownNames = [...listKeyInputs(face), ...(face.test ? [createTestInput(face)] : [])].map((input) => input.name);
     return fail(say.noKeyOfPanel(name, knownNames.join(" ")));
   }
   const [word, ...numbers] = key.down.split(" ");
@@ -153,7 +153,7 @@ export function keyValue(name, { face }, dependencies) {
  */
 function findProgramName(name, map) {
   if (!map) return undefined;
-  const matches = [...map.names].filter(([each]) => each.toLowerCase() === name.toLowerCase());
+  const matches = [...map.names].filter(([programName]) => programName.toLowerCase() === name.toLowerCase());
   return map.names.get(name) || (matches.length === 1 ? matches[0][1] : undefined);
 }
 
@@ -163,8 +163,8 @@ function findProgramName(name, map) {
  * @param {Names} names
  */
 export function findLabelAddress(name, names) {
-  const found = findProgramName(name, names.map);
-  return found && found.isLabel ? found.value : fail(say.noLabel(name));
+  const label = findProgramName(name, names.map);
+  return label && label.isLabel ? label.value : fail(say.noLabel(name));
 }
 
 /**
@@ -182,7 +182,7 @@ function placeValue(place, { board }, dependencies) {
   const maxValue = place.maxValue(board);
   if (maxValue < 0) fail(say.isNoNumber(name));
   const answerIndexes = probes.map((probe) => dependencies.addPlace(probe));
-  const selectAnswers = (/** @type {string[]} */ values) => answerIndexes.map((at) => values[at]);
+  const selectAnswers = (/** @type {string[]} */ values) => answerIndexes.map((index) => values[index]);
   return { name, maxValue, isConstant: false, read: (values) => place.number(selectAnswers(values)),
     textOf: (values) => place.value(selectAnswers(values)) };
 }
@@ -202,7 +202,7 @@ function portValue({ text, direction }, { board }, dependencies) {
   if (port.startsWith("ram") && direction === "in") fail(say.portSyntax(port));
   const rom = board.roms.find(({ chip }) => `rom${Number(chip)}` === place.name);
   const mask = rom ? [...rom.port] : [];
-  const sumBits = (/** @type {string} */ mark) => mask.reduce((sum, each, at) => sum + (each === mark ? 2 ** (3 - at) : 0), 0);
+  const sumBits = (/** @type {string} */ mark) => mask.reduce((sum, bitMark, index) => sum + (bitMark === mark ? 2 ** (3 - index) : 0), 0);
   const [inputs, ones] = [sumBits("i"), sumBits("1")];
   const valueIndex = dependencies.addPlace(place.name);
   const read = (/** @type {string[]} */ values) => {
@@ -260,9 +260,9 @@ function watchNameValue(name, text, names, dependencies) {
   dependencies.depth += 1;
   try {
     return { ...compileValue(node, names, dependencies), name };
-  } catch (fault) {
+  } catch (error) {
     // The column of the error is relative to the expression, not to the condition.
-    throw fault instanceof ConditionError ? new ConditionError(say.errorInName(name, fault.message)) : fault;
+    throw error instanceof ConditionError ? new ConditionError(say.errorInName(name, error.message)) : error;
   } finally {
     dependencies.depth -= 1;
   }
@@ -280,16 +280,16 @@ function nameValue(node, names, dependencies) {
   const word = text.toLowerCase();
   if (direction !== "") return portValue(node, names, dependencies);
   if (text.startsWith("@")) {
-    const found = findProgramName(text.slice(1), names.map);
-    return constantValue(found ? found.value : fail(say.noLabel(text.slice(1))));
+    const programName = findProgramName(text.slice(1), names.map);
+    return constantValue(programName ? programName.value : fail(say.noLabel(text.slice(1))));
   }
   if (word === "test" || word === "owed") return bitValue(word, dependencies.addPlace(word), Number);
   const place = placeValue(parsePlace(text), names, dependencies);
   if (place) return place;
   const watched = names.watched && names.watched.get(text);
   if (watched !== undefined) return watchNameValue(text, watched, names, dependencies);
-  const found = findProgramName(text, names.map);
-  if (found) return constantValue(found.value);
+  const programName = findProgramName(text, names.map);
+  if (programName) return constantValue(programName.value);
   if (names.face.lampNumbers.has(text)) return lampValue(text, names, dependencies);
   return placeValue(placeByAlias(text), names, dependencies) || failForUnknownName(text, names);
 }
@@ -337,8 +337,8 @@ function sumValue({ sign, left, right, text }, names, dependencies) {
 export function evaluateConstant(node, map) {
   if (node.kind === "number") return node.value;
   if (node.kind === "sum") return OPERATIONS[node.sign](evaluateConstant(node.left, map), evaluateConstant(node.right, map));
-  const found = node.kind === "name" && node.direction === "" ? findProgramName(node.text.replace(/^@/, ""), map) : undefined;
-  return found ? found.value : fail(map ? say.noConstant(node.text) : say.noNames(node.text), node.column);
+  const programName = node.kind === "name" && node.direction === "" ? findProgramName(node.text.replace(/^@/, ""), map) : undefined;
+  return programName ? programName.value : fail(map ? say.noConstant(node.text) : say.noNames(node.text), node.column);
 }
 
 /**
@@ -367,8 +367,8 @@ export function compileValue(node, names, dependencies) {
 export function withErrorColumn(column, compile) {
   try {
     return compile();
-  } catch (fault) {
-    if (fault instanceof ConditionError && fault.column < 0) fault.column = column;
-    throw fault;
+  } catch (error) {
+    if (error instanceof ConditionError && error.column < 0) error.column = column;
+    throw error;
   }
 }

@@ -11,18 +11,18 @@ import { plannedCycles } from "./goal_search.js";
  * @typedef {import("../engine/key_queue.js").PlannedLine} PlannedLine
  *
  * A compiled soft breakpoint. `from` is the number of the first hit that stops the machine. `holds` evaluates the condition for the values
- * of `places`. `words` returns the text of the note for these values; `words` is null for a breakpoint that stops the machine.
+ * of `places`. `noteText` returns the text of the note for these values; it is null for a breakpoint that stops the machine.
  * @typedef {{ id: number, address: number, from: number, hits: number, places: string[], holds: (values: string[]) => boolean,
- *   words: ((values: string[]) => string) | null }} SoftBreakpoint
+ *   noteText: ((values: string[]) => string) | null }} SoftBreakpoint
  *
- * @typedef {{ id: number, cycles: number, words: string }} LoggedNote a logged note: the id of its breakpoint, the number of cycles before
+ * @typedef {{ id: number, cycles: number, text: string }} LoggedNote a logged note: the id of its breakpoint, the number of cycles before
  *   the note, and its text
  *
  * The breakpoint events that the next lines will cause. `cycles`: the cycles before the first stop, -1 for no stop. `id`: the id of the
  * breakpoint or watch that stops the machine, 0 for none. `hits`: the numbers of new hits, by breakpoint id. `notes`: the last logged
- * notes; `noted`: the number of all logged notes. `why`: "watch" if a change of a watched place stops the machine; `change` describes this
- * change. `changes`: for each watch id, the number of changes that count (data_watches.js).
- * @typedef {{ cycles: number, id: number, hits: Map<number, number>, notes: LoggedNote[], noted: number, why: "break" | "watch",
+ * notes; `noteCount`: the number of all logged notes. `reason`: "watch" if a change of a watched place stops the machine; `change`
+ * describes this change. `changes`: for each watch id, the number of changes that count (data_watches.js).
+ * @typedef {{ cycles: number, id: number, hits: Map<number, number>, notes: LoggedNote[], noteCount: number, reason: "break" | "watch",
  *   change: string, changes: Map<number, number> }} BreakpointEvents
  */
 
@@ -36,7 +36,7 @@ export const MAX_NOTES = 200;
  * @returns {BreakpointEvents}
  */
 export function createEmptyEvents() {
-  return { cycles: -1, id: 0, hits: new Map(), notes: [], noted: 0, why: "break", change: "", changes: new Map() };
+  return { cycles: -1, id: 0, hits: new Map(), notes: [], noteCount: 0, reason: "break", change: "", changes: new Map() };
 }
 
 /** Finds arrivals at soft breakpoints. */
@@ -44,7 +44,7 @@ export class Arrivals {
   /** @param {SoftBreakpoint[]} breakpoints the soft breakpoints, at most one per address */
   constructor(breakpoints) {
     this.breakpoints = breakpoints;
-    this.byAddress = new Map(breakpoints.map((each) => [each.address, each]));
+    this.byAddress = new Map(breakpoints.map((breakpoint) => [breakpoint.address, breakpoint]));
     this.places = ["pc", ...new Set(breakpoints.flatMap(({ places }) => places))];
     this.placeIndexes = new Map(breakpoints.map(({ id, places }) => [id, places.map((place) => this.places.indexOf(place))]));
     /** The bench lines that set the breakpoints. */
@@ -64,24 +64,24 @@ export class Arrivals {
    * Searches the next lines for arrivals, up to the first arrival that stops the machine.
    * @param {Engine} engine
    * @param {Uint8Array} file the session file; not changed
-   * @param {PlannedLine[]} planned
+   * @param {PlannedLine[]} plannedLines
    * @returns {BreakpointEvents}
    */
-  searchLines(engine, file, planned) {
+  searchLines(engine, file, plannedLines) {
     const events = createEmptyEvents();
     if (this.isEmpty) return events;
-    if (this.arrivalsPerCycle === 0 && this.hasNoArrival(engine, file, planned)) return events;
+    if (this.arrivalsPerCycle === 0 && this.hasNoArrival(engine, file, plannedLines)) return events;
     if (this.copy.length !== file.length) this.copy = new Uint8Array(file.length);
     this.copy.set(file);
     let [lines, count, done] = [this.setupLines, this.breakpoints.length, 0];
-    for (const each of planned) {
-      if (each.change) {
-        lines += `${each.line}\n`;
+    for (const plannedLine of plannedLines) {
+      if (plannedLine.change) {
+        lines += `${plannedLine.line}\n`;
         count += 1;
         continue;
       }
       const cyclesBefore = done;
-      const cyclesRun = this.run(engine, this.copy, { lines, count, cycles: plannedCycles(each) },
+      const cyclesRun = this.run(engine, this.copy, { lines, count, cycles: plannedCycles(plannedLine) },
         (end, row, partCycles) => end !== "break" || this.recordArrival(row, cyclesBefore + partCycles, events));
       if (cyclesRun < 0) return events;
       done += cyclesRun;
@@ -94,12 +94,12 @@ export class Arrivals {
    * Returns whether the next lines reach no breakpoint. This check takes only one request to the bench.
    * @param {Engine} engine
    * @param {Uint8Array} file
-   * @param {PlannedLine[]} planned
+   * @param {PlannedLine[]} plannedLines
    */
-  hasNoArrival(engine, file, planned) {
-    const answers = engine.ask(file, this.setupLines + planned.map(({ line }) => `${line}\n`).join("")).answers
+  hasNoArrival(engine, file, plannedLines) {
+    const answers = engine.ask(file, this.setupLines + plannedLines.map(({ line }) => `${line}\n`).join("")).answers
       .slice(this.breakpoints.length);
-    return planned.every(({ change }, at) => change !== null || answers[at].endsWith(" end"));
+    return plannedLines.every(({ change }, index) => change !== null || answers[index].endsWith(" end"));
   }
 
   /**
@@ -138,8 +138,8 @@ export class Arrivals {
    * @param {string[]} row the values of `places`, beginning with the program counter
    */
   breakpointAt(row) {
-    const found = this.byAddress.get(parseInt(row[0], 16));
-    return found && found.holds(this.breakpointValues(found, row)) ? found : null;
+    const breakpoint = this.byAddress.get(parseInt(row[0], 16));
+    return breakpoint && breakpoint.holds(this.breakpointValues(breakpoint, row)) ? breakpoint : null;
   }
 
   /**
@@ -148,7 +148,7 @@ export class Arrivals {
    * @param {string[]} row the values of `places`
    */
   breakpointValues({ id }, row) {
-    return (this.placeIndexes.get(id) || []).map((at) => row[at]);
+    return (this.placeIndexes.get(id) || []).map((index) => row[index]);
   }
 
   /**
@@ -158,19 +158,19 @@ export class Arrivals {
    * @param {BreakpointEvents} events receives the hit, and the note or the stop
    */
   recordArrival(row, cycles, events) {
-    const found = this.byAddress.get(parseInt(row[0], 16));
+    const breakpoint = this.byAddress.get(parseInt(row[0], 16));
     // A breakpoint that is not in this list is a hard breakpoint of the session, which always stops the machine.
-    if (!found) return true;
-    const { id, holds, words, from } = found;
-    const values = this.breakpointValues(found, row);
+    if (!breakpoint) return true;
+    const { id, holds, noteText, from } = breakpoint;
+    const values = this.breakpointValues(breakpoint, row);
     if (!holds(values)) return false;
     const hits = (events.hits.get(id) || 0) + 1;
     events.hits.set(id, hits);
-    if (found.hits + hits < from) return false;
-    if (words) {
-      events.noted += 1;
+    if (breakpoint.hits + hits < from) return false;
+    if (noteText) {
+      events.noteCount += 1;
       if (events.notes.length === MAX_NOTES) events.notes.shift();
-      events.notes.push({ id, cycles, words: words(values) });
+      events.notes.push({ id, cycles, text: noteText(values) });
       return false;
     }
     events.cycles = cycles;
@@ -188,8 +188,8 @@ export class Arrivals {
    * @param {number[]} hits
    */
   restoreHits(hits) {
-    this.breakpoints.forEach((breakpoint, at) => {
-      breakpoint.hits = hits[at];
+    this.breakpoints.forEach((breakpoint, index) => {
+      breakpoint.hits = hits[index];
     });
   }
 

@@ -47,9 +47,9 @@ export function formatBreakpoints(breakpoints) {
  * @returns {SavedBreakpoint | null}
  */
 export function parseBreakpoint(line) {
-  const found = BREAKPOINT_LINE.exec(line);
-  if (!found || (found[1] === undefined && found[2] === undefined)) return null;
-  const [, sourceLine = "0", address, off, from = "1", condition, note] = found;
+  const match = BREAKPOINT_LINE.exec(line);
+  if (!match || (match[1] === undefined && match[2] === undefined)) return null;
+  const [, sourceLine = "0", address, off, from = "1", condition, note] = match;
   return {
     line: Number(sourceLine), address: address === undefined ? -1 : parseInt(address, 16), isOn: off === undefined,
     from: Math.max(1, Number(from)), condition: unquote(condition), note: unquote(note),

@@ -23,8 +23,8 @@ import * as say from "../../words/debug.js";
  * @property {() => void} changed Handles a change of the list or of its error messages.
  * @property {() => void} counted Handles a change of hit counts only.
  * @property {() => void} listEdited Handles a change that the user made, after which the list must be saved.
- * @property {(words: string) => void} showMessage Shows a message near the user's last action.
- * @property {(fault: unknown) => void} failed Reports an error that `set` threw.
+ * @property {(message: string) => void} showMessage Shows a message near the user's last action.
+ * @property {(error: unknown) => void} failed Reports an error that `set` threw.
  */
 
 const TOO_MANY_ENABLED = say.tooManyEnabled(MAX_ENABLED_BREAKPOINTS);
@@ -33,9 +33,9 @@ const MAX_LISTS = 30;
 
 /** Synchronizes the list of breakpoints with the breakpoints of the bench. */
 export class BreakpointManager {
-  /** @param {ManagerCallbacks} calls */
-  constructor(calls) {
-    this.calls = calls;
+  /** @param {ManagerCallbacks} callbacks */
+  constructor(callbacks) {
+    this.callbacks = callbacks;
     this.list = new BreakpointList();
     /** @type {Map<string, BreakpointList>} the lists of recent sessions, by session id, in the order in which they were last opened */
     this.lists = new Map();
@@ -46,7 +46,7 @@ export class BreakpointManager {
     /** @type {string[]} the watch expressions, whose names conditions can use */
     this.watchTexts = [];
     /** @type {Map<number, string>} the error messages of breakpoints that cannot be compiled, by id */
-    this.faults = new Map();
+    this.errors = new Map();
     /** @type {Set<number> | null} the addresses of the bench's breakpoints; null before the bench first reports them for a session */
     this.benchAddresses = null;
     /** @type {string[] | null} the bench's breakpoint addresses that were reported during a request; they are applied after the request */
@@ -88,8 +88,8 @@ export class BreakpointManager {
     this.postponedAddresses = null;
     this.lastRequest = "";
     this.typedEdit = null;
-    this.faults.clear();
-    this.calls.changed();
+    this.errors.clear();
+    this.callbacks.changed();
   }
 
   /**
@@ -115,20 +115,20 @@ export class BreakpointManager {
     const effectiveEdits = edits.filter((edit) => this.list.edit(edit));
     if (effectiveEdits.length === 0) return;
     if (this.benchAddresses) this.apply();
-    else this.calls.changed();
+    else this.callbacks.changed();
   }
 
   /**
    * Sets the source map, and moves each breakpoint to an instruction of the program in ROM.
    * @param {SourceMap | null} map null if the source is not the program in ROM
-   * @param {string} words the reason why `map` is null; "" if it is not null
+   * @param {string} reason the reason why `map` is null; "" if it is not null
    */
-  setSourceMap(map, words) {
+  setSourceMap(map, reason) {
     this.map = map;
-    this.mapError = words;
+    this.mapError = reason;
     if (!this.benchAddresses) return;
     const messages = map ? this.list.locate(map) : [];
-    if (messages.length > 0) this.calls.showMessage(messages.join(" "));
+    if (messages.length > 0) this.callbacks.showMessage(messages.join(" "));
     this.apply();
   }
 
@@ -147,20 +147,20 @@ export class BreakpointManager {
     if (!previousAddresses) {
       // This is the first report after opening. If the session was saved without a list, its breakpoints come from the file.
       if (!this.hasSavedList) for (const address of addresses) this.addFromBench(address);
-      this.calls.changed();
+      this.callbacks.changed();
       return;
     }
     const wantedAddresses = new Set(this.hardAddresses);
-    const newAddresses = addresses.filter((each) => !wantedAddresses.has(each) && !previousAddresses.has(each));
+    const newAddresses = addresses.filter((address) => !wantedAddresses.has(address) && !previousAddresses.has(address));
     for (const address of newAddresses) this.addFromBench(address);
-    const missingAddresses = [...wantedAddresses].filter((each) => previousAddresses.has(each) && !addresses.includes(each));
+    const missingAddresses = [...wantedAddresses].filter((address) => previousAddresses.has(address) && !addresses.includes(address));
     for (const address of missingAddresses) this.removeMissing(address);
     this.apply();
   }
 
   /** The addresses of the enabled breakpoints that stop the machine at every arrival. */
   get hardAddresses() {
-    return this.list.placed.filter((each) => !isSoft(each)).map(({ address }) => address);
+    return this.list.placed.filter((breakpoint) => !isSoft(breakpoint)).map(({ address }) => address);
   }
 
   /**
@@ -168,14 +168,14 @@ export class BreakpointManager {
    * @param {number} address
    */
   addFromBench(address) {
-    const found = this.list.findByAddress(address);
-    if (found) {
-      this.list.change(found.id, { isOn: true });
+    const breakpoint = this.list.findByAddress(address);
+    if (breakpoint) {
+      this.list.change(breakpoint.id, { isOn: true });
       return;
     }
     const { map } = this;
-    const instruction = map ? instructionAtAddress(address, map) : { line: 0, address, words: "" };
-    if (instruction.words) this.calls.showMessage(instruction.words);
+    const instruction = map ? instructionAtAddress(address, map) : { line: 0, address, message: "" };
+    if (instruction.message) this.callbacks.showMessage(instruction.message);
     if (instruction.line > 0 && this.list.findByLine(instruction.line)) return;
     this.list.add({ line: instruction.line, address: instruction.address });
   }
@@ -185,8 +185,8 @@ export class BreakpointManager {
    * @param {number} address
    */
   removeMissing(address) {
-    const found = this.list.findByAddress(address);
-    if (found) this.list.remove(found.id);
+    const breakpoint = this.list.findByAddress(address);
+    if (breakpoint) this.list.remove(breakpoint.id);
   }
 
   /**
@@ -196,7 +196,7 @@ export class BreakpointManager {
   count({ hits }) {
     if (hits.length === 0) return;
     this.list.count(hits);
-    this.calls.counted();
+    this.callbacks.counted();
   }
 
   // --- Actions of the user ---
@@ -212,8 +212,8 @@ export class BreakpointManager {
       this.remove(existingBreakpoint.id);
       return;
     }
-    const instruction = this.map ? instructionForLine(line, this.map) : { line, address: -1, words: this.pendingMessage() };
-    if (instruction.words) this.calls.showMessage(instruction.words);
+    const instruction = this.map ? instructionForLine(line, this.map) : { line, address: -1, message: this.pendingMessage() };
+    if (instruction.message) this.callbacks.showMessage(instruction.message);
     if (instruction.line !== line && this.list.findByLine(instruction.line)) return;
     if (this.map && instruction.address < 0) return;
     this.add({ line: instruction.line, address: instruction.address });
@@ -244,8 +244,8 @@ export class BreakpointManager {
       this.remove(existingBreakpoint.id);
       return;
     }
-    const instruction = this.map ? instructionAtAddress(address, this.map) : { line: 0, address, words: "" };
-    if (instruction.words) this.calls.showMessage(instruction.words);
+    const instruction = this.map ? instructionAtAddress(address, this.map) : { line: 0, address, message: "" };
+    if (instruction.message) this.callbacks.showMessage(instruction.message);
     this.add({ line: instruction.line, address: instruction.address });
   }
 
@@ -255,11 +255,11 @@ export class BreakpointManager {
    */
   add(fields) {
     if (this.list.all.length >= MAX_BREAKPOINTS) {
-      this.calls.showMessage(say.tooManyBreakpoints(MAX_BREAKPOINTS));
+      this.callbacks.showMessage(say.tooManyBreakpoints(MAX_BREAKPOINTS));
       return;
     }
     const isFull = this.list.enabledCount >= MAX_ENABLED_BREAKPOINTS;
-    if (isFull) this.calls.showMessage(TOO_MANY_ENABLED);
+    if (isFull) this.callbacks.showMessage(TOO_MANY_ENABLED);
     this.list.add({ ...fields, isOn: !isFull });
     this.saveAndApply();
   }
@@ -277,8 +277,8 @@ export class BreakpointManager {
    */
   saveTypedEdit(id, changes) {
     this.typedEdit = { id, changes };
-    this.calls.changed();
-    this.calls.listEdited();
+    this.callbacks.changed();
+    this.callbacks.listEdited();
   }
 
   /**
@@ -287,8 +287,8 @@ export class BreakpointManager {
    */
   get savedBreakpoints() {
     const { list, typedEdit } = this;
-    return list.savedBreakpoints.map((each, at) => (
-      typedEdit && typedEdit.id === list.all[at].id ? { ...each, ...typedEdit.changes } : each));
+    return list.savedBreakpoints.map((breakpoint, index) => (
+      typedEdit && typedEdit.id === list.all[index].id ? { ...breakpoint, ...typedEdit.changes } : breakpoint));
   }
 
   /**
@@ -297,13 +297,13 @@ export class BreakpointManager {
    * @param {Partial<SavedBreakpoint>} changes the changed fields
    */
   change(id, changes) {
-    const found = this.list.get(id);
-    if (!found) return;
+    const breakpoint = this.list.get(id);
+    if (!breakpoint) return;
     if (this.typedEdit && this.typedEdit.id === id) this.typedEdit = null;
-    else if (JSON.stringify({ ...found, ...changes }) === JSON.stringify(found)) return;
-    if (changes.isOn && !found.isOn && this.list.enabledCount >= MAX_ENABLED_BREAKPOINTS) {
-      this.calls.showMessage(TOO_MANY_ENABLED);
-      this.calls.changed();
+    else if (JSON.stringify({ ...breakpoint, ...changes }) === JSON.stringify(breakpoint)) return;
+    if (changes.isOn && !breakpoint.isOn && this.list.enabledCount >= MAX_ENABLED_BREAKPOINTS) {
+      this.callbacks.showMessage(TOO_MANY_ENABLED);
+      this.callbacks.changed();
       return;
     }
     this.list.change(id, changes);
@@ -344,17 +344,17 @@ export class BreakpointManager {
 
   /** Saves and applies a change by the user. */
   saveAndApply() {
-    this.calls.listEdited();
+    this.callbacks.listEdited();
     this.apply();
   }
 
   /** Sends the list to the bench, unless the bench already has this list. `allSent` resolves after the bench has set the breakpoints. */
   apply() {
-    this.calls.changed();
+    this.callbacks.changed();
     const { placed } = this.list;
     // A name in a condition can have another meaning in another source text, so the comparison includes the texts.
     const names = placed.some(isSoft) ? [this.map ? this.map.text : "", this.watchTexts] : [];
-    const request = JSON.stringify([names, placed.map((each) => ({ ...each, line: 0, hits: 0 }))]);
+    const request = JSON.stringify([names, placed.map((breakpoint) => ({ ...breakpoint, line: 0, hits: 0 }))]);
     const isNothingSet = placed.length === 0 && this.benchAddresses !== null && this.benchAddresses.size === 0;
     if (request === this.lastRequest || (this.lastRequest === "" && isNothingSet)) return;
     this.lastRequest = request;
@@ -368,25 +368,25 @@ export class BreakpointManager {
   send(placed) {
     const { list, hardAddresses } = this;
     this.pendingCount += 1;
-    this.allSent = Promise.all([this.calls.set(placed), this.allSent])
+    this.allSent = Promise.all([this.callbacks.set(placed), this.allSent])
       .finally(() => {
         this.pendingCount -= 1;
       })
-      .then(([faults]) => this.handleAnswer(list, hardAddresses, faults))
-      .catch((fault) => this.calls.failed(fault));
+      .then(([errors]) => this.handleAnswer(list, hardAddresses, errors))
+      .catch((error) => this.callbacks.failed(error));
   }
 
   /**
    * Handles the bench's answer to a list.
    * @param {BreakpointList} list
    * @param {number[]} hardAddresses the addresses of the breakpoints that stop the machine at every arrival
-   * @param {[number, string][]} faults the ids and error messages of breakpoints that cannot be compiled
+   * @param {[number, string][]} errors the ids and error messages of breakpoints that cannot be compiled
    */
-  handleAnswer(list, hardAddresses, faults) {
+  handleAnswer(list, hardAddresses, errors) {
     if (list !== this.list) return;
-    this.faults = new Map(faults);
+    this.errors = new Map(errors);
     this.benchAddresses = new Set(hardAddresses);
-    this.calls.changed();
+    this.callbacks.changed();
     this.applyPostponedAddresses();
   }
 

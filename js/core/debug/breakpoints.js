@@ -38,7 +38,7 @@ export class BreakpointList {
   constructor(savedBreakpoints = []) {
     this.lastId = 0;
     /** @type {Breakpoint[]} sorted by line; breakpoints without a line are last */
-    this.all = savedBreakpoints.map((each) => this.createBreakpoint(each));
+    this.all = savedBreakpoints.map((savedBreakpoint) => this.createBreakpoint(savedBreakpoint));
     /**
      * @type {{ text: string, breakpoint: Breakpoint }[]} the breakpoints that were deleted with their lines, and the texts of the lines,
      *   newest last
@@ -60,9 +60,9 @@ export class BreakpointList {
   }
 
   sort() {
-    /** @type {(each: Breakpoint) => number} */
+    /** @type {(breakpoint: Breakpoint) => number} */
     const rank = ({ line, address }) => (line > 0 ? line : 1e6 + address);
-    this.all.sort((one, other) => rank(one) - rank(other));
+    this.all.sort((a, b) => rank(a) - rank(b));
   }
 
   /**
@@ -78,7 +78,7 @@ export class BreakpointList {
 
   /** @param {number} id */
   remove(id) {
-    this.all = this.all.filter((each) => each.id !== id);
+    this.all = this.all.filter((breakpoint) => breakpoint.id !== id);
   }
 
   /**
@@ -87,7 +87,7 @@ export class BreakpointList {
    * @param {Partial<SavedBreakpoint>} changes the changed fields
    */
   change(id, changes) {
-    this.all = this.all.map((each) => (each.id === id ? { ...each, ...changes } : each));
+    this.all = this.all.map((breakpoint) => (breakpoint.id === id ? { ...breakpoint, ...changes } : breakpoint));
   }
 
   /**
@@ -95,7 +95,7 @@ export class BreakpointList {
    * @returns {Breakpoint | undefined}
    */
   get(id) {
-    return this.all.find((each) => each.id === id);
+    return this.all.find((breakpoint) => breakpoint.id === id);
   }
 
   /**
@@ -103,7 +103,7 @@ export class BreakpointList {
    * @returns {Breakpoint | undefined}
    */
   findByLine(line) {
-    return this.all.find((each) => each.line === line);
+    return this.all.find((breakpoint) => breakpoint.line === line);
   }
 
   /**
@@ -111,7 +111,7 @@ export class BreakpointList {
    * @returns {Breakpoint | undefined}
    */
   findByAddress(address) {
-    return this.all.find((each) => each.address === address);
+    return this.all.find((breakpoint) => breakpoint.address === address);
   }
 
   /** The number of enabled breakpoints. */
@@ -139,9 +139,9 @@ export class BreakpointList {
     const ids = new Set(storedBreakpoints.map(({ id }) => id));
     // Changes of a stored breakpoint since it was stored are kept. A breakpoint without a line belongs to ROM, not to the text.
     const restoredBreakpoints = storedBreakpoints.filter(({ id, line }) => line > 0 || this.get(id))
-      .map((each) => ({ ...(this.get(each.id) || each), line: each.line, address: each.address }));
+      .map((breakpoint) => ({ ...(this.get(breakpoint.id) || breakpoint), line: breakpoint.line, address: breakpoint.address }));
     const romBreakpoints = this.all.filter(({ id, line, address }) => (
-      !ids.has(id) && line === 0 && !restoredBreakpoints.some((each) => each.address === address)));
+      !ids.has(id) && line === 0 && !restoredBreakpoints.some((breakpoint) => breakpoint.address === address)));
     this.all = [...restoredBreakpoints, ...romBreakpoints];
     this.deletedBreakpoints = this.deletedBreakpoints.filter(({ breakpoint }) => !ids.has(breakpoint.id));
     this.sort();
@@ -162,9 +162,9 @@ export class BreakpointList {
   /** Removes breakpoints above the maximum number, and disables breakpoints above the maximum number of enabled breakpoints. */
   enforceLimits() {
     let count = 0;
-    this.all = this.all.slice(0, MAX_BREAKPOINTS).map((each) => {
-      count += each.isOn ? 1 : 0;
-      return each.isOn && count > MAX_ENABLED_BREAKPOINTS ? { ...each, isOn: false } : each;
+    this.all = this.all.slice(0, MAX_BREAKPOINTS).map((breakpoint) => {
+      count += breakpoint.isOn ? 1 : 0;
+      return breakpoint.isOn && count > MAX_ENABLED_BREAKPOINTS ? { ...breakpoint, isOn: false } : breakpoint;
     });
   }
 
@@ -178,12 +178,12 @@ export class BreakpointList {
     const shift = count - (last - first + 1);
     if (shift === 0) return false;
     const isMoved = this.all.some(({ line }) => line >= first);
-    this.all = this.all.flatMap((each) => {
-      if (each.line < first) return [each];
-      if (each.line > last) return [{ ...each, line: each.line + shift }];
+    this.all = this.all.flatMap((breakpoint) => {
+      if (breakpoint.line < first) return [breakpoint];
+      if (breakpoint.line > last) return [{ ...breakpoint, line: breakpoint.line + shift }];
       // A breakpoint on a replaced line keeps its line number if the new text has enough lines.
-      if (each.line < first + count) return [each];
-      this.storeDeleted(each, edit);
+      if (breakpoint.line < first + count) return [breakpoint];
+      this.storeDeleted(breakpoint, edit);
       return [];
     });
     const isUndone = edit.origin === "undo" || edit.origin === "redo";
@@ -195,7 +195,7 @@ export class BreakpointList {
    * any breakpoints.
    */
   detachAll() {
-    this.all = this.all.map((each) => (each.address >= 0 ? { ...each, line: 0 } : each));
+    this.all = this.all.map((breakpoint) => (breakpoint.address >= 0 ? { ...breakpoint, line: 0 } : breakpoint));
     this.sort();
     return this.all.length > 0;
   }
@@ -219,7 +219,7 @@ export class BreakpointList {
   restoreDeleted({ from, text }, first, count) {
     const countBefore = this.all.length;
     for (let line = first + count - 1; line >= first; line--) {
-      const deletedIndex = this.deletedBreakpoints.map((each) => each.text).lastIndexOf(text[line - from.line - 1]);
+      const deletedIndex = this.deletedBreakpoints.map((deleted) => deleted.text).lastIndexOf(text[line - from.line - 1]);
       if (deletedIndex < 0 || this.findByLine(line)) continue;
       const [{ breakpoint }] = this.deletedBreakpoints.splice(deletedIndex, 1);
       this.all.push({ ...breakpoint, line });
@@ -236,20 +236,20 @@ export class BreakpointList {
    */
   locate(map) {
     /** @type {string[]} */
-    const words = [];
+    const messages = [];
     /** @type {Map<number, Breakpoint>} */
     const byAddress = new Map();
-    for (const each of this.all) {
-      const found = each.line > 0 ? instructionForLine(each.line, map) : instructionAtAddress(each.address, map);
-      if (found.words) words.push(found.words);
-      const { line, address } = found;
+    for (const breakpoint of this.all) {
+      const instruction = breakpoint.line > 0 ? instructionForLine(breakpoint.line, map) : instructionAtAddress(breakpoint.address, map);
+      if (instruction.message) messages.push(instruction.message);
+      const { line, address } = instruction;
       // Two breakpoints at the same address become one.
       if (address >= 0 && byAddress.has(address)) continue;
-      byAddress.set(address >= 0 ? address : -1 - each.id, { ...each, line, address });
+      byAddress.set(address >= 0 ? address : -1 - breakpoint.id, { ...breakpoint, line, address });
     }
     this.all = [...byAddress.values()];
     this.sort();
-    return words;
+    return messages;
   }
 
   /**
@@ -266,14 +266,14 @@ export class BreakpointList {
    */
   count(hits) {
     for (const [id, more] of hits) {
-      const found = this.get(id);
-      if (found) found.hits += more;
+      const breakpoint = this.get(id);
+      if (breakpoint) breakpoint.hits += more;
     }
   }
 
   /** Resets the hit counts. */
   resetHits() {
-    this.all = this.all.map((each) => ({ ...each, hits: 0 }));
+    this.all = this.all.map((breakpoint) => ({ ...breakpoint, hits: 0 }));
   }
 
   /** @returns {SavedBreakpoint[]} */
@@ -317,34 +317,34 @@ function replacedLines({ from, to, text, removed = Array(to.line - from.line + 1
 
 /**
  * Returns the line and the address of the instruction on a line. If the line has no instruction, returns the line and the address of the
- * next instruction, with a message in `words`. If no instruction follows, the address is -1.
+ * next instruction, with a `message`. If no instruction follows, the address is -1.
  * @param {number} line
  * @param {SourceMap} map
  */
 export function instructionForLine(line, map) {
-  const ownAddress = map.addressOf(line);
-  if (ownAddress !== undefined) return { line, address: ownAddress, words: "" };
+  const lineAddress = map.addressOf(line);
+  if (lineAddress !== undefined) return { line, address: lineAddress, message: "" };
   for (let next = line + 1; next <= map.count; next++) {
     const address = map.addressOf(next);
     if (address !== undefined) {
       const message = say.breakpointMovedToLine(line, next);
-      return { line: next, address, words: message };
+      return { line: next, address, message };
     }
   }
-  return { line, address: -1, words: say.nothingFollows(line) };
+  return { line, address: -1, message: say.nothingFollows(line) };
 }
 
 /**
  * Returns the line and the address of the instruction at an address. If the address is the second byte of an instruction, the result is the
- * next instruction, or this instruction if no other follows, with a message in `words`.
+ * next instruction, or this instruction if no other follows, with a `message`.
  * @param {number} address
  * @param {SourceMap} map
  */
 export function instructionAtAddress(address, map) {
-  if (address < 0 || !map.isInside(address)) return { line: address < 0 ? 0 : map.lineOf(address), address, words: "" };
+  if (address < 0 || !map.isInside(address)) return { line: address < 0 ? 0 : map.lineOf(address), address, message: "" };
   const line = map.lineOf(address);
   const digits = address.toString(16).toUpperCase().padStart(3, "0");
   const nextInstruction = instructionForLine(line + 1, map);
-  if (nextInstruction.address < 0) return { line, address: map.addresses[line], words: say.insideInstruction(digits, line) };
-  return { ...nextInstruction, words: say.insideAndMoved(digits, line, nextInstruction.line) };
+  if (nextInstruction.address < 0) return { line, address: map.addresses[line], message: say.insideInstruction(digits, line) };
+  return { ...nextInstruction, message: say.insideAndMoved(digits, line, nextInstruction.line) };
 }

@@ -9,9 +9,9 @@
 // Before each run, this module asks the bench what the run will do. It does not simulate instructions. src_selection.js tracks the chips
 // and registers that SRC selects.
 //
-//     const mistakes = new CommonMistakes(session);
-//     mistakes.begin();                                  before the machine runs; each kind is then reported once
-//     const { faults, stop } = mistakes.searchLines(lines);     before the lines run
+//     const commonMistakes = new CommonMistakes(session);
+//     commonMistakes.begin();                            before the machine runs; each kind is then reported once
+//     const { mistakes, stop } = commonMistakes.searchLines(lines);     before the lines run
 //     stop                                               the cycles up to a mistake that stops the machine, -1 for none
 
 import { readBoard } from "../bench/answers.js";
@@ -33,9 +33,9 @@ import * as say from "../../words/debug.js";
  *
  * A mistake: the address of the instruction, the number of cycles before it, and a description. `isRepeat` is true if a mistake of the same
  * kind was reported before.
- * @typedef {{ kind: Kind, address: number, cycles: number, words: string, isRepeat?: boolean }} CommonMistake
+ * @typedef {{ kind: Kind, address: number, cycles: number, message: string, isRepeat?: boolean }} CommonMistake
  * @typedef {import("../conditions/condition_language.js").Condition} Condition
- * @typedef {{ faults: CommonMistake[], stop: number }} FoundMistakes the mistakes in some lines, and the number of cycles before the
+ * @typedef {{ mistakes: CommonMistake[], stop: number }} FoundMistakes the mistakes in some lines, and the number of cycles before the
  *   mistake that stops the machine (-1 for none)
  */
 
@@ -56,7 +56,7 @@ const SAMPLE_CYCLES = 2000;
 export const MAX_CYCLES_PER_CALL = 10000;
 
 /** @type {FoundMistakes} */
-const NO_MISTAKES = { faults: [], stop: -1 };
+const NO_MISTAKES = { mistakes: [], stop: -1 };
 
 /** Finds common mistakes in the next lines of a session. */
 export class CommonMistakes {
@@ -102,32 +102,32 @@ export class CommonMistakes {
 
   /**
    * Returns the mistakes in the next lines, up to the first mistake that stops the machine.
-   * @param {PlannedLine[]} planned the next lines
+   * @param {PlannedLine[]} plannedLines the next lines
    * @param {Uint8Array} [file] the session before the lines, if the lines have already run
    * @returns {FoundMistakes}
    */
-  searchLines(planned, file = this.session.file) {
-    const maxCycles = this.cyclesToCheck(planned);
+  searchLines(plannedLines, file = this.session.file) {
+    const maxCycles = this.cyclesToCheck(plannedLines);
     if (maxCycles === 0 || (this.reportedKinds.size === KIND_COUNT && this.conditions.size === 0)) return NO_MISTAKES;
-    const found = this.findMistakes(truncateLines(planned, maxCycles), file);
-    const stoppingMistake = found.find((fault) => this.stopsMachine(fault, planned, file));
-    const faults = found.filter(({ isRepeat }) => !isRepeat);
-    if (!stoppingMistake) return { faults, stop: -1 };
+    const allMistakes = this.findMistakes(truncateLines(plannedLines, maxCycles), file);
+    const stoppingMistake = allMistakes.find((mistake) => this.stopsMachine(mistake, plannedLines, file));
+    const mistakes = allMistakes.filter(({ isRepeat }) => !isRepeat);
+    if (!stoppingMistake) return { mistakes, stop: -1 };
     this.stopAddress = stoppingMistake.address;
-    return { faults: faults.filter((fault) => fault.cycles <= stoppingMistake.cycles), stop: stoppingMistake.cycles };
+    return { mistakes: mistakes.filter((mistake) => mistake.cycles <= stoppingMistake.cycles), stop: stoppingMistake.cycles };
   }
 
   /**
    * Returns whether a mistake stops the machine.
-   * @param {CommonMistake} fault
-   * @param {PlannedLine[]} planned the lines with the mistake
+   * @param {CommonMistake} mistake
+   * @param {PlannedLine[]} plannedLines the lines with the mistake
    * @param {Uint8Array} file the session before these lines
    */
-  stopsMachine({ kind, cycles }, planned, file) {
+  stopsMachine({ kind, cycles }, plannedLines, file) {
     if (!this.stoppingKinds.has(kind)) return false;
     const condition = this.conditions.get(kind);
     if (!condition) return true;
-    const linesBefore = truncateLines(planned, cycles);
+    const linesBefore = truncateLines(plannedLines, cycles);
     const probes = new Probes(condition.places);
     const lines = linesBefore.map(({ line }) => `${line}\n`).join("") + probes.lines;
     const answers = new ForecastAnswers(this.session.engine.ask(file, lines).answers);
@@ -138,11 +138,11 @@ export class CommonMistakes {
   /**
    * Returns the number of cycles to check in the next lines. All cycles are checked soon after the machine starts or a key changes, and
    * whenever mistakes stop the machine. Otherwise only a sample is checked, because a check runs each cycle three more times.
-   * @param {PlannedLine[]} planned
+   * @param {PlannedLine[]} plannedLines
    */
-  cyclesToCheck(planned) {
-    const cycles = planned.reduce((sum, each) => sum + plannedCycles(each), 0);
-    if (planned.some(({ change }) => change !== null)) this.remainingCycles = FULLY_CHECKED_CYCLES;
+  cyclesToCheck(plannedLines) {
+    const cycles = plannedLines.reduce((sum, plannedLine) => sum + plannedCycles(plannedLine), 0);
+    if (plannedLines.some(({ change }) => change !== null)) this.remainingCycles = FULLY_CHECKED_CYCLES;
     this.callCount += 1;
     const isAll = this.stoppingKinds.size > 0 && cycles <= MAX_CYCLES_PER_CALL;
     const sample = this.callCount % CALLS_PER_SAMPLE === 0 ? SAMPLE_CYCLES : 0;
@@ -161,33 +161,33 @@ export class CommonMistakes {
 
   /**
    * Returns all mistakes in the given lines.
-   * @param {PlannedLine[]} planned
+   * @param {PlannedLine[]} plannedLines
    * @param {Uint8Array} file the session before the lines
    */
-  findMistakes(planned, file) {
+  findMistakes(plannedLines, file) {
     const { engine } = this.session;
     const { codes, selection } = this.readRom();
-    const lines = planned.map((each) => {
-      const cycles = plannedCycles(each);
-      return each.change ? `${each.line}\n` : `trace ${cycles} src dcl ret\ntrace ${cycles}\n${each.line}\n`;
+    const lines = plannedLines.map((plannedLine) => {
+      const cycles = plannedCycles(plannedLine);
+      return plannedLine.change ? `${plannedLine.line}\n` : `trace ${cycles} src dcl ret\ntrace ${cycles}\n${plannedLine.line}\n`;
     });
     const answers = new ForecastAnswers(engine.ask(file, `state\n${lines.join("")}`).answers);
     selection.begin(answers.take());
     /** @type {CommonMistake[]} */
-    const faults = [];
+    const mistakes = [];
     let done = 0;
-    for (const { change } of planned) {
+    for (const { change } of plannedLines) {
       if (change) {
         answers.take();
         continue;
       }
       const [changes, instructions] = [answers.takeTrace(), answers.takeTrace()];
-      this.checkRun({ codes, selection, done }, changes, instructions.lines, faults);
+      this.checkRun({ codes, selection, done }, changes, instructions.lines, mistakes);
       const { cycles, end } = answers.takeRun();
       done += cycles;
       if (end !== "end") break;
     }
-    return faults;
+    return mistakes;
   }
 
   /**
@@ -196,9 +196,9 @@ export class CommonMistakes {
    *   cycles before the run
    * @param {Trace} changes the trace of the places `src`, `dcl` and `ret`
    * @param {string[]} instructions the trace lines of all instructions
-   * @param {CommonMistake[]} faults receives the mistakes
+   * @param {CommonMistake[]} mistakes receives the mistakes
    */
-  checkRun({ codes, selection, done }, changes, instructions, faults) {
+  checkRun({ codes, selection, done }, changes, instructions, mistakes) {
     let values = rowValues(changes.row);
     let changeIndex = 0;
     for (const line of instructions) {
@@ -208,7 +208,8 @@ export class CommonMistakes {
       const hasChanged = changeIndex < changes.lines.length && changes.lines[changeIndex].startsWith(line);
       if (hasChanged || usesSelection(code) || isCall(code) || isReturn(code) || this.isOutsideProgram(address)) {
         const cycles = done + Number(line.slice(0, blank));
-        this.addMistake(faults, address, cycles, this.findMistake(codes, address, values) || selection.findMistake(code, address, values));
+        const mistake = this.findMistake(codes, address, values) || selection.findMistake(code, address, values);
+        this.addMistake(mistakes, address, cycles, mistake);
         if (hasChanged) {
           values = rowValues(changes.lines[changeIndex].slice(line.length));
           changeIndex += 1;
@@ -220,19 +221,19 @@ export class CommonMistakes {
 
   /**
    * Adds a mistake. Ignores a mistake whose kind was reported before, unless that kind has a condition.
-   * @param {CommonMistake[]} faults receives the mistake
+   * @param {CommonMistake[]} mistakes receives the mistake
    * @param {number} address the address of the instruction
    * @param {number} cycles the cycles before the instruction
-   * @param {{ kind: Kind, words: string } | null} fault null if the instruction has no mistake
+   * @param {{ kind: Kind, message: string } | null} mistake null if the instruction has no mistake
    */
-  addMistake(faults, address, cycles, fault) {
+  addMistake(mistakes, address, cycles, mistake) {
     const isSkipped = cycles === 0 && address === this.skippedAddress;
     if (cycles === 0) this.skippedAddress = -1;
-    if (!fault || isSkipped) return;
-    const isRepeat = this.reportedKinds.has(fault.kind);
-    if (isRepeat && !this.conditions.has(fault.kind)) return;
-    this.reportedKinds.add(fault.kind);
-    faults.push({ ...fault, address, cycles, ...(isRepeat ? { isRepeat } : {}) });
+    if (!mistake || isSkipped) return;
+    const isRepeat = this.reportedKinds.has(mistake.kind);
+    if (isRepeat && !this.conditions.has(mistake.kind)) return;
+    this.reportedKinds.add(mistake.kind);
+    mistakes.push({ ...mistake, address, cycles, ...(isRepeat ? { isRepeat } : {}) });
   }
 
   /**
@@ -240,17 +241,17 @@ export class CommonMistakes {
    * @param {Uint8Array} codes the bytes of ROM
    * @param {number} address
    * @param {string[]} values the values of src, dcl and ret before the instruction
-   * @returns {{ kind: Kind, words: string } | null}
+   * @returns {{ kind: Kind, message: string } | null}
    */
   findMistake(codes, address, values) {
     const code = codes[address];
-    if (this.isOutsideProgram(address)) return { kind: "bytes", words: say.LEFT_PROGRAM };
+    if (this.isOutsideProgram(address)) return { kind: "bytes", message: say.LEFT_PROGRAM };
     if (!isCall(code) && !isReturn(code)) return null;
-    const returns = values[2].split(",").map((each) => parseInt(each, 16));
-    const [newest, , oldest] = returns.map((each) => hex(each, 3));
-    const liveFlags = findLiveReturns(returns, returns.map((each) => hex(codes[callAddress(each)], 2)), this.map);
-    if (isReturn(code)) return liveFlags[0] ? null : { kind: "return", words: say.returnWithoutCall(newest) };
-    return liveFlags[2] ? { kind: "calls", words: say.returnAddressLost(oldest) } : null;
+    const returns = values[2].split(",").map((digits) => parseInt(digits, 16));
+    const [newest, , oldest] = returns.map((returnAddress) => hex(returnAddress, 3));
+    const liveFlags = findLiveReturns(returns, returns.map((returnAddress) => hex(codes[callAddress(returnAddress)], 2)), this.map);
+    if (isReturn(code)) return liveFlags[0] ? null : { kind: "return", message: say.returnWithoutCall(newest) };
+    return liveFlags[2] ? { kind: "calls", message: say.returnAddressLost(oldest) } : null;
   }
 
   /**

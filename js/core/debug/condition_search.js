@@ -13,21 +13,21 @@ import * as say from "../../words/debug.js";
  */
 
 /**
- * Compiles a condition for a search. `fault` is an error message with a column, "" for none. A condition that uses no place is an error,
+ * Compiles a condition for a search. `error` is an error message with a column, "" for none. A condition that uses no place is an error,
  * because its value never changes.
  * @param {string} text
  * @param {Names} names
- * @returns {{ searchCondition: SearchCondition | null, fault: string }}
+ * @returns {{ searchCondition: SearchCondition | null, error: string }}
  */
 export function compileSearchCondition(text, names) {
   const { condition, ...conditionError } = compileTracedCondition(text, names);
   if (!condition) {
     // If the text is not a valid expression either, for example an unknown name, the expression's error is more specific.
     const value = compileExpression(text, names);
-    const { fault, column } = value.expression ? conditionError : value;
-    return { searchCondition: null, fault: errorInColumn(fault, column) };
+    const { error, column } = value.expression ? conditionError : value;
+    return { searchCondition: null, error: errorInColumn(error, column) };
   }
-  return condition.places.length > 0 ? { searchCondition: condition, fault: "" } : { searchCondition: null, fault: say.NEVER_CHANGES };
+  return condition.places.length > 0 ? { searchCondition: condition, error: "" } : { searchCondition: null, error: say.NEVER_CHANGES };
 }
 
 /**
@@ -35,14 +35,14 @@ export function compileSearchCondition(text, names) {
  * the moment at which it becomes true.
  * @param {string} text
  * @param {Names} names
- * @returns {{ goal: { kind: "change", place: string } | { kind: "when", condition: string } | null, fault: string }}
+ * @returns {{ goal: { kind: "change", place: string } | { kind: "when", condition: string } | null, error: string }}
  */
 export function parseGoal(text, names) {
   const lamp = names.face.lampNumbers.get(text.trim()) ?? names.face.lampNumbers.get(text.trim().replace(/ /g, "_"));
   const place = parsePlace(lamp === undefined ? text : `lamp ${lamp}`);
-  if (place) return { goal: { kind: "change", place: place.name }, fault: "" };
-  const { searchCondition, fault } = compileSearchCondition(text, names);
-  return { goal: searchCondition && { kind: "when", condition: text.trim() }, fault };
+  if (place) return { goal: { kind: "change", place: place.name }, error: "" };
+  const { searchCondition, error } = compileSearchCondition(text, names);
+  return { goal: searchCondition && { kind: "when", condition: text.trim() }, error };
 }
 
 /**

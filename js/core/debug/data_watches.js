@@ -41,30 +41,30 @@ const MAX_QUERY_CYCLES = 50000;
 const createEmptyResult = () => ({ cycles: -1, id: 0, change: "", hits: new Map() });
 
 /**
- * Compiles requested watches. `faults` contains the error messages of watches that cannot be compiled, by watch id.
+ * Compiles requested watches. `errors` contains the error messages of watches that cannot be compiled, by watch id.
  * @param {RequestedWatch[]} requestedWatches
  * @param {Names} names
- * @returns {{ watches: DataWatch[], faults: Map<number, string> }}
+ * @returns {{ watches: DataWatch[], errors: Map<number, string> }}
  */
 export function compileWatches(requestedWatches, names) {
   /** @type {Map<number, string>} */
-  const faults = new Map();
+  const errors = new Map();
   const places = new Set();
   const watches = requestedWatches.flatMap(({ id, name, condition: text, from }) => {
     const place = parsePlace(name);
     const probes = place ? place.probesOn(names.board) : [];
     const isUnconditional = text.trim() === "";
-    const { condition, fault, column } = isUnconditional ? { condition: null, fault: "", column: -1 } : compileTracedCondition(text, names);
+    const { condition, error, column } = isUnconditional ? { condition: null, error: "", column: -1 } : compileTracedCondition(text, names);
     const allPlaces = new Set([...places, ...probes, ...(condition ? condition.places : [])]);
     const placeError = !place || probes.length === 0 ? boardLacks(name)
-      : name === UNWATCHABLE_PLACE ? CHANGES_ALWAYS : fault && errorInColumn(fault, column);
+      : name === UNWATCHABLE_PLACE ? CHANGES_ALWAYS : error && errorInColumn(error, column);
     const message = placeError || (allPlaces.size > MAX_PLACES ? tooManyPlaces(allPlaces.size, MAX_PLACES) : "");
-    if (message) faults.set(id, message);
+    if (message) errors.set(id, message);
     if (message || !place) return [];
-    for (const each of allPlaces) places.add(each);
+    for (const usedPlace of allPlaces) places.add(usedPlace);
     return [{ id, place, probes, condition, from, hits: 0 }];
   });
-  return { watches, faults };
+  return { watches, errors };
 }
 
 /** Finds the changes of the watched places in the next lines. */
@@ -86,16 +86,16 @@ export class DataWatches {
    * Searches the next lines for changes, up to the first change that stops the machine.
    * @param {Engine} engine
    * @param {Uint8Array} file the session file; not changed
-   * @param {PlannedLine[]} planned
+   * @param {PlannedLine[]} plannedLines
    * @param {() => Uint8Array} codes returns the contents of ROM
    * @returns {WatchEvents}
    */
-  searchLines(engine, file, planned, codes) {
+  searchLines(engine, file, plannedLines, codes) {
     const events = createEmptyResult();
     if (this.isEmpty) return events;
     const copy = file.slice();
     let done = 0;
-    for (const { line, change, cycles } of planned.flatMap(splitLine)) {
+    for (const { line, change, cycles } of plannedLines.flatMap(splitLine)) {
       const query = change ? "" : `trace ${cycles} ${this.places.join(" ")}\n`;
       const answers = new ForecastAnswers(engine.serve(copy, `${query}${line}\n`, copy).answers);
       if (change) continue;
@@ -157,8 +157,8 @@ export class DataWatches {
    */
   isCountedChange({ id, condition }, before, after) {
     const [placeColumns, conditionColumns] = this.columns.get(id) || [[], []];
-    if (placeColumns.every((at) => before[at] === after[at])) return false;
-    return condition === null || condition.holds(conditionColumns.map((at) => after[at]));
+    if (placeColumns.every((column) => before[column] === after[column])) return false;
+    return condition === null || condition.holds(conditionColumns.map((column) => after[column]));
   }
 
   /**
@@ -168,7 +168,7 @@ export class DataWatches {
    */
   formatValue({ id, place }, values) {
     const [placeColumns] = this.columns.get(id) || [[]];
-    return place.value(placeColumns.map((at) => values[at]));
+    return place.value(placeColumns.map((column) => values[column]));
   }
 
   /**
@@ -216,12 +216,12 @@ class LastWatchedChange extends LastChangeFinder {
 
 /**
  * Splits a `run` line into shorter `run` lines of at most MAX_QUERY_CYCLES cycles. Returns a key change unchanged, with 0 cycles.
- * @param {PlannedLine} planned
+ * @param {PlannedLine} plannedLine
  */
-function splitLine(planned) {
-  const total = plannedCycles(planned);
+function splitLine(plannedLine) {
+  const total = plannedCycles(plannedLine);
   /** @type {(PlannedLine & { cycles: number })[]} */
-  const shortLines = planned.change ? [{ ...planned, cycles: 0 }] : [];
+  const shortLines = plannedLine.change ? [{ ...plannedLine, cycles: 0 }] : [];
   for (let done = 0; done < total; done += MAX_QUERY_CYCLES) {
     const cycles = Math.min(MAX_QUERY_CYCLES, total - done);
     shortLines.push({ line: `run ${cycles}`, change: null, cycles });
@@ -253,16 +253,17 @@ export class SoftStopFinder {
    * Searches the next lines, up to the first stop.
    * @param {Engine} engine
    * @param {Uint8Array} file the session file; not changed
-   * @param {PlannedLine[]} planned
+   * @param {PlannedLine[]} plannedLines
    * @returns {import("./arrivals.js").BreakpointEvents}
    */
-  searchLines(engine, file, planned) {
-    const events = this.arrivals.searchLines(engine, file, planned);
+  searchLines(engine, file, plannedLines) {
+    const events = this.arrivals.searchLines(engine, file, plannedLines);
     if (this.dataWatches.isEmpty) return events;
-    const limitedLines = events.cycles >= 0 ? truncateLines(planned, events.cycles) : planned;
+    const limitedLines = events.cycles >= 0 ? truncateLines(plannedLines, events.cycles) : plannedLines;
     const { hits, ...changed } = this.dataWatches.searchLines(engine, file, limitedLines, this.codes);
     if (changed.cycles < 0 || changed.cycles === events.cycles) return { ...events, changes: hits };
-    return { ...this.arrivals.searchLines(engine, file, truncateLines(planned, changed.cycles)), ...changed, why: "watch", changes: hits };
+    const earlierEvents = this.arrivals.searchLines(engine, file, truncateLines(plannedLines, changed.cycles));
+    return { ...earlierEvents, ...changed, reason: "watch", changes: hits };
   }
 
   /**
@@ -286,8 +287,8 @@ export class SoftStopFinder {
   restoreHits(hits) {
     const { length } = this.arrivals.hits;
     this.arrivals.restoreHits(hits.slice(0, length));
-    this.dataWatches.watches.forEach((watch, at) => {
-      watch.hits = hits[length + at];
+    this.dataWatches.watches.forEach((watch, index) => {
+      watch.hits = hits[length + index];
     });
   }
 }

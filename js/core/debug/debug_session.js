@@ -6,7 +6,7 @@
 //     session.rejectedTexts;                                         the errors in the texts that the bench rejected
 //     session.breakpoints.add({ line: 12, condition: "r9 = 9" }); await session.applyBreakpoints();
 //     const stop = await session.runToGoal();                       runs up to a stop, or to a goal { kind: "over" | "out" | "here" .. }
-//     stop.why, stop.words, session.line, session.values(["r4", "pc", "lamps"]), session.returns;
+//     stop.reason, stop.message, session.line, session.values(["r4", "pc", "lamps"]), session.returns;
 //     await session.stepInto(); await session.goBack({ kind: "instruction" }); session.goForward();
 //     await session.setProgram(text);                                assembles another text; breakpoints move with their lines
 //
@@ -38,9 +38,9 @@ import * as say from "../../words/debug.js";
  * program to the bench. With `file`, these texts only supply names and source lines.
  * @typedef {{ file?: Uint8Array, board?: string, program?: string }} SessionContents
  *
- * The end of a run. `words` is the message about the stop. Additional values of `why`: "pause" if `shouldContinue` ended the run, "passed"
+ * The end of a run. `message` is about the stop. Additional values of `reason`: "pause" if `shouldContinue` ended the run, "passed"
  * if all requested cycles have run, and "lacks" or "outside" if the goal does not exist (`SearchResult`).
- * @typedef {Stop & { words: string, tally: Tally }} DescribedStop
+ * @typedef {Stop & { message: string, tally: Tally }} DescribedStop
  */
 
 /** The maximum length of the first piece of a run, in cycles. */
@@ -72,7 +72,7 @@ export class DebugSession {
     this.debugger = new Debugger(new WorkerSession(engine, bytes));
     this.breakpoints = new BreakpointList();
     /** @type {Map<number, string>} the error messages of breakpoints that cannot be compiled, by id */
-    this.faults = new Map();
+    this.errors = new Map();
     this.map = this.readMap();
   }
 
@@ -124,15 +124,15 @@ export class DebugSession {
 
   /**
    * Sends the breakpoint list to the debugger and the bench. In the result, `moved` contains messages about breakpoints that moved to
-   * another instruction. `faults` contains the ids and error messages of breakpoints that cannot be compiled.
+   * another instruction. `errors` contains the ids and error messages of breakpoints that cannot be compiled.
    */
   async applyBreakpoints() {
     const { session } = this.debugger;
     const moved = this.breakpoints.locate(this.map);
-    const { lines, faults } = this.debugger.setBreakpoints(this.breakpoints.placed, this.names);
+    const { lines, errors } = this.debugger.setBreakpoints(this.breakpoints.placed, this.names);
     if (lines) await session.serve(lines, continueAlways);
-    this.faults = new Map(faults);
-    return { moved, faults };
+    this.errors = new Map(errors);
+    return { moved, errors };
   }
 
   // --- Moves ---
@@ -150,15 +150,15 @@ export class DebugSession {
       return this.runInPieces(null, shouldContinue);
     }
     debug.names = this.names;
-    const { found, tally } = await debug.runToGoal(goal, nearDistance(goal), shouldContinue);
+    const { searchResult, tally } = await debug.runToGoal(goal, nearDistance(goal), shouldContinue);
     this.breakpoints.count(tally.hits);
     if (debug.isMoving) return this.runInPieces(goal, shouldContinue);
-    const { cycles, isReached, end, id, returns, change } = found;
-    return this.describeStop(goal, { why: isReached ? "goal" : end, cycles, id, returns, change }, tally);
+    const { cycles, isReached, end, id, endsAtReturn, change } = searchResult;
+    return this.describeStop(goal, { reason: isReached ? "goal" : end, cycles, id, endsAtReturn, change }, tally);
   }
 
   /**
-   * Runs for a number of cycles, or to an earlier stop. In the result, `why` is "passed" if all cycles have run.
+   * Runs for a number of cycles, or to an earlier stop. In the result, `reason` is "passed" if all cycles have run.
    * @param {number} cycles
    * @param {ShouldContinue} [shouldContinue]
    * @returns {Promise<DescribedStop>}
@@ -190,7 +190,7 @@ export class DebugSession {
       if (!isOver && await shouldContinue(done, frame.tally)) continue;
       debug.endMove();
       const message = describeUserPause(goal, done, this.counterText);
-      return { why: isOver ? "passed" : "pause", id: 0, cycles: done, returns: false, words: message, tally };
+      return { reason: isOver ? "passed" : "pause", id: 0, cycles: done, endsAtReturn: false, message, tally };
     }
   }
 
@@ -202,8 +202,8 @@ export class DebugSession {
    * @returns {DescribedStop}
    */
   describeStop(goal, stop, tally) {
-    const conditionText = stop.why === "break" ? this.describeBreakpoint(stop.id) : "";
-    return { ...stop, words: pauseMessage(goal, stop, this.counterText, conditionText), tally };
+    const conditionText = stop.reason === "break" ? this.describeBreakpoint(stop.id) : "";
+    return { ...stop, message: pauseMessage(goal, stop, this.counterText, conditionText), tally };
   }
 
   /**
@@ -211,7 +211,7 @@ export class DebugSession {
    * @param {number} id
    */
   describeBreakpoint(id) {
-    return describeBreakpointCondition(this.breakpoints.get(id), this.faults.get(id));
+    return describeBreakpointCondition(this.breakpoints.get(id), this.errors.get(id));
   }
 
   /**
@@ -222,7 +222,7 @@ export class DebugSession {
     const { first } = await this.debugger.session.serve("step\n", continueAlways);
     const run = readRun(first);
     const isDone = run !== null && run.end === "end";
-    const stop = { why: isDone ? "goal" : run ? run.end : first, id: 0, cycles: run ? run.cycles : 0, returns: false };
+    const stop = { reason: isDone ? "goal" : run ? run.end : first, id: 0, cycles: run ? run.cycles : 0, endsAtReturn: false };
     return this.describeStop({ kind: "over" }, stop, NO_TALLY);
   }
 
@@ -234,28 +234,28 @@ export class DebugSession {
   async goBack(goal, shouldContinue = continueAlways) {
     this.debugger.names = this.names;
     const result = await this.debugger.goBack(goal, (done = 0) => shouldContinue(done));
-    return { ...result, words: describeTimeTravel(goal, result, this.counterText, this.breakpoints.get(result.id)) };
+    return { ...result, message: describeTimeTravel(goal, result, this.counterText, this.breakpoints.get(result.id)) };
   }
 
   /** Undoes the last move back: returns to the moment from which that move started. */
   goForward() {
     const result = this.debugger.goForward();
-    return { ...result, words: describeTimeTravel({ kind: "forward" }, result, this.counterText) };
+    return { ...result, message: describeTimeTravel({ kind: "forward" }, result, this.counterText) };
   }
 
   /**
-   * Executes typed bench lines. A `run` line ends at its first breakpoint. In the result, `words` is a message if a breakpoint ended the
+   * Executes typed bench lines. A `run` line ends at its first breakpoint. In the result, `message` is a text if a breakpoint ended the
    * last line early, otherwise "".
    * @param {string} lines
    * @param {(done: number) => Promise<boolean>} [shouldContinue] called with the number of processed characters. If it resolves to false,
    *   `serve` throws CancelledError and no line takes effect
    */
   async serve(lines, shouldContinue = continueAlways) {
-    const { result, typed: { id, why, change, cut: cut, cycles, tally } } = await this.debugger.serveTyped(lines, shouldContinue);
+    const { result, typedResult: { id, reason, change, cutLine, cycles, tally } } = await this.debugger.serveTyped(lines, shouldContinue);
     this.breakpoints.count(tally.hits);
-    if (id === 0) return { ...result, tally, words: "" };
-    const { words } = this.describeStop(null, { why, id, cycles, returns: false, change }, tally);
-    return { ...result, tally, words: say.lineEnded(words, cut) };
+    if (id === 0) return { ...result, tally, message: "" };
+    const { message } = this.describeStop(null, { reason, id, cycles, endsAtReturn: false, change }, tally);
+    return { ...result, tally, message: say.lineEnded(message, cutLine) };
   }
 
   // --- The current position ---

@@ -5,7 +5,7 @@
 //     const session = new WorkerSession(engine, file);               (debug_session.js does this, and also stores the source)
 //     const debug = new Debugger(session);
 //     debug.setBreakpoints([{ id: 1, address: 0x14, condition: "r9 = 9", from: 1, note: "", hits: 0 }], names);
-//     const { found } = await debug.goOn({ kind: "over" }, NEAR_CYCLES, shouldContinue);
+//     const { searchResult } = await debug.runToGoal({ kind: "over" }, NEAR_CYCLES, shouldContinue);
 //     while (debug.isMoving) { const { stop } = debug.advance(FRAME_CYCLES); if (stop) .. }    for a goal that is not near
 //     debug.values(["r4", "lamps"]); await debug.goBack({ kind: "instruction" }, shouldContinue); debug.goForward();
 //
@@ -55,21 +55,22 @@ import { CommonMistakes } from "./common_mistakes.js";
  * the number of cycles searched or run so far. `tally` contains the breakpoint events of the last piece of a run.
  * @typedef {(done: number, tally?: Tally) => Promise<boolean>} ShouldContinue
  *
- * A stop. `why` is the reason: "goal", the bench's reason for the end of a run ("break", "watch", "code"), an error answer of the bench,
+ * A stop. `reason` is "goal", the bench's reason for the end of a run ("break", "watch", "code"), an error answer of the bench,
  * "usual" for a common mistake, or "recorded" for the end of a recording. `id`: the id of the breakpoint or data watch, 0 for none.
- * `change`: a description of the watched change. `cycles`: the number of cycles since the start of the move or run. `returns`: true if the
- * goal was reached by a return from a subroutine.
- * @typedef {{ why: string, id: number, cycles: number, returns: boolean, change?: string }} Stop
+ * `change`: a description of the watched change. `cycles`: the number of cycles since the start of the move or run. `endsAtReturn`: true if
+ * the goal was reached by a return from a subroutine.
+ * @typedef {{ reason: string, id: number, cycles: number, endsAtReturn: boolean, change?: string }} Stop
  *
  * The breakpoint events since the last report. `hits`: pairs of a breakpoint id and its number of new hits. `notes`: the last logged notes.
- * `noted`: the number of all logged notes, which can exceed the length of `notes`. `usual`: the common mistakes (common_mistakes.js).
- * @typedef {{ hits: [number, number][], notes: LoggedNote[], noted: number, usual: CommonMistake[] }} Tally
+ * `noteCount`: the number of all logged notes, which can exceed the length of `notes`. `mistakes`: the common mistakes
+ * (common_mistakes.js).
+ * @typedef {{ hits: [number, number][], notes: LoggedNote[], noteCount: number, mistakes: CommonMistake[] }} Tally
  *
- * The result of typed lines. If a breakpoint ended the last line early, `id` is the id of the breakpoint and `cut` is the line as typed.
- * Otherwise `id` is 0 and `cut` is "".
- * @typedef {{ id: number, why: string, change: string, cut: string, cycles: number, tally: Tally }} TypedResult
+ * The result of typed lines. If a breakpoint ended the last line early, `id` is the id of the breakpoint and `cutLine` is the line as
+ * typed. Otherwise `id` is 0 and `cutLine` is "".
+ * @typedef {{ id: number, reason: string, change: string, cutLine: string, cycles: number, tally: Tally }} TypedResult
  * @typedef {Frame & { stop: Stop | null, tally: Tally }} DebugFrame
- * @typedef {{ found: SearchResult & { id: number, returns: boolean, change?: string },
+ * @typedef {{ searchResult: SearchResult & { id: number, endsAtReturn: boolean, change?: string },
  *   result: (LinesResult & { snapshot: string[] }) | null, tally: Tally }} RunResult the result of a move; `result` is null if no line was
  *   executed
  *
@@ -88,20 +89,20 @@ const NEAR_CHANGE_CYCLES = 10000000;
 const NEAR_COUNT_CYCLES = 100000000;
 
 /** @type {Tally} a tally without any event */
-export const NO_TALLY = { hits: [], notes: [], noted: 0, usual: [] };
+export const NO_TALLY = { hits: [], notes: [], noteCount: 0, mistakes: [] };
 
 /**
  * Joins the events of two tallies.
- * @param {Tally} one
- * @param {Tally} other the later tally
+ * @param {Tally} earlier
+ * @param {Tally} later
  * @returns {Tally}
  */
-export function joinTallies(one, other) {
+export function joinTallies(earlier, later) {
   return {
-    hits: [...one.hits, ...other.hits],
-    notes: [...one.notes, ...other.notes].slice(-MAX_NOTES),
-    noted: one.noted + other.noted,
-    usual: [...one.usual, ...other.usual],
+    hits: [...earlier.hits, ...later.hits],
+    notes: [...earlier.notes, ...later.notes].slice(-MAX_NOTES),
+    noteCount: earlier.noteCount + later.noteCount,
+    mistakes: [...earlier.mistakes, ...later.mistakes],
   };
 }
 
@@ -148,20 +149,20 @@ export class Debugger {
    * returns the ids and error messages of breakpoints that cannot be compiled. Such a breakpoint stops the machine at every arrival.
    * @param {LocatedBreakpoint[]} placed the enabled breakpoints
    * @param {Names} names
-   * @returns {{ lines: string, faults: [number, string][] }}
+   * @returns {{ lines: string, errors: [number, string][] }}
    */
   setBreakpoints(placed, names) {
     /** @type {[number, string][]} */
-    const faults = [];
-    const softBreakpoints = placed.filter(isSoft).flatMap((each) => {
-      const { soft, fault } = compileBreakpoint(each, names);
-      if (fault) faults.push([each.id, fault]);
-      return soft;
+    const errors = [];
+    const softBreakpoints = placed.filter(isSoft).flatMap((breakpoint) => {
+      const { softBreakpoint, error } = compileBreakpoint(breakpoint, names);
+      if (error) errors.push([breakpoint.id, error]);
+      return softBreakpoint;
     });
     this.names = names;
     this.arrivals = this.createStopFinder(softBreakpoints);
-    this.hardBreakpoints = new Map(placed.filter((each) => !isSoft(each)).map(({ id, address }) => [address, id]));
-    return { lines: this.breakLines(), faults };
+    this.hardBreakpoints = new Map(placed.filter((breakpoint) => !isSoft(breakpoint)).map(({ id, address }) => [address, id]));
+    return { lines: this.breakLines(), errors };
   }
 
   /**
@@ -180,10 +181,10 @@ export class Debugger {
    */
   setWatches(requestedWatches, names) {
     const hits = new Map(this.watches.watches.map((watch) => [watch.id, watch.hits]));
-    const { watches, faults } = compileWatches(requestedWatches, names);
+    const { watches, errors } = compileWatches(requestedWatches, names);
     this.watches = new DataWatches(watches.map((watch) => ({ ...watch, hits: hits.get(watch.id) || 0 })));
     this.arrivals = new SoftStopFinder(this.arrivals.arrivals, this.watches, () => this.session.romBytes);
-    return faults;
+    return errors;
   }
 
   /** Returns the bench lines that set the hard breakpoints and delete all others. */
@@ -218,32 +219,32 @@ export class Debugger {
   advance(cycles, isHurried = false) {
     const { session } = this;
     const { engine, file } = session;
-    let planned = session.queue.plan(cycles);
-    const cyclesBeforeGoal = this.watcher ? cyclesToGoal(engine, file, planned, this.watcher) : -1;
-    if (cyclesBeforeGoal >= 0) planned = truncateLines(planned, cyclesBeforeGoal);
-    const events = this.arrivals.searchLines(engine, file, planned);
-    if (events.cycles >= 0) planned = truncateLines(planned, events.cycles);
+    let plannedLines = session.queue.plan(cycles);
+    const cyclesBeforeGoal = this.watcher ? cyclesToGoal(engine, file, plannedLines, this.watcher) : -1;
+    if (cyclesBeforeGoal >= 0) plannedLines = truncateLines(plannedLines, cyclesBeforeGoal);
+    const events = this.arrivals.searchLines(engine, file, plannedLines);
+    if (events.cycles >= 0) plannedLines = truncateLines(plannedLines, events.cycles);
     const isLate = isHurried && this.commonMistakes.stoppingKinds.size === 0 && session.recording === null;
-    const mistakes = isLate ? { faults: [], stop: -1 } : this.commonMistakes.searchLines(planned);
-    if (mistakes.stop >= 0) planned = truncateLines(planned, mistakes.stop);
+    const foundMistakes = isLate ? { mistakes: [], stop: -1 } : this.commonMistakes.searchLines(plannedLines);
+    if (foundMistakes.stop >= 0) plannedLines = truncateLines(plannedLines, foundMistakes.stop);
     const countBefore = session.count.total;
-    const frame = session.advanceBy(planned);
+    const frame = session.advanceBy(plannedLines);
     this.arrivals.count(events);
-    this.uncheckedLines = isLate ? planned : null;
-    const stop = this.findMistakeOrRecordingStop(frame, mistakes.stop) || this.findStop(frame, events, cyclesBeforeGoal);
+    this.uncheckedLines = isLate ? plannedLines : null;
+    const stop = this.findMistakeOrRecordingStop(frame, foundMistakes.stop) || this.findStop(frame, events, cyclesBeforeGoal);
     if (stop) this.endMove();
-    const tally = { ...this.createTally(events, stop, countBefore), usual: [...this.takeLateMistakes(), ...mistakes.faults] };
+    const tally = { ...this.createTally(events, stop, countBefore), mistakes: [...this.takeLateMistakes(), ...foundMistakes.mistakes] };
     return { ...frame, stop, tally };
   }
 
   /**
-   * Checks the last lines for mistakes, if `advance` has not checked them. `session.next` still contains the session file from before these
-   * lines.
+   * Checks the last lines for mistakes, if `advance` has not checked them. `session.nextFile` still contains the session file from before
+   * these lines.
    */
   checkLastLines() {
     const { uncheckedLines } = this;
     this.uncheckedLines = null;
-    if (uncheckedLines) this.lateMistakes.push(...this.commonMistakes.searchLines(uncheckedLines, this.session.nextFile).faults);
+    if (uncheckedLines) this.lateMistakes.push(...this.commonMistakes.searchLines(uncheckedLines, this.session.nextFile).mistakes);
   }
 
   /** Removes and returns the mistakes that `checkLastLines` found. */
@@ -266,11 +267,11 @@ export class Debugger {
 
   /**
    * Returns a stop without a breakpoint.
-   * @param {string} why
+   * @param {string} reason
    * @returns {Stop}
    */
-  createStop(why) {
-    return { why, id: 0, cycles: this.session.count.total - this.startTotal, returns: false };
+  createStop(reason) {
+    return { reason, id: 0, cycles: this.session.count.total - this.startTotal, endsAtReturn: false };
   }
 
   /**
@@ -282,22 +283,22 @@ export class Debugger {
    */
   findStop(frame, events, cyclesBeforeGoal) {
     const cycles = this.session.count.total - this.startTotal;
-    const returns = this.watcher !== null && this.watcher.returns;
-    if (cyclesBeforeGoal >= 0 && frame.cycles === cyclesBeforeGoal) return { why: "goal", id: 0, cycles, returns };
+    const endsAtReturn = this.watcher !== null && this.watcher.endsAtReturn;
+    if (cyclesBeforeGoal >= 0 && frame.cycles === cyclesBeforeGoal) return { reason: "goal", id: 0, cycles, endsAtReturn };
     if (events.cycles >= 0 && frame.cycles === events.cycles) {
-      return { why: events.why, id: events.id, cycles, returns: false, change: events.change };
+      return { reason: events.reason, id: events.id, cycles, endsAtReturn: false, change: events.change };
     }
     if (!frame.end) return null;
     const run = readRun(frame.end);
-    return { why: run ? run.end : frame.end, id: this.breakpointIdAtStop(run ? run.end : ""), cycles, returns: false };
+    return { reason: run ? run.end : frame.end, id: this.breakpointIdAtStop(run ? run.end : ""), cycles, endsAtReturn: false };
   }
 
   /**
    * Returns the id of the breakpoint that ended a run at the current address, 0 for none.
-   * @param {string} why the word that ended the run
+   * @param {string} reason the word that ended the run
    */
-  breakpointIdAtStop(why) {
-    if (why !== "break" || !this.hardBreakpoints) return 0;
+  breakpointIdAtStop(reason) {
+    if (reason !== "break" || !this.hardBreakpoints) return 0;
     return this.hardBreakpoints.get(this.counter) || 0;
   }
 
@@ -316,15 +317,15 @@ export class Debugger {
   /**
    * Returns the tally of lines that have run.
    * @param {BreakpointEvents} events the breakpoint events that were found in advance
-   * @param {{ why: string, id: number } | null} stop
+   * @param {{ reason: string, id: number } | null} stop
    * @param {number} before the cycle count before the lines
    * @returns {Tally}
    */
-  createTally({ hits, notes, noted, id }, stop, before) {
+  createTally({ hits, notes, noteCount, id }, stop, before) {
     /** @type {[number, number][]} */
     const all = [...hits];
-    if (stop && stop.why === "break" && stop.id !== 0 && stop.id !== id) all.push([stop.id, 1]);
-    return { hits: all, notes: notes.map((note) => ({ ...note, cycles: before + note.cycles })), noted, usual: [] };
+    if (stop && stop.reason === "break" && stop.id !== 0 && stop.id !== id) all.push([stop.id, 1]);
+    return { hits: all, notes: notes.map((note) => ({ ...note, cycles: before + note.cycles })), noteCount, mistakes: [] };
   }
 
   // --- Moves ---
@@ -342,20 +343,21 @@ export class Debugger {
     const goal = this.compileGoal(requestedGoal);
     const codes = () => session.romBytes;
     const watcher = createWatcher(session.engine, session.file, goal, codes);
-    const returns = watcher !== null && watcher.returns;
-    const searchResult = { ...await searchGoal(session.engine, session.file, goal, shouldContinue, maxDistance, codes), id: 0, returns };
-    if (!watcher) return { found: searchResult, result: null, tally: NO_TALLY };
-    const events = await this.searchStops(searchResult.cycles, shouldContinue);
-    if (searchResult.end === "bound" && events.cycles < 0) {
+    const endsAtReturn = watcher !== null && watcher.endsAtReturn;
+    const goalSearch = { ...await searchGoal(session.engine, session.file, goal, shouldContinue, maxDistance, codes), id: 0, endsAtReturn };
+    if (!watcher) return { searchResult: goalSearch, result: null, tally: NO_TALLY };
+    const events = await this.searchStops(goalSearch.cycles, shouldContinue);
+    if (goalSearch.end === "bound" && events.cycles < 0) {
       this.watcher = watcher;
-      return { found: searchResult, result: null, tally: NO_TALLY };
+      return { searchResult: goalSearch, result: null, tally: NO_TALLY };
     }
     const { cycles, id, change } = events;
-    const found = cycles < 0 ? { ...searchResult, change: "" } : { cycles, isReached: false, end: events.why, id, returns, change };
-    const result = await session.serve(runLines(Math.max(1, found.cycles)), async () => true);
+    const searchResult = cycles < 0 ? { ...goalSearch, change: "" }
+      : { cycles, isReached: false, end: events.reason, id, endsAtReturn, change };
+    const result = await session.serve(runLines(Math.max(1, searchResult.cycles)), async () => true);
     this.arrivals.count(events);
-    if (!found.isReached && found.id === 0) found.id = this.breakpointIdAtStop(found.end);
-    return { found, result, tally: this.createTally(events, { why: found.end, id: found.id }, this.startTotal) };
+    if (!searchResult.isReached && searchResult.id === 0) searchResult.id = this.breakpointIdAtStop(searchResult.end);
+    return { searchResult, result, tally: this.createTally(events, { reason: searchResult.end, id: searchResult.id }, this.startTotal) };
   }
 
   /**
@@ -370,14 +372,14 @@ export class Debugger {
     const copy = file.slice();
     for (let done = 0; done < cycles;) {
       const piece = Math.min(SEARCH_PIECE_CYCLES, cycles - done);
-      const planned = runLines(piece).trimEnd().split("\n").map((line) => ({ line, change: null }));
-      const events = this.arrivals.searchLines(engine, copy, planned);
+      const plannedLines = runLines(piece).trimEnd().split("\n").map((line) => ({ line, change: null }));
+      const events = this.arrivals.searchLines(engine, copy, plannedLines);
       for (const [id, hits] of events.hits) all.hits.set(id, (all.hits.get(id) || 0) + hits);
       all.notes = [...all.notes, ...events.notes.map((note) => ({ ...note, cycles: note.cycles + done }))];
-      all.noted += events.noted;
+      all.noteCount += events.noteCount;
       for (const [id, hits] of events.changes) all.changes.set(id, (all.changes.get(id) || 0) + hits);
       if (events.cycles >= 0) {
-        return { ...events, ...all, cycles: done + events.cycles, id: events.id, why: events.why, change: events.change };
+        return { ...events, ...all, cycles: done + events.cycles, id: events.id, reason: events.reason, change: events.change };
       }
       engine.serve(copy, runLines(piece), copy);
       done += piece;
@@ -390,7 +392,7 @@ export class Debugger {
    * Executes typed bench lines, either all or none. A `run` line ends at its first breakpoint.
    * @param {string} lines
    * @param {(done: number) => Promise<boolean>} shouldContinue called with the number of processed characters; resolves to true to continue
-   * @returns {Promise<{ result: LinesResult & { snapshot: string[] }, typed: TypedResult }>}
+   * @returns {Promise<{ result: LinesResult & { snapshot: string[] }, typedResult: TypedResult }>}
    */
   async serveTyped(lines, shouldContinue) {
     const { session, arrivals } = this;
@@ -401,10 +403,10 @@ export class Debugger {
       const result = await session.serve(served, shouldContinue);
       this.commonMistakes.forget();
       const tallies = runs.map(({ events, done }) => this.createTally(events, null, countBefore + done));
-      return { result, typed: { ...stop, cycles: session.count.total - countBefore, tally: tallies.reduce(joinTallies, NO_TALLY) } };
-    } catch (fault) {
+      return { result, typedResult: { ...stop, cycles: session.count.total - countBefore, tally: tallies.reduce(joinTallies, NO_TALLY) } };
+    } catch (error) {
       arrivals.restoreHits(hits);
-      throw fault;
+      throw error;
     }
   }
 
@@ -416,8 +418,8 @@ export class Debugger {
    */
   compileGoal(goal) {
     if (goal.kind !== "when" || !this.names) return goal;
-    const { searchCondition, fault } = compileSearchCondition(goal.condition, this.names);
-    if (!searchCondition) throw new Error(fault);
+    const { searchCondition, error } = compileSearchCondition(goal.condition, this.names);
+    if (!searchCondition) throw new Error(error);
     return { ...goal, searchCondition };
   }
 
@@ -432,9 +434,9 @@ export class Debugger {
   async goBack(goal, shouldContinue) {
     this.begin();
     const { session } = this;
-    const { moment, present: found, ...report } = await this.findBackTarget(goal, shouldContinue);
+    const { moment, present: knownPresent, ...report } = await this.findBackTarget(goal, shouldContinue);
     if (!moment) return { ...report, isDone: false, wires: false, cycles: 0 };
-    const present = found || await session.timeline.sessionAt(session.engine, moment, shouldContinue);
+    const present = knownPresent || await session.timeline.sessionAt(session.engine, moment, shouldContinue);
     session.timeline.goBack(moment, session);
     return { ...report, ...this.enterMoment(present) };
   }
@@ -461,8 +463,8 @@ export class Debugger {
    */
   stoppingBreakpoints() {
     const hardBreakpoints = this.hardBreakpoints || new Map(this.session.breakpointAddresses.map((address) => [address, 0]));
-    const unconditional = { from: 1, hits: 0, places: [], holds: () => true, words: null };
-    const softBreakpoints = this.arrivals.arrivals.breakpoints.filter(({ words }) => !words);
+    const unconditional = { from: 1, hits: 0, places: [], holds: () => true, noteText: null };
+    const softBreakpoints = this.arrivals.arrivals.breakpoints.filter(({ noteText }) => !noteText);
     return [...[...hardBreakpoints].map(([address, id]) => ({ ...unconditional, id, address })), ...softBreakpoints];
   }
 
@@ -521,8 +523,8 @@ export class Debugger {
     const probes = places.map((place) => (place ? place.probesOn(board) : []));
     const answers = this.readPlaces(probes.flat());
     let from = 0;
-    return places.map((place, at) => {
-      const values = answers.slice(from, from += probes[at].length);
+    return places.map((place, index) => {
+      const values = answers.slice(from, from += probes[index].length);
       return place && values.length > 0 ? place.value(values) : "";
     });
   }

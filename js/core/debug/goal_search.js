@@ -38,9 +38,9 @@ function pieceLines(watcher, cycles) {
 function searchAnswers(answers, watcher) {
   let done = 0;
   while (!answers.isEmpty) {
-    const found = watcher.take(answers);
-    done += found.cycles;
-    if (found.isReached || found.end !== "end") return { ...found, cycles: done };
+    const result = watcher.take(answers);
+    done += result.cycles;
+    if (result.isReached || result.end !== "end") return { ...result, cycles: done };
   }
   return null;
 }
@@ -50,8 +50,8 @@ function searchAnswers(answers, watcher) {
  * @param {Engine} engine
  * @param {Uint8Array} file the session file; not changed
  * @param {Goal} goal
- * @param {(done: number) => Promise<boolean>} shouldContinue called after each piece with the number of cycles searched. If it returns
- *   false, `searchGoal` throws `CancelledError`
+ * @param {(done: number) => Promise<boolean>} shouldContinue called after each piece with the number of cycles searched. If it resolves
+ *   to false, `searchGoal` throws `CancelledError`
  * @param {number} maxCycles the maximum number of cycles to search
  * @param {() => Uint8Array} [codes] returns the contents of ROM
  * @returns {Promise<SearchResult>}
@@ -64,9 +64,9 @@ export async function searchGoal(engine, file, goal, shouldContinue, maxCycles, 
   const piece = new PieceSize(FIRST_PIECE_CYCLES, 1, MAX_PIECE_CYCLES);
   for (let done = 0; done < maxCycles;) {
     const cycles = Math.min(piece.size, watcher.maxRun(), maxCycles - done);
-    const found = piece.measure(() => (
+    const result = piece.measure(() => (
       searchAnswers(new ForecastAnswers(engine.serve(copy, pieceLines(watcher, cycles), copy).answers), watcher)));
-    if (found) return { ...found, cycles: done + found.cycles };
+    if (result) return { ...result, cycles: done + result.cycles };
     done += cycles;
     if (!(await shouldContinue(done))) throw new CancelledError();
   }
@@ -75,7 +75,7 @@ export async function searchGoal(engine, file, goal, shouldContinue, maxCycles, 
 
 /**
  * Returns the number of cycles of a `run` line; 0 for a key change.
- * @param {import("../engine/forecast_queries.js").SentLine} planned
+ * @param {import("../engine/forecast_queries.js").SentLine} sentLine
  */
 export function plannedCycles({ line, change }) {
   return change ? 0 : Number(line.slice("run ".length));
@@ -85,42 +85,42 @@ export function plannedCycles({ line, change }) {
  * Returns the number of cycles until the next lines reach the goal; -1 if the lines do not reach the goal or stop earlier.
  * @param {Engine} engine
  * @param {Uint8Array} file the session file; not changed
- * @param {PlannedLine[]} planned the next lines
+ * @param {PlannedLine[]} plannedLines the next lines
  * @param {Watcher} watcher a watcher that has examined all earlier runs
  */
-export function cyclesToGoal(engine, file, planned, watcher) {
-  const lines = planned.map((each) => (
-    each.change ? `${each.line}\n` : `${watcher.before(plannedCycles(each))}${each.line}\n${watcher.after}`));
+export function cyclesToGoal(engine, file, plannedLines, watcher) {
+  const lines = plannedLines.map((plannedLine) => (
+    plannedLine.change ? `${plannedLine.line}\n` : `${watcher.before(plannedCycles(plannedLine))}${plannedLine.line}\n${watcher.after}`));
   const answers = new ForecastAnswers(engine.ask(file, watcher.setupLine + lines.join("")).answers);
   if (watcher.setupLine) answers.take();
   let done = 0;
-  for (const { change } of planned) {
+  for (const { change } of plannedLines) {
     if (change) {
       answers.take();
       continue;
     }
-    const found = watcher.take(answers);
-    done += found.cycles;
-    if (found.isReached) return done;
-    if (found.end !== "end") return -1;
+    const result = watcher.take(answers);
+    done += result.cycles;
+    if (result.isReached) return done;
+    if (result.end !== "end") return -1;
   }
   return -1;
 }
 
 /**
  * Returns the given lines up to a number of cycles. Shortens the last run if necessary.
- * @param {PlannedLine[]} planned
+ * @param {PlannedLine[]} plannedLines
  * @param {number} cycles
  * @returns {PlannedLine[]}
  */
-export function truncateLines(planned, cycles) {
+export function truncateLines(plannedLines, cycles) {
   /** @type {PlannedLine[]} */
   const result = [];
   let cyclesLeft = cycles;
-  for (const each of planned) {
-    const run = plannedCycles(each);
+  for (const plannedLine of plannedLines) {
+    const run = plannedCycles(plannedLine);
     if (cyclesLeft === 0) break;
-    result.push(run > cyclesLeft ? { line: `run ${cyclesLeft}`, change: null } : each);
+    result.push(run > cyclesLeft ? { line: `run ${cyclesLeft}`, change: null } : plannedLine);
     cyclesLeft -= Math.min(run, cyclesLeft);
   }
   return result;

@@ -28,9 +28,9 @@ import { becomesTrue } from "./condition_search.js";
  *
  * The watcher of a goal. `setupLine`: a bench line to send once before all runs, "" for none. `maxRun`: returns the maximum length of the
  * next run in cycles. `before`: returns the queries before a run. `after`: the queries after a run. `take`: reads the answers to the
- * queries and to the run, and returns the result. `returns`: true if a return from a subroutine reaches the goal.
+ * queries and to the run, and returns the result. `endsAtReturn`: true if a return from a subroutine reaches the goal.
  * @typedef {{ setupLine: string, maxRun: () => number, before: (cycles: number) => string, after: string,
- *   take: (answers: ForecastAnswers) => SearchResult, returns: boolean }} Watcher
+ *   take: (answers: ForecastAnswers) => SearchResult, endsAtReturn: boolean }} Watcher
  */
 
 /** The maximum length of a piece of a search, in cycles. */
@@ -67,7 +67,7 @@ function traceWatcher(places, goal) {
       }
       return { ...run, isReached: false };
     },
-    returns: false,
+    endsAtReturn: false,
   };
 }
 
@@ -111,7 +111,7 @@ function returnWatcher(codes, level) {
     depth -= 1;
     return depth <= level ? cycles + 1 : -1;
   });
-  return { ...watcher, returns: true };
+  return { ...watcher, endsAtReturn: true };
 }
 
 /**
@@ -129,14 +129,14 @@ function countWatcher(count, isSecondCyclePending) {
     before: (cycles) => `count ${cycles}\n`,
     after: "regs\n",
     take: (answers) => {
-      const startedCount = answers.takeCounts().reduce((sum, each) => sum + each.begun, 0);
+      const startedCount = answers.takeCounts().reduce((sum, instruction) => sum + instruction.startCount, 0);
       const run = answers.takeRun();
       const isNowSecondCyclePending = parseCounter(answers.take()).isSecondCyclePending;
       instructionsLeft -= startedCount + Number(wasSecondCyclePending) - Number(isNowSecondCyclePending);
       wasSecondCyclePending = isNowSecondCyclePending;
       return instructionsLeft === 0 ? { cycles: run.cycles, isReached: true, end: "" } : { ...run, isReached: false };
     },
-    returns: false,
+    endsAtReturn: false,
   };
 }
 
@@ -162,7 +162,7 @@ function addressWatcher(engine, file, address) {
       const { counter, isSecondCyclePending } = parseCounter(answers.take());
       return !isSecondCyclePending && counter === address ? { cycles: run.cycles, isReached: true, end: "" } : { ...run, isReached: false };
     },
-    returns: false,
+    endsAtReturn: false,
   };
 }
 

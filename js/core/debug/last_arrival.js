@@ -48,7 +48,7 @@ class LastArrivalFinder {
     const { engine, arrivals } = this;
     const [breaks, watches] = engine.ask(file, "breaks\nwatches\n").answers.map(readItems);
     const removalLines = [
-      ...breaks.map((each) => `unbreak 0x${each}\n`), ...watches.map((each) => `unwatch ${each.replace(".", " 0x")}\n`)];
+      ...breaks.map((address) => `unbreak 0x${address}\n`), ...watches.map((item) => `unwatch ${item.replace(".", " 0x")}\n`)];
     this.copy = file.slice();
     engine.serve(this.copy, removalLines.join("") + arrivals.setupLines, this.copy);
     this.total = count.total;
@@ -63,7 +63,7 @@ class LastArrivalFinder {
   findLastIn(units) {
     const { engine, arrivals, copy, presentMoment } = this;
     /** @type {BackSearchResult | null} */
-    let found = null;
+    let lastArrival = null;
     let [lines, count] = ["", 0];
     for (const { line, cycles, moment } of units) {
       if (cycles === 0) {
@@ -78,7 +78,7 @@ class LastArrivalFinder {
         const isNow = countBefore + cyclesRun === presentMoment.total
           && breakpoint !== null && breakpoint.address === presentMoment.counter;
         if (breakpoint && !isNow) {
-          found = searchResult({ moment: { ...moment, cycles: moment.cycles + cyclesRun }, end: "break", id: breakpoint.id });
+          lastArrival = searchResult({ moment: { ...moment, cycles: moment.cycles + cyclesRun }, end: "break", id: breakpoint.id });
           this.lastArrivalTotal = countBefore + cyclesRun;
         }
         return false;
@@ -87,20 +87,20 @@ class LastArrivalFinder {
       this.total += cycles;
     }
     if (lines !== "") engine.serve(copy, lines, copy);
-    return found;
+    return lastArrival;
   }
 }
 
 /**
- * Returns the search result with the later moment, or `one` if the moments are equal. If one result is null, returns the other result.
- * @param {BackSearchResult | null} one
- * @param {BackSearchResult | null} other
+ * Returns the search result with the later moment, or `first` if the moments are equal. If one result is null, returns the other result.
+ * @param {BackSearchResult | null} first
+ * @param {BackSearchResult | null} second
  */
-function laterResult(one, other) {
-  if (!one || !other) return one || other;
-  const [a, b] = [one, other].map(({ moment }) => moment || { segment: -1, entry: -1, cycles: -1 });
-  const isLater = [b.segment - a.segment, b.entry - a.entry, b.cycles - a.cycles].find((each) => each !== 0) || 0;
-  return isLater > 0 ? other : one;
+function laterResult(first, second) {
+  if (!first || !second) return first || second;
+  const [a, b] = [first, second].map(({ moment }) => moment || { segment: -1, entry: -1, cycles: -1 });
+  const isLater = [b.segment - a.segment, b.entry - a.entry, b.cycles - a.cycles].find((difference) => difference !== 0) || 0;
+  return isLater > 0 ? second : first;
 }
 
 /**
@@ -132,15 +132,15 @@ function combineFinders(finders) {
 export async function findLastArrival(session, breakpoints, { place, watches }, shouldContinue) {
   const { engine, file, timeline } = session;
   const places = [...watchedPlaces(session.ask("watches\n")[0]), ...(place === "" ? [] : [place])];
-  const changes = places.map((each) => makeChangeFinder(engine, file, each));
-  if (changes.some((each) => each === null)) return searchResult({ why: "lacks", place });
-  const finders = [...changes.flatMap((each) => (each ? [each] : [])), ...(watches ? watches.createFinders(engine) : [])];
+  const changes = places.map((placeName) => makeChangeFinder(engine, file, placeName));
+  if (changes.some((finder) => finder === null)) return searchResult({ reason: "lacks", place });
+  const finders = [...changes.flatMap((finder) => (finder ? [finder] : [])), ...(watches ? watches.createFinders(engine) : [])];
   const all = combineFinders([...(breakpoints.length > 0 ? [new LastArrivalFinder(session, breakpoints)] : []), ...finders]);
-  const { found, beginning } = await searchPast(engine, timeline, all, shouldContinue);
-  if (found) return found;
+  const { lastMatch, start } = await searchPast(engine, timeline, all, shouldContinue);
+  if (lastMatch) return lastMatch;
   const { end } = timeline;
-  const isHere = beginning.segment === end.segment && end.entry === 0;
-  return isHere ? searchResult({ why: "short" }) : searchResult({ moment: beginning, end: "beginning" });
+  const isHere = start.segment === end.segment && end.entry === 0;
+  return isHere ? searchResult({ reason: "short" }) : searchResult({ moment: start, end: "beginning" });
 }
 
 /**
@@ -152,11 +152,11 @@ export async function findLastArrival(session, breakpoints, { place, watches }, 
  * @returns {Promise<BackSearchResult>}
  */
 export async function findLastCall(session, call, returns, shouldContinue) {
-  const holds = (/** @type {string[]} */ [answer]) => returns.every((each, at) => answer.split(",")[at] === each);
-  const finder = new LastArrivalFinder(session, [{ id: 0, address: call, from: 1, hits: 0, places: ["ret"], holds, words: null }]);
-  const { found } = await searchPast(session.engine, session.timeline, finder, shouldContinue);
+  const holds = (/** @type {string[]} */ [answer]) => returns.every((returnAddress, index) => answer.split(",")[index] === returnAddress);
+  const finder = new LastArrivalFinder(session, [{ id: 0, address: call, from: 1, hits: 0, places: ["ret"], holds, noteText: null }]);
+  const { lastMatch } = await searchPast(session.engine, session.timeline, finder, shouldContinue);
   const cyclesBack = session.count.total - finder.lastArrivalTotal - JMS_CYCLES;
-  if (!found || cyclesBack < 0) return searchResult({ why: "short" });
+  if (!lastMatch || cyclesBack < 0) return searchResult({ reason: "short" });
   const moment = cyclesBack === 0 ? session.timeline.end : session.timeline.before(cyclesBack);
-  return moment ? searchResult({ moment }) : searchResult({ why: "short" });
+  return moment ? searchResult({ moment }) : searchResult({ reason: "short" });
 }

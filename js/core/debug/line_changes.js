@@ -84,7 +84,7 @@ export class LineChanges {
       this.lines = new Map();
       return;
     }
-    const lines = [...this.lines].filter(([each]) => each !== line);
+    const lines = [...this.lines].filter(([reportedLine]) => reportedLine !== line);
     this.lines = new Map([...lines, /** @type {[number, string]} */ ([line, describeChanges(before, machineState)])].slice(-MAX_LINES));
   }
 }

@@ -38,7 +38,7 @@ export class MachineState {
   get ram() {
     if (!this.parsedRam) {
       const bankNumbers = this.ports.sources.slice(1).map((item) => Number(item.split(".")[0]));
-      this.parsedRam = new Map(this.banks.map((answer, at) => [bankNumbers[at], readRam(answer.split("\n"))]));
+      this.parsedRam = new Map(this.banks.map((answer, index) => [bankNumbers[index], readRam(answer.split("\n"))]));
     }
     return this.parsedRam;
   }
@@ -58,8 +58,8 @@ export class MachineState {
    * @param {number} [bank]
    */
   latchedSource(bank = this.bank) {
-    const found = this.ports.sources.slice(1).map((item) => item.split(".")).find(([number]) => Number(number) === bank);
-    return found && parseInt(found[1], 16);
+    const latchedItem = this.ports.sources.slice(1).map((item) => item.split(".")).find(([number]) => Number(number) === bank);
+    return latchedItem && parseInt(latchedItem[1], 16);
   }
 
   /**
@@ -94,8 +94,8 @@ export class MachineState {
    * @param {number} byte the SRC byte that selects the character
    */
   character(bank, byte) {
-    const found = this.ramRegister(bank, byte >> 4);
-    return found ? found.characters[byte & 15] : "";
+    const ramRegister = this.ramRegister(bank, byte >> 4);
+    return ramRegister ? ramRegister.characters[byte & 15] : "";
   }
 
   /**
@@ -105,8 +105,8 @@ export class MachineState {
    * @param {number} number the number of the status character, 0 to 3
    */
   status(bank, register, number) {
-    const found = this.ramRegister(bank, register);
-    return found ? found.status[number] : "";
+    const ramRegister = this.ramRegister(bank, register);
+    return ramRegister ? ramRegister.status[number] : "";
   }
 
   /**
@@ -115,7 +115,7 @@ export class MachineState {
    * @returns {RomPort | undefined}
    */
   romPort(chip) {
-    return this.ports.roms.find((each) => Number(each.chip) === chip);
+    return this.ports.roms.find((rom) => Number(rom.chip) === chip);
   }
 
   /**
@@ -137,7 +137,7 @@ export class MachineState {
     const { registers, ports } = this;
     /** @type {Map<string, string>} */
     const all = new Map([["acc", registers.accumulator], ["cy", registers.carry], ["dcl", registers.bank]]);
-    registers.registers.forEach((value, at) => all.set(`R${at}`, value));
+    registers.registers.forEach((value, index) => all.set(`R${index}`, value));
     for (const source of ports.sources) {
       const [bank, byte] = source.split(".");
       all.set(byte === undefined ? "SRC" : say.sourceOfBank(bank), byte === undefined ? bank : byte);
@@ -145,13 +145,13 @@ export class MachineState {
     for (const [bank, ram] of this.ram) {
       for (const [name, { characters, status }] of ram.registers) {
         const [, chip, register] = name.split(".").map(Number);
-        [...characters].forEach((value, at) => all.set(`ram.${bank}.0x${hex(chip * 64 + register * 16 + at, 2)}`, value));
-        [...status].forEach((value, at) => all.set(`st.${bank}.${chip * 4 + register}.${at}`, value));
+        [...characters].forEach((value, index) => all.set(`ram.${bank}.0x${hex(chip * 64 + register * 16 + index, 2)}`, value));
+        [...status].forEach((value, index) => all.set(`st.${bank}.${chip * 4 + register}.${index}`, value));
       }
       for (const [name, value] of ram.ports) all.set(`ram${name} out`, value);
     }
     for (const { chip, out } of ports.roms) all.set(`rom${chip} out`, out);
-    ports.chains.forEach((bits, at) => all.set(`chain${at}`, bits));
+    ports.chains.forEach((bits, chain) => all.set(`chain${chain}`, bits));
     return all;
   }
 }

@@ -20,7 +20,7 @@ const formatBit = (bits, line) => String((bits >> line) & 1);
  */
 function romLevels(chip, machineState, { roms }) {
   const port = machineState.romPort(chip);
-  const rom = roms.find((each) => Number(each.chip) === chip);
+  const rom = roms.find((romChip) => Number(romChip.chip) === chip);
   if (!port || !rom) return 0;
   const inputs = indices(4).reduce((sum, line) => sum + (rom.port[3 - line] === "i" ? 2 ** line : 0), 0);
   return (parseInt(port.out, 16) & ~inputs) | (parseInt(port.in, 16) & inputs);
@@ -58,8 +58,8 @@ function registerValue(place, machineState) {
  * @param {Board} board
  */
 export function readPlaceValue(place, machineState, board) {
-  const found = registerValue(place, machineState);
-  if (found !== undefined) return found;
+  const registerText = registerValue(place, machineState);
+  if (registerText !== undefined) return registerText;
   const [word, ...numberWords] = place.split(".");
   const numbers = numberWords.map(parseNumber);
   const rom = /^rom(\d+)$/.exec(word);

@@ -12,7 +12,7 @@ import * as say from "../../words/debug.js";
  * A breakpoint at an address. `condition`: the text of the condition, "" for none. `from`: the number of the first hit that stops the
  * machine; 1 means every hit. `note`: the text to log instead of a stop, with expressions in braces, "" for none. `hits`: the hit count.
  * @typedef {{ id: number, address: number, condition: string, from: number, note: string, hits: number }} LocatedBreakpoint
- * @typedef {{ places: string[], words: (values: string[]) => string }} Note a compiled note: `words` returns the text for the values of
+ * @typedef {{ places: string[], textOf: (values: string[]) => string }} Note a compiled note: `textOf` returns the text for the values of
  *   `places`
  */
 
@@ -29,68 +29,70 @@ export function isSoft({ condition, from, note }) {
  * answer to `trace`.
  * @param {string} text
  * @param {Names} names
- * @returns {{ note: Note, fault: "", column: -1 } | { note: null, fault: string, column: number }}
+ * @returns {{ note: Note, error: "", column: -1 } | { note: null, error: string, column: number }}
  */
 function compileBracedText(text, names) {
   const lamp = names.face.lampNumbers.get(text.trim());
   const place = parsePlace(lamp === undefined ? text : `lamp ${lamp}`);
   const probes = place ? place.probesOn(names.board) : [];
-  if (place && probes.length > 0) return { note: { places: probes, words: place.value }, fault: "", column: -1 };
-  if (place) return { note: null, fault: boardLacks(place.name), column: 0 };
-  const { expression, fault, column } = compileExpression(text, names);
-  return expression ? { note: { places: expression.places, words: expression.textOf }, fault: "", column: -1 }
-    : { note: null, fault, column };
+  if (place && probes.length > 0) return { note: { places: probes, textOf: place.value }, error: "", column: -1 };
+  if (place) return { note: null, error: boardLacks(place.name), column: 0 };
+  const { expression, error, column } = compileExpression(text, names);
+  return expression ? { note: { places: expression.places, textOf: expression.textOf }, error: "", column: -1 }
+    : { note: null, error, column };
 }
 
 /**
- * Compiles a note such as `digit {r4}, lamps {lamps}, next {r4 + 1}`. In the logged text, values replace the braces. `fault` is an error
+ * Compiles a note such as `digit {r4}, lamps {lamps}, next {r4 + 1}`. In the logged text, values replace the braces. `error` is an error
  * message with a column of the note, "" for none.
  * @param {string} text
  * @param {Names} names
- * @returns {{ note: Note, fault: string }}
+ * @returns {{ note: Note, error: string }}
  */
 export function compileNote(text, names) {
   /** @type {string[]} */
   const places = [];
-  let fault = "";
+  let error = "";
   let start = text.length - text.trimStart().length;
   const pieces = text.trim().split(/(\{[^{}]*\})/).map((piece) => {
     const pieceStart = start;
     start += piece.length;
-    const found = /^\{(.*)\}$/.exec(piece);
-    if (!found) return () => piece;
-    const { note, fault: bracesError, column } = compileBracedText(found[1], names);
+    const match = /^\{(.*)\}$/.exec(piece);
+    if (!match) return () => piece;
+    const { note, error: bracesError, column } = compileBracedText(match[1], names);
     if (!note) {
-      fault = fault || errorInColumn(say.noteAsks(piece, bracesError), pieceStart + 1 + column);
+      error = error || errorInColumn(say.noteAsks(piece, bracesError), pieceStart + 1 + column);
       return () => piece;
     }
     const from = places.length;
     places.push(...note.places);
-    return (/** @type {string[]} */ values) => note.words(values.slice(from, from + note.places.length));
+    return (/** @type {string[]} */ values) => note.textOf(values.slice(from, from + note.places.length));
   });
-  return { note: { places, words: (values) => pieces.map((piece) => piece(values)).join("") }, fault };
+  return { note: { places, textOf: (values) => pieces.map((piece) => piece(values)).join("") }, error };
 }
 
 /**
- * Compiles a breakpoint. A breakpoint with an error stops the machine at every arrival. `fault` is the error message, "" for none.
+ * Compiles a breakpoint. A breakpoint with an error stops the machine at every arrival. `error` is the error message, "" for none.
  * @param {LocatedBreakpoint} placed
  * @param {Names} names
- * @returns {{ soft: SoftBreakpoint, fault: string }}
+ * @returns {{ softBreakpoint: SoftBreakpoint, error: string }}
  */
 export function compileBreakpoint(placed, names) {
   const { id, address, from, hits } = placed;
   const isAlways = placed.condition.trim() === "";
-  const { condition, fault, column } = isAlways ? { condition: null, fault: "", column: -1 } : compileCondition(placed.condition, names);
+  const { condition, error, column } = isAlways ? { condition: null, error: "", column: -1 } : compileCondition(placed.condition, names);
   const compiledNote = placed.note.trim() === "" ? null : compileNote(placed.note, names);
-  const errorMessage = fault ? errorInColumn(fault, column) : compiledNote ? compiledNote.fault : "";
-  if (errorMessage) return { soft: { id, address, from: 1, hits, places: [], holds: () => true, words: null }, fault: errorMessage };
+  const errorMessage = error ? errorInColumn(error, column) : compiledNote ? compiledNote.error : "";
+  if (errorMessage) {
+    return { softBreakpoint: { id, address, from: 1, hits, places: [], holds: () => true, noteText: null }, error: errorMessage };
+  }
   const conditionPlaces = condition ? condition.places : [];
   const note = compiledNote && compiledNote.note;
-  const soft = {
+  const softBreakpoint = {
     id, address, from, hits,
     places: [...conditionPlaces, ...(note ? note.places : [])],
     holds: (/** @type {string[]} */ values) => condition === null || condition.holds(values.slice(0, conditionPlaces.length)),
-    words: note ? (/** @type {string[]} */ values) => note.words(values.slice(conditionPlaces.length)) : null,
+    noteText: note ? (/** @type {string[]} */ values) => note.textOf(values.slice(conditionPlaces.length)) : null,
   };
-  return { soft, fault: "" };
+  return { softBreakpoint, error: "" };
 }

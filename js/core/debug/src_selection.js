@@ -9,7 +9,7 @@ import * as say from "../../words/debug.js";
 /**
  * @typedef {import("../bench/answers.js").Board} Board
  * @typedef {import("./common_mistakes.js").Kind} Kind
- * @typedef {{ kind: Kind, words: string }} SelectionMistake a mistake: its kind, and a message
+ * @typedef {{ kind: Kind, message: string }} SelectionMistake a mistake: its kind, and a message
  */
 
 /** The instructions that write to a RAM bank: mnemonics by opcode. The opcodes of the instructions that read from a RAM bank. */
@@ -103,14 +103,14 @@ export class SrcSelection {
     const port = this.portMasks.get(chip);
     const isWrite = name === "WRR";
     const action = say.usesRom(name, isWrite, chip);
-    if (port === undefined) return isWrite ? { kind: "chip", words: say.whichLacks(action, this.description) } : null;
-    if (isWrite && !/[01]/.test(port)) return { kind: "lines", words: say.noOutputs(action, this.description) };
-    if (!isWrite && !port.includes("i")) return { kind: "lines", words: say.noInputs(action, this.description) };
+    if (port === undefined) return isWrite ? { kind: "chip", message: say.whichLacks(action, this.description) } : null;
+    if (isWrite && !/[01]/.test(port)) return { kind: "lines", message: say.noOutputs(action, this.description) };
+    if (!isWrite && !port.includes("i")) return { kind: "lines", message: say.noInputs(action, this.description) };
     const lastChip = this.lastChips.get(address);
-    const otherKind = [...this.instructionKinds].find((each) => each !== name);
+    const otherKind = [...this.instructionKinds].find((instructionKind) => instructionKind !== name);
     if (otherKind === undefined || lastChip === undefined || lastChip === chip) return null;
     const message = say.selectedByEarlierSrc(action, lastChip, this.srcAddress < 0 ? "" : say.atAddress(hex(this.srcAddress, 3)));
-    return { kind: "source", words: say.sourceWasFor(message, otherKind) };
+    return { kind: "source", message: say.sourceWasFor(message, otherKind) };
   }
 
   /** A part of a message that names the address of the last SRC; "" before the first SRC. */
@@ -129,6 +129,6 @@ export class SrcSelection {
     const chip = (this.latchedBytes.get(bank) || 0) >> 6;
     if (chip < chips) return null;
     const chipText = chips === 0 ? say.bankWithoutRam(bank) : say.chipOfBank(chip, bank, chips);
-    return { kind: "chip", words: say.writesTo(name, chipText, this.description) };
+    return { kind: "chip", message: say.writesTo(name, chipText, this.description) };
   }
 }

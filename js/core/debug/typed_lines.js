@@ -14,9 +14,9 @@ import { MAX_RUN_CYCLES } from "../engine/key_queue.js";
  * @typedef {import("./arrivals.js").BreakpointEvents} BreakpointEvents
  *
  * The plan. `lines`: the lines to execute. `runs`: the breakpoint events of each run, and the number of cycles before the run. If a
- * breakpoint ends the last line early, `id` is the id of the breakpoint, `cut` is the line as typed, and `why` and `change` have the same
- * meaning as in `BreakpointEvents`. Otherwise `id` is 0, and `cut`, `why` and `change` are "".
- * @typedef {{ lines: string, runs: { events: BreakpointEvents, done: number }[], id: number, cut: string, why: string,
+ * breakpoint ends the last line early, `id` is the id of the breakpoint, `cutLine` is the line as typed, and `reason` and `change` have the
+ * same meaning as in `BreakpointEvents`. Otherwise `id` is 0, and `cutLine`, `reason` and `change` are "".
+ * @typedef {{ lines: string, runs: { events: BreakpointEvents, done: number }[], id: number, cutLine: string, reason: string,
  *   change: string }} TypedPlan
  */
 
@@ -40,30 +40,30 @@ function runCycles(input) {
  */
 export async function planTypedLines(engine, file, arrivals, lines, shouldContinue) {
   /** @type {TypedPlan} */
-  const plan = { lines: "", runs: [], id: 0, cut: "", why: "", change: "" };
+  const plan = { lines: "", runs: [], id: 0, cutLine: "", reason: "", change: "" };
   if (arrivals.isEmpty || !/\brun\b/.test(lines)) return { ...plan, lines };
   const copy = file.slice();
   let [pendingLines, done] = ["", 0];
-  for (let at = 0; at < lines.length;) {
-    const end = findInputEnd(lines, at, 1);
-    const [input] = readInputs(lines.slice(at, end));
+  for (let offset = 0; offset < lines.length;) {
+    const end = findInputEnd(lines, offset, 1);
+    const [input] = readInputs(lines.slice(offset, end));
     const cycles = runCycles(input);
-    let servedLines = lines.slice(at, end);
+    let servedLines = lines.slice(offset, end);
     pendingLines += servedLines;
-    [plan.id, plan.cut, at] = [0, "", end];
+    [plan.id, plan.cutLine, offset] = [0, "", end];
     if (cycles > 0) {
       const linesBefore = pendingLines.slice(0, -servedLines.length);
       if (linesBefore) engine.serve(copy, linesBefore, copy);
       const events = arrivals.searchLines(engine, copy, [{ line: `run ${cycles}`, change: null }]);
-      const { id, why, change } = events;
-      if (events.cycles >= 0) [servedLines, plan.cut] = [`run ${events.cycles}\n`, input.line.trim()];
-      if (events.cycles >= 0) Object.assign(plan, { id, why, change });
+      const { id, reason, change } = events;
+      if (events.cycles >= 0) [servedLines, plan.cutLine] = [`run ${events.cycles}\n`, input.line.trim()];
+      if (events.cycles >= 0) Object.assign(plan, { id, reason, change });
       arrivals.count(events);
       plan.runs.push({ events, done });
       const run = readRun(engine.serve(copy, servedLines, copy).answers[0]);
       done += run ? run.cycles : 0;
       pendingLines = "";
-      if (!(await shouldContinue(at))) throw new CancelledError();
+      if (!(await shouldContinue(offset))) throw new CancelledError();
     }
     plan.lines += servedLines;
   }

@@ -1,7 +1,7 @@
 // Parses watch expressions, to which the user can give names: `count = R5`, `digit = ram 0 0x12`, `r5 + 1 > limit`.
 //
-//     const { watched, fault } = parseWatch("digit = ram 0 0x12", names);
-//     watched.pieces(machineState, names)    the current value as pieces (word_values.js)
+//     const { watch, error } = parseWatch("digit = ram 0 0x12", names);
+//     watch.pieces(machineState, names)    the current value as pieces (word_values.js)
 
 import { compileExpression } from "../conditions/condition_language.js";
 import { KEYWORDS, parseExpression } from "../conditions/parser.js";
@@ -73,9 +73,10 @@ function registerReader(place) {
  * @returns {ValueReader | null}
  */
 function memoryReader(place) {
-  const [kind, bank, at, number] = place.split(".");
-  if (kind === "ram") return editableReader(place, (machineState) => machineState.character(Number(bank), Number(at)));
-  return kind === "st" ? editableReader(place, (machineState) => machineState.status(Number(bank), Number(at), Number(number))) : null;
+  const [kind, ...numberTexts] = place.split(".");
+  const [bank, byteOrRegister, statusNumber] = numberTexts.map(Number);
+  if (kind === "ram") return editableReader(place, (machineState) => machineState.character(bank, byteOrRegister));
+  return kind === "st" ? editableReader(place, (machineState) => machineState.status(bank, byteOrRegister, statusNumber)) : null;
 }
 
 /**
@@ -118,8 +119,8 @@ function placeReader(place) {
  */
 function expressionReader(text) {
   return (machineState, names) => {
-    const { expression, fault } = compileExpression(text, names);
-    if (!expression) return [fault];
+    const { expression, error } = compileExpression(text, names);
+    if (!expression) return [error];
     const answers = expression.places.map((place) => readPlaceValue(place, machineState, names.board));
     const number = expression.number ? expression.number(answers) : 0;
     const value = expression.textOf(answers);
@@ -143,54 +144,54 @@ function splitWatchExpression(text) {
 /**
  * Returns the error message for an expression, with a column; "" if there is no error. If `names` is null, only the syntax is checked.
  * @param {string} value
- * @param {number} begin the column at which the expression starts
+ * @param {number} startColumn the column at which the expression starts
  * @param {Names | null} names
  */
-function expressionError(value, begin, names) {
+function expressionError(value, startColumn, names) {
   if (names) {
-    const { fault, column } = compileExpression(value, names);
-    return fault && errorInColumn(fault, begin + column);
+    const { error, column } = compileExpression(value, names);
+    return error && errorInColumn(error, startColumn + column);
   }
   try {
     parseExpression(value);
     return "";
-  } catch (fault) {
-    if (fault instanceof ConditionError) return errorInColumn(fault.message, begin + Math.max(0, fault.column));
-    throw fault;
+  } catch (error) {
+    if (error instanceof ConditionError) return errorInColumn(error.message, startColumn + Math.max(0, error.column));
+    throw error;
   }
 }
 
 /**
- * Parses a watch expression. `fault` is an error message, "" for none.
+ * Parses a watch expression. `error` is an error message, "" for none.
  * @param {string} text
  * @param {Names | null} [names] the names of the board and the program, if known
- * @returns {{ watched: WatchExpression | null, fault: string }}
+ * @returns {{ watch: WatchExpression | null, error: string }}
  */
 export function parseWatch(text, names = null) {
-  if (text.length > MAX_LENGTH) return { watched: null, fault: say.tooLong(MAX_LENGTH) };
+  if (text.length > MAX_LENGTH) return { watch: null, error: say.tooLong(MAX_LENGTH) };
   const { name, value, column } = splitWatchExpression(text);
-  if (name !== "" && !NAME.test(name)) return { watched: null, fault: say.NAME_SYNTAX };
-  if (value === "") return { watched: null, fault: say.EXPRESSION_MISSING };
+  if (name !== "" && !NAME.test(name)) return { watch: null, error: say.NAME_SYNTAX };
+  if (value === "") return { watch: null, error: say.EXPRESSION_MISSING };
   const place = parsePlace(value);
-  const fault = place ? "" : expressionError(value, column, names);
-  if (fault) return { watched: null, fault };
+  const error = place ? "" : expressionError(value, column, names);
+  if (error) return { watch: null, error };
   const placeName = place ? place.name : "";
   const pieces = registerReader(placeName) || portReader(placeName) || memoryReader(placeName)
     || (place ? placeReader(place) : expressionReader(value));
   const character = /^(ram|st)\./.test(placeName) ? placeName : "";
-  return { watched: { name: name || value, text: name ? `${name} = ${value}` : value, place: character, value, pieces }, fault: "" };
+  return { watch: { name: name || value, text: name ? `${name} = ${value}` : value, place: character, value, pieces }, error: "" };
 }
 
 /**
- * Parses saved watch expressions, which can be invalid data. `fault` is the first error message, "" for none.
+ * Parses saved watch expressions, which can be invalid data. `error` is the first error message, "" for none.
  * @param {unknown} texts
- * @returns {{ all: WatchExpression[], fault: string }}
+ * @returns {{ all: WatchExpression[], error: string }}
  */
 export function parseWatches(texts) {
-  if (!Array.isArray(texts)) return { all: [], fault: "" };
+  if (!Array.isArray(texts)) return { all: [], error: "" };
   const results = texts.slice(0, MAX_WATCH_EXPRESSIONS).flatMap((text) => (typeof text === "string" ? [parseWatch(text)] : []));
-  const failedResult = results.find(({ fault }) => fault !== "");
-  return { all: results.flatMap(({ watched }) => (watched ? [watched] : [])), fault: failedResult ? failedResult.fault : "" };
+  const failedResult = results.find(({ error }) => error !== "");
+  return { all: results.flatMap(({ watch }) => (watch ? [watch] : [])), error: failedResult ? failedResult.error : "" };
 }
 
 /**

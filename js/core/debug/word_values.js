@@ -1,7 +1,7 @@
 // Describes the current value of a word in the source. The word is a register, a register pair, an instruction that uses a RAM character, a
 // number or a label. A description is a list of pieces: texts, and values that the user can edit.
 //
-//     pieces(valuesAt("        SRC P2", 13, machineState, names))     "P2 = 60: R4 6, R5 0; selects ROM 6, and of bank 0 chip 1, .."
+//     joinPieces(valuesAt("        SRC P2", 13, machineState, names))     "P2 = 60: R4 6, R5 0; selects ROM 6; bank 0, chip 1, .."
 
 import { hex, parseNumber } from "../bench/numbers.js";
 import { NUMBER, PAIR, REGISTER, splitStatement, wordAt } from "../text/assembly.js";
@@ -17,7 +17,7 @@ import * as say from "../../words/debug.js";
  * @typedef {string | Value} Piece
  *
  * A program name: its value, and its description (`words`). A name is a label or a constant.
- * @typedef {{ value: number, isLabel: boolean, words: string }} NamedValue
+ * @typedef {{ value: number, isLabel: boolean, description: string }} NamedValue
  *
  * Two functions that explain the words of a program. `nameOf` returns the named value; undefined for any other word. `describeInstruction`
  * returns the description of an instruction; "" for any other word.
@@ -85,7 +85,7 @@ function selectionPieces(byte, machineState) {
   const rom = machineState.romPort(chip) ? [say.romChip(chip)] : [];
   const hasRam = machineState.latchedSource() !== undefined;
   if (!hasRam) return rom.length > 0 ? rom : [say.NOTHING_THERE];
-  return [...rom.map((each) => `${each}; `), ...characterPieces(machineState.bank, byte, machineState)];
+  return [...rom.map((description) => `${description}; `), ...characterPieces(machineState.bank, byte, machineState)];
 }
 
 /**
@@ -175,13 +175,13 @@ function numberPieces(numberText, value, { head }, machineState) {
 /**
  * Describes the current value of the word at an index in a line. Returns no pieces if the word has no value.
  * @param {string} text the line
- * @param {number} at the index
+ * @param {number} index the index
  * @param {MachineState} machineState
  * @param {Program} program
  * @returns {Piece[]}
  */
-export function valuesAt(text, at, machineState, { nameOf, describeInstruction }) {
-  const word = wordAt(text, at);
+export function valuesAt(text, index, machineState, { nameOf, describeInstruction }) {
+  const word = wordAt(text, index);
   const parts = splitStatement(text);
   if (!word || word.from >= parts.comment) return [];
   const mnemonic = word.text.toUpperCase();
@@ -194,6 +194,6 @@ export function valuesAt(text, at, machineState, { nameOf, describeInstruction }
   }
   const name = nameOf(word.text);
   if (!name) return [];
-  if (!name.isLabel) return numberPieces(name.words, name.value, parts, machineState);
-  return [machineState.registers.counter === hex(name.value, 3) ? say.comesNext(name.words) : name.words];
+  if (!name.isLabel) return numberPieces(name.description, name.value, parts, machineState);
+  return [machineState.registers.counter === hex(name.value, 3) ? say.comesNext(name.description) : name.description];
 }

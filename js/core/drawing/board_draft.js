@@ -55,9 +55,9 @@ export class BoardDraft {
    * @param {number} index
    */
   requirePart(kind, index) {
-    const found = this.partsOfKind(kind)[index];
-    if (!found) throw new Error(`the text has no ${kind} ${index}`);
-    return found;
+    const part = this.partsOfKind(kind)[index];
+    if (!part) throw new Error(`the text has no ${kind} ${index}`);
+    return part;
   }
 
   /**
@@ -66,9 +66,9 @@ export class BoardDraft {
    * @param {string} name
    */
   requireKey({ keys }, name) {
-    const found = keys.find((key) => key.name === name);
-    if (!found) throw new Error(`a part lacks ${name}`);
-    return found;
+    const tomlKey = keys.find((key) => key.name === name);
+    if (!tomlKey) throw new Error(`a part lacks ${name}`);
+    return tomlKey;
   }
 
   /**
@@ -122,13 +122,13 @@ export class BoardDraft {
       const number = kind === "rom" || kind === "ram" ? PART_KEYS[kind][0] : "";
       /** @type {(entry: Entry) => number} */
       const rank = (entry) => Number((entry.keys.find(({ name }) => name === number) || { value: { inner: 0 } }).value.inner);
-      const entries = number ? [...this.partsOfKind(kind)].sort((one, other) => rank(one) - rank(other)) : this.partsOfKind(kind);
+      const entries = number ? [...this.partsOfKind(kind)].sort((a, b) => rank(a) - rank(b)) : this.partsOfKind(kind);
       for (const { keys } of entries) {
         lines.push(kind === "keys" ? "[keys]" : `[[${kind}]]`);
         for (const key of PART_KEYS[kind]) {
-          const found = keys.find(({ name }) => name === key);
-          if (!found) return null;
-          lines.push(`${key} = ${formatValue(found.value)}`);
+          const tomlKey = keys.find(({ name }) => name === key);
+          if (!tomlKey) return null;
+          lines.push(`${key} = ${formatValue(tomlKey.value)}`);
         }
       }
     }

@@ -19,11 +19,11 @@ import * as say from "../../words/drawing.js";
  * @typedef {import("./text_edits.js").TextEdit} TextEdit
  *
  * The state that the view shows. `board` and `face`: the board that the text describes, and its front panel. `isWired`: true if the session
- * has the same board. `fault`: the message if the board cannot be drawn, or "". `shelf`: the kinds of parts that the user can add, with the
+ * has the same board. `error`: the message if the board cannot be drawn, or "". `shelf`: the kinds of parts that the user can add, with the
  * reason why a part cannot be added now, or "". `selected`: the selected part or pin, "" for none. `fields`: the form for the selection.
  * `wireStart`: the start pin of an unfinished wire, or "". `ends`: the possible end pins of that wire. `lastMessage`: the last message to
  * the user.
- * @typedef {{ board: Board, face: Face, isWired: boolean, fault: string, shelf: Map<ShelfPart, string>, selected: string,
+ * @typedef {{ board: Board, face: Face, isWired: boolean, error: string, shelf: Map<ShelfPart, string>, selected: string,
  *   fields: import("./selection_form.js").SelectionForm, wireStart: string, ends: Set<string>, lastMessage: string }} DrawingState
  */
 
@@ -41,11 +41,11 @@ import * as say from "../../words/drawing.js";
 /** The board editor: its state and its actions. */
 export class Drawing {
   /**
-   * @param {DrawingCalls} calls
+   * @param {DrawingCalls} callbacks
    * @param {(state: DrawingState) => void} show shows a state in the view
    */
-  constructor(calls, show) {
-    this.calls = calls;
+  constructor(callbacks, show) {
+    this.callbacks = callbacks;
     this.show = show;
     /**
      * The bench's answers to `board`: `wiredAnswers` for the session's board, as one text; `answers` for the text in the editor, as lines.
@@ -55,7 +55,7 @@ export class Drawing {
     /** @type {Board} */
     this.board = readBoard(this.answers);
     this.face = new Face("");
-    this.fault = "";
+    this.error = "";
     /** @type {Map<ShelfPart, string>} */
     this.shelf = new Map();
     /** The text that the board editor last read from the text editor; null before the first read. */
@@ -102,7 +102,7 @@ export class Drawing {
 
   /** Reads the text if it has changed, and shows the board. */
   async readText() {
-    const text = this.calls.text();
+    const text = this.callbacks.text();
     if (text !== this.text) {
       const { errorMessage, answers } = await this.checkText(text);
       if (errorMessage || matchesBench(text, answers)) this.storeText(text, errorMessage ? this.answers : answers, errorMessage);
@@ -115,17 +115,17 @@ export class Drawing {
    * Stores a board text, and the board that it describes.
    * @param {string} text
    * @param {string[]} answers the answer to `board`
-   * @param {string} fault the message if the board cannot be drawn, or ""
+   * @param {string} error the message if the board cannot be drawn, or ""
    */
-  storeText(text, answers, fault) {
+  storeText(text, answers, error) {
     this.movedParts.updateForTextChange(this.text, text);
     this.text = text;
     this.answers = answers;
     this.face = new Face(text);
     this.board = boardWithBuzzer(readBoard(answers), this.face);
-    this.fault = fault;
+    this.error = error;
     this.wireStart = "";
-    if (fault === "") this.shelf = new Map(SHELF_PARTS.map((part) => [part, reasonNotToAdd(text, part)]));
+    if (error === "") this.shelf = new Map(SHELF_PARTS.map((part) => [part, reasonNotToAdd(text, part)]));
     if (!this.isOnBoard(this.selected)) this.selected = "";
   }
 
@@ -135,9 +135,9 @@ export class Drawing {
    * @param {string} text
    */
   async checkText(text) {
-    const [first, ...answers] = await this.calls.ask(`wire\n${sentText(text, "#")}.\nboard\n`);
+    const [first, ...answers] = await this.callbacks.ask(`wire\n${sentText(text, "#")}.\nboard\n`);
     const refusal = parseRefusal(first);
-    const message = refusal ? say.benchRefuses(this.calls.describeRefusal(refusal.number)) : "";
+    const message = refusal ? say.benchRefuses(this.callbacks.describeRefusal(refusal.number)) : "";
     return { errorMessage: message, answers };
   }
 
@@ -161,7 +161,7 @@ export class Drawing {
   /** The pins at which the unfinished wire can end; none if there is no unfinished wire. */
   get ends() {
     const { board, wireStart } = this;
-    if (wireStart === "" || this.fault) return new Set(/** @type {string[]} */ ([]));
+    if (wireStart === "" || this.error) return new Set(/** @type {string[]} */ ([]));
     const currentLine = inputLines(board).get(wireStart);
     if (currentLine === undefined) return new Set(possibleTargets(board, wireStart));
     return new Set(possibleSources(board, wireStart).filter((line) => line !== currentLine));
@@ -169,9 +169,9 @@ export class Drawing {
 
   /** Passes the current state to the view. */
   reportChange() {
-    const { board, face, fault, shelf, selected, wireStart, ends, lastMessage } = this;
+    const { board, face, error, shelf, selected, wireStart, ends, lastMessage } = this;
     const isWired = this.answers.join("\n") === this.wiredAnswers;
-    this.show({ board, face, isWired, fault, shelf, selected, fields: selectionForm(board, face, selected), wireStart, ends, lastMessage });
+    this.show({ board, face, isWired, error, shelf, selected, fields: selectionForm(board, face, selected), wireStart, ends, lastMessage });
   }
 
   /**
@@ -231,19 +231,19 @@ export class Drawing {
    * @returns {Promise<void>}
    */
   async perform(action) {
-    const text = this.calls.text();
+    const text = this.callbacks.text();
     const result = applyAction(text, action);
     if (result.refusal) return this.showMessage(result.refusal);
     if (result.edits.length === 0) return this.showMessage(say.NO_CHANGE);
     const { errorMessage, answers } = await this.checkText(result.text);
     if (errorMessage || !matchesBench(result.text, answers)) return this.showMessage(say.notDone(errorMessage || say.CANNOT_READ));
     // If the user edited the text while the bench checked the result, perform the action on the new text.
-    if (this.calls.text() !== text) return this.perform(action);
-    this.calls.edit(result.edits);
+    if (this.callbacks.text() !== text) return this.perform(action);
+    this.callbacks.edit(result.edits);
     this.movedParts.recordDeletion(text, result.text, result.deletedChains);
     this.storeText(result.text, answers, "");
     this.selected = this.isOnBoard(result.part) ? result.part : "";
-    return this.showMessage(result.words);
+    return this.showMessage(result.message);
   }
 
   /**
@@ -252,7 +252,7 @@ export class Drawing {
    */
   undoOrRedo(operation) {
     return this.runInOrder(async () => {
-      const isDone = this.calls[operation]();
+      const isDone = this.callbacks[operation]();
       this.lastMessage = operation === "undo" ? say.UNDONE : say.REDONE;
       if (!isDone) this.lastMessage = operation === "undo" ? say.NOTHING_TO_UNDO : say.NOTHING_TO_REDO;
       await this.readText();

@@ -38,12 +38,12 @@ export function boardWithBuzzer(board, face) {
 export function inputLines({ chains, matrix, lamps, buzzer }) {
   /** @type {Map<Target, string>} */
   const lines = new Map();
-  chains.forEach(({ clock, data }, at) => lines.set(`clock ${at}`, clock).set(`data ${at}`, data));
+  chains.forEach(({ clock, data }, chain) => lines.set(`clock ${chain}`, clock).set(`data ${chain}`, data));
   if (matrix) {
     for (const row of indices(matrix.rows)) lines.set(`row ${row}`, `chain${matrix.chain}.${matrix.first + row}`);
-    matrix.columns.forEach((line, at) => lines.set(`column ${at}`, line));
+    matrix.columns.forEach((line, column) => lines.set(`column ${column}`, line));
   }
-  lamps.forEach((line, at) => lines.set(`lamp ${at}`, line));
+  lamps.forEach((line, lamp) => lines.set(`lamp ${lamp}`, line));
   if (buzzer) lines.set(BUZZER, buzzer);
   return lines;
 }
@@ -102,7 +102,7 @@ export function canConnect({ chains, matrix }, { name, kind, isInput }, target) 
  * @returns {Target[]}
  */
 export function possibleTargets(board, name) {
-  const line = boardLines(board).find((each) => each.name === name);
+  const line = boardLines(board).find((boardLine) => boardLine.name === name);
   if (!line) return [];
   const targets = [...inputLines(board)].filter(([target, currentLine]) => currentLine !== name && canConnect(board, line, target));
   return targets.map(([target]) => target);

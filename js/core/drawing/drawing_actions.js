@@ -37,9 +37,9 @@ import * as say from "../../words/drawing.js";
  *   | "buzzer"} ShelfPart a kind of part on the shelf: `rom` is a ROM with outputs, `inputs` a ROM with inputs, `digit` a display with BCD
  *   digits, `segments` a display with seven-segment digits, and `scanned` a multiplexed display
  *
- * The result of an action: the edits in order, the text after all edits, the affected part ("" for none), a message (`words`), and the
+ * The result of an action: the edits in order, the text after all edits, the affected part ("" for none), a message, and the
  * numbers of the deleted chains. If the action is impossible, `refusal` is a message and there are no edits; otherwise `refusal` is "".
- * @typedef {{ edits: TextEdit[], text: string, part: string, words: string, deletedChains: number[], refusal: string }} Result
+ * @typedef {{ edits: TextEdit[], text: string, part: string, message: string, deletedChains: number[], refusal: string }} Result
  */
 
 /** @type {ShelfPart[]} the kinds of parts on the shelf, in order */
@@ -88,7 +88,7 @@ function addTestPinPart(editedBoard, kind) {
  */
 function connectLine(editedBoard, name, target) {
   const { board, draft } = editedBoard;
-  const line = boardLines(board).find((each) => each.name === name);
+  const line = boardLines(board).find((boardLine) => boardLine.name === name);
   if (!line || !inputLines(board).has(target)) throw new ImpossibleAction(say.boardHasNo(line ? target : name));
   if (!canConnect(board, line, target)) throw new ImpossibleAction(wireErrorMessage(line, target));
   const [kind, number] = splitTarget(target);
@@ -126,17 +126,17 @@ function wireErrorMessage({ name, kind, isInput }, target) {
  * @param {string} mode `i` for an input, `0` or `1` for an output that RDR reads as this value
  */
 function setLineMode(editedBoard, line, mode) {
-  const [chip, at] = line.replace("rom", "").split(".").map(Number);
+  const [chip, portLine] = line.replace("rom", "").split(".").map(Number);
   const { draft, board } = editedBoard;
   const entry = draft.partByNumber("rom", chip);
   const port = String(draft.requireKey(entry, "port").value.inner);
   const targets = [...inputLines(board)].filter(([target, name]) => name === line && target !== BUZZER).map(([target]) => target);
-  const changesDirection = (port[3 - at] === "i") !== (mode === "i");
+  const changesDirection = (port[3 - portLine] === "i") !== (mode === "i");
   if (changesDirection && targets.length > 0) {
     throw new ImpossibleAction(say.lineInUse(line, targets.map(targetName).join(say.AND)));
   }
-  checkFrontPanelOutputs(editedBoard, (each) => changesDirection && each === line);
-  editedBoard.edit([setValue(draft, entry, "port", port.slice(0, 3 - at) + mode + port.slice(4 - at))]);
+  checkFrontPanelOutputs(editedBoard, (outputLine) => changesDirection && outputLine === line);
+  editedBoard.edit([setValue(draft, entry, "port", port.slice(0, 3 - portLine) + mode + port.slice(4 - portLine))]);
 }
 
 /**
@@ -166,7 +166,7 @@ function copyPart(editedBoard, part) {
  */
 function renameLamp(editedBoard, lamp, name) {
   /** @type {(text: string) => string} */
-  const describeGrid = (text) => new Face(text).grid.map((each) => `${each.row} ${each.column} ${each.lamp}`).join();
+  const describeGrid = (text) => new Face(text).grid.map((gridLamp) => `${gridLamp.row} ${gridLamp.column} ${gridLamp.lamp}`).join();
   const grid = describeGrid(editedBoard.text);
   editedBoard.edit(setLampName(editedBoard.draft, lamp, name));
   if (describeGrid(editedBoard.text) !== grid) throw new ImpossibleAction(say.GRID_DIFFERS);
@@ -274,11 +274,11 @@ function perform(editedBoard, action) {
  * @param {string} textAfter the text after the action
  */
 function findNewPanelError(textBefore, textAfter) {
-  const oldMessages = new Face(textBefore).faults.map(({ words }) => words.replace(/\d+/g, ""));
-  const { faults } = new Face(textAfter);
-  if (faults.length <= oldMessages.length) return "";
-  const [newError] = faults.filter(({ words }) => !oldMessages.includes(words.replace(/\d+/g, "")));
-  return newError ? `${capitalize(newError.words)}.` : say.FACE_UNREADABLE;
+  const oldMessages = new Face(textBefore).errors.map(({ message }) => message.replace(/\d+/g, ""));
+  const { errors } = new Face(textAfter);
+  if (errors.length <= oldMessages.length) return "";
+  const [newError] = errors.filter(({ message }) => !oldMessages.includes(message.replace(/\d+/g, "")));
+  return newError ? `${capitalize(newError.message)}.` : say.FACE_UNREADABLE;
 }
 
 /**
@@ -288,19 +288,19 @@ function findNewPanelError(textBefore, textAfter) {
  * @returns {Result}
  */
 export function applyAction(text, action) {
-  const unchanged = { edits: [], text, part: "", words: "", deletedChains: [] };
+  const unchanged = { edits: [], text, part: "", message: "", deletedChains: [] };
   const editedBoard = new EditedBoard(text);
   if (!editedBoard.draft.isToml || !editedBoard.draft.boardAnswers) return { ...unchanged, refusal: say.TEXT_HAS_ERRORS };
   try {
     const [part, message] = perform(editedBoard, action);
-    const fault = findNewPanelError(text, editedBoard.text);
-    if (fault) return { ...unchanged, refusal: fault };
+    const panelError = findNewPanelError(text, editedBoard.text);
+    if (panelError) return { ...unchanged, refusal: panelError };
     const alsoAdded = editedBoard.addedParts.length > 0 ? say.withAlso(say.listOf(editedBoard.addedParts)) : "";
     const { edits, deletedChains } = editedBoard;
-    return { edits, text: editedBoard.text, part, words: `${message}${alsoAdded}.`, deletedChains, refusal: "" };
-  } catch (fault) {
-    if (!(fault instanceof ImpossibleAction)) throw fault;
-    return { ...unchanged, refusal: fault.message };
+    return { edits, text: editedBoard.text, part, message: `${message}${alsoAdded}.`, deletedChains, refusal: "" };
+  } catch (error) {
+    if (!(error instanceof ImpossibleAction)) throw error;
+    return { ...unchanged, refusal: error.message };
   }
 }
 

@@ -43,7 +43,7 @@ function setListWord(draft, kind, lamp, text) {
   const lists = faceLines(draft).filter((line) => line.kind === kind && line.first && !line.last);
   const containingLine = lists.find((line) => headNumber(line) <= lamp && lamp < headNumber(line) + line.words.length);
   if (containingLine) {
-    const others = containingLine.words.filter((_, at) => headNumber(containingLine) + at !== lamp);
+    const others = containingLine.words.filter((_, index) => headNumber(containingLine) + index !== lamp);
     if (text === "" && others.every((word) => word.text === EMPTY_ENTRY)) return [removeFaceLine(draft, containingLine)];
     return setWord(containingLine.words[lamp - headNumber(containingLine)], text || EMPTY_ENTRY);
   }
@@ -66,7 +66,7 @@ export function setLampName(draft, lamp, name) {
   const oldName = nameLine && nameLine.words[lamp - headNumber(nameLine)].text;
   const gridWords = lines.filter(({ kind }) => kind === "grid").flatMap(({ words }) => words)
     .filter(({ text }) => text === oldName && text !== EMPTY_ENTRY);
-  return [...setListWord(draft, "lamp", lamp, word), ...gridWords.flatMap((each) => setWord(each, word || String(lamp)))];
+  return [...setListWord(draft, "lamp", lamp, word), ...gridWords.flatMap((gridWord) => setWord(gridWord, word || String(lamp)))];
 }
 
 /**
@@ -83,7 +83,7 @@ export function setLampColour(draft, lamp, colour) {
   const first = headNumber(range);
   const [oldColour = { text: EMPTY_ENTRY }] = range.words;
   const count = Number(range.last.text) - first + 1;
-  const colours = Array.from({ length: count }, (_, at) => (first + at === lamp ? colour || EMPTY_ENTRY : oldColour.text));
+  const colours = Array.from({ length: count }, (_, index) => (first + index === lamp ? colour || EMPTY_ENTRY : oldColour.text));
   const isUniform = colours.every((word) => word === colours[0]);
   if (isUniform) return colours[0] === EMPTY_ENTRY ? [removeFaceLine(draft, range)] : setWord(range.words[0], colours[0]);
   return [{ from: range.first.to, to: range.end, insert: `: ${colours.join(" ")}` }];
@@ -98,10 +98,10 @@ export function setLampColour(draft, lamp, colour) {
  */
 export function setKeyName(draft, { row, column }, name) {
   const word = toWord(name) || EMPTY_ENTRY;
-  const line = faceLines(draft).find((each) => each.kind === "row" && headNumber(each) === row);
+  const line = faceLines(draft).find((faceLine) => faceLine.kind === "row" && headNumber(faceLine) === row);
   const count = line ? line.words.length : 0;
   if (line && column < count) return setWord(line.words[column], word);
-  const missingNames = Array.from({ length: column - count }, (_, at) => `${row}.${count + at}`);
+  const missingNames = Array.from({ length: column - count }, (_, index) => `${row}.${count + index}`);
   const words = [...missingNames, word].join(" ");
   return line ? [{ from: line.end, to: line.end, insert: ` ${words}` }] : addFaceLine(draft, "row", `# row ${row}: ${words}`);
 }
@@ -116,7 +116,8 @@ export function setKeyName(draft, { row, column }, name) {
  */
 export function setLineText(draft, kind, head, words) {
   const text = words.trim().replace(/[ \t]+/g, " ");
-  const line = faceLines(draft).find((each) => each.kind === kind && (each.first ? each.first.text.toLowerCase() : "") === head);
+  const line = faceLines(draft).find((faceLine) => (
+    faceLine.kind === kind && (faceLine.first ? faceLine.first.text.toLowerCase() : "") === head));
   if (!line) return text === "" ? [] : addFaceLine(draft, kind, `# ${kind}${head && ` ${head}`}: ${text}`);
   if (text === "") return [removeFaceLine(draft, line)];
   const [first] = line.words;
@@ -152,7 +153,7 @@ export function addGroup(draft, kind, first, text) {
  */
 export function renumberLamps(draft, deletedLamps) {
   /** @type {(lamp: number) => number} */
-  const newNumber = (lamp) => lamp - [...deletedLamps].filter((each) => each < lamp).length;
+  const newNumber = (lamp) => lamp - [...deletedLamps].filter((deletedLamp) => deletedLamp < lamp).length;
   return faceLines(draft).flatMap((line) => {
     if (line.kind === "grid") return renumberGrid(draft, line, deletedLamps, newNumber);
     if (!LAMP_KINDS.has(line.kind) || !line.first || Number.isNaN(headNumber(line))) return [];
@@ -173,10 +174,10 @@ function renumberList(draft, line, deletedLamps, newNumber) {
   const first = headNumber(line);
   const isGroup = line.kind !== "lamp" && line.kind !== "colour";
   const remainingLamps = isGroup ? [...(deletedLamps.has(first) ? [] : [first])]
-    : line.words.map((_, at) => first + at).filter((lamp) => !deletedLamps.has(lamp));
+    : line.words.map((_, index) => first + index).filter((lamp) => !deletedLamps.has(lamp));
   if (remainingLamps.length === 0) return [removeFaceLine(draft, line)];
   const head = setWord(/** @type {import("./face_lines.js").FaceWord} */ (line.first), String(newNumber(remainingLamps[0])));
-  if (!isGroup) return [...head, ...removeWords(line, (at) => deletedLamps.has(first + at))];
+  if (!isGroup) return [...head, ...removeWords(line, (index) => deletedLamps.has(first + index))];
   // In `scanned by N`, N is also a lamp number.
   const scanLampWord = line.words[line.words.findIndex(({ text }) => text === "scanned") + 2];
   const isMultiplexed = line.words.some(({ text }) => text === "scanned");
@@ -194,7 +195,7 @@ function renumberList(draft, line, deletedLamps, newNumber) {
 function renumberRange(draft, line, deletedLamps, newNumber) {
   const { first, last } = line;
   if (!first || !last) return [];
-  const lamps = Array.from({ length: Math.max(0, Number(last.text) - headNumber(line) + 1) }, (_, at) => headNumber(line) + at);
+  const lamps = Array.from({ length: Math.max(0, Number(last.text) - headNumber(line) + 1) }, (_, index) => headNumber(line) + index);
   const remainingLamps = lamps.filter((lamp) => !deletedLamps.has(lamp));
   if (remainingLamps.length === 0) return [removeFaceLine(draft, line)];
   const lastRemaining = remainingLamps[remainingLamps.length - 1];
@@ -211,7 +212,7 @@ function renumberRange(draft, line, deletedLamps, newNumber) {
  */
 function renumberGrid(draft, line, deletedLamps, newNumber) {
   const names = new Map(faceLines(draft).filter(({ kind, first, last }) => kind === "lamp" && first && !last)
-    .flatMap((list) => list.words.map(({ text }, at) => /** @type {[string, number]} */ ([text, headNumber(list) + at]))));
+    .flatMap((list) => list.words.map(({ text }, index) => /** @type {[string, number]} */ ([text, headNumber(list) + index]))));
   const texts = line.words.map(({ text }) => {
     const named = names.get(text);
     if (named !== undefined) return deletedLamps.has(named) ? EMPTY_ENTRY : text;
@@ -219,7 +220,7 @@ function renumberGrid(draft, line, deletedLamps, newNumber) {
     return deletedLamps.has(Number(text)) ? EMPTY_ENTRY : String(newNumber(Number(text)));
   });
   if (texts.every((text) => text === EMPTY_ENTRY)) return [removeFaceLine(draft, line)];
-  return line.words.flatMap((word, at) => setWord(word, texts[at]));
+  return line.words.flatMap((word, index) => setWord(word, texts[index]));
 }
 
 /**
@@ -233,9 +234,9 @@ export function renamePorts(draft, newPortName) {
     if (!line.first || !PORT_KINDS.includes(line.kind)) return [];
     // A printer line contains two ports: the port of the strobe line, and the port for the character code.
     const words = [line.first, ...(line.kind === "printer" ? line.words.slice(0, 1) : [])];
-    const renamed = words.map(({ text }, at) => renamePort(text, line.kind !== "port" && at === 0, newPortName));
+    const renamed = words.map(({ text }, index) => renamePort(text, line.kind !== "port" && index === 0, newPortName));
     if (renamed.includes("")) return [removeFaceLine(draft, line)];
-    return words.flatMap((word, at) => setWord(word, renamed[at]));
+    return words.flatMap((word, index) => setWord(word, renamed[index]));
   });
 }
 
@@ -267,7 +268,7 @@ export function removeRows(draft, rowCount) {
  */
 export function removeColumns(draft, deletedColumns) {
   return faceLines(draft).filter(({ kind }) => kind === "row").flatMap((line) => {
-    const isEmpty = line.words.length > 0 && line.words.every((_, at) => deletedColumns.has(at));
-    return isEmpty ? [removeFaceLine(draft, line)] : removeWords(line, (at) => deletedColumns.has(at));
+    const isEmpty = line.words.length > 0 && line.words.every((_, column) => deletedColumns.has(column));
+    return isEmpty ? [removeFaceLine(draft, line)] : removeWords(line, (column) => deletedColumns.has(column));
   });
 }

@@ -24,9 +24,9 @@ const LINE_HEAD = /^[ \t]*#[ \t]*[A-Za-z]+[ \t]*/;
  * @returns {FaceWord[]}
  */
 function splitWithOffsets(text, from) {
-  return [...text.matchAll(/[^ \t\r]+/g)].map((found) => {
-    const start = from + (found.index || 0);
-    return { text: found[0], from: start, to: start + found[0].length };
+  return [...text.matchAll(/[^ \t\r]+/g)].map((match) => {
+    const start = from + (match.index || 0);
+    return { text: match[0], from: start, to: start + match[0].length };
   });
 }
 
@@ -36,15 +36,15 @@ function splitWithOffsets(text, from) {
  * @returns {FaceLine[]}
  */
 export function faceLines(draft) {
-  return draft.lines.flatMap((text, at) => {
+  return draft.lines.flatMap((text, index) => {
     const head = parseFaceLine(text.replace(/\r$/, ""));
     if (!head) return [];
-    const lineStart = draft.lineOffsets[at];
+    const lineStart = draft.lineOffsets[index];
     const [prefix] = LINE_HEAD.exec(text) || [""];
     const colon = text.indexOf(":", prefix.length);
     const [first = null, , last = null] = splitWithOffsets(text.slice(prefix.length, colon), lineStart + prefix.length);
     const words = splitWithOffsets(text.slice(colon + 1), lineStart + colon + 1);
-    return [{ line: at + 1, kind: head.name, first, last, words, end: lineStart + text.trimEnd().length }];
+    return [{ line: index + 1, kind: head.name, first, last, words, end: lineStart + text.trimEnd().length }];
   });
 }
 
@@ -96,17 +96,18 @@ export function setWord(word, text) {
 /**
  * Deletes words after the colon of a line, and the blanks before them.
  * @param {FaceLine} line
- * @param {(at: number) => boolean} isDeleted returns whether to delete the word at an index
+ * @param {(index: number) => boolean} isDeleted returns whether to delete the word at an index
  * @returns {TextEdit[]}
  */
 export function removeWords({ words, first, last }, isDeleted) {
   const head = last || first;
-  return words.flatMap(({ from, to }, at) => {
-    if (!isDeleted(at)) return [];
-    const previousEnd = words[at - 1] ? words[at - 1].to : from;
+  return words.flatMap(({ from, to }, index) => {
+    if (!isDeleted(index)) return [];
+    const previousEnd = words[index - 1] ? words[index - 1].to : from;
     // If no earlier word remains, delete the blanks after this word instead, so that the blank after the colon stays.
-    const next = words[at + 1];
-    if (at === 0 || words.slice(0, at).every((_, each) => isDeleted(each))) return [{ from, to: next ? next.from : to, insert: "" }];
+    const next = words[index + 1];
+    const isFirstWord = words.slice(0, index).every((_, earlierIndex) => isDeleted(earlierIndex));
+    if (isFirstWord) return [{ from, to: next ? next.from : to, insert: "" }];
     return head ? [{ from: previousEnd, to, insert: "" }] : [];
   });
 }

@@ -22,8 +22,8 @@ export function lampLabels(face, count) {
   for (const group of face.groups) {
     if (group.kind !== "display") continue;
     const groupLabels = displayLabels(group);
-    groupLamps(group).forEach((lamp, at) => {
-      if (lamp < count) labels[lamp] = labels[lamp] || groupLabels[at];
+    groupLamps(group).forEach((lamp, index) => {
+      if (lamp < count) labels[lamp] = labels[lamp] || groupLabels[index];
     });
   }
   return labels;

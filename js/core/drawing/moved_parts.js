@@ -41,7 +41,7 @@ export class MovedParts {
    */
   recordDeletion(textBefore, textAfter, numbers) {
     if (numbers.length === 0) return;
-    const chains = [...numbers].sort((one, other) => one - other);
+    const chains = [...numbers].sort((a, b) => a - b);
     this.deletions.push({ before: textBefore, after: textAfter, chains, points: new Map() });
   }
 
@@ -71,7 +71,7 @@ export class MovedParts {
   removeChains({ chains, points }) {
     for (const [number, point] of this.takeChains()) {
       if (chains.includes(number)) points.set(`chain ${number}`, point);
-      else this.positions.set(`chain ${number - chains.filter((each) => each < number).length}`, point);
+      else this.positions.set(`chain ${number - chains.filter((deletedNumber) => deletedNumber < number).length}`, point);
     }
   }
 
@@ -81,7 +81,7 @@ export class MovedParts {
    */
   restoreChains({ chains, points }) {
     for (const [currentNumber, point] of this.takeChains()) {
-      const number = chains.reduce((sum, each) => (each <= sum ? sum + 1 : sum), currentNumber);
+      const number = chains.reduce((sum, deletedNumber) => (deletedNumber <= sum ? sum + 1 : sum), currentNumber);
       this.positions.set(`chain ${number}`, point);
     }
     for (const [part, point] of points) this.positions.set(part, point);
@@ -92,8 +92,8 @@ export class MovedParts {
     /** @type {[number, Point][]} */
     const chains = [];
     for (const [part, point] of this.positions) {
-      const found = CHAIN_NAME.exec(part);
-      if (found) chains.push([Number(found[1]), point]);
+      const match = CHAIN_NAME.exec(part);
+      if (match) chains.push([Number(match[1]), point]);
     }
     for (const [number] of chains) this.positions.delete(`chain ${number}`);
     this.hasChanged = true;

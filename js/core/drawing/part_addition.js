@@ -55,7 +55,7 @@ export function addRam(editedBoard) {
     editedBoard.edit([setValue(editedBoard.draft, editedBoard.draft.partByNumber("ram", openBank.bank), "chips", openBank.chips + 1)]);
     return `ram ${openBank.bank}.${openBank.chips}`;
   }
-  const bank = freeNumber(banks.map((each) => each.bank), MAX_PARTS.ram);
+  const bank = freeNumber(banks.map((ramBank) => ramBank.bank), MAX_PARTS.ram);
   if (bank === undefined) throw new ImpossibleAction(say.maxRams(MAX_PARTS.ram, maxChips));
   editedBoard.edit(addPart(editedBoard.draft, "ram", { bank, chips: 1 }));
   return `ram ${bank}.0`;

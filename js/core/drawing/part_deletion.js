@@ -65,18 +65,18 @@ export function displayAt(face, lamp) {
  * @param {DeletedParts} deletedParts
  */
 function addDependents(board, face, deletedParts) {
-  board.chains.forEach(({ clock, data }, at) => {
-    if (isLineDeleted(deletedParts, clock) || isLineDeleted(deletedParts, data)) deletedParts.chains.add(at);
+  board.chains.forEach(({ clock, data }, chain) => {
+    if (isLineDeleted(deletedParts, clock) || isLineDeleted(deletedParts, data)) deletedParts.chains.add(chain);
   });
   const { matrix } = board;
   if (matrix) {
-    matrix.columns.forEach((line, at) => isLineDeleted(deletedParts, line) && deletedParts.columns.add(at));
+    matrix.columns.forEach((line, column) => isLineDeleted(deletedParts, line) && deletedParts.columns.add(column));
     deletedParts.keys = deletedParts.keys || deletedParts.chains.has(matrix.chain) || deletedParts.columns.size === matrix.columns.length;
   }
-  board.lamps.forEach((line, at) => isLineDeleted(deletedParts, line) && deletedParts.lamps.add(at));
+  board.lamps.forEach((line, lamp) => isLineDeleted(deletedParts, line) && deletedParts.lamps.add(lamp));
   // With a lamp, all lamps of its group are deleted. The loop also visits the lamps that it adds to the set.
-  for (const at of deletedParts.lamps) {
-    const groups = face.groups.map(groupLamps).filter((lamps) => lamps.includes(at));
+  for (const deletedLamp of deletedParts.lamps) {
+    const groups = face.groups.map(groupLamps).filter((lamps) => lamps.includes(deletedLamp));
     for (const lamp of groups.flat()) if (lamp < board.lamps.length) deletedParts.lamps.add(lamp);
   }
 }
@@ -103,7 +103,7 @@ function removeAll(editedBoard, deletedParts) {
  * @param {Set<number>} numbers
  */
 function sortDescending(numbers) {
-  return [...numbers].sort((one, other) => other - one);
+  return [...numbers].sort((a, b) => b - a);
 }
 
 /**
@@ -196,7 +196,7 @@ function markDeleted(board, deletedParts, part) {
   else if (kind === "lamp") deletedParts.lamps.add(number);
   else if (kind === "column") deletedParts.columns.add(number);
   else if (kind === "keys") deletedParts.keys = true;
-  else if (kind === "lamps") board.lamps.forEach((_, at) => deletedParts.lamps.add(at));
+  else if (kind === "lamps") board.lamps.forEach((_, lamp) => deletedParts.lamps.add(lamp));
   else if (kind === "ram") markRamDeleted(board, deletedParts, part.slice(4));
   else throw new ImpossibleAction(deletionErrorMessage(part));
 }
@@ -219,7 +219,7 @@ function deletionErrorMessage(part) {
  */
 function markRamDeleted({ banks }, deletedParts, ram) {
   const [bank, chip] = ram.split(".").map(Number);
-  const { chips } = banks.find((each) => each.bank === bank) || { chips: 0 };
+  const { chips } = banks.find((ramBank) => ramBank.bank === bank) || { chips: 0 };
   if (chip !== chips - 1) throw new ImpossibleAction(say.deleteChipFirst(bank, chips - 1));
   deletedParts.rams.add(ram);
 }

@@ -34,8 +34,8 @@ function portForLine(line) {
   return { bank: numbers[0], source: numbers[1] * 64, write: "WMP", title: say.ramPort(numbers[0], numbers[1]), bit };
 }
 
-/** @type {(one: Port, other: Port) => boolean} returns whether two signal lines belong to one port */
-const isSamePort = (one, other) => one.title === other.title;
+/** @type {(left: Port, right: Port) => boolean} returns whether two signal lines belong to one port */
+const isSamePort = (left, right) => left.title === right.title;
 
 /** @type {(byte: number) => string} formats a byte as a hexadecimal numeral */
 const hexByte = (byte) => `0x${byte.toString(16).toUpperCase().padStart(2, "0")}`;
@@ -64,7 +64,7 @@ function formatLine([label, instruction, comment = ""]) {
 class Labels {
   /** @param {string} text the source that will contain the routine */
   constructor(text) {
-    const number = indices(1000).find((each) => !text.includes(`keys${each || ""}_`)) || 0;
+    const number = indices(1000).find((candidate) => !text.includes(`keys${candidate || ""}_`)) || 0;
     this.prefix = `keys${number || ""}`;
   }
 
@@ -102,13 +102,13 @@ function firstRowLines(first, labels) {
  */
 function columnLines(columns, labels) {
   const ports = columns.map(portForLine);
-  const chips = ports.filter((port, at) => ports.findIndex((each) => isSamePort(each, port)) === at);
+  const chips = ports.filter((port, index) => ports.findIndex((candidate) => isSamePort(candidate, port)) === index);
   return chips.flatMap((chip) => {
     /** @type {Line[]} */
     const lines = [...selectionLines(chip), ["", ["RDR"]]];
     let bit = 1 / 2;
     const chipColumns = ports.map((port, column) => ({ ...port, column })).filter((port) => isSamePort(port, chip));
-    for (const { bit: columnBit, column } of chipColumns.sort((one, other) => one.bit - other.bit)) {
+    for (const { bit: columnBit, column } of chipColumns.sort((a, b) => a.bit - b.bit)) {
       if (columnBit === bit) continue;
       for (; bit < columnBit; bit *= 2) lines.push(["", ["RAR"]]);
       lines.push(["", ["JCN", "2,", labels.labelFor(String(column))], say.columnInCarry(column)]);
@@ -175,7 +175,7 @@ export function keyScanSource({ matrix, chains }, text) {
     [scan, ["LDM", "0"]], ["", ["XCH", "R4"], say.FIRST_ROW],
     ["", ["LDM", String(REGISTER_VALUES - rows)]], ["", ["XCH", "R7"], say.countsRows(rows)],
     ["", ["LDM", String(data.bit)]], ["", ["JMS", shift], say.ONE_ENTERS], ...firstRowLines(first, labels),
-    ...columnLines(columns, labels).map((line, at) => /** @type {Line} */ (at === 0 ? [row, line[1], line[2]] : line)),
+    ...columnLines(columns, labels).map((line, index) => /** @type {Line} */ (index === 0 ? [row, line[1], line[2]] : line)),
     ["", ["LDM", "0"]], ["", ["JMS", shift], say.NEXT_ROW], ["", ["INC", "R4"]], ["", ["ISZ", "R7,", row]], ["", ["BBL", "0"], say.NO_KEY],
     ...columns.flatMap((_, column) => /** @type {Line[]} */ ([
       [labels.labelFor(String(column)), ["LDM", String(column)], say.columnIsDown(column)], ["", ["JUN", labels.labelFor("down")]]])),

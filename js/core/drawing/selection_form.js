@@ -14,12 +14,12 @@ import * as say from "../../words/drawing.js";
  * @typedef {import("./drawing_actions.js").DrawingAction} DrawingAction
  *
  * A field of the form: its label, its value, its options (null for free text), and a function that returns the action for a new value. An
- * option is a value and its displayed text (`words`).
- * @typedef {{ label: string, value: string, options: { value: string, words: string }[] | null,
- *   act: (value: string) => DrawingAction }} Field
+ * option is a value and its displayed text (`label`).
+ * @typedef {{ label: string, value: string, options: { value: string, label: string }[] | null,
+ *   createAction: (value: string) => DrawingAction }} Field
  *
- * A button of the form: its label (`word`) and its action.
- * @typedef {{ word: string, act: DrawingAction }} Button
+ * A button of the form: its label and its action.
+ * @typedef {{ label: string, action: DrawingAction }} Button
  *
  * The form for the selection: its title, the name of the part in the board text ("" for none), its fields and its buttons.
  * @typedef {{ title: string, part: string, fields: Field[], buttons: Button[] }} SelectionForm
@@ -29,23 +29,24 @@ import * as say from "../../words/drawing.js";
  * Creates a field for free text. It shows blanks instead of the underscores in the value.
  * @param {string} label
  * @param {string} value
- * @param {(value: string) => DrawingAction} act
+ * @param {(value: string) => DrawingAction} createAction
  * @returns {Field}
  */
-function textField(label, value, act) {
-  return { label, value: value.replace(/_/g, " "), options: null, act };
+function textField(label, value, createAction) {
+  return { label, value: value.replace(/_/g, " "), options: null, createAction };
 }
 
 /**
  * Creates a field with options to choose from.
  * @param {string} label
  * @param {string} value
- * @param {string[] | { value: string, words: string }[]} options
- * @param {(value: string) => DrawingAction} act
+ * @param {string[] | { value: string, label: string }[]} options
+ * @param {(value: string) => DrawingAction} createAction
  * @returns {Field}
  */
-function choiceField(label, value, options, act) {
-  return { label, value, options: options.map((each) => (typeof each === "string" ? { value: each, words: each } : each)), act };
+function choiceField(label, value, options, createAction) {
+  const labelledOptions = options.map((option) => (typeof option === "string" ? { value: option, label: option } : option));
+  return { label, value, options: labelledOptions, createAction };
 }
 
 /**
@@ -85,14 +86,14 @@ function portNameField(face, part) {
  */
 function directionField(line, port) {
   const lineNumber = Number(line.split(".")[1]);
-  const options = say.DIRECTIONS.map(([value, words]) => ({ value, words }));
+  const options = say.DIRECTIONS.map(([value, optionLabel]) => ({ value, label: optionLabel }));
   return choiceField(say.lineIsA(lineNumber), port[3 - lineNumber], options, (as) => ({ kind: "port", line, as }));
 }
 
 /** @type {(part: string) => Button} returns the button that copies a part */
-const copyButton = (part) => ({ word: say.COPY, act: { kind: "copy", part } });
-/** @type {(part: string, word?: string) => Button} returns the button that deletes a part */
-const deleteButton = (part, word = say.DELETE) => ({ word, act: { kind: "delete", part } });
+const copyButton = (part) => ({ label: say.COPY, action: { kind: "copy", part } });
+/** @type {(part: string, label?: string) => Button} returns the button that deletes a part */
+const deleteButton = (part, label = say.DELETE) => ({ label, action: { kind: "delete", part } });
 
 /**
  * Returns the form for a ROM.
@@ -103,9 +104,9 @@ const deleteButton = (part, word = say.DELETE) => ({ word, act: { kind: "delete"
  */
 function romForm(board, face, part) {
   const chip = splitTarget(part)[1];
-  const rom = board.roms.find((each) => Number(each.chip) === chip);
+  const rom = board.roms.find((romChip) => Number(romChip.chip) === chip);
   const port = rom ? rom.port : "0000";
-  const lines = indices(4).map((at) => directionField(`rom${chip}.${at}`, port));
+  const lines = indices(4).map((portLine) => directionField(`rom${chip}.${portLine}`, port));
   const fields = [portNameField(face, part), ...lines];
   return { title: say.romWithPort(chip), part, fields, buttons: [copyButton(part), deleteButton(part)] };
 }
@@ -135,13 +136,13 @@ function chainForm(board, face, part) {
 function keysForm(board, face) {
   const rows = choiceField("rows", String(board.rows), rangeNumbers(VALUE_RANGES["keys.rows"]), (value) => (
     { kind: "rows", rows: Number(value) }));
-  const columns = indices(board.columns).map((at) => lineField(board, `column ${at}`, `column ${at}`));
+  const columns = indices(board.columns).map((column) => lineField(board, `column ${column}`, `column ${column}`));
   const names = indices(board.rows).flatMap((row) => indices(board.columns).map((column) => {
     const faceText = face.keys.get(`${row} ${column}`);
     return textField(`key ${row}.${column}`, faceText ? faceText.text : "", (name) => (
       { kind: "name", part: `key ${row} ${column}`, name }));
   }));
-  const columnButton = { word: say.ANOTHER_COLUMN, act: /** @type {DrawingAction} */ ({ kind: "column" }) };
+  const columnButton = { label: say.ANOTHER_COLUMN, action: /** @type {DrawingAction} */ ({ kind: "column" }) };
   const fields = [rows, lineField(board, "row 0", "row 0"), ...columns, ...names];
   return { title: say.KEYS, part: "keys", fields, buttons: [columnButton, deleteButton("keys")] };
 }
@@ -164,7 +165,7 @@ function lampForm(board, face, lamp) {
     choiceField("colour", colour ? colour.text : "red", [...COLOURS], (value) => ({ kind: "colour", lamp: groupLamps[0], colour: value })),
     lineField(board, part, "lamp"),
   ];
-  const copies = displayAt(face, groupLamps[0]) ? [{ ...copyButton(`lamp ${groupLamps[0]}`), word: say.COPY_DISPLAY }] : [];
+  const copies = displayAt(face, groupLamps[0]) ? [{ ...copyButton(`lamp ${groupLamps[0]}`), label: say.COPY_DISPLAY }] : [];
   const buttons = isSingle ? [copyButton(part), deleteButton(part)] : [...copies, deleteButton(part, say.deleteLamps(groupLamps.length))];
   return { title: say.lampTitle(lamp), part, fields, buttons };
 }
@@ -199,12 +200,12 @@ function ramForm(face, part) {
  * @returns {SelectionForm}
  */
 function lineForm(board, name) {
-  const line = boardLines(board).find((each) => each.name === name);
+  const line = boardLines(board).find((boardLine) => boardLine.name === name);
   const rom = line && line.kind === "rom" ? board.roms.find(({ chip }) => name.startsWith(`rom${chip}.`)) : null;
   const isInput = line !== undefined && line.isInput;
   /** @type {Button[]} */
-  const buttons = line && !isInput ? [{ word: say.LAMP_HERE, act: { kind: "add", part: "lamp", line: name } }] : [];
-  if (line && !isInput && !board.buzzer) buttons.push({ word: say.BUZZER_HERE, act: { kind: "add", part: "buzzer", line: name } });
+  const buttons = line && !isInput ? [{ label: say.LAMP_HERE, action: { kind: "add", part: "lamp", line: name } }] : [];
+  if (line && !isInput && !board.buzzer) buttons.push({ label: say.BUZZER_HERE, action: { kind: "add", part: "buzzer", line: name } });
   const [, kind, number] = /^([a-z]+)(\d+)/.exec(name) || ["", "", ""];
   const fields = rom ? [directionField(name, rom.port)] : [];
   return { title: say.lineTitle(name, isInput), part: `${kind} ${number}`, fields, buttons };

@@ -41,7 +41,7 @@ export function inverseEdits(text, edits) {
  */
 export function makeSuccessive(edits) {
   let end = Infinity;
-  return [...edits].sort((one, other) => other.from - one.from || other.to - one.to).map(({ from, to, insert }) => {
+  return [...edits].sort((a, b) => b.from - a.from || b.to - a.to).map(({ from, to, insert }) => {
     const edit = { from, to: Math.max(from, Math.min(to, end)), insert };
     end = from;
     return edit;

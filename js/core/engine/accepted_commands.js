@@ -30,8 +30,8 @@ function repeatedLines({ line, text, kind }) {
 export function findAcceptedCommands(inputs, answers) {
   /** @type {AcceptedCommand[]} */
   const commands = [];
-  inputs.forEach((input, at) => {
-    const [answer = ""] = answers[at];
+  inputs.forEach((input, index) => {
+    const [answer = ""] = answers[index];
     if (!answer.startsWith("ok ")) return;
     const run = readRun(answer);
     commands.push({ line: repeatedLines(input), cycles: run ? run.cycles : 0, resets: RESET_COMMANDS[input.kind] === true });

@@ -30,8 +30,8 @@ export class BreakpointRequests {
     const { map } = this.bench.checkProgram(texts.program);
     const names = { face: new Face(texts.board), board: readBoard(session.statusQueries.board), map: new SourceMap(map, texts.program),
       watched: collectWatchNames(texts.watched) };
-    const { lines, faults } = this.bench.debugger.setBreakpoints(breakpoints, names);
-    return { ...(lines ? await this.bench.serve(lines) : this.bench.replyWithoutServing()), faults };
+    const { lines, errors } = this.bench.debugger.setBreakpoints(breakpoints, names);
+    return { ...(lines ? await this.bench.serve(lines) : this.bench.replyWithoutServing()), errors };
   }
 
   /**

@@ -13,14 +13,14 @@ import { ForecastAnswers, parseTraceLine } from "./forecast_answers.js";
  * (`longest`), and after the last change (`rest`). Null if nothing changed.
  * @typedef {{ first: number, longest: number, rest: number } | null} ChangeSummary
  *
- * The contents of a display during an interval. `patterns`: the segment pattern of each digit at the end. `moved`: the times between
- * pattern changes. If a pattern changed, `shown` lists for each digit its patterns with their durations in cycles.
- * @typedef {{ patterns: number[], moved: ChangeSummary, shown: [number, number][][] }} ShownDisplay
+ * The contents of a display during an interval. `patterns`: the segment pattern of each digit at the end. `changeSummary`: the times
+ * between pattern changes. If a pattern changed, `patternTimes` lists for each digit its patterns with their durations in cycles.
+ * @typedef {{ patterns: number[], changeSummary: ChangeSummary, patternTimes: [number, number][][] }} ShownDisplay
  *
  * The lamp measurements of an interval of `cycles` cycles. `face`: the number that the page gave to the front panel. `marks`: one character
- * per lamp at the end, `*` for on. `lamps`: the number of cycles for which each lamp was on. `moved`: the times between changes of each
- * lamp. `scanned`: for each multiplexed group except displays, the number of cycles for which each of its lamps was on, row by row.
- * @typedef {{ face: number, cycles: number, marks: string, lamps: number[], moved: ChangeSummary[], displays: ShownDisplay[],
+ * per lamp at the end, `*` for on. `lamps`: the number of cycles for which each lamp was on. `changeSummaries`: the times between changes
+ * of each lamp. `scanned`: for each multiplexed group except displays, the number of cycles for which each of its lamps was on, row by row.
+ * @typedef {{ face: number, cycles: number, marks: string, lamps: number[], changeSummaries: ChangeSummary[], displays: ShownDisplay[],
  *   scanned: number[][] }} LitShares
  */
 
@@ -38,7 +38,7 @@ export const MAX_MEASURED_CYCLES = 20000;
  * @param {number} count
  */
 function lampsDiffer(marks, marksBefore, first, count) {
-  for (let at = first; at < first + count; at++) if (marks.charCodeAt(at) !== marksBefore.charCodeAt(at)) return true;
+  for (let lamp = first; lamp < first + count; lamp++) if (marks.charCodeAt(lamp) !== marksBefore.charCodeAt(lamp)) return true;
   return false;
 }
 
@@ -128,10 +128,10 @@ class PatternTimes {
     const changes = this.changeTimes.take(cycles);
     if (changes) this.countTimeUntil(cycles);
     this.patternStart = 0;
-    if (!changes) return { patterns, moved: changes, shown: [] };
-    const shown = this.patternCycles.map((times) => [...times]);
+    if (!changes) return { patterns, changeSummary: changes, patternTimes: [] };
+    const patternTimes = this.patternCycles.map((times) => [...times]);
     for (const times of this.patternCycles) times.clear();
-    return { patterns, moved: changes, shown };
+    return { patterns, changeSummary: changes, patternTimes };
   }
 }
 
@@ -223,13 +223,14 @@ export class BrightnessMeter {
   take(answerLists) {
     for (const answers of answerLists) if (answers.length > 0) this.add(answers);
     const { number: face, cycles, marks, litCycles, lastCountTime, changeTimes } = this;
-    for (let at = 0; at < litCycles.length; at++) {
-      if (isLit(marks, at)) litCycles[at] += cycles - lastCountTime[at];
-      lastCountTime[at] = 0;
+    for (let lamp = 0; lamp < litCycles.length; lamp++) {
+      if (isLit(marks, lamp)) litCycles[lamp] += cycles - lastCountTime[lamp];
+      lastCountTime[lamp] = 0;
     }
     const litShares = {
-      face, cycles, marks, lamps: litCycles.slice(), moved: changeTimes.map((each) => each.take(cycles)),
-      displays: this.displays.map((each) => each.take(cycles)), scanned: this.scannedLamps.map((each) => each.take(marks, cycles)),
+      face, cycles, marks, lamps: litCycles.slice(), changeSummaries: changeTimes.map((times) => times.take(cycles)),
+      displays: this.displays.map((display) => display.take(cycles)),
+      scanned: this.scannedLamps.map((group) => group.take(marks, cycles)),
     };
     litCycles.fill(0);
     this.cycles = 0;
@@ -262,11 +263,11 @@ export class BrightnessMeter {
       for (const display of this.displays) display.begin(marks);
       return;
     }
-    for (let at = 0; at < litCycles.length; at++) {
-      if (marks.charCodeAt(at) === marksBefore.charCodeAt(at)) continue;
-      if (isLit(marksBefore, at)) litCycles[at] += cycles - lastCountTime[at];
-      lastCountTime[at] = cycles;
-      changeTimes[at].add(cycles);
+    for (let lamp = 0; lamp < litCycles.length; lamp++) {
+      if (marks.charCodeAt(lamp) === marksBefore.charCodeAt(lamp)) continue;
+      if (isLit(marksBefore, lamp)) litCycles[lamp] += cycles - lastCountTime[lamp];
+      lastCountTime[lamp] = cycles;
+      changeTimes[lamp].add(cycles);
     }
     for (const display of this.displays) display.recordChange(marks, marksBefore, cycles);
     for (const group of this.scannedLamps) group.countTimeUntil(marksBefore, cycles);

@@ -11,7 +11,7 @@ import { lineReference } from "../../words/stops.js";
  * @typedef {{ word: "wire" | "asm", answer: string }} RejectedText
  *
  * The session file with the accepted texts, the answer to `board`, and the rejected texts.
- * @typedef {{ file: Uint8Array, board: string[], refused: RejectedText[] }} DryRunResult
+ * @typedef {{ file: Uint8Array, board: string[], rejectedTexts: RejectedText[] }} DryRunResult
  */
 
 /**
@@ -23,7 +23,7 @@ import { lineReference } from "../../words/stops.js";
 export function dryRun(engine, { boardText, programText }) {
   const file = engine.begin();
   /** @type {RejectedText[]} */
-  const refused = [];
+  const rejectedTexts = [];
   /** @type {(word: "wire" | "asm", text: string, mark: "#" | ";") => void} */
   const tryText = (word, text, mark) => {
     if (text === "") return;
@@ -31,9 +31,9 @@ export function dryRun(engine, { boardText, programText }) {
     const [fault] = findLineFaults(text, mark);
     const lines = `${word}\n${sentText(text, mark)}.\n`;
     const answer = fault ? `${lineReference(fault.line)}: ${fault.words}` : engine.serve(file, lines, file).answers[0];
-    if (!/^ok /.test(answer)) refused.push({ word, answer });
+    if (!/^ok /.test(answer)) rejectedTexts.push({ word, answer });
   };
   tryText("wire", boardText, "#");
   tryText("asm", programText, ";");
-  return { file, board: engine.ask(file, "board\n").answers, refused };
+  return { file, board: engine.ask(file, "board\n").answers, rejectedTexts };
 }

@@ -32,10 +32,10 @@ const COUNT_OFFSET = 8;
 class Instance {
   /** @param {WebAssembly.Module} module */
   constructor(module) {
-    this.calls = startInstance(module);
+    this.exports = startInstance(module);
     /** The size of a session file in bytes. */
-    this.size = Number(this.calls.bench_file_size());
-    this.bytes = new Uint8Array(this.calls.memory.buffer);
+    this.size = Number(this.exports.bench_file_size());
+    this.bytes = new Uint8Array(this.exports.memory.buffer);
     // The additional byte lets the module detect a file that is too long.
     this.file = this.allocate(this.size + 1);
     this.input = this.allocate(FIRST_CAPACITY);
@@ -49,7 +49,7 @@ class Instance {
    * @returns {ModuleBuffer}
    */
   allocate(capacity) {
-    const offset = this.calls.bench_buffer(BigInt(capacity));
+    const offset = this.exports.bench_buffer(BigInt(capacity));
     if (offset === BigInt(0)) throw new BenchRefusal(OUT_OF_MEMORY);
     return { offset, capacity };
   }
@@ -62,7 +62,7 @@ class Instance {
   ensureCapacity(buffer, capacity) {
     if (capacity <= buffer.capacity) return buffer;
     const larger = this.allocate(capacity);
-    this.calls.bench_buffer_back(buffer.offset);
+    this.exports.bench_buffer_back(buffer.offset);
     return larger;
   }
 
@@ -73,7 +73,7 @@ class Instance {
    * @param {number} count
    */
   view({ offset }, count) {
-    const { buffer } = this.calls.memory;
+    const { buffer } = this.exports.memory;
     if (this.bytes.buffer !== buffer) this.bytes = new Uint8Array(buffer);
     return this.bytes.subarray(Number(offset), Number(offset) + count);
   }
@@ -105,7 +105,7 @@ class Instance {
 
   /** Returns the report of the last call: a number and a count. */
   readReport() {
-    const report = new DataView(this.calls.memory.buffer, Number(this.report.offset), REPORT_SIZE);
+    const report = new DataView(this.exports.memory.buffer, Number(this.report.offset), REPORT_SIZE);
     return { number: report.getUint32(0, true), count: Number(report.getBigUint64(COUNT_OFFSET, true)) };
   }
 }
@@ -118,8 +118,8 @@ class Instance {
 function startInstance(module) {
   try {
     return /** @type {ModuleExports} */ (/** @type {unknown} */ (new WebAssembly.Instance(module, {}).exports));
-  } catch (fault) {
-    throw fault instanceof RangeError ? new BenchRefusal(OUT_OF_MEMORY) : fault;
+  } catch (error) {
+    throw error instanceof RangeError ? new BenchRefusal(OUT_OF_MEMORY) : error;
   }
 }
 
@@ -152,11 +152,11 @@ export class Engine {
    */
   call(callModule) {
     try {
-      return callModule(this.instance.calls) !== 0;
-    } catch (fault) {
+      return callModule(this.instance.exports) !== 0;
+    } catch (error) {
       this.currentInstance = null;
       this.currentInstance = new Instance(this.module);
-      throw new BenchTrap(fault instanceof Error ? fault.message : String(fault));
+      throw new BenchTrap(error instanceof Error ? error.message : String(error));
     }
   }
 

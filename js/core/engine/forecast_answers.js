@@ -7,8 +7,8 @@ import { readRun } from "../bench/answers.js";
  * value.
  * @typedef {{ cycles: number, address: number, row: string }} TracedInstruction
  *
- * The counts of an instruction in a run: how often it started (`begun`), and how often it jumped (`jumped`, -1 if it cannot jump).
- * @typedef {{ address: number, begun: number, jumped: number }} InstructionCount
+ * The counts of an instruction in a run: how often it started (`startCount`), and how often it jumped (`jumpCount`, -1 if it cannot jump).
+ * @typedef {{ address: number, startCount: number, jumpCount: number }} InstructionCount
  *
  * A trace of a run: the row of traced values before the run, one line per instruction, and the number of cycles.
  * @typedef {{ row: string, lines: string[], cycles: number }} Trace
@@ -36,8 +36,8 @@ export function parseTraceLine(line) {
  */
 function readCountLine(line) {
   const blank = line.indexOf(" ", 4);
-  const begun = Number(blank < 0 ? line.slice(4) : line.slice(4, blank));
-  return { address: parseInt(line.slice(0, 3), 16), begun, jumped: blank < 0 ? -1 : Number(line.slice(blank + 1)) };
+  const startCount = Number(blank < 0 ? line.slice(4) : line.slice(4, blank));
+  return { address: parseInt(line.slice(0, 3), 16), startCount, jumpCount: blank < 0 ? -1 : Number(line.slice(blank + 1)) };
 }
 
 /**
@@ -53,22 +53,22 @@ export class ForecastAnswers {
   /** @param {string[]} answers */
   constructor(answers) {
     this.answers = answers;
-    this.at = 0;
+    this.nextIndex = 0;
   }
 
   get isEmpty() {
-    return this.at === this.answers.length;
+    return this.nextIndex === this.answers.length;
   }
 
   /** Consumes and returns the next answer. */
   take() {
-    this.at += 1;
-    return this.answers[this.at - 1];
+    this.nextIndex += 1;
+    return this.answers[this.nextIndex - 1];
   }
 
   /** @param {number} count the number of answers to skip */
   skip(count) {
-    this.at += count;
+    this.nextIndex += count;
   }
 
   /**
@@ -79,9 +79,9 @@ export class ForecastAnswers {
     const answer = this.take();
     const head = ANSWER_HEAD.exec(answer);
     if (!head) throw new Error(`the bench answered a question by: ${answer}`);
-    const from = this.at;
-    this.at += Number(head[2]);
-    return { row: head[3], lines: this.answers.slice(from, this.at), cycles: Number(head[1]) };
+    const from = this.nextIndex;
+    this.nextIndex += Number(head[2]);
+    return { row: head[3], lines: this.answers.slice(from, this.nextIndex), cycles: Number(head[1]) };
   }
 
   /** Consumes and parses the next answer to `count`: the instructions that start in a run. */

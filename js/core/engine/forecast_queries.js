@@ -23,9 +23,9 @@ import { ForecastAnswers } from "./forecast_answers.js";
  */
 export function linesWithQueries(plannedLines, querySources) {
   const afterChange = querySources.some(({ needsStates }) => needsStates) ? "state\n" : "";
-  return plannedLines.map((each) => {
-    if (each.change) return `${each.line}\n${afterChange}`;
-    return `${querySources.map((source) => source.queries(plannedCycles(each))).join("")}${each.line}\n`;
+  return plannedLines.map((plannedLine) => {
+    if (plannedLine.change) return `${plannedLine.line}\n${afterChange}`;
+    return `${querySources.map((source) => source.queries(plannedCycles(plannedLine))).join("")}${plannedLine.line}\n`;
   }).join("");
 }
 
@@ -48,17 +48,17 @@ export function splitAnswers(plannedLines, querySources, allAnswers) {
     if (change) {
       lineAnswers.push(answers.take());
       const state = needsStates ? [answers.take()] : [];
-      querySources.forEach((source, at) => sourceAnswers[at].push(source.needsStates ? state : []));
+      querySources.forEach((source, index) => sourceAnswers[index].push(source.needsStates ? state : []));
       continue;
     }
-    querySources.forEach(({ count }, at) => {
-      const from = answers.at;
+    querySources.forEach(({ count }, index) => {
+      const from = answers.nextIndex;
       for (let question = 0; question < count; question++) answers.takeTrace();
-      sourceAnswers[at].push(allAnswers.slice(from, answers.at));
+      sourceAnswers[index].push(allAnswers.slice(from, answers.nextIndex));
     });
     lineAnswers.push(answers.take());
   }
-  return { answers: [...lineAnswers, ...allAnswers.slice(answers.at)], sourceAnswers };
+  return { answers: [...lineAnswers, ...allAnswers.slice(answers.nextIndex)], sourceAnswers };
 }
 
 /** The `change` of a line that is neither a run nor a key change. */

@@ -8,7 +8,7 @@ import { joinLines } from "../bench/inputs.js";
  * @param {string[]} answers the answers to `breaks` and `watches`
  */
 function stopRemovalLines([breaks, watches]) {
-  const unwatches = readItems(watches).map((each) => each.split(".")).map(([bank, source]) => `unwatch ${bank} 0x${source}`);
+  const unwatches = readItems(watches).map((item) => item.split(".")).map(([bank, source]) => `unwatch ${bank} 0x${source}`);
   return joinLines([...readItems(breaks).map((address) => `unbreak 0x${address}`), ...unwatches]);
 }
 

@@ -20,7 +20,7 @@ const HIDDEN_REPORT_INTERVAL = 1000;
  * Returns an empty report. `end` is the answer that ended the run early ("" for none), `stop` is the reason why the machine stopped, and
  * `tally` contains the breakpoint events. At full speed, the lamps (`litShares`), the buzzer (`heard`) and RAM changes (`warmed`) are not
  * measured.
- * @returns {Omit<DebugFrame, "ran">}
+ * @returns {Omit<DebugFrame, "runEntries">}
  */
 function emptyFrame() {
   return { cycles: 0, end: "", stop: null, tally: NO_TALLY, changesKeys: false, snapshot: [], litShares: null, heard: null, warmed: null };
@@ -58,7 +58,7 @@ export class FullSpeed {
     const start = performance.now();
     const frame = machine.advance(this.batchCycles);
     const time = performance.now() - start;
-    this.runLog.add(frame.ran);
+    this.runLog.add(frame.runEntries);
     const { cycles, changesKeys, tally } = this.pendingReport;
     const { end, stop, snapshot } = frame;
     this.pendingReport = {
@@ -69,8 +69,8 @@ export class FullSpeed {
       warmed: null,
     };
     if (stop) this.isOn = false;
-    const wanted = this.batchCycles * Math.min(2, Math.max(0.5, BATCH_MILLISECONDS / Math.max(1, time)));
-    this.batchCycles = Math.round(Math.min(MAX_BATCH_CYCLES, Math.max(MIN_BATCH_CYCLES, wanted)));
+    const targetCycles = this.batchCycles * Math.min(2, Math.max(0.5, BATCH_MILLISECONDS / Math.max(1, time)));
+    this.batchCycles = Math.round(Math.min(MAX_BATCH_CYCLES, Math.max(MIN_BATCH_CYCLES, targetCycles)));
   }
 
   /**
@@ -91,6 +91,6 @@ export class FullSpeed {
     this.lastReport = performance.now();
     const { pendingReport } = this;
     this.pendingReport = emptyFrame();
-    return { ...pendingReport, ran: this.runLog.take() };
+    return { ...pendingReport, runEntries: this.runLog.take() };
   }
 }

@@ -19,10 +19,10 @@ import { sumCycles, splitIntoPieces, splitUnits, unitsBetween } from "./replay_u
  * @typedef {import("./timeline.js").Timeline} Timeline
  * @typedef {import("./replay_units.js").Unit} Unit
  *
- * A RAM nibble that has changed: its name in `poke` commands, and its number of changes. `ago` is the number of cycles since its last
+ * A RAM nibble that has changed: its name in `poke` commands, and its number of changes. `cyclesAgo` is the number of cycles since its last
  * change, and `address` is the address of the instruction that made this change. If a command made this change, `address` is -1 and `line`
  * is the command.
- * @typedef {{ place: string, count: number, ago: number, address: number, line: string }} HeatCell
+ * @typedef {{ place: string, count: number, cyclesAgo: number, address: number, line: string }} HeatCell
  *
  * The changes in the last `cycles` cycles. This number is smaller than requested if the past is shorter.
  * @typedef {{ cycles: number, cells: HeatCell[] }} Heat
@@ -43,10 +43,10 @@ export function nibbleGroups({ banks }) {
   return banks.flatMap(({ bank, chips }) => indices(chips).flatMap((chip) => [
     ...indices(REGISTERS_PER_CHIP).map((register) => {
       const first = (chip * REGISTERS_PER_CHIP + register) * NIBBLES_PER_REGISTER;
-      return indices(NIBBLES_PER_REGISTER).map((at) => `ram.${bank}.0x${hex(first + at, 2)}`);
+      return indices(NIBBLES_PER_REGISTER).map((index) => `ram.${bank}.0x${hex(first + index, 2)}`);
     }),
     indices(REGISTERS_PER_CHIP).flatMap((register) => (
-      indices(STATUS_CHARACTERS_PER_REGISTER).map((at) => `st.${bank}.${chip * REGISTERS_PER_CHIP + register}.${at}`))),
+      indices(STATUS_CHARACTERS_PER_REGISTER).map((index) => `st.${bank}.${chip * REGISTERS_PER_CHIP + register}.${index}`))),
   ]));
 }
 
@@ -57,8 +57,8 @@ export function nibbleGroups({ banks }) {
  * @returns {Moment}
  */
 function findStart(timeline, cycles) {
-  const found = timeline.before(cycles);
-  if (found) return found;
+  const moment = timeline.before(cycles);
+  if (moment) return moment;
   let { segment } = timeline.end;
   while (timeline.segments[segment].follows) segment -= 1;
   return { segment, entry: 0, cycles: 0 };
@@ -71,7 +71,7 @@ export class ChangeCounter {
     this.groups = groups;
     /** The number of cycles in which changes were counted so far. */
     this.cycles = 0;
-    /** @type {Map<string, HeatCell & { at: number }>} */
+    /** @type {Map<string, HeatCell & { changeTime: number }>} */
     this.cells = new Map();
   }
 
@@ -85,7 +85,7 @@ export class ChangeCounter {
       if (value === oldValues[number]) return;
       const place = this.groups[group][number];
       const { count } = this.cells.get(place) || { count: 0 };
-      this.cells.set(place, { place, count: count + 1, ago: 0, at: unitStart + cycles, address, line });
+      this.cells.set(place, { place, count: count + 1, cyclesAgo: 0, changeTime: unitStart + cycles, address, line });
     });
   }
 
@@ -107,7 +107,8 @@ export class ChangeCounter {
 
   /** @returns {Heat} */
   get heat() {
-    return { cycles: this.cycles, cells: [...this.cells.values()].map(({ at, ...cell }) => ({ ...cell, ago: this.cycles - at })) };
+    const cells = [...this.cells.values()].map(({ changeTime, ...cell }) => ({ ...cell, cyclesAgo: this.cycles - changeTime }));
+    return { cycles: this.cycles, cells };
   }
 }
 

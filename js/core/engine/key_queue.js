@@ -94,15 +94,15 @@ export class KeyQueue {
   /**
    * Updates the queue after planned lines were executed. The last run can have ended early.
    * @param {PlannedLine[]} plannedLines
-   * @param {(at: number) => number} cyclesOf returns the number of cycles that the line at an index ran
+   * @param {(index: number) => number} cyclesOf returns the number of cycles that the line at an index ran
    */
   markExecuted(plannedLines, cyclesOf) {
-    plannedLines.forEach(({ change }, at) => {
+    plannedLines.forEach(({ change }, index) => {
       if (change) {
-        this.changes = this.changes.filter((each) => each !== change);
+        this.changes = this.changes.filter((waitingChange) => waitingChange !== change);
         this.remainingWait = minCyclesAfter(change);
       } else {
-        this.remainingWait = Math.max(0, this.remainingWait - cyclesOf(at));
+        this.remainingWait = Math.max(0, this.remainingWait - cyclesOf(index));
       }
     });
   }

@@ -19,13 +19,14 @@ import { RECORDING_PIECE_CYCLES, RECORDING_PIECE_UNITS } from "./piece_size.js";
  * @typedef {import("./wave_recorder.js").Texts} Texts
  * @typedef {import("../waves/trigger.js").Trigger} Trigger
  *
- * Settings: the number of cycles to record after the trigger (`behind`), and whether the machine stops at the end of the recording.
- * @typedef {{ behind: number, stopsTime: boolean }} LiveSetup
+ * Settings: the number of cycles to record after the trigger (`cyclesAfterTrigger`), and whether the machine stops at the end of the
+ * recording.
+ * @typedef {{ cyclesAfterTrigger: number, stopsMachine: boolean }} LiveSetup
  *
- * A part of a recording. `triggerMoment`: the moment of the trigger, -1 before the trigger. `over`: the reason why the recording ended, or
- * "" while it continues. The reasons are: the user ended it ("hand"), it is complete ("trigger"), the board or the program changed
- * ("board", "program"), the session moved in time ("back"), too many lines were entered ("lines"), or it is too long ("long").
- * @typedef {RecordedPart & { triggerMoment: number, over: string }} LivePart
+ * A part of a recording. `triggerMoment`: the moment of the trigger, -1 before the trigger. `endReason`: the reason why the recording
+ * ended, or "" while it continues. The reasons are: the user ended it ("hand"), it is complete ("trigger"), the board or the program
+ * changed ("board", "program"), the session moved in time ("back"), too many lines were entered ("lines"), or it is too long ("long").
+ * @typedef {RecordedPart & { triggerMoment: number, endReason: string }} LivePart
  */
 
 /** The maximum length of a recording in cycles. A moment is stored in 32 bits. */
@@ -46,9 +47,9 @@ export class LiveRecorder {
     /** @type {Trigger | null} */
     this.trigger = null;
     /** @type {LiveSetup} */
-    this.options = { behind: 0, stopsTime: false };
+    this.options = { cyclesAfterTrigger: 0, stopsMachine: false };
     this.triggerMoment = -1;
-    this.over = "";
+    this.endReason = "";
     /** True if the trigger condition was true at the last check. At first true, because only a change to true triggers. */
     this.wasTrue = true;
     /** True if the machine must stop because the recording is complete. */
@@ -71,12 +72,12 @@ export class LiveRecorder {
   }
 
   get isOn() {
-    return this.over === "";
+    return this.endReason === "";
   }
 
   /** The moment at which the recording ends; Infinity before the trigger. */
   get end() {
-    return this.triggerMoment < 0 ? Infinity : this.triggerMoment + this.options.behind;
+    return this.triggerMoment < 0 ? Infinity : this.triggerMoment + this.options.cyclesAfterTrigger;
   }
 
   /**
@@ -97,15 +98,16 @@ export class LiveRecorder {
     const part = this.builder.take();
     const newAddresses = [...new Set(part.counters)].filter((address) => this.listedAddresses[address] === 0);
     for (const address of newAddresses) this.listedAddresses[address] = 1;
-    return { ...part, listing: listingLinesAt(this.engine, file, newAddresses), triggerMoment: this.triggerMoment, over: this.over };
+    const { engine, triggerMoment, endReason } = this;
+    return { ...part, listing: listingLinesAt(engine, file, newAddresses), triggerMoment, endReason };
   }
 
   /**
    * Ends the recording.
-   * @param {string} reason the reason, as in `over` of LivePart
+   * @param {string} reason the reason, as in `endReason` of LivePart
    */
   stop(reason) {
-    if (this.isOn) this.over = reason;
+    if (this.isOn) this.endReason = reason;
   }
 
   // --- While the machine runs ---
@@ -140,8 +142,8 @@ export class LiveRecorder {
     const startMoment = builder.elapsed;
     const instructionCount = builder.moments.count;
     const counts = trigger ? trigger.members.map((member) => builder.tracks[member].moments.count) : [];
-    plannedLines.forEach(({ change }, at) => {
-      const lineAnswers = new ForecastAnswers(tracedAnswers[at]);
+    plannedLines.forEach(({ change }, index) => {
+      const lineAnswers = new ForecastAnswers(tracedAnswers[index]);
       if (change) {
         builder.takeState(lineAnswers.take());
         return;
@@ -149,7 +151,7 @@ export class LiveRecorder {
       const from = builder.elapsed;
       builder.takeForecast(lineAnswers);
       if (this.tracedPlaces) this.triggerOnCondition(lineAnswers, from);
-      builder.takeEnd(readRun(answers[at]) || { cycles: 0, end: answers[at] });
+      builder.takeEnd(readRun(answers[index]) || { cycles: 0, end: answers[index] });
     });
     builder.takeState(answers[plannedLines.length]);
     if (trigger && trigger.edge) this.triggerOnEdge(trigger, counts);
@@ -193,7 +195,7 @@ export class LiveRecorder {
     const edgeMoments = members.flatMap((member, index) => {
       const track = this.builder.tracks[member];
       const moments = [...track.moments.all.subarray(counts[index])];
-      return moments.find((_, at) => level < 0 || track.valueAfter(counts[index] + at + 1) === level) ?? [];
+      return moments.find((_, offset) => level < 0 || track.valueAfter(counts[index] + offset + 1) === level) ?? [];
     });
     if (edgeMoments.length > 0) this.triggerMoment = Math.min(...edgeMoments);
   }
@@ -207,8 +209,8 @@ export class LiveRecorder {
   triggerOnArrival(address, earlierCount) {
     if (this.triggerMoment >= 0) return;
     const [moments, counters] = [this.builder.moments.all, this.builder.counters.all];
-    const found = moments.findIndex((moment, at) => at >= earlierCount && moment > 0 && counters[at] === address);
-    if (found >= 0) this.triggerMoment = moments[found];
+    const arrivalIndex = moments.findIndex((moment, index) => index >= earlierCount && moment > 0 && counters[index] === address);
+    if (arrivalIndex >= 0) this.triggerMoment = moments[arrivalIndex];
   }
 
   /**
@@ -223,7 +225,7 @@ export class LiveRecorder {
     if (this.triggerMoment >= 0) this.tracedPlaces = "";
     if (builder.elapsed < end) return -1;
     this.stop("trigger");
-    if (!options.stopsTime) return -1;
+    if (!options.stopsMachine) return -1;
     this.mustStopMachine = true;
     const next = builder.moments.all.subarray(earlierCount).find((moment) => moment >= end);
     return (next === undefined ? builder.elapsed : next) - startMoment;
@@ -240,11 +242,11 @@ export class LiveRecorder {
     const { engine } = this;
     if (commands.some(({ line }) => /^\s*wire/.test(line))) this.stop("board");
     else if (commands.some(({ line }) => /^\s*(asm|poke\s+rom)/.test(line))) this.stop("program");
-    for (let at = 0; at < commands.length && this.isOn;) {
-      const startIndex = at;
+    for (let index = 0; index < commands.length && this.isOn;) {
+      const startIndex = index;
       const end = Math.min(commands.length, startIndex + RECORDING_PIECE_UNITS);
-      for (let cycles = 0; at < end && cycles < RECORDING_PIECE_CYCLES; at++) cycles += commands[at].cycles;
-      const plannedLines = commands.slice(startIndex, at).map(replayLine);
+      for (let cycles = 0; index < end && cycles < RECORDING_PIECE_CYCLES; index++) cycles += commands[index].cycles;
+      const plannedLines = commands.slice(startIndex, index).map(replayLine);
       const served = engine.serve(file, `${linesWithQueries(plannedLines, [this])}state\n`, file);
       const { sourceAnswers: [tracedAnswers], answers } = splitAnswers(plannedLines, [this], served.answers);
       this.take(plannedLines, tracedAnswers, answers);

@@ -161,7 +161,7 @@ export class OpenBench {
    */
   takeUnreported() {
     const { tally, ...result } = this.fullSpeed.takeReport();
-    const lateTally = { ...NO_TALLY, usual: this.debugger.takeLateMistakes() };
+    const lateTally = { ...NO_TALLY, mistakes: this.debugger.takeLateMistakes() };
     return { ...result, tally: joinTallies(lateTally, tally), ...this.snapshotReport(this.session.takeSnapshot(), false) };
   }
 

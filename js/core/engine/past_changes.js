@@ -52,12 +52,12 @@ export function reportChanges(engine, file, units, groups, report) {
       if (after !== previousRow) report({ group, before: previousRow, after, ...details });
       previousRow = after;
     };
-    units.forEach((unit, at) => {
+    units.forEach((unit, index) => {
       if (unit.cycles === 0) {
-        reportIfChanged(traces[at + 1][group].row, { unit, cycles: 0, address: -1, line: unit.line.split("\n")[0] });
+        reportIfChanged(traces[index + 1][group].row, { unit, cycles: 0, address: -1, line: unit.line.split("\n")[0] });
         return;
       }
-      for (const { row, cycles, address } of traces[at][group].lines.map(parseTraceLine)) {
+      for (const { row, cycles, address } of traces[index][group].lines.map(parseTraceLine)) {
         reportIfChanged(row, { unit, cycles, address, line: "" });
       }
     });

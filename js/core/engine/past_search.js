@@ -26,15 +26,15 @@ import { sumCycles, splitIntoPieces, unitsBetween } from "./replay_units.js";
  *   | { kind: "when", condition: string, searchCondition?: import("../debug/condition_search.js").SearchCondition }
  *   | { kind: "call", call: number, returns: string[] }} BackGoal
  *
- * The result of a search of the past. If nothing was found, `moment` is null and `why` is the reason: the past is too short ("short"), or
+ * The result of a search of the past. If nothing was found, `moment` is null and `reason` is: the past is too short ("short"), or
  * the board does not have the place ("lacks"). For a change, the result has the changed place, the old value (`from`), the new value
  * (`to`), and the command that made the change (`line`, "" for an instruction). For an arrival, `end` is its kind: a breakpoint (with its
  * `id`), a change, or the start of the stored past. `present` is the session at `moment`, null if not known.
- * @typedef {{ moment: Moment | null, why: "" | "short" | "lacks", place: string, from: string, to: string, line: string, end: "" | "break"
- * | "change" | "beginning", id: number, present: import("./timeline.js").SessionAtMoment | null }} BackSearchResult
+ * @typedef {{ moment: Moment | null, reason: "" | "short" | "lacks", place: string, from: string, to: string, line: string,
+ *   end: "" | "break" | "change" | "beginning", id: number, present: import("./timeline.js").SessionAtMoment | null }} BackSearchResult
  *
- * An object that searches a part of the past. `begin` sets the session from which to replay. `among` replays consecutive units from that
- * session, and returns the last match in these units.
+ * An object that searches a part of the past. `begin` sets the session from which to replay. `findLastIn` replays consecutive units from
+ * that session, and returns the last match in these units.
  * @typedef {{ begin: (present: import("./timeline.js").SessionAtMoment) => void,
  *   findLastIn: (units: Unit[]) => BackSearchResult | null }} Finder
  */
@@ -48,7 +48,7 @@ const BLOCK_GROWTH = 8;
 const MAX_BLOCK_CYCLES = 4000000;
 
 /** @type {Omit<BackSearchResult, "moment" | "present">} the default fields of a result */
-export const EMPTY_SEARCH_RESULT = { why: "", place: "", from: "", to: "", line: "", end: "", id: 0 };
+export const EMPTY_SEARCH_RESULT = { reason: "", place: "", from: "", to: "", line: "", end: "", id: 0 };
 
 /**
  * Returns a search result with the given fields; the other fields are null or empty.
@@ -73,7 +73,7 @@ async function findLastInstruction(engine, timeline, shouldContinue) {
     const present = await timeline.sessionAt(engine, moment, shouldContinue);
     if (readCounter(engine.ask(present.file, "regs\n").answers[0]).owed === "0") return searchResult({ moment, present });
   }
-  return searchResult({ why: "short" });
+  return searchResult({ reason: "short" });
 }
 
 /** Finds the last change of a place. */
@@ -148,19 +148,19 @@ class LastTrueFinder extends LastChangeFinder {
  * @param {Timeline} timeline
  * @param {Finder} finder
  * @param {ShouldContinue} shouldContinue
- * @returns {Promise<{ found: BackSearchResult | null, beginning: Moment }>} `beginning` is the start of the stored past
+ * @returns {Promise<{ lastMatch: BackSearchResult | null, start: Moment }>} `start` is the start of the stored past
  */
 export async function searchPast(engine, timeline, finder, shouldContinue) {
   let to = timeline.end;
   for (let size = FIRST_BLOCK_CYCLES; ; size = Math.min(MAX_BLOCK_CYCLES, size * BLOCK_GROWTH)) {
     // At the start of a segment, the search continues at the end of the previous segment.
     if (to.entry === 0 && to.cycles === 0) {
-      if (!timeline.segments[to.segment].follows) return { found: null, beginning: to };
+      if (!timeline.segments[to.segment].follows) return { lastMatch: null, start: to };
       const { entries } = timeline.segments[to.segment - 1];
       to = { segment: to.segment - 1, entry: entries.length, cycles: 0 };
     }
-    const wanted = timeline.before(size, to);
-    const from = wanted && wanted.segment === to.segment ? wanted : { segment: to.segment, entry: 0, cycles: 0 };
+    const requestedStart = timeline.before(size, to);
+    const from = requestedStart && requestedStart.segment === to.segment ? requestedStart : { segment: to.segment, entry: 0, cycles: 0 };
     finder.begin(await timeline.sessionAt(engine, from, shouldContinue));
     /** @type {BackSearchResult | null} */
     let match = null;
@@ -168,7 +168,7 @@ export async function searchPast(engine, timeline, finder, shouldContinue) {
       match = finder.findLastIn(units) || match;
       if (!(await shouldContinue(sumCycles(units)))) throw new CancelledError();
     }
-    if (match) return { found: match, beginning: from };
+    if (match) return { lastMatch: match, start: from };
     to = from;
   }
 }
@@ -196,15 +196,15 @@ export function makeChangeFinder(engine, file, name) {
 export async function findBackTarget(engine, { timeline, file }, goal, shouldContinue) {
   if (goal.kind === "change") {
     const finder = makeChangeFinder(engine, file, goal.place);
-    if (!finder) return searchResult({ why: "lacks", place: goal.place });
-    return (await searchPast(engine, timeline, finder, shouldContinue)).found || searchResult({ why: "short", place: goal.place });
+    if (!finder) return searchResult({ reason: "lacks", place: goal.place });
+    return (await searchPast(engine, timeline, finder, shouldContinue)).lastMatch || searchResult({ reason: "short", place: goal.place });
   }
   if (goal.kind === "when") {
     const finder = goal.searchCondition ? new LastTrueFinder(engine, goal.searchCondition) : null;
-    const found = finder ? (await searchPast(engine, timeline, finder, shouldContinue)).found : null;
-    return found || searchResult({ why: "short" });
+    const match = finder ? (await searchPast(engine, timeline, finder, shouldContinue)).lastMatch : null;
+    return match || searchResult({ reason: "short" });
   }
   if (goal.kind === "instruction") return findLastInstruction(engine, timeline, shouldContinue);
   const moment = timeline.lastStop();
-  return searchResult({ moment, why: moment ? "" : "short" });
+  return searchResult({ moment, reason: moment ? "" : "short" });
 }

@@ -43,7 +43,7 @@ export class PerceivedText {
     this.face = face;
     this.count = count;
     const displays = face.groups.filter(({ kind }) => kind === "display");
-    this.text = new DisplayText(displays, [...face.lamps].map(([at, { text }]) => ({ at, text })));
+    this.text = new DisplayText(displays, [...face.lamps].map(([lamp, { text }]) => ({ lamp, text })));
   }
 
   /**

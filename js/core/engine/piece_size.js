@@ -34,8 +34,8 @@ export class PieceSize {
   measure(runPiece) {
     const start = performance.now();
     const result = runPiece();
-    const wanted = this.size * Math.min(4, Math.max(0.25, PIECE_MILLISECONDS / Math.max(1, performance.now() - start)));
-    this.size = Math.round(Math.min(this.max, Math.max(this.min, wanted)));
+    const targetSize = this.size * Math.min(4, Math.max(0.25, PIECE_MILLISECONDS / Math.max(1, performance.now() - start)));
+    this.size = Math.round(Math.min(this.max, Math.max(this.min, targetSize)));
     return result;
   }
 }

@@ -117,12 +117,12 @@ export class PrinterCodes {
    */
   collectCodes(engine, file, commands, total) {
     let cyclesBefore = total;
-    for (let at = 0; at < commands.length;) {
-      const startIndex = at;
+    for (let index = 0; index < commands.length;) {
+      const startIndex = index;
       const end = Math.min(commands.length, startIndex + RECORDING_PIECE_UNITS);
       let cycles = 0;
-      for (; at < end && cycles < RECORDING_PIECE_CYCLES; at++) cycles += commands[at].cycles;
-      const plannedLines = commands.slice(startIndex, at).map(replayLine);
+      for (; index < end && cycles < RECORDING_PIECE_CYCLES; index++) cycles += commands[index].cycles;
+      const plannedLines = commands.slice(startIndex, index).map(replayLine);
       const { answers } = engine.serve(file, linesWithQueries(plannedLines, [this]), file);
       const { sourceAnswers: [answerLists] } = splitAnswers(plannedLines, [this], answers);
       this.take(answerLists, cyclesBefore);

@@ -40,8 +40,8 @@ export function findSendingError(text) {
  * @returns {Program}
  */
 export function readProgram(engine, text) {
-  const fault = findSendingError(text);
-  if (fault) return { text, map: [], refusal: fault, bytes: parseRomBytes([]) };
+  const sendingError = findSendingError(text);
+  if (sendingError) return { text, map: [], refusal: sendingError, bytes: parseRomBytes([]) };
   const textWithLineEnd = text === "" || text.endsWith("\n") ? text : `${text}\n`;
   const lines = `${ALL_ROMS}asm\n${textWithLineEnd}.\nmap\n${textWithLineEnd}.\n${listQueries(PAGE_NUMBERS)}`;
   const [, loaded, map, ...lists] = matchAnswers(readInputs(lines), engine.ask(engine.begin(), lines).answers);
@@ -89,6 +89,6 @@ export function findDifference(engine, file, board, program) {
   const roms = new Set(readBoard(board).roms.map(({ chip }) => chip));
   const bytes = parseRomBytes(engine.ask(file, listQueries(pages)).answers);
   const hasRom = (/** @type {number} */ address) => roms.has(Math.floor(address / PAGE_BYTES));
-  const address = program.bytes.findIndex((byte, at) => byte !== NO_BYTE && (byte !== bytes[at] || !hasRom(at)));
+  const address = program.bytes.findIndex((byte, index) => byte !== NO_BYTE && (byte !== bytes[index] || !hasRom(index)));
   return address < 0 ? null : { address, hasRom: hasRom(address) };
 }

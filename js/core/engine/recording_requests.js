@@ -35,20 +35,20 @@ export class RecordingRequests {
   /**
    * Starts a recording that continues while the machine runs. It ends at a call of `endRecording`, or earlier for one of the reasons in
    * LivePart. Returns the start of the recording. Each later report to the page contains the next part as `waves`. If the trigger has an
-   * error, nothing is recorded and `fault` is the error message.
+   * error, nothing is recorded and `error` is the error message.
    * @param {WaveTexts} texts
    * @param {{ trigger: string } & LiveSetup} options
-   * @returns {{ recorded: Recording | null, fault: string }}
+   * @returns {{ recorded: Recording | null, error: string }}
    */
   recordLive(texts, options) {
     const { engine, session } = this.bench;
     const recorder = new LiveRecorder(engine, session.file, this.bench.recordingTexts(texts));
     const names = this.bench.collectNames(texts);
-    const { trigger, fault } = readTrigger(options.trigger, recorder.lines, names);
-    if (fault) return { recorded: null, fault };
+    const { trigger, fault: error } = readTrigger(options.trigger, recorder.lines, names);
+    if (error) return { recorded: null, error };
     recorder.waitFor(trigger, options);
     session.recorder = recorder;
-    return { recorded: recorder.recorded(session.file), fault: "" };
+    return { recorded: recorder.recorded(session.file), error: "" };
   }
 
   /** Ends the recording; returns its last part. */

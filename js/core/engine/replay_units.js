@@ -61,11 +61,11 @@ export function sumCycles(units) {
 export function* splitIntoPieces(units, maxCycles, maxUnits) {
   let from = 0;
   let cycles = 0;
-  for (let at = 0; at < units.length; at++) {
-    cycles += units[at].cycles;
-    if (cycles < maxCycles && at + 1 - from < maxUnits && at + 1 < units.length) continue;
-    yield units.slice(from, at + 1);
-    from = at + 1;
+  for (let index = 0; index < units.length; index++) {
+    cycles += units[index].cycles;
+    if (cycles < maxCycles && index + 1 - from < maxUnits && index + 1 < units.length) continue;
+    yield units.slice(from, index + 1);
+    from = index + 1;
     cycles = 0;
   }
 }

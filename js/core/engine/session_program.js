@@ -11,13 +11,13 @@ import { readProgram } from "./program_check.js";
  * @typedef {import("./engine_host.js").EngineHost} EngineHost
  * @typedef {import("../testing/test_preparation.js").TextFault} TextFault
  *
- * The first difference between ROM and the program: the address, the byte in ROM (`is`), the source line, and the byte that this line
- * assembles to (`makes`).
+ * The first difference between ROM and the program: the address, the byte in ROM (`romByte`), the source line, and the byte that this
+ * line assembles to (`sourceByte`).
  * @typedef {{ address: string, romByte: string, line: number, sourceByte: string }} OtherByte
  *
- * The source text of a session's program, compared with ROM. `faults` are the errors in the text, `other` is the first difference from ROM
- * (null for none), and `map` is the source map.
- * @typedef {{ faults: TextFault[], other: OtherByte | null, map: SourceMap }} SessionProgram
+ * The source text of a session's program, compared with ROM. `faults` are the errors in the text, `difference` is the first difference from
+ * ROM (null for none), and `map` is the source map.
+ * @typedef {{ faults: TextFault[], difference: OtherByte | null, map: SourceMap }} SessionProgram
  */
 
 /**
@@ -58,5 +58,5 @@ export function readSource(engine, text) {
  */
 export function sessionProgram(engine, codes, text) {
   const { faults, map, bytes } = readSource(engine, text);
-  return { faults, other: faults.length > 0 ? null : firstDifference(codes, bytes, map), map };
+  return { faults, difference: faults.length > 0 ? null : firstDifference(codes, bytes, map), map };
 }

@@ -43,10 +43,10 @@ export class SessionRequests {
   recall(segments) {
     try {
       return this.bench.session.timeline.recall(this.bench.engine, segments);
-    } catch (fault) {
+    } catch (error) {
       // The stored bytes are not a valid session file.
-      if (fault instanceof BenchRefusal) return -1;
-      throw fault;
+      if (error instanceof BenchRefusal) return -1;
+      throw error;
     }
   }
 
@@ -65,13 +65,13 @@ export class SessionRequests {
    * @returns {Promise<TypedReply>}
    */
   async serveTyped(lines) {
-    const typedResult = { id: 0, why: "", change: "", cut: "", cycles: 0, tally: NO_TALLY };
+    const typedResult = { id: 0, reason: "", change: "", cutLine: "", cycles: 0, tally: NO_TALLY };
     const result = await this.bench.executeAndReport(async () => {
       const served = await this.bench.debugger.serveTyped(lines, (done) => this.bench.shouldContinue(done, lines.length));
-      Object.assign(typedResult, served.typed);
+      Object.assign(typedResult, served.typedResult);
       return served.result;
     });
-    return { ...result, typed: typedResult };
+    return { ...result, typedResult };
   }
 
   /**

@@ -30,7 +30,7 @@ export function recoverTexts(engine, file, examples) {
   const board = engine.ask(file, "board\n").answers.join("\n");
   const rom = engine.ask(file, LIST_ALL_ROMS).answers.join("\n");
   const exampleFile = new Uint8Array(file.length);
-  for (const example of examples.filter((each) => each.board)) {
+  for (const example of examples.filter((candidate) => candidate.board)) {
     engine.serve(engine.begin(exampleFile), exampleLines(example), exampleFile);
     if (engine.ask(exampleFile, "board\n").answers.join("\n") !== board) continue;
     const isSame = engine.ask(exampleFile, LIST_ALL_ROMS).answers.join("\n") === rom;

@@ -77,14 +77,14 @@ export class Timeline {
      */
     this.future = [];
     /** @type {PastChanges} */
-    this.news = { isNewPast: true, entries: [] };
+    this.unreportedChanges = { isNewPast: true, entries: [] };
   }
 
   /** Returns the entries since the previous call. */
   takeChanges() {
-    const { news } = this;
-    this.news = { isNewPast: false, entries: [] };
-    return news;
+    const { unreportedChanges } = this;
+    this.unreportedChanges = { isNewPast: false, entries: [] };
+    return unreportedChanges;
   }
 
   /**
@@ -119,8 +119,8 @@ export class Timeline {
    */
   prepend(stored, count) {
     const [first, ...more] = this.segments;
-    const momentBefore = stored.map((each, at) => restoreSegment(
-      at === stored.length - 1 ? { ...each, entries: each.entries.slice(0, count) } : each, at));
+    const momentBefore = stored.map((segment, index) => restoreSegment(
+      index === stored.length - 1 ? { ...segment, entries: segment.entries.slice(0, count) } : segment, index));
     this.segments = [...momentBefore, { ...first, follows: true }, ...more];
     return count;
   }
@@ -149,12 +149,12 @@ export class Timeline {
     this.future = [];
     const { last } = this;
     const isTooLong = commands.length > MAX_SEGMENT_ENTRIES || commands.some(({ line }) => line.length > MAX_LINE_LENGTH);
-    if (isTooLong) this.news = { isNewPast: true, entries: [] };
+    if (isTooLong) this.unreportedChanges = { isNewPast: true, entries: [] };
     else {
       for (const { line, cycles, resets } of commands) {
         const entry = { line, cycles, resets, isStop: this.isStopped };
         last.entries.push(entry);
-        this.news.entries.push(entry);
+        this.unreportedChanges.entries.push(entry);
         last.cycles += cycles;
         last.characters += line.length;
         this.isStopped = false;
@@ -182,9 +182,10 @@ export class Timeline {
 
   /** Removes the oldest segment without a stop; if all segments have stops, removes the oldest segment. */
   dropSegment() {
-    const found = this.segments.findIndex(({ entries }, at) => at < this.segments.length - 1 && !entries.some(({ isStop }) => isStop));
-    const droppedIndex = Math.max(0, found);
-    this.segments = this.segments.filter((_, each) => each !== droppedIndex);
+    const olderSegments = this.segments.slice(0, -1);
+    const stoplessIndex = olderSegments.findIndex(({ entries }) => !entries.some(({ isStop }) => isStop));
+    const droppedIndex = Math.max(0, stoplessIndex);
+    this.segments = this.segments.filter((_, index) => index !== droppedIndex);
     this.segments[droppedIndex] = { ...this.segments[droppedIndex], follows: false };
   }
 
@@ -267,7 +268,7 @@ export class Timeline {
     const cycles = entries.reduce((sum, entry) => sum + entry.cycles, 0);
     const marks = oldSegment.marks.filter(({ entry }) => entry <= moment.entry);
     this.segments = [...segments.slice(0, moment.segment), { ...oldSegment, entries, cycles, marks }];
-    this.news = { isNewPast: true, entries: [] };
+    this.unreportedChanges = { isNewPast: true, entries: [] };
     this.isStopped = true;
   }
 
@@ -279,7 +280,7 @@ export class Timeline {
     const target = this.future.pop();
     if (!target) return null;
     this.segments = target.segments;
-    this.news = { isNewPast: true, entries: [] };
+    this.unreportedChanges = { isNewPast: true, entries: [] };
     this.isStopped = true;
     return target;
   }

@@ -36,10 +36,10 @@ export class TravelRequests {
    */
   async goOn(goal, maxCycles = nearDistance(goal)) {
     const shouldContinue = (/** @type {number} */ done) => this.bench.shouldContinue(done, maxCycles);
-    const { found, result, tally } = await this.bench.debugger.runToGoal(goal, maxCycles, shouldContinue);
-    if (!result) return { ...this.bench.replyWithoutServing(), found, tally };
+    const { searchResult, result, tally } = await this.bench.debugger.runToGoal(goal, maxCycles, shouldContinue);
+    if (!result) return { ...this.bench.replyWithoutServing(), searchResult, tally };
     const { snapshot, ...served } = result;
-    return { ...served, ...this.bench.snapshotReport(snapshot, false), found, tally };
+    return { ...served, ...this.bench.snapshotReport(snapshot, false), searchResult, tally };
   }
 
   /** Abandons the goal, because the user starts or pauses the machine. */

@@ -78,10 +78,10 @@ function fieldsForKind(lines, kind) {
  */
 function placesOfDigits(places) {
   const digits = places.map(() => "0");
-  return places.map((place, at) => ({
+  return places.map((place, index) => ({
     place,
     read: (/** @type {string} */ answer) => {
-      digits[at] = answer;
+      digits[index] = answer;
       return parseInt(digits.join(""), 16);
     },
   }));
@@ -96,7 +96,7 @@ function groupPlaces(lines) {
   /** @type {QueryGroup[]} */
   const groups = [];
   for (const places of [fieldsForKind(lines, "level"), fieldsForKind(lines, "value")]) {
-    for (let at = 0; at < places.length; at += MAX_PLACES) groups.push({ fields: places.slice(at, at + MAX_PLACES), row: "" });
+    for (let from = 0; from < places.length; from += MAX_PLACES) groups.push({ fields: places.slice(from, from + MAX_PLACES), row: "" });
   }
   return groups;
 }
@@ -108,9 +108,9 @@ function groupPlaces(lines) {
  */
 function setPositions({ fields }, row) {
   let from = 1;
-  rowValues(row).forEach((value, at) => {
-    fields[at].from = from;
-    fields[at].to = from + value.length;
+  rowValues(row).forEach((value, index) => {
+    fields[index].from = from;
+    fields[index].to = from + value.length;
     from += value.length + 1;
   });
 }
@@ -123,7 +123,7 @@ function setPositions({ fields }, row) {
  * @param {number} to
  */
 function isSameRange(left, right, from, to) {
-  for (let at = from; at < to; at++) if (left.charCodeAt(at) !== right.charCodeAt(at)) return false;
+  for (let index = from; index < to; index++) if (left.charCodeAt(index) !== right.charCodeAt(index)) return false;
   return true;
 }
 
@@ -206,12 +206,12 @@ export class WaveBuilder {
    */
   takeInstructionLine(line) {
     let cycles = 0;
-    let at = 0;
-    for (let code = line.charCodeAt(0); code !== BLANK_CODE; code = line.charCodeAt(at)) {
+    let index = 0;
+    for (let code = line.charCodeAt(0); code !== BLANK_CODE; code = line.charCodeAt(index)) {
       cycles = 10 * cycles + code - ZERO_CODE;
-      at += 1;
+      index += 1;
     }
-    const address = 256 * digitAt(line, at + 1) + 16 * digitAt(line, at + 2) + digitAt(line, at + 3);
+    const address = 256 * digitAt(line, index + 1) + 16 * digitAt(line, index + 2) + digitAt(line, index + 3);
     this.takeInstruction(this.elapsed + cycles, address);
   }
 

@@ -97,7 +97,7 @@ export function listingLinesAt(engine, file, addresses) {
   const addressList = [...addresses];
   if (addressList.length === 0) return [];
   const { answers } = engine.ask(file, joinLines(addressList.map((address) => `list ${address} 1`)));
-  return addressList.map((address, at) => [address, answers[at]]);
+  return addressList.map((address, index) => [address, answers[index]]);
 }
 
 /**
@@ -147,10 +147,10 @@ function findRecordingStart(timeline, cycles) {
  * @param {Moment} from
  */
 function unitsFrom(timeline, from) {
-  return timeline.segments.slice(from.segment).flatMap(({ entries }, at) => {
-    const segment = from.segment + at;
-    const begin = at === 0 ? from : { segment, entry: 0, cycles: 0 };
-    return unitsBetween(timeline, begin, { segment, entry: entries.length, cycles: 0 });
+  return timeline.segments.slice(from.segment).flatMap(({ entries }, index) => {
+    const segment = from.segment + index;
+    const start = index === 0 ? from : { segment, entry: 0, cycles: 0 };
+    return unitsBetween(timeline, start, { segment, entry: entries.length, cycles: 0 });
   });
 }
 

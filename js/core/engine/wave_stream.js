@@ -29,7 +29,7 @@ const dependsOnCounter = ({ kind }) => kind === "pc" || kind === "label";
  */
 export function linesWithMembers(lines, chosenLines) {
   const neededIndices = [...new Set(chosenLines.flatMap((line) => [line, ...lines[line].members]))];
-  const positions = new Map(neededIndices.map((line, at) => [line, at]));
+  const positions = new Map(neededIndices.map((line, index) => [line, index]));
   const newIndex = (/** @type {number} */ line) => positions.get(line) ?? -1;
   return {
     lines: neededIndices.map((line) => ({ ...lines[line], members: lines[line].members.map(newIndex) })),

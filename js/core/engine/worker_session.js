@@ -39,10 +39,10 @@ import { MAX_SEGMENT_ENTRIES, Timeline } from "./timeline.js";
  * @typedef {{ entries: ServedInput[], first: string, status: number, hasChangedRom: boolean, wires: boolean }} LinesResult
  * @typedef {LinesResult & { snapshot: string[] }} ResultAndSnapshot
  *
- * The result of running cycles. `ran` lists the executed lines. `end` is the answer that ended the run early, or "". `litShares`, `heard`
- * and `warmed` are the lamp brightness, the buzzer levels and the RAM changes; each is null if not requested.
- * @typedef {{ ran: RunEntry[], cycles: number, end: string, changesKeys: boolean, snapshot: string[], litShares: LitShares | null, heard:
- * BuzzerLevels | null, warmed: ChipHeat | null }} Frame
+ * The result of running cycles. `runEntries` lists the executed lines. `end` is the answer that ended the run early, or "". `litShares`,
+ * `heard` and `warmed` are the lamp brightness, the buzzer levels and the RAM changes; each is null if not requested.
+ * @typedef {{ runEntries: RunEntry[], cycles: number, end: string, changesKeys: boolean, snapshot: string[], litShares: LitShares | null,
+ *   heard: BuzzerLevels | null, warmed: ChipHeat | null }} Frame
  */
 
 /** The maximum number of executed inputs in a result. */
@@ -119,7 +119,7 @@ export class WorkerSession {
     return takeSnapshotOf(this.engine, this.file, this.statusQueries);
   }
 
-  /** Replaces the session file by the file in `next`, which the last call has written. */
+  /** Replaces the session file by the file in `nextFile`, which the last call has written. */
   adoptResult() {
     [this.file, this.nextFile] = [this.nextFile, this.file];
   }
@@ -142,20 +142,20 @@ export class WorkerSession {
     const { done: servedLines, answers, snapshot, measurements } = this.servePlannedLines(plannedLines);
     this.adoptResult();
     const runs = answers.map(readRun);
-    /** @type {(at: number) => number} */
-    const cyclesOf = (at) => (runs[at] || { cycles: 0 }).cycles;
+    /** @type {(index: number) => number} */
+    const cyclesOf = (index) => (runs[index] || { cycles: 0 }).cycles;
     this.queue.markExecuted(servedLines, cyclesOf);
-    const accepted = servedLines.map(({ line }, at) => ({ line, cycles: cyclesOf(at), resets: false }));
-    this.record(accepted.filter((_, at) => parseRefusal(answers[at]) === null));
-    const ranEntries = servedLines.map(({ line, change }, at) => (
-      { line, answer: answers[at], runs: change ? 0 : 1, cycles: cyclesOf(at) }));
+    const accepted = servedLines.map(({ line }, index) => ({ line, cycles: cyclesOf(index), resets: false }));
+    this.record(accepted.filter((_, index) => parseRefusal(answers[index]) === null));
+    const ranEntries = servedLines.map(({ line, change }, index) => (
+      { line, answer: answers[index], runs: change ? 0 : 1, cycles: cyclesOf(index) }));
     const last = answers[answers.length - 1] || "";
     if (isStop(last)) this.timeline.stop();
     return {
-      ran: ranEntries,
+      runEntries: ranEntries,
       cycles: runs.reduce((sum, run) => sum + (run ? run.cycles : 0), 0),
       end: isStop(last) ? last : "",
-      changesKeys: servedLines.some((each) => each.change !== null),
+      changesKeys: servedLines.some((servedLine) => servedLine.change !== null),
       snapshot,
       ...measurements,
     };
@@ -213,7 +213,7 @@ export class WorkerSession {
    */
   servePlannedLines(plannedLines) {
     let served = this.tryPlannedLines(plannedLines);
-    const stopIndex = served.answers.findIndex((answer, at) => at < plannedLines.length && isStop(answer));
+    const stopIndex = served.answers.findIndex((answer, index) => index < plannedLines.length && isStop(answer));
     let servedLines = plannedLines;
     if (stopIndex >= 0 && stopIndex < plannedLines.length - 1) {
       servedLines = plannedLines.slice(0, stopIndex + 1);
@@ -236,7 +236,7 @@ export class WorkerSession {
    * @param {PlannedLine[]} plannedLines
    */
   metersFor(plannedLines) {
-    const isShort = plannedLines.reduce((sum, each) => sum + plannedCycles(each), 0) <= MAX_MEASURED_CYCLES;
+    const isShort = plannedLines.reduce((sum, plannedLine) => sum + plannedCycles(plannedLine), 0) <= MAX_MEASURED_CYCLES;
     const { brightnessMeter, buzzerMeter, heatMeter } = this;
     return isShort ? { brightnessMeter, buzzerMeter, heatMeter } : { brightnessMeter: null, buzzerMeter: null, heatMeter: null };
   }
@@ -251,7 +251,7 @@ export class WorkerSession {
   }
 
   /**
-   * Executes planned lines together with all queries, in one call of the engine. Writes the new session file to `next`; `file` does not
+   * Executes planned lines together with all queries, in one call of the engine. Writes the new session file to `nextFile`; `file` does not
    * change.
    * @param {PlannedLine[]} plannedLines
    */
@@ -302,9 +302,9 @@ export class WorkerSession {
     // Each piece runs on `from` and writes to `to`. The session file does not change until all pieces are done.
     let [from, to] = [this.file, this.nextFile];
     const size = new PieceSize(FIRST_PIECE_LENGTH, MIN_PIECE_LENGTH, MAX_PIECE_LENGTH);
-    for (let at = 0; at < lines.length;) {
-      const end = findInputEnd(lines, at, size.size);
-      const piece = lines.slice(at, end);
+    for (let offset = 0; offset < lines.length;) {
+      const end = findInputEnd(lines, offset, size.size);
+      const piece = lines.slice(offset, end);
       const served = size.measure(() => {
         const result = this.engine.serve(from, piece, to);
         const { total } = report.count;
@@ -313,9 +313,9 @@ export class WorkerSession {
         return result;
       });
       [from, to] = [to, from === this.file ? new Uint8Array(from.length) : from];
-      at = end;
+      offset = end;
       if (served.status !== 0) break;
-      if (at < lines.length && !(await shouldContinue(at))) throw new CancelledError();
+      if (offset < lines.length && !(await shouldContinue(offset))) throw new CancelledError();
     }
     const statusQueries = report.wires ? makeStatusQueries(this.engine, from) : this.statusQueries;
     const snapshot = takeSnapshotOf(this.engine, from, statusQueries);
@@ -393,9 +393,10 @@ class LinesReport {
     this.status = status;
     this.hasChangedRom = this.hasChangedRom || inputs.some((input) => ROM_COMMANDS[input.kind]);
     // If the bench rejects a board, the current board stays.
-    this.wires = this.wires || inputs.some((input, at) => input.kind === "wire" && !answerLists[at].some(isStop));
+    this.wires = this.wires || inputs.some((input, index) => input.kind === "wire" && !answerLists[index].some(isStop));
     const from = Math.max(0, inputs.length - MAX_ENTRIES);
-    const entries = inputs.slice(from).map(({ line, text }, at) => ({ line, textLines: text.length, answers: answerLists[from + at] }));
+    const entries = inputs.slice(from).map(({ line, text }, index) => (
+      { line, textLines: text.length, answers: answerLists[from + index] }));
     this.entries = [...this.entries, ...entries].slice(-MAX_ENTRIES);
     return acceptedCommands;
   }

@@ -98,7 +98,7 @@ class PropertiesReader {
 
   /** @param {string} text */
   parseCondition(text) {
-    const { condition, fault, column } = compileTracedCondition(text, this.names);
+    const { condition, error: fault, column } = compileTracedCondition(text, this.names);
     return condition || fail(fault, Math.max(0, this.line.indexOf(text, this.searchStart)) + column);
   }
 
@@ -168,7 +168,7 @@ class PropertiesReader {
  */
 function parseTwoTimes(words, syntax) {
   const first = parseDuration(words, 0);
-  const rest = words.slice(first.words).filter((word, index) => index > 0 || word !== "to");
+  const rest = words.slice(first.wordCount).filter((word, index) => index > 0 || word !== "to");
   const second = parseExactDuration(rest);
   if (first.cycles === 0 || second === 0) fail(syntax);
   return [first.cycles, second];
@@ -281,7 +281,7 @@ const PROPERTY_PARSERS = {
     if (!found) fail(syntax);
     const [, key, requirement] = /** @type {RegExpExecArray} */ (found);
     const words = requirement.split(" ");
-    const { cycles, words: count } = parseDuration(words, 0);
+    const { cycles, wordCount: count } = parseDuration(words, 0);
     if (cycles === 0 || words.length === count) fail(syntax);
     return afterPressProperty(text, reader.findInput(key).name, reader.parseCondition(words.slice(count).join(" ")), cycles);
   },

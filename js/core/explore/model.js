@@ -93,9 +93,9 @@ export class Model {
       + `${changeLine(this.campaign, { wait: 0, kind: "up", input })}${runLines(up)}`)).join("");
     const { answers } = this.subject.engine.ask(this.start.file, `${lines}lamps\n`);
     const marks = readItems(answers[answers.length - 1]).join("");
-    const lamps = [...face.lamps].map(([at, { text }]) => ({ at, text }));
+    const lamps = [...face.lamps].map(([lamp, { text }]) => ({ lamp, text }));
     const { number, names } = new DisplayText(face.groups.filter(({ kind }) => kind === "display"), lamps).read(marks);
-    const lampsOn = lamps.filter(({ at, text }) => marks[at] === "*" && text !== "minus").map(({ text }) => text);
+    const lampsOn = lamps.filter(({ lamp, text }) => marks[lamp] === "*" && text !== "minus").map(({ text }) => text);
     return { number, fullText: names === "" ? number : `${number} ${names}`, lampsOn };
   }
 

@@ -117,7 +117,7 @@ export class PlaceValues extends ForecastAnswers {
 
   /** Consumes and parses the answer to `count`; returns an empty list if the bench rejected the query. */
   counts() {
-    if (!parseRefusal(this.answers[this.at])) return this.takeCounts();
+    if (!parseRefusal(this.answers[this.nextIndex])) return this.takeCounts();
     this.skip(1);
     return [];
   }

@@ -127,7 +127,7 @@ export class PlaceReader {
    */
   row(values) {
     const { positions, answerIndexes, remainingPlaces: tracedPlaces } = this;
-    const first = values.at;
+    const first = values.nextIndex;
     let row = "";
     for (let each = 0; each < positions.length; each++) {
       const { precedingWord, start, length } = positions[each];

@@ -402,7 +402,8 @@ class EstimatedState {
     const input = step.kind === "down" ? inputs[step.input].name : "";
     const time = this.time + step.wait;
     const moment = { time, changed: time, address: -1, holds: false, areOpen: NO_GUARDS, input, isDown: this.down.length };
-    const countAt = (/** @type {number} */ label) => (instructionCounts.find(({ address }) => address === label) || { begun: 0 }).begun;
+    const countAt = (/** @type {number} */ label) => (
+      (instructionCounts.find(({ address }) => address === label) || { startCount: 0 }).startCount);
     const isAtLabel = this.labelProperties.some((at) => (
       properties[at].form === "within" ? this.canBeLate(properties[at], memories[at], moment, step, countAt)
         : this.canViolateAtLabel(properties[at], memories[at], moment, step, countAt(properties[at].address))));

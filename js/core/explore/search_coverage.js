@@ -21,12 +21,12 @@ export class Coverage {
 
   /**
    * Adds the counts in an answer to `count`. Returns whether a flag was set for the first time.
-   * @param {{ address: number, begun: number, jumped: number }[]} counts
+   * @param {{ address: number, startCount: number, jumpCount: number }[]} counts
    */
   add(counts) {
     let isNew = false;
-    for (const { address, begun, jumped } of counts) {
-      const flags = STARTED | (jumped > 0 ? JUMPED : 0) | (jumped >= 0 && jumped < begun ? CONTINUED : 0);
+    for (const { address, startCount, jumpCount } of counts) {
+      const flags = STARTED | (jumpCount > 0 ? JUMPED : 0) | (jumpCount >= 0 && jumpCount < startCount ? CONTINUED : 0);
       isNew = isNew || (flags & ~this.flags[address]) !== 0;
       this.flags[address] |= flags;
     }

@@ -58,7 +58,7 @@ export function countWalk({ subject: { engine, codes }, campaign, coverage }, st
     const counts = values.counts();
     values.skip(step.kind === "none" ? 1 : 2);
     let openedCalls = 0;
-    for (const { address, begun } of counts) {
+    for (const { address, startCount: begun } of counts) {
       if (isCall(codes[address])) openedCalls += begun;
       else if (isReturn(codes[address])) openedCalls -= begun;
     }

@@ -152,7 +152,7 @@ export class Watcher {
     /** @type {(address: number) => boolean} */
     const changesCalls = (address) => isCall(codes[address]) || isReturn(codes[address]);
     const calls = new Set(changes.filter(({ address }) => changesCalls(address)).map(({ cycles }) => cycles)).size;
-    return calls !== counts.reduce((sum, { address, begun }) => sum + (changesCalls(address) ? begun : 0), 0);
+    return calls !== counts.reduce((sum, { address, startCount: begun }) => sum + (changesCalls(address) ? begun : 0), 0);
   }
 }
 

@@ -38,8 +38,8 @@ function scaleLevel(number, max) {
  */
 export function heatLevels({ cycles, cells }, kind) {
   const maxCount = Math.max(...cells.map(({ count }) => count));
-  const minAge = Math.min(...cells.map(({ ago }) => ago));
-  return new Map(cells.map(({ place, count, ago }) => (
+  const minAge = Math.min(...cells.map(({ cyclesAgo: ago }) => ago));
+  return new Map(cells.map(({ place, count, cyclesAgo: ago }) => (
     [place, kind === "often" ? scaleLevel(count, maxCount) : MAX_HEAT_LEVEL + 1 - scaleLevel(1 + ago - minAge, cycles)])));
 }
 
@@ -70,7 +70,7 @@ export class RecentHeat {
     if (this.intervals.length === 0 || this.totalCycles - this.intervals[this.intervals.length - 1].from > storedCycles / MAX_INTERVALS) {
       this.intervals.push({ from, cells: new Map() });
     }
-    addChanges(this.intervals[this.intervals.length - 1].cells, cells.map((cell) => ({ ...cell, at: this.totalCycles - cell.ago })));
+    addChanges(this.intervals[this.intervals.length - 1].cells, cells.map((cell) => ({ ...cell, at: this.totalCycles - cell.cyclesAgo })));
     while (this.intervals.length > 1 && this.intervals[1].from <= this.totalCycles - storedCycles) this.intervals.shift();
   }
 
@@ -80,7 +80,7 @@ export class RecentHeat {
     const changes = new Map();
     for (const { cells } of this.intervals) addChanges(changes, [...cells.values()]);
     const from = this.intervals.length > 0 ? this.intervals[0].from : this.totalCycles;
-    const heatCells = [...changes.values()].map(({ at, ...cell }) => ({ ...cell, ago: this.totalCycles - at }));
+    const heatCells = [...changes.values()].map(({ at, ...cell }) => ({ ...cell, cyclesAgo: this.totalCycles - at }));
     return { cycles: this.totalCycles - from, cells: heatCells };
   }
 }
@@ -110,7 +110,7 @@ function describeCause({ address, line }, map) {
  */
 function describeLastChange(cell, map) {
   const cause = describeCause(cell, map);
-  return cell.ago === 0 ? say.causedBy(cause) : say.causedByAgo(cause, formatCycles(cell.ago));
+  return cell.cyclesAgo === 0 ? say.causedBy(cause) : say.causedByAgo(cause, formatCycles(cell.cyclesAgo));
 }
 
 /**
@@ -162,7 +162,7 @@ export function describeHeat({ cycles, cells }, requestedCycles, nameOf, map) {
   if (cells.length === 0) return say.nothingChanged(period);
   const mostChanged = cells.reduce((one, other) => (other.count > one.count ? other : one));
   if (cells.length === 1) return say.oneChanged(period, nameOf(mostChanged.place), describeChanges(mostChanged, map));
-  const lastChanged = cells.reduce((one, other) => (other.ago < one.ago ? other : one));
+  const lastChanged = cells.reduce((one, other) => (other.cyclesAgo < one.cyclesAgo ? other : one));
   const often = say.mostFrequentChange(nameOf(mostChanged.place), formatTimes(mostChanged.count));
   return say.manyChanged(period, cells.length, often, nameOf(lastChanged.place), describeLastChange(lastChanged, map));
 }

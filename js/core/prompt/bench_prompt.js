@@ -262,7 +262,7 @@ export class SessionPrompt {
    */
   async explainRefusal(line, { number }) {
     const fault = findLineError(line);
-    if (fault && fault.number === number) return fault.words;
+    if (fault && fault.number === number) return fault.message;
     const [word, ...words] = line.trim().split(/[ \t]+/);
     if (number === NO_KEY_ERROR) {
       const { rows, columns } = readBoard(await this.calls.ask("board"));

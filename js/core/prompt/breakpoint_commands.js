@@ -76,7 +76,7 @@ export class BreakpointCommands {
     const previous = this.list.findByAddress(address);
     if (previous) this.list.remove(previous.id);
     const newBreakpoint = this.list.add({ line, address, from: Math.max(1, Number(from)), condition, note });
-    const { faults } = await session.applyBreakpoints();
+    const { errors: faults } = await session.applyBreakpoints();
     const fault = faults.find(([id]) => id === newBreakpoint.id);
     if (fault) {
       this.list.remove(newBreakpoint.id);
@@ -100,7 +100,7 @@ export class BreakpointCommands {
     const { session, machine } = this.prompt;
     const previous = this.list.get(id);
     this.list.change(id, changes);
-    const fault = (await session.applyBreakpoints()).faults.find(([other]) => other === id);
+    const fault = (await session.applyBreakpoints()).errors.find(([other]) => other === id);
     if (fault && previous) {
       this.list.change(id, previous);
       await this.applyBreakpoints();

@@ -31,7 +31,7 @@ export class ChangeCommands {
         prompt.showStop("");
       },
       bench: async (argumentText) => {
-        const { words, changes } = await prompt.console.serveBenchLines(argumentText || rejectCommand(say.BENCH_SYNTAX));
+        const { text: words, changes } = await prompt.console.serveBenchLines(argumentText || rejectCommand(say.BENCH_SYNTAX));
         prompt.calls.print(words);
         if (changes) await prompt.machine.saveAndReport();
       },

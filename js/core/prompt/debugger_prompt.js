@@ -93,7 +93,7 @@ export class Prompt {
      *    whether these commands hide the stop message; an additional message; and whether the last line made a move */
     this.stopActions = NO_STOP_ACTIONS;
     /** @type {import("../adapter/debugged_machine.js").MoveEnd} the last stop */
-    this.lastStop = { reason: "", words: "", id: 0 };
+    this.lastStop = { reason: "", message: "", id: 0 };
     this.machine = this.makeMachine();
     this.face = new Face(this.session.boardText);
     this.expressionContext = {
@@ -238,7 +238,7 @@ export class Prompt {
   async makeMove(startMove) {
     startMove();
     await this.machine.move;
-    const message = this.lastStop.words.replace(say.PAGE_REMEMBERS, say.SESSION_REMEMBERS);
+    const message = this.lastStop.message.replace(say.PAGE_REMEMBERS, say.SESSION_REMEMBERS);
     if (message.startsWith(say.NOTHING_DONE)) rejectCommand(message);
     const reached = await this.stops.commandsAtStop();
     this.stopActions = { ...reached, hasMoved: true };

@@ -32,7 +32,7 @@ const FORMATS = {
  * @param {DebugSession} session
  */
 function evaluateNumber(text, session) {
-  const { expression, fault, column } = compileExpression(text, session.names);
+  const { expression, error: fault, column } = compileExpression(text, session.names);
   if (!expression) return rejectCommand(errorInColumn(fault, column));
   const values = session.debugger.readPlaces(expression.places);
   if (expression.number) return expression.number(values);

@@ -198,7 +198,7 @@ export class InspectCommands {
       },
       frame: () => this.frameText,
       stack: () => stateText.frameLines(session),
-      program: () => lastStop.words || stoppedAt(session.counterText),
+      program: () => lastStop.message || stoppedAt(session.counterText),
       locals: () => say.NO_LOCALS,
     };
   }

@@ -61,7 +61,7 @@ export class MoveCommands {
       },
       "back": (argumentText) => {
         if (argumentText === "") return this.moveAndShow(() => machine.goBack({ kind: "stop" }));
-        const { goal, fault } = parseGoal(argumentText, this.prompt.session.names);
+        const { goal, error: fault } = parseGoal(argumentText, this.prompt.session.names);
         return goal ? this.moveAndShow(() => machine.goBack(goal)) : rejectCommand(fault);
       },
       "forward": () => this.moveAndShow(() => machine.goForward()),
@@ -128,7 +128,7 @@ export class MoveCommands {
       let stopReason = "";
       const stopText = await prompt.makeMove(() => machine.beginMove(async () => {
         const stop = await runKeyPress(session, key, (_, tally) => machine.finishPiece(tally));
-        ({ why: stopReason } = stop);
+        ({ reason: stopReason } = stop);
         return stop;
       }, () => true));
       if (stopReason === "passed") continue;

@@ -33,7 +33,7 @@ export async function stepBackOver(session, shouldContinue) {
     const code = nextOpcode(session);
     depth += Number(isReturn(code)) - Number(isCall(code));
   }
-  return { ...result, words: result.isDone ? say.backAt(session.counterText) : result.words };
+  return { ...result, message: result.isDone ? say.backAt(session.counterText) : result.message };
 }
 
 /**

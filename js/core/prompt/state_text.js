@@ -74,7 +74,7 @@ export function codeLines(session, address, count) {
   return rows.map((row) => {
     const label = row.name ? `${row.name}: ` : "";
     const mark = row.address === session.address ? ">" : " ";
-    return `${mark} ${hex(row.address, 3)} ${row.bytes.padEnd(5)} ${label}${row.words}`;
+    return `${mark} ${hex(row.address, 3)} ${row.bytes.padEnd(5)} ${label}${row.text}`;
   }).join("\n");
 }
 

@@ -33,9 +33,9 @@ export class Printout {
    * @param {number} elapsed the cycles from the start of the test to the run
    */
   take(answers, elapsed) {
-    const from = answers.at;
+    const from = answers.nextIndex;
     answers.takeTrace();
-    this.printerCodes.take([answers.answers.slice(from, answers.at)], elapsed);
+    this.printerCodes.take([answers.answers.slice(from, answers.nextIndex)], elapsed);
   }
 
   /** All codes printed so far. */

@@ -86,7 +86,7 @@ export class ExecutionRecorder {
    */
   count(counts) {
     let callCount = 0;
-    for (const { address, begun, jumped } of counts) {
+    for (const { address, startCount: begun, jumpCount: jumped } of counts) {
       const code = this.codes[address];
       this.startCounts[address] += begun;
       this.jumpCounts[address] += Math.max(0, jumped);

@@ -37,7 +37,7 @@ import { TestSession } from "./test_session.js";
 export async function countSession(engine, state, programText, cycles, Counting = ExecutionRecorder) {
   const startState = copyWithoutStops(engine, state);
   const codes = romCodes(engine, startState);
-  const { faults, other: otherByte, map } = sessionProgram(engine, codes, programText);
+  const { faults, difference: otherByte, map } = sessionProgram(engine, codes, programText);
   if (faults.length > 0 || otherByte) return { faults, other: otherByte, counted: null };
   const recorder = new Counting(codes);
   const session = new TestSession(engine, startState, recorder, async () => {});

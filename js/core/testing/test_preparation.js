@@ -28,8 +28,8 @@ import { romCodes } from "../engine/rom_codes.js";
  * @returns {TextFault[]}
  */
 export function findNameErrors(face, board) {
-  const nameErrors = [...face.faults, ...missingParts(face, board)].filter(({ isFatal }) => isFatal);
-  return nameErrors.map(({ line, words }) => ({ text: "board", line, number: 0, words }));
+  const nameErrors = [...face.errors, ...missingParts(face, board)].filter(({ isFatal }) => isFatal);
+  return nameErrors.map(({ line, message: words }) => ({ text: "board", line, number: 0, words }));
 }
 
 /**

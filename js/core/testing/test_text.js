@@ -392,7 +392,7 @@ class TestReader {
     const placeName = found ? found.name : place.toLowerCase();
     if (!/^(acc|cy|dcl|r\d+|(ram|st)\..+)$/.test(placeName) || list === "") return fail(say.CHOICE_SYNTAX);
     const keys = list === undefined ? [] : list.split(",").map((name) => this.keys.get(name) || this.failForKey(name, name));
-    const { expression, fault } = compileExpression(place, this.names);
+    const { expression, error: fault } = compileExpression(place, this.names);
     const { places: [probe] } = expression || fail(fault);
     return { word, place: placeName, probe, keys };
   }
@@ -415,7 +415,7 @@ class TestReader {
    * @param {number} startColumn the column of the condition in the line
    */
   readCondition(text, startColumn) {
-    const { condition, fault, column } = compileTestCondition(text, this.names);
+    const { condition, error: fault, column } = compileTestCondition(text, this.names);
     return condition || fail(fault, startColumn + column);
   }
 
@@ -442,7 +442,7 @@ class TestReader {
    */
   readSet(text, startColumn) {
     const { board, map } = this.names;
-    const { place, lines, fault, column } = readSetting(text, map, board);
+    const { place, lines, error: fault, column } = readSetting(text, map, board);
     if (fault) fail(fault, startColumn + column);
     const address = romAddress(place);
     const hasRom = Number.isNaN(address) || board.roms.some(({ chip }) => Number(chip) === Math.floor(address / 256));
@@ -457,8 +457,8 @@ class TestReader {
  */
 function parsePace(words) {
   const down = parseDuration(words, 0);
-  const up = parseDuration(words, down.words);
-  const isWhole = down.cycles > 0 && up.cycles > 0 && down.words + up.words === words.length;
+  const up = parseDuration(words, down.wordCount);
+  const isWhole = down.cycles > 0 && up.cycles > 0 && down.wordCount + up.wordCount === words.length;
   return isWhole ? { kind: "pace", down: down.cycles, up: up.cycles }
     : fail(say.PACE_SYNTAX);
 }

@@ -89,5 +89,5 @@ export class TextErrorFinder {
  */
 export function findFrontPanelErrors(text) {
   const lines = text.split("\n");
-  return findFaceErrors(text).map(({ line, words }) => ({ number: 0, line, from: 0, to: (lines[line - 1] || "").length, words }));
+  return findFaceErrors(text).map(({ line, message: words }) => ({ number: 0, line, from: 0, to: (lines[line - 1] || "").length, words }));
 }

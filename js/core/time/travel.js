@@ -56,10 +56,10 @@ export class Travel {
     const result = await this.calls.change(say.SEARCHING_GOAL, (ways) => this.bench.call("goOn", [goal], ways));
     this.calls.storeGoal(null);
     if (!result) return;
-    const { cycles, isReached, end, id, returns } = result.found;
+    const { cycles, isReached, end, id, endsAtReturn: returns } = result.searchResult;
     this.calls.reportTally(result.tally);
     if (end === "bound") this.calls.runTo(goal);
-    else this.calls.showMessage(this.calls.reasonOf({ why: isReached ? "goal" : end, cycles, id, returns }, goal));
+    else this.calls.showMessage(this.calls.reasonOf({ reason: isReached ? "goal" : end, cycles, id, endsAtReturn: returns }, goal));
   }
 
   /**

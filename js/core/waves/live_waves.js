@@ -42,7 +42,7 @@ export class LiveWaves {
     const { most, behind, trigger } = this.settings;
     waves.append(part);
     this.triggerMoment = part.triggerMoment;
-    this.endReason = part.over;
+    this.endReason = part.endReason;
     if (this.endReason === "trigger") waves.endAt(this.triggerMoment + behind);
     if (trigger === "") waves.beginAt(waves.cycles - most);
     else waves.beginAt((this.triggerMoment < 0 ? waves.cycles : this.triggerMoment) - (most - behind));

@@ -73,7 +73,7 @@ export function readTrigger(text, lines, names) {
   if (text.trim() === "") return { trigger: null, fault: "" };
   const found = EDGE_SYNTAX.exec(text.trim());
   if (found) return parseEdge(found[1], /** @type {Edge} */ (found[2]), lines);
-  const { condition, fault, column } = compileTracedCondition(text, names);
+  const { condition, error: fault, column } = compileTracedCondition(text, names);
   if (!condition) return { trigger: null, fault: errorInColumn(fault, column) };
   const { places, address, holds } = condition;
   return { trigger: { edge: "", members: [], places, address, holds: (values) => holds(values) }, fault: "" };

@@ -18,7 +18,7 @@ export async function run({ folder }, positionals) {
   // Read standard input before the engine starts, so that a signal ends the waiting process immediately.
   const answers = texts.readAnswers("display");
   const { board, face } = await readBoardAndFace(await startEngine(), boardText);
-  const { lines, words: error } = convertLampAnswers(face, board, name, answers);
+  const { lines, error } = convertLampAnswers(face, board, name, answers);
   if (error !== "") throw new CommandError(error);
   print(joinLines(lines));
   return 0;

@@ -17,7 +17,7 @@ export async function run({ source }, positionals) {
   const answers = texts.readAnswers("explain");
   const engine = await startEngine();
   const describeAddress = source === undefined ? null : await makeAddressDescriber(texts, engine, source, positionals[0]);
-  const { inputs, words } = matchScriptAnswers(script, answers);
+  const { inputs, message: words } = matchScriptAnswers(script, answers);
   if (words !== "") throw new CommandError(answersOfOtherScript(words));
   const lines = script.split("\n").map((line) => line.replace(/\r$/, ""));
   const report = new RejectedLines(engine, lines, describeAddress).createReport(inputs, answers[0]);

@@ -14,7 +14,7 @@ export async function run({ folder }, positionals) {
   const texts = new InputTexts();
   const { text, encoding } = texts.readInputText();
   const { map } = await assembleProgram(await startEngine(), texts.readText(words[0], "asm"));
-  const { lines, line, words: error } = replaceNames(text, map);
+  const { lines, line, message: error } = replaceNames(text, map);
   if (error !== "") throw new CommandError(inLine(line, error));
   printVerbatim(lines === "" || lines.endsWith("\n") ? lines : `${lines}\n`, encoding);
   return 0;

@@ -78,8 +78,8 @@ async function readTexts(session, name, texts) {
  * @param {number} linesBefore the number of lines before the board's text in its file
  */
 function findMissingPartNote({ board, face }, linesBefore) {
-  const [note] = sortByLine([...face.faults, ...missingParts(face, board)]);
-  return note ? noteOfBoard(note.line + linesBefore, note.words) : "";
+  const [note] = sortByLine([...face.errors, ...missingParts(face, board)]);
+  return note ? noteOfBoard(note.line + linesBefore, note.message) : "";
 }
 
 /**

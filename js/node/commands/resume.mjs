@@ -73,7 +73,7 @@ export async function run(_, positionals) {
   // If there is no native program, fail before anything else.
   findProgramPath();
   const engine = await startEngine();
-  const { lines, words, differing: differingLines } = await compareWithScript(
+  const { lines, message: words, differing: differingLines } = await compareWithScript(
     engine, await openSession(engine, texts, session), bytes.toString("latin1"), yieldToMessages,
   );
   if (words !== "") throw new CommandError(scriptDoesNotMatch(session, scriptName, words, differingLines));

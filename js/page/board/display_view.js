@@ -59,8 +59,8 @@ class Digit {
    *   display is not scanned
    */
   showBrightness(perceivedDigit, digitCount) {
-    if (perceivedDigit.steady !== UNLIT_PATTERN) {
-      this.set(perceivedDigit.steady);
+    if (perceivedDigit.steadyPattern !== UNLIT_PATTERN) {
+      this.set(perceivedDigit.steadyPattern);
       return;
     }
     this.smearSwitch.set(perceivedDigit.isSmeared);
@@ -132,7 +132,7 @@ export class DisplayView {
   draw(lines, face) {
     const groups = fittingGroups(face, lines.length).filter(({ kind }) => kind === "display");
     this.displays = groups.map((group) => new Display(group));
-    this.text = new DisplayText(groups, [...face.lamps].map(([index, { text }]) => ({ at: index, text })));
+    this.text = new DisplayText(groups, [...face.lamps].map(([lamp, { text }]) => ({ lamp, text })));
     this.minusIndex = minusLamp(face);
     this.signDigit = new Digit(true, false);
     const displayNodes = this.displays.map(({ group, digits }) => {
@@ -167,7 +167,7 @@ export class DisplayView {
    * @param {import("../../core/board/brightness.js").Brightness} brightness
    * @param {number} lamp
    */
-  showSignBrightness({ lamps, isOn, stillness }, lamp) {
+  showSignBrightness({ lamps, isOn, lampSteadiness: stillness }, lamp) {
     const litPattern = isOn[lamp] ? MINUS_PATTERN : 0;
     if (stillness[lamp].isSteady) this.signDigit.set(litPattern);
     else this.signDigit.showDutyCycles(litPattern, SEGMENT_PATHS.map((_, index) => (1 << index === MINUS_PATTERN ? lamps[lamp] : 0)));

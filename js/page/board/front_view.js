@@ -114,9 +114,9 @@ export class FrontView {
    * @param {Face} face
    */
   drawErrors(board, face) {
-    const errors = sortByLine([...face.faults, ...missingParts(face, board)]);
+    const errors = sortByLine([...face.errors, ...missingParts(face, board)]);
     const root = block("face-faults");
-    const messages = errors.slice(0, MAX_LISTED_ERRORS).map(({ line, words }) => say.lineOfBoard(line, words));
+    const messages = errors.slice(0, MAX_LISTED_ERRORS).map(({ line, message: words }) => say.lineOfBoard(line, words));
     const footnote = moreErrors(errors, MAX_LISTED_ERRORS);
     root.replaceChildren(...[...messages, footnote].filter(Boolean).map((message) => element("li", {}, message)));
     root.hidden = errors.length === 0;
@@ -154,7 +154,7 @@ export class FrontView {
     keyButton.classList.toggle("at-test", boardKey.key.kind === "pin");
     keyButton.classList.toggle("switch", boardKey.isSwitch);
     if (boardKey.letter && boardKey.letter !== boardKey.legend) keyButton.append(element("kbd", {}, boardKey.letter));
-    keyButton.setAttribute("aria-label", boardKey.words);
+    keyButton.setAttribute("aria-label", boardKey.description);
     this.connectKey(keyButton, boardKey);
     return { ...boardKey, button: keyButton, down: pressedSwitch(keyButton) };
   }

@@ -96,8 +96,8 @@ export class DrawingView {
   /** @param {ShelfPart} part */
   add(part) {
     const { lastState: state } = this;
-    const lineButton = state && state.fields.buttons.find(({ act: action }) => action.kind === "add" && action.part === part);
-    this.calls.performAction(lineButton ? lineButton.act : this.makeAddAction(part));
+    const lineButton = state && state.fields.buttons.find(({ action }) => action.kind === "add" && action.part === part);
+    this.calls.performAction(lineButton ? lineButton.action : this.makeAddAction(part));
   }
 
   /**
@@ -121,7 +121,7 @@ export class DrawingView {
   }
 
   /** @param {DrawingState} state */
-  showState({ fault, isWired }) {
+  showState({ error: fault, isWired }) {
     this.state.set(fault || (isWired ? "" : say.NOT_WIRED));
     button("drawing-wire").classList.toggle("due", fault === "" && !isWired);
   }
@@ -141,7 +141,7 @@ export class DrawingView {
   }
 
   /** @param {DrawingState} state */
-  showShelf({ shelf, fault }) {
+  showShelf({ shelf, error: fault }) {
     for (const [part, node] of this.shelf) {
       const reason = fault || shelf.get(part) || "";
       node.disabled = reason !== "";
@@ -153,7 +153,7 @@ export class DrawingView {
    * Shows the fields of the selection. Fields whose layout is unchanged stay, so that typing is not interrupted.
    * @param {DrawingState} state
    */
-  showFields({ fields: { title, part, fields, buttons }, fault }) {
+  showFields({ fields: { title, part, fields, buttons }, error: fault }) {
     const fieldLayout = JSON.stringify([title, part, fields.map(({ label, options }) => [label, options]), buttons, fault !== ""]);
     if (fieldLayout !== this.fieldLayout) this.drawFields(title, part, fields, buttons, fault !== "");
     this.fieldLayout = fieldLayout;
@@ -186,7 +186,7 @@ export class DrawingView {
     const head = element("b", {}, title);
     this.fields = fields.map((description, index) => this.makeFieldNode(description, index, isDisabled));
     const rows = this.fields.map((node, index) => element("label", {}, `${fields[index].label} `, node));
-    const endButtons = buttons.map(({ word, act: action }) => (
+    const endButtons = buttons.map(({ label: word, action }) => (
       this.makeButtonNode(word, () => this.calls.performAction(action), isDisabled)));
     if (part === "keys") endButtons.push(this.makeButtonNode(say.INSERT_SCAN, () => this.calls.insertKeyScan(), isDisabled));
     if (part) endButtons.push(this.makeButtonNode(say.SHOW_IN_BOARD, () => this.calls.showPartLines(part), false));
@@ -215,11 +215,11 @@ export class DrawingView {
   makeFieldNode({ label, options }, index, isDisabled) {
     const attributes = { "aria-label": label, "autocomplete": "off", disabled: isDisabled };
     const node = options
-      ? element("select", attributes, ...options.map((option) => element("option", { value: option.value }, option.words)))
+      ? element("select", attributes, ...options.map((option) => element("option", { value: option.value }, option.label)))
       : element("input", { ...attributes, size: 10, spellcheck: false });
     node.addEventListener("change", () => {
       const shownField = this.lastState && this.lastState.fields.fields[index];
-      if (shownField && node.value !== shownField.value) this.calls.performAction(shownField.act(node.value));
+      if (shownField && node.value !== shownField.value) this.calls.performAction(shownField.createAction(node.value));
     });
     return node;
   }

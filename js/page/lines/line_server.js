@@ -74,17 +74,17 @@ export class LineServer {
    */
   async serveTyped(typedLines) {
     const { calls } = this;
-    const { lines, words: nameError } = replaceNames(typedLines, calls.map());
+    const { lines, message: words: nameError } = replaceNames(typedLines, calls.map());
     if (nameError !== "") {
       this.notice.show(nameError);
       return null;
     }
     const result = await this.performWork(say.SENDING_LINES, (options) => this.bench.call("serveTyped", [lines], options));
     if (!result) return null;
-    const { id, cut, cycles, tally } = result.typed;
+    const { id, cutLine, cycles, tally } = result.typedResult;
     calls.countHits(tally);
     if (id !== 0 && !calls.isRunning()) {
-      calls.showMessage(lineEnded(calls.describeStop({ why: "break", id, cycles, returns: false }), cut));
+      calls.showMessage(lineEnded(calls.describeStop({ reason: "break", id, cycles, endsAtReturn: false }), cutLine));
     }
     return result.first;
   }

@@ -122,7 +122,7 @@ export class BreakpointsController {
     const { line } = breakpoint;
     if (line > 0) this.calls.showSource();
     if (line > 0) this.calls.reveal(line);
-    this.form.open(breakpoint, this.manager.faults.get(breakpoint.id) || "", fieldName);
+    this.form.open(breakpoint, this.manager.errors.get(breakpoint.id) || "", fieldName);
   }
 
   /**
@@ -161,7 +161,7 @@ export class BreakpointsController {
    * @returns {Promise<[number, string][]>}
    */
   async set(placedBreakpoints) {
-    const { faults, ...result } = await this.bench.call("setBreakpoints", [placedBreakpoints, this.texts()]);
+    const { errors: faults, ...result } = await this.bench.call("setBreakpoints", [placedBreakpoints, this.texts()]);
     if (result.entries.length > 0) await this.calls.handleResult(result);
     else this.calls.showSession(result);
     return faults;
@@ -169,7 +169,7 @@ export class BreakpointsController {
 
   show() {
     const session = this.calls.session();
-    const { list, faults, savedBreakpoints: storedBreakpoints } = this.manager;
+    const { list, errors: faults, savedBreakpoints: storedBreakpoints } = this.manager;
     if (session) session.record.breakpoints = storedBreakpoints;
     const { lines, addresses } = breakpointMarks(list.all, faults);
     this.calls.showMarks(lines, addresses);

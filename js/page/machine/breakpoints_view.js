@@ -14,7 +14,7 @@ import * as say from "../../words/machine.js";
  * @typedef {import("../../core/debug/debugger.js").Tally} Tally
  * @typedef {import("../../core/machine/source_map.js").SourceMap} SourceMap
  * @typedef {import("../../core/debug/breakpoint_manager.js").BreakpointManager} BreakpointManager
- * @typedef {Pick<BreakpointManager, "list" | "faults" | "map">} ShownManager
+ * @typedef {Pick<BreakpointManager, "list" | "errors" | "map">} ShownManager
  * @typedef {{ root: HTMLLIElement, enableBox: HTMLInputElement, mark: Cell, location: Cell, edit: HTMLButtonElement, hits: Cell,
  *   details: Cell, error: Cell }} Row
  */
@@ -59,7 +59,7 @@ export class BreakpointsView {
 
   /** @param {ShownManager} manager */
   show(manager) {
-    const { list: { all }, faults, map } = manager;
+    const { list: { all }, errors: faults, map } = manager;
     for (const [id, { root }] of this.rows) {
       if (all.some((breakpoint) => breakpoint.id === id)) continue;
       root.remove();
@@ -133,9 +133,9 @@ export class BreakpointsView {
    * @param {Tally} tally
    * @param {ShownManager} manager
    */
-  log({ notes, noted }, manager) {
+  log({ notes, noteCount: noted }, manager) {
     if (notes.length === 0) return;
-    const lines = notes.slice(-MAX_NOTES).map(({ id, cycles, words }) => {
+    const lines = notes.slice(-MAX_NOTES).map(({ id, cycles, text: words }) => {
       const breakpoint = manager.list.get(id);
       const location = breakpoint ? formatLocation(breakpoint, manager.map) : "";
       return element("p", { title: say.loggedAt(formatCycles(cycles)) }, element("b", {}, location), ` ${words}`);

@@ -52,7 +52,7 @@ export class MistakesView {
   }
 
   /** @param {CommonMistake} mistake */
-  makeRow({ kind, address, words }) {
+  makeRow({ kind, address, message: words }) {
     const button = element("button", { type: "button", className: "place" }, this.calls.describeAddress(address));
     onClick(button, () => this.calls.goTo(address));
     const stopBox = element("input", { type: "checkbox", checked: this.stopKinds.has(kind), autocomplete: "off" });

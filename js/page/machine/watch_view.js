@@ -42,14 +42,14 @@ export class WatchView {
 
   /** @param {unknown} texts the expressions that were saved with a session, not yet validated */
   open(texts) {
-    const { all: expressions, fault: error } = parseWatches(texts);
+    const { all: expressions, error: fault: error } = parseWatches(texts);
     this.status.textContent = error;
     this.setExpressions(expressions);
   }
 
   add() {
     const input = field("watched-field");
-    const { watched: expression, fault: error } = parseWatch(input.value, this.calls.names());
+    const { watch: watched: expression, error: fault: error } = parseWatch(input.value, this.calls.names());
     const isFull = this.expressions.length >= MAX_WATCH_EXPRESSIONS;
     this.status.textContent = isFull ? say.maxWatched(MAX_WATCH_EXPRESSIONS) : error;
     input.setAttribute("aria-invalid", String(this.status.textContent !== ""));

@@ -124,7 +124,7 @@ export class LinkSharing {
         acceptLabel: say.OPEN_AS_NEW,
         refuseLabel: say.LEAVE_IT,
       });
-      if (isWanted) await this.calls.begin(texts, result.file, result.refused.length === 0 && texts.programText !== "");
+      if (isWanted) await this.calls.begin(texts, result.file, result.rejectedTexts.length === 0 && texts.programText !== "");
     } catch (fault) {
       this.notice.show(say.linkNotOpened(this.errorMessages.errorMessage(fault)), "session");
     } finally {
@@ -136,7 +136,7 @@ export class LinkSharing {
    * @param {Texts} texts
    * @param {import("../../core/engine/dry_run.js").DryRunResult} result
    */
-  describeLink({ boardText, programText, testText = "", propertiesText = "" }, { board, refused }) {
+  describeLink({ boardText, programText, testText = "", propertiesText = "" }, { board, rejectedTexts: refused }) {
     const title = shortName(sessionTitle(boardText, programText));
     const lines = refused.map(({ word, answer }) => {
       const refusal = parseRefusal(answer);

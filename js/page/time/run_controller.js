@@ -266,7 +266,7 @@ export class RunController {
     this.calls.showFrame(frame);
     if (frame.stop) {
       this.endRun(this.describeStop(frame.stop));
-      this.onRunEnd(frame.stop.why);
+      this.onRunEnd(frame.stop.reason);
       currentSession.save();
       return;
     }
@@ -285,8 +285,8 @@ export class RunController {
    * @param {Goal | null} [goal]
    */
   describeStop(stop, goal = this.goal) {
-    const refusal = parseRefusal(stop.why);
-    if (refusal) return say.stoppedBy(stop.why, this.calls.describeRefusal(refusal.number));
+    const refusal = parseRefusal(stop.reason);
+    if (refusal) return say.stoppedBy(stop.reason, this.calls.describeRefusal(refusal.number));
     return pauseMessage(goal, stop, this.counterText, this.calls.describeCondition(stop.id || 0));
   }
 
@@ -296,8 +296,8 @@ export class RunController {
     if (answer === null) return;
     const run = readRun(answer);
     const cycles = run ? run.cycles : 0;
-    if (isStop(answer)) this.showMessage(this.describeStop({ why: run ? run.end : answer, cycles, returns: false }));
-    else this.showMessage(pauseMessage({ kind: "over" }, { why: "goal", cycles, returns: false }, this.counterText));
+    if (isStop(answer)) this.showMessage(this.describeStop({ reason: run ? run.end : answer, cycles, endsAtReturn: false }));
+    else this.showMessage(pauseMessage({ kind: "over" }, { reason: "goal", cycles, endsAtReturn: false }, this.counterText));
   }
 
   /**

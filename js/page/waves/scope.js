@@ -28,7 +28,7 @@ import * as say from "../../words/waves.js";
  * @property {(cycles: number, isBefore: boolean, values: string[]) => Promise<Recording | null>} record Records the last `cycles` cycles
  *   if `isBefore` is true, otherwise the next `cycles` cycles. `values` are the names of registers and nibbles to
  *   include. Resolves to null after a failure. A failure has already been reported.
- * @property {(setup: { trigger: string } & LiveSetup, values: string[]) => Promise<{ recorded: Recording | null, fault: string } | null>}
+ * @property {(setup: { trigger: string } & LiveSetup, values: string[]) => Promise<{ recorded: Recording | null, error: string } | null>}
  *   startLive Starts a recording that lasts until `endLive`. Resolves to the first part of the recording or to the error in the trigger's
  *   condition, or to null after a failure.
  * @property {() => Promise<LivePart | null>} endLive Ends the recording. Resolves to its last part, or to null if there is none.
@@ -197,9 +197,9 @@ export class Scope {
     if (!settings) return;
     this.selectTriggerLine(settings.trigger);
     const { trigger, behind: cyclesAfter, stopsTime } = settings;
-    const result = await this.calls.startLive({ trigger, behind: cyclesAfter, stopsTime }, this.choice.valueNames);
+    const result = await this.calls.startLive({ trigger, cyclesAfterTrigger: cyclesAfter, stopsMachine: stopsTime }, this.choice.valueNames);
     if (!result) return;
-    const { recorded, fault } = result;
+    const { recorded, error: fault } = result;
     field("trigger").setAttribute("aria-invalid", String(fault !== ""));
     if (fault) this.status.set(say.triggerFault(fault));
     if (!recorded) return;

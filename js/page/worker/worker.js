@@ -96,7 +96,7 @@ class BenchWorker {
   }
 
   /** @param {Request} request */
-  async answerRequest({ number, call, words: callArguments }) {
+  async answerRequest({ number, call, parameters: words: callArguments }) {
     this.currentRequest = number;
     this.lastReportTime = performance.now();
     // First report the run that preceded the call.
@@ -107,7 +107,7 @@ class BenchWorker {
       this.post({ kind: "reply", number, result }, result && result.file instanceof ArrayBuffer ? [result.file] : []);
       if (pressesKey(call, callArguments)) this.calls.bench.checkLastLines();
     } catch (fault) {
-      this.post({ kind: "reply", number, fault: packError(fault) });
+      this.post({ kind: "reply", number, error: packError(fault) });
     }
   }
 
@@ -122,7 +122,7 @@ class BenchWorker {
       if (frame) this.postFrame(frame);
     } catch (fault) {
       this.calls.bench.fullSpeed.stop();
-      this.post({ kind: "failed", fault: packError(fault) });
+      this.post({ kind: "failed", error: packError(fault) });
     }
   }
 
