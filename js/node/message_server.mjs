@@ -54,7 +54,7 @@ export function listenToInput(connection, onEnd) {
     clearTimeout(timer);
     partCount += 1;
     try {
-      connection.take(bytes);
+      connection.receive(bytes);
     } catch (fault) {
       end(fault instanceof Error ? fault.message : String(fault));
       return;

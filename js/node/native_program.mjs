@@ -173,7 +173,7 @@ export async function readCheckedMap(engine, codes, program) {
   const { sessionProgram } = await import("../core/engine/session_program.js");
   const { faults, other, map } = sessionProgram(engine, codes, program.text);
   if (faults.length > 0) throw await rejectedTextsError(engine, { program }, faults);
-  if (other) throw new CommandError(otherProgram(program.name, other.address, other.romByte, other.line + program.before, other.sourceByte));
+  if (other) throw new CommandError(otherProgram(program.name, other.address, other.romByte, other.line + program.linesBefore, other.sourceByte));
   return map;
 }
 
@@ -212,6 +212,6 @@ export async function makeAddressDescriber(texts, engine, programName, session) 
   ]);
   const program = texts.text(programName, "asm");
   const map = await readCheckedMap(engine, romCodes(engine, await openSession(engine, texts, session)), program);
-  const source = { lines: program.text.split("\n"), before: program.before };
+  const source = { lines: program.text.split("\n"), linesBefore: program.linesBefore };
   return (address) => formatSourceLocation(map, source, address);
 }

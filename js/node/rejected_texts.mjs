@@ -122,13 +122,13 @@ export class RejectedTexts {
   formatError(fault) {
     const { text: kind, file, line, number } = fault;
     if (kind === "tests") return `${file}:${line}: ${fault.words}`;
-    const { name, text, before } = this.givenTexts[kind];
+    const { name, text, linesBefore } = this.givenTexts[kind];
     const error = number > 0 ? this.findError(fault, text) : null;
     const lineNumber = line || (error ? error.line : 0);
     const shownLines = lineNumber > 0 && number > 0 ? [text.split("\n")[lineNumber - 1]] : [];
     const hint = number === NO_FORM && shownLines.length > 0 ? spellingHint(shownLines[0]) : "";
     const reason = `${number > 0 ? `no ${number}: ` : ""}${fault.words || (error ? error.words : describeRefusal(number))}${hint}`;
-    const location = lineNumber > 0 ? `line ${lineNumber + before}: ` : "";
+    const location = lineNumber > 0 ? `line ${lineNumber + linesBefore}: ` : "";
     return [`${name}: ${location}${reason}`, ...shownLines.map((shownLine) => `    ${shownLine.slice(0, MAX_SHOWN_LENGTH)}`)].join("\n");
   }
 

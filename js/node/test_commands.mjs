@@ -80,7 +80,7 @@ export async function countCycles({ name, Counting, checkNames = () => {}, repor
   const state = await openSession(engine, texts, session);
   const { faults, other, counted: counts } = await countSession(engine, state, program.text, cycles, Counting);
   if (faults.length > 0) throw await rejectedTextsError(engine, { program }, faults);
-  if (other) throw new CommandError(otherProgram(programName, other.address, other.romByte, other.line + program.before, other.sourceByte));
+  if (other) throw new CommandError(otherProgram(programName, other.address, other.romByte, other.line + program.linesBefore, other.sourceByte));
   if (counts.stop !== "end") printError(`${name}: ${sessionStopped(counts.elapsed, counts.stop)}\n`);
   report(counts, program);
   return 0;

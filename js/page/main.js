@@ -103,7 +103,7 @@ function listenToChoices(page) {
     speed.value = page.runController.clock.speed.id;
     typingField.checked = page.isTyping;
   };
-  speed.replaceChildren(...SPEEDS.map(({ id, words }) => element("option", { value: id }, words)));
+  speed.replaceChildren(...SPEEDS.map(({ id, label: words }) => element("option", { value: id }, words)));
   speed.addEventListener("change", () => {
     preferences.set("speed", speed.value);
     page.runController.setSpeed(findSpeed(speed.value)).catch((fault) => page.recovery.reportFailure(fault));

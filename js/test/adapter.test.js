@@ -14,11 +14,11 @@ test("messages are answered in their order, each by a number of its own; what is
   assert.equal((await answer("nothing")).message, "unsupported request: nothing");
   assert.equal((await answer("toString")).message, "unsupported request: toString");
   assert.equal((await answer("stackTrace", { threadId: 1 })).message, "nothing is launched yet");
-  connection.take(frameMessage({ seq: 70, type: "request" }));
-  connection.take(frameMessage([]));
-  connection.take(new TextEncoder().encode("Content-Length: 3\r\n\r\n{x}"));
-  connection.take(new TextEncoder().encode(`Content-Length: ${MAX_MESSAGE + 1}\r\n\r\n`));
-  connection.take(new Uint8Array(MAX_MESSAGE + 1));
+  connection.receive(frameMessage({ seq: 70, type: "request" }));
+  connection.receive(frameMessage([]));
+  connection.receive(new TextEncoder().encode("Content-Length: 3\r\n\r\n{x}"));
+  connection.receive(new TextEncoder().encode(`Content-Length: ${MAX_MESSAGE + 1}\r\n\r\n`));
+  connection.receive(new Uint8Array(MAX_MESSAGE + 1));
   await until(({ message }) => (message || "").includes("was not read"));
   const faults = messages.filter(({ success }) => success === false).slice(-4)
     .map(({ request_seq, message }) => `${request_seq} ${message}`);

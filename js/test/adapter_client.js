@@ -59,7 +59,9 @@ export function startAdapter(files = FILES, sessions = {}) {
   const reader = new MessageReader();
   const messages = [];
   const ended = [];
-  const connection = new AdapterConnection((bytes) => messages.push(...[...reader.take(bytes)].map(({ text }) => JSON.parse(text))));
+  const connection = new AdapterConnection((bytes) => {
+    messages.push(...[...reader.readMessages(bytes)].map(({ text }) => JSON.parse(text)));
+  });
   const host = {
     nameOf: (name, folder) => (/^([A-Z]:)?\//.test(name) ? name : `${folder}/${name}`),
     beside: (name, other) => other.replace(/[^/]*$/, name),
@@ -93,7 +95,7 @@ export function startAdapter(files = FILES, sessions = {}) {
   /** Sends a request; returns its number. */
   const send = (command, args) => {
     seq += 1;
-    connection.take(frameMessage({ seq, type: "request", command, arguments: args }));
+    connection.receive(frameMessage({ seq, type: "request", command, arguments: args }));
     return seq;
   };
   const answerTo = (own) => until((each) => each.type === "response" && each.request_seq === own);

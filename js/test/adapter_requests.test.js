@@ -278,10 +278,10 @@ test("what is asked while a stop is written to the session file is answered", as
 
 test("of a message whose rest does not come the client gets the error", () => {
   const { connection, messages } = startAdapter();
-  connection.take(frameMessage({ seq: 1, type: "request", command: "initialize", arguments: {} }).subarray(0, 60));
+  connection.receive(frameMessage({ seq: 1, type: "request", command: "initialize", arguments: {} }).subarray(0, 60));
   assert.match(connection.reportIncomplete(), /^only \d+ of the \d+ bytes that Content-Length announces have arrived$/);
   assert.equal(messages[0].message, connection.reader.incomplete);
   const other = startAdapter();
-  other.connection.take(new TextEncoder().encode("Content-Len"));
+  other.connection.receive(new TextEncoder().encode("Content-Len"));
   assert.equal(other.connection.reportIncomplete(), "only a part of the head of a message has arrived");
 });

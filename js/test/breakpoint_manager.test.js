@@ -202,7 +202,8 @@ test("what cannot be read is reported; one that is off is kept; hits are counted
   assert.deepEqual([[...keeper.faults], bench.breaks], [[[first.id, "it is none"]], []]);
   keeper.count({ hits: [[second.id, 2], [second.id, 1]], notes: [], noted: 0 });
   assert.equal(second.hits, 3);
-  assert.deepEqual([...breakpointMarks(keeper.list.all, keeper.faults).lines.values()].map(({ mark, words }) => `${mark} ${words}`),
+  assert.deepEqual([...breakpointMarks(keeper.list.all, keeper.faults).lines.values()].map(({ mark, description }) => (
+    `${mark} ${description}`)),
     ["\u25CF breakpoint if no: it stops every time, because of an error: it is none", "\u25CB breakpoint: it is off"]);
   assert.deepEqual(keeper.list.savedBreakpoints[1], { line: 4, address: 2, isOn: false, condition: "", from: 1, note: "" });
 });

@@ -106,7 +106,7 @@ testOnBothHosts("a VCD file is written piece by piece", async (engine) => {
   const state = copyWithoutStops(engine, stateAfter(engine, `${BOARD}${PROGRAM}`));
   const board = readBoard(engine.ask(state, "board\n").answers);
   const all = chooseLines(board, "", false, ["ram0.0", "acc", "pc", "ram0.0[3:0]"]);
-  const { lines, chosen } = linesWithMembers(all.lines, all.chosen);
+  const { lines, chosen } = linesWithMembers(all.lines, all.chosenIndexes);
   let text = null;
   let file = "";
   for await (const waves of recordPieces(engine, state, { lines, program: null, cycles: 45000 }, async () => {})) {
@@ -197,8 +197,8 @@ testOnBothHosts("tests, coverage and profile of examples", async (engine) => {
   for (const name of ["three_lamps", "lock"]) {
     const sources = [{ name: `${name}.test`, text: example(`${name}/${name}.test`).replace("cycles 538", "cycles 540") }];
     const { outcomes, coverage, profile } = await runTests(engine, { ...texts(name), sources }, async () => true);
-    const { text, before } = { text: texts(name).programText, before: 0 };
-    printed.push(testsTap(outcomes), coverageText(coverage, { text, before }), lcovText(coverage, { name, before }), profileText(profile));
+    const source = { name, text: texts(name).programText, linesBefore: 0 };
+    printed.push(testsTap(outcomes), coverageText(coverage, source), lcovText(coverage, source), profileText(profile));
   }
   assert.ok(printed[0].includes("not ok 2"));
   return printed;

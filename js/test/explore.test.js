@@ -123,7 +123,7 @@ test("what is wrong with a text of properties is reported with what there is", (
 test("nothing that may change is a fault, but where the face has a key or TEST, all of them may", () => {
   const bare = createSubject(engine, BOARD.replace(/^#.*\n/gm, ""), PROGRAM);
   assert.match(readCampaign("never lamp 0 on\n", bare).faults[0].words, /^nothing may change/);
-  assert.deepEqual(readCampaign("test\n", bare).campaign.inputs.map(({ downWords }) => downWords), ["set test 0"]);
+  assert.deepEqual(readCampaign("test\n", bare).campaign.inputs.map(({ downTestLine }) => downTestLine), ["set test 0"]);
   assert.deepEqual(campaignOf("").campaign.inputs.map(({ name }) => name), ["A", "B", "C", "D", "WALK"]);
   assert.deepEqual(campaignOf("press B\nreset\n").campaign.inputs.map(({ name }) => name), ["B"]);
 });
@@ -196,13 +196,13 @@ test("a model says what the display has to show, and what is wrong with it is re
   // The lamp stays on until the user presses B. This wrong model ignores B.
   const says = (chains) => {
     askedKeys.push(...chains);
-    return { shown: chains.map((keys) => (keys.includes("A") ? "1" : "0")), fault: "" };
+    return { expectedTexts: chains.map((keys) => (keys.includes("A") ? "1" : "0")), fault: "" };
   };
   const run = new CampaignRun(shown, campaign, 1, () => true, MAX_MINIMISING_CYCLES, says);
   while (!run.counterexamples[0]) await run.runFor(20);
   assert.equal(run.counterexamples[0].test, "test model ./says\n  pace 300 200\n  keys A B\n  expect display 1\n");
   assert.match(askedKeys[0], /^[AB]( [AB])*$/);
-  const wrong = new CampaignRun(shown, campaign, 1, () => true, MAX_MINIMISING_CYCLES, () => ({ shown: [], fault: "it died" }));
+  const wrong = new CampaignRun(shown, campaign, 1, () => true, MAX_MINIMISING_CYCLES, () => ({ expectedTexts: [], fault: "it died" }));
   await wrong.runFor(20);
   assert.equal(wrong.fault, "it died");
 });
@@ -352,17 +352,18 @@ test("a walk that is counted leaves what one that is watched does", () => {
       [down, since] = [downInputsAfter(down, step), nextAges(since, step)];
       return step;
     });
-    const start = { file: three.file, time: 7, down: initialDownInputs(campaign), memories: properties.map(({ from }) => from(7, 0)) };
-    const { broken, after } = watcher.watch(start, steps, all);
+    const memories = properties.map(({ createMemory }) => createMemory(7, 0));
+    const start = { file: three.file, time: 7, downInputs: initialDownInputs(campaign), memories };
+    const { violation: broken, stepStates: after } = watcher.watch(start, steps, all);
     assert.equal(broken, null);
     const counted = countWalk({ subject: three, campaign, coverage: new Coverage() }, start, steps);
-    counted.forEach(({ time, down: isDown, memories }, at) => {
-      assert.deepEqual({ time, down: isDown }, { time: after[at].time, down: after[at].down });
+    counted.forEach(({ time, downInputs, memories: countedMemories }, at) => {
+      assert.deepEqual({ time, downInputs }, { time: after[at].time, downInputs: after[at].downInputs });
       // The search must store how long the lamp has been on, because the state of the machine does not contain it.
       const isLit = after[at].memories[0][0] !== -1;
       lit += Number(isLit);
-      assert.deepEqual(memories.slice(Number(isLit)), after[at].memories.slice(Number(isLit)));
-      depths.add(memories[properties.findIndex(({ form }) => form === "calls")][0]);
+      assert.deepEqual(countedMemories.slice(Number(isLit)), after[at].memories.slice(Number(isLit)));
+      depths.add(countedMemories[properties.findIndex(({ form }) => form === "calls")][0]);
     });
   }
   assert.deepEqual([...depths].sort(), [0, 1, 2, 3]);
@@ -407,7 +408,7 @@ test("what was run is reported with what was not", () => {
   assert.equal(new Coverage(coverage.text).text, "107");
   const at = (line, address, isBranch) => ({ line, address, isBranch });
   assert.deepEqual(coverage.summary([at(1, 0, false), at(2, 2, true), at(3, 4, true)]),
-    { run: 2, all: 3, ways: 2, allWays: 4, left: [3], oneWay: [] });
+    { run: 2, all: 3, ways: 2, allWays: 4, unexecutedLines: [3], oneWay: [] });
 });
 
 const SAVING = "test it is lit\n  press A\n  run 400\n  save lit\n\n"
@@ -450,8 +451,8 @@ test("the same seed makes the same find, however long it may take", async () => 
   const finds = [];
   for (const slice of [1, 500]) {
     const exploring = new SlicedSearch(engine, texts, searchSetup, { seed: 3, seconds: 5 }, all);
-    while (!exploring.run.counterexamples[0]) await exploring.runFor(slice);
-    finds.push(exploring.run.counterexamples[0]);
+    while (!exploring.campaignRun.counterexamples[0]) await exploring.runFor(slice);
+    finds.push(exploring.campaignRun.counterexamples[0]);
   }
   assert.deepEqual(finds[0], finds[1]);
 });
@@ -506,8 +507,8 @@ test("before a find stand shared steps in the place of `do`, and what is repeate
   const propertiesText = "from lit\npress A B\nnever lamp on on\n";
   const { searchSetup, faults } = await prepareSearch(engine, { ...texts, testText, propertiesText });
   assert.deepEqual(faults, []);
-  assert.deepEqual(searchSetup.campaign.before, ["  repeat 2", "  run 5", "  press A", "  reset", "  end"]);
+  assert.deepEqual(searchSetup.campaign.leadingLines, ["  repeat 2", "  run 5", "  press A", "  reset", "  end"]);
   // After a power cycle, the number of open calls is unknown.
-  assert.equal(searchSetup.campaign.calls.least, 0);
-  assert.ok(searchSetup.campaign.calls.most > 0);
+  assert.equal(searchSetup.campaign.calls.min, 0);
+  assert.ok(searchSetup.campaign.calls.max > 0);
 });

@@ -144,13 +144,14 @@ function randomRun(random) {
  * violated.
  */
 function violationTime(property, { c, g, acts }) {
-  const memory = property.from(0, 0);
+  const memory = property.createMemory(0, 0);
   const opensAt = (time) => property.guards.map(({ condition }) => condition !== null && g[time]);
   let broken = -1;
   const notify = (event, time, input = "") => {
     const isState = event === "values";
     const areOpen = isState || event === "down" ? opensAt(time) : [];
-    const when = property.update(memory, event, { time, changed: time, address: -1, holds: isState && c[time], areOpen, input, isDown: 0 });
+    const moment = { time, changeTime: time, address: -1, holds: isState && c[time], areOpen, input, downCount: 0 };
+    const when = property.update(memory, event, moment);
     if (when >= 0 && (broken < 0 || when < broken)) broken = when;
   };
   let began = 0;

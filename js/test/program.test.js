@@ -19,7 +19,7 @@ const rows = page.split("### The 45 instructions")[1].split("### What SRC")[0].s
   .map((line) => line.slice(1, -1).split("|").map((cell) => cell.trim()));
 const instructions = readInstructions([{ title: "The 45 instructions", tables: [{ caption: "", head: [], rows }] }]);
 const facts = (text) => ({ instructions, names: findDefinedNames(text.split("\n")) });
-const wordsOf = (line, number = 30, text = line) => (explainProgramLine(line, number, facts(text)) || { words: "" }).words;
+const wordsOf = (line, number = 30, text = line) => (explainProgramLine(line, number, facts(text)) || { message: "" }).message;
 const wordAtFault = (line, number = 30) => (explainProgramLine(line, number, facts(line)) || { word: { text: "" } }).word.text;
 
 test("all 45 instructions are there", () => {
@@ -109,16 +109,16 @@ test("all errors of lines get their words and characters; lines that cannot be s
   const found = await findProgramFaults(text, instructions, () => "", bench);
   assert.deepEqual(found.faults.map(({ line, from, words }) => [line, from, words.split(";")[0]]),
     [[1, 7, "LDX is not an instruction"], [2, 9, "strat is not defined"], [3, 3, "\u00e9 is not an ASCII character"]]);
-  assert.deepEqual([found.isWhole, found.rest, bench.asked.refused], [true, null, 0]);
+  assert.deepEqual([found.isComplete, found.generalRefusal, bench.asked.refused], [true, null, 0]);
   assert.deepEqual(bench.asked.sent, ["start: LDX 5\nFIM P0, strat\n\n"]);
 });
 
 test("a program without errors is tried on the board; 100 errors may not be all", async () => {
   const bench = fakeBench([], 42);
   const found = await findProgramFaults("NOP\n", instructions, () => "", bench);
-  assert.deepEqual(found, { faults: [], isWhole: true, rest: { number: 42, line: 0 } });
+  assert.deepEqual(found, { faults: [], isComplete: true, generalRefusal: { number: 42, line: 0 } });
   const many = fakeBench(Array.from({ length: 100 }, (_, at) => ({ line: at + 1, number: 30 })));
-  assert.equal((await findProgramFaults("LDX\n".repeat(101), instructions, () => "", many)).isWhole, false);
+  assert.equal((await findProgramFaults("LDX\n".repeat(101), instructions, () => "", many)).isComplete, false);
 });
 
 test("a text is sent line for line, without comments and indentation", () => {
@@ -188,12 +188,15 @@ test("what assembling alone leaves, in words", () => {
 
 test("a text with an error in each line of code is hardly a program", () => {
   const at = (...lines) => lines.map((line) => ({ number: 30, line, from: 0, to: 1, words: "" }));
-  assert.equal(isProbablyNotProgram("hello there\n\n; a remark\nand more\n", { faults: at(1, 4), isWhole: true, rest: null }), true);
-  assert.equal(isProbablyNotProgram("hello there\n NOP\n", { faults: at(1), isWhole: true, rest: null }), false);
+  assert.equal(isProbablyNotProgram("hello there\n\n; a remark\nand more\n", { faults: at(1, 4), isComplete: true, generalRefusal: null }),
+    true);
+  assert.equal(isProbablyNotProgram("hello there\n NOP\n", { faults: at(1), isComplete: true, generalRefusal: null }), false);
   // The search for errors stops after a maximum number of errors.
   const long = "prose\n".repeat(500);
   const faults = at(...Array.from({ length: 20 }, (_, line) => line + 1));
-  assert.equal(isProbablyNotProgram(long, { faults, isWhole: false, rest: null }), true);
-  assert.equal(isProbablyNotProgram(`NOP\n${long}`, { faults: at(2, 3), isWhole: false, rest: null }), false);
-  for (const empty of ["", "; a remark\n"]) assert.equal(isProbablyNotProgram(empty, { faults: [], isWhole: true, rest: null }), false);
+  assert.equal(isProbablyNotProgram(long, { faults, isComplete: false, generalRefusal: null }), true);
+  assert.equal(isProbablyNotProgram(`NOP\n${long}`, { faults: at(2, 3), isComplete: false, generalRefusal: null }), false);
+  for (const empty of ["", "; a remark\n"]) {
+    assert.equal(isProbablyNotProgram(empty, { faults: [], isComplete: true, generalRefusal: null }), false);
+  }
 });

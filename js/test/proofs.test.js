@@ -112,7 +112,7 @@ test("properties are asked together, and alone only if that decides something", 
   const many = await runProofs((bound) => (bound < 50000 ? "too many\n" : "no 90\n"));
   assert.deepEqual(kinds(many.all), ["open", "open", "open"]);
   assert.deepEqual(many.engine.asked.map(([, nevers]) => nevers), [2, 2, 2, 2, 1, 1, 1, 1]);
-  assert.match(many.all[0].verdict.words, /memory has room for only 40,000 states/);
+  assert.match(many.all[0].verdict.reason, /memory has room for only 40,000 states/);
   const single = await runProofs(() => LIGHTS, { propertiesText: "test\nnever lamp lit on\n" });
   assert.deepEqual(single.engine.asked, [[10000, 1]]);
 });
@@ -132,7 +132,7 @@ test("every program is asked for seven mistakes: together, and each alone if one
   // A report of the prover that the bench does not confirm is not a counterexample.
   const answerMistakes = (words) => (words.includes("wrr") ? "may fail 0\n" : NO_MISTAKE);
   const unconfirmed = await runProofs(() => "", { ...none, answerMistakes });
-  assert.equal(unconfirmed.made[6].verdict.words, "the bench does not confirm the counterexample that was found");
+  assert.equal(unconfirmed.made[6].verdict.reason, "the bench does not confirm the counterexample that was found");
 });
 
 test("sets of states prove that no mistake is made, and what the search does not decide", async () => {
@@ -148,7 +148,7 @@ test("sets of states prove that no mistake is made, and what the search does not
   assert.deepEqual(some.engine.bySets, [words, ...words.split(" ")]);
   assert.deepEqual(some.engine.mistakes, [words, words, words, words]);
   assert.deepEqual(kinds(some.made), ["open", "proved", "open", "open", "open", "open", "open"]);
-  assert.match(some.made[0].verdict.words, /more than/);
+  assert.match(some.made[0].verdict.reason, /more than/);
 });
 
 test("a time is asked alone, and never by sets of states", async () => {
@@ -159,23 +159,24 @@ test("a time is asked alone, and never by sets of states", async () => {
   assert.deepEqual(engine.asked, [[10000, 1]]);
   assert.deepEqual(kinds(all), ["proved", "found", "proved", "open"]);
   assert.deepEqual(all[2].verdict, { kind: "proved", states: 7, bySets: false, leftOut: "" });
-  const { text } = all[1].verdict.found;
+  const { text } = all[1].verdict.counterexample;
   assert.match(text, /^test never lamp lit on for 9\n {2}press WALK\n {2}run \d+\n {2}until not lamp lit on within 9\n$/);
 });
 
 test("a counterexample has the lines after which one step breaks the property", async () => {
-  const { all: [{ verdict: { found } }], engine } = await runProofs(() => LIGHTS, { propertiesText: "test\nnever lamp lit on\n" });
+  const { all: [{ verdict }], engine } = await runProofs(() => LIGHTS, { propertiesText: "test\nnever lamp lit on\n" });
+  const { counterexample: found } = verdict;
   assert.ok(found.isTest && found.isAllowed);
   const file = engine.begin();
   const lamps = (lines) => engine.ask(file, `${lines}lamps\n`).answers.slice(-1)[0];
   engine.serve(file, `wire\n${texts.boardText}.\nasm\n${texts.programText}.\n`, file);
-  assert.match(lamps(found.before), /^lamps \.\.$/);
-  assert.match(lamps(`${found.before}step\n`), /^lamps \*\.$/);
+  assert.match(lamps(found.linesBefore), /^lamps \.\.$/);
+  assert.match(lamps(`${found.linesBefore}step\n`), /^lamps \*\.$/);
 });
 
 test("a way that is not one, or a prover that says nothing, proves nothing", async () => {
   const wrong = await runProofs(() => "may fail 1\n", { propertiesText: "test\nnever lamp 1 on\n" });
-  assert.deepEqual(wrong.all[0].verdict, { kind: "open", words: "the bench does not confirm the counterexample that was found" });
+  assert.deepEqual(wrong.all[0].verdict, { kind: "open", reason: "the bench does not confirm the counterexample that was found" });
   await assert.rejects(runProofs(() => "no 25\n"), /ended without an answer: no 25/);
   const { faults } = await runProofs(() => "holds 1\n", { propertiesText: "never lamp purple on\n" });
   assert.deepEqual(faults.map(({ line }) => line), [1]);
@@ -183,7 +184,7 @@ test("a way that is not one, or a prover that says nothing, proves nothing", asy
 
 test("a verdict stands while its property, the program and the board are the same", () => {
   const proved = { text: "never lamp 1 on", line: 2, isGoal: false, verdict: { kind: "proved", states: 3, bySets: false, leftOut: "" } };
-  const open = { ...proved, verdict: { kind: "open", words: "why" } };
+  const open = { ...proved, verdict: { kind: "open", reason: "why" } };
   const now = (change) => ({ ...texts, ...change });
   const properties = (text) => now({ propertiesText: text });
   assert.ok(isStillValid(proved, texts, texts));
@@ -245,7 +246,7 @@ test("the page receives each verdict, and the states so far", async () => {
   const engine = new RecordingEngine((bound, nevers) => (nevers.length === 1 ? LIGHTS : bound < 20000 ? "too many\n" : "holds 12345\n"));
   const posted = [];
   const { faults, isStopped } = await createProver(engine).prove(texts, 50000, new AbortController().signal,
-    ({ judged: all, count, states }) => posted.push([all.length, count, states]));
+    ({ verdicts: all, count, states }) => posted.push([all.length, count, states]));
   assert.deepEqual([faults, isStopped], [[], false]);
   assert.deepEqual(posted[0], [0, 10, 0]);
   assert.ok(posted.some(([, , states]) => states === 10000));
@@ -266,9 +267,10 @@ test("cancelling ends the worker at once; a worker that is silent is not dead", 
 });
 
 test("verdicts in words", () => {
-  const found = { steps: 2, cycles: 1204, isAllowed: true, isTest: true, text: "", before: "" };
+  const found = { steps: 2, cycles: 1204, isAllowed: true, isTest: true, text: "", linesBefore: "" };
   const proved = { kind: "proved", states: 96937, bySets: false, leftOut: '"once"' };
-  const verdicts = [{ ...proved, states: 1, bySets: true, leftOut: "" }, proved, { kind: "found", found }, { kind: "open", words: "why" }];
+  const verdicts = [{ ...proved, states: 1, bySets: true, leftOut: "" }, proved, { kind: "found", counterexample: found },
+    { kind: "open", reason: "why" }];
   const all = verdicts.map((verdict, at) => ({ text: `p${at}`, line: at + 1, isGoal: false, verdict }));
   const goals = all.map((each) => ({ ...each, isGoal: true }));
   assert.deepEqual(all.map(markOf), ["proved", "proved", "can fail", "not decided"]);
@@ -277,8 +279,8 @@ test("verdicts in words", () => {
     "for all inputs: 1 set of states", 'for all inputs: 96,937 states, even without "once"', "broken by 2 steps, 1,204 cycles", "why"]);
   assert.equal(finalSummary(all, false), "2 proved, 1 can fail, 1 not decided.");
   assert.equal(finalSummary(goals, true), "Cancelled: 1 reached, 2 never reached, 1 not decided.");
-  assert.equal(progressSummary({ judged: all.slice(1), count: 4, states: 0 }), "Property 4 of 4");
-  assert.equal(progressSummary({ judged: [], count: 4, states: 20000 }), "Property 1 of 4: more than 20,000 states so far");
+  assert.equal(progressSummary({ verdicts: all.slice(1), count: 4, states: 0 }), "Property 4 of 4");
+  assert.equal(progressSummary({ verdicts: [], count: 4, states: 20000 }), "Property 1 of 4: more than 20,000 states so far");
   assert.equal(proofsTabMark(all), "1 can fail");
   assert.equal(proofsTabMark(all.slice(0, 2)), "2 proved");
   assert.equal(proofsTabMark([]), "");

@@ -151,12 +151,12 @@ test("what a display shows is a question about its lamps", () => {
 });
 
 test("conditions that look at inputs, or at too much, are refused with the reason", () => {
-  assert.deepEqual(questionOf("never rom1 in 3"), { question: null, words: "its condition uses rom1, an input" });
-  assert.deepEqual(questionOf("never rom1.1 = 1 for 1 ms"), { question: null, words: "its condition uses rom1.1, an input" });
-  assert.match(questionOf("never r0 + r1 + r2 + r3 + r4 = 9").words, /uses too many places/);
-  assert.match(questionOf("after press A within 1 ms lamp on on").words, /of the form "after press" cannot be proved yet/);
-  assert.match(questionOf("@look at most once for each press").words, /of the form "once" cannot be proved yet/);
-  assert.equal(questionOf("while r0 = 2, never r1 = 1").question.nevers.length, 1);
+  assert.deepEqual(questionOf("never rom1 in 3"), { question: null, reason: "its condition uses rom1, an input" });
+  assert.deepEqual(questionOf("never rom1.1 = 1 for 1 ms"), { question: null, reason: "its condition uses rom1.1, an input" });
+  assert.match(questionOf("never r0 + r1 + r2 + r3 + r4 = 9").reason, /uses too many places/);
+  assert.match(questionOf("after press A within 1 ms lamp on on").reason, /of the form "after press" cannot be proved yet/);
+  assert.match(questionOf("@look at most once for each press").reason, /of the form "once" cannot be proved yet/);
+  assert.equal(questionOf("while r0 = 2, never r1 = 1").question.forbidden.length, 1);
 });
 
 const AT_START = ["in counter 3 whole 0 0", "in counter 4 whole 0 0", "in counter 5 whole 0 0"];
@@ -204,12 +204,12 @@ test("presses are a question about the keys of the matrix, by their rows and col
 });
 
 test("presses that the prover cannot count are refused with the reason", () => {
-  const words = (text, own) => questionOf(text, own).words;
+  const words = (text, own) => questionOf(text, own).reason;
   assert.match(words("lamp on on only after press A, press WALK"), /^WALK is at the TEST pin/);
   assert.match(words("rom1 in 3 only after press A"), /^its condition uses rom1, an input/);
   const presses = (count) => questionOf(`lamp on on only after ${Array(count).fill("press A").join(", ")}`);
   assert.equal(presses(MAX_PRESSES).question.presses.keys.length, 100);
-  assert.match(presses(MAX_PRESSES + 1).words, /^it names more than 100 presses/);
+  assert.match(presses(MAX_PRESSES + 1).reason, /^it names more than 100 presses/);
   // A one-cycle instruction at `same` is followed by another instruction that begins at `same`.
   for (const [code, isAsked] of [["JIN P0", false], ["BBL 0", false], ["FIN P0", true], ["JUN same", true]]) {
     const own = createSubject(engine, BOARD, `        FIM P0, 2\nsame:   ${code}\n        NOP\n`);
@@ -221,38 +221,38 @@ test("presses that the prover cannot count are refused with the reason", () => {
 test("a time that the stopwatch cannot count is refused with the reason", () => {
   assert.equal(questionOf(`every ${MAX_STOPWATCH_CYCLES} @look`).question.stopwatch.within, MAX_STOPWATCH_CYCLES);
   assert.deepEqual(questionOf(`every ${MAX_STOPWATCH_CYCLES + 1} @look`),
-    { question: null, words: "its time is longer than 16,777,214 cycles" });
+    { question: null, reason: "its time is longer than 16,777,214 cycles" });
 });
 
 test("a stopwatch has its lines after the texts", () => {
   const stopwatch = { begins: [["in register 1 whole 0 3"], []], ends: [["out counter 1 whole 0 0"]], within: 5 };
-  const lines = questionText({ board: "rom = []\n", program: "NOP" }, { ...neverQuestion([]), stopwatch }, { most: 77 }).split("\n");
+  const lines = questionText({ board: "rom = []\n", program: "NOP" }, { ...neverQuestion([]), stopwatch }, { maxStates: 77 }).split("\n");
   assert.deepEqual(lines.slice(8),
     ["within 5", "begin", "in register 1 whole 0 3", "begin", "end", "out counter 1 whole 0 0", "prove", ""]);
 });
 
 test("presses have their lines after the conditions that they open", () => {
   const presses = { opens: [["in register 1 whole 0 3"], []], keys: [matrixKey(0, 2), matrixKey(1, 0)] };
-  const lines = questionText({ board: "rom = []\n", program: "NOP" }, { ...neverQuestion([]), presses }, { most: 77 }).split("\n");
+  const lines = questionText({ board: "rom = []\n", program: "NOP" }, { ...neverQuestion([]), presses }, { maxStates: 77 }).split("\n");
   assert.deepEqual(lines.slice(8), ["open", "in register 1 whole 0 3", "open", "up 0 2", "down 0 2", "up 1 0", "down 1 0", "prove", ""]);
 });
 
 test("a question has its limits, both texts and what must never be", () => {
   const nevers = [["in register 1 whole 0 3", "out counter 1 whole 0 0"], []];
-  const question = questionText({ board: "rom = []\n", program: "NOP" }, neverQuestion(nevers), { most: 77 });
+  const question = questionText({ board: "rom = []\n", program: "NOP" }, neverQuestion(nevers), { maxStates: 77 });
   assert.deepEqual(question.split("\n"), ["most 77", "pause 1000000", "wire", "rom = []", ".", "asm", "NOP", ".", "never",
     "in register 1 whole 0 3", "out counter 1 whole 0 0", "never", "prove", ""]);
 });
 
 test("a question may have a limit of memory, and of sets", () => {
   const linesWith = (limits) => questionText({ board: "rom = []\n", program: "NOP" }, neverQuestion([[]]), limits).split("\n");
-  assert.deepEqual(linesWith({ most: 77, memory: 5 }).slice(0, 4), ["most 77", "memory 5", "pause 1000000", "wire"]);
-  assert.deepEqual(linesWith({ most: 0, sets: 9 }).slice(0, 4), ["most 0", "sets 9", "pause 1000000", "wire"]);
+  assert.deepEqual(linesWith({ maxStates: 77, memory: 5 }).slice(0, 4), ["most 77", "memory 5", "pause 1000000", "wire"]);
+  assert.deepEqual(linesWith({ maxStates: 0, sets: 9 }).slice(0, 4), ["most 0", "sets 9", "pause 1000000", "wire"]);
 });
 
 test("mistakes are one more thing that must never be", () => {
-  const question = { ...mistakeQuestion(["code", "ram"]), nevers: [["in register 1 whole 0 3"]] };
-  const lines = questionText({ board: "rom = []\n", program: "NOP" }, question, { most: 77 }).split("\n");
+  const question = { ...mistakeQuestion(["code", "ram"]), forbidden: [["in register 1 whole 0 3"]] };
+  const lines = questionText({ board: "rom = []\n", program: "NOP" }, question, { maxStates: 77 }).split("\n");
   assert.deepEqual(lines.slice(8), ["never", "in register 1 whole 0 3", "never", "mistake code ram", "prove", ""]);
   assert.deepEqual(allMistakes().map(({ word, property: { form } }) => `${word} ${form}`),
     ["code code", "call calls", "return returns", "ram mistake", "rom mistake", "rdr mistake", "wrr mistake"]);
@@ -389,8 +389,8 @@ test("verdicts are TAP, and decide the exit status", () => {
   const goal = { ...property, text: "reach it", isGoal: true };
   const proved = { kind: "proved", states: 96937, bySets: false, leftOut: "" };
   const bySets = { kind: "proved", states: 23, bySets: true, leftOut: '"once" and "after press"' };
-  const open = { kind: "open", words: "why" };
-  const found = { kind: "found", found: { steps: 1, cycles: 1200, isAllowed: true, isTest: true, text: "test x\n  run 1\n" } };
+  const open = { kind: "open", reason: "why" };
+  const found = { kind: "found", counterexample: { steps: 1, cycles: 1200, isAllowed: true, isTest: true, text: "test x\n  run 1\n" } };
   const all = [{ property, verdict: proved }, { property, verdict: open }, { property: goal, verdict: found },
     { property: goal, verdict: proved }, { property, verdict: bySets }, { property: goal, verdict: bySets }];
   assert.equal(tapHead(all.length) + all.map((each, at) => formatJudgedTap(each, at, "p")).join(""), `TAP version 13

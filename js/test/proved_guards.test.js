@@ -124,7 +124,7 @@ test("what is proved without a guard is proved with it, and a way must break it 
   const verdicts = await verdictsOn(TABLE.map(([text]) => `${text}\n`).join(""));
   TABLE.forEach(([text, wanted], at) => {
     const verdict = verdicts[at];
-    assert.equal(verdict.kind === "open" ? verdict.words : verdict.kind, wanted, text);
+    assert.equal(verdict.kind === "open" ? verdict.reason : verdict.kind, wanted, text);
     if (verdict.kind === "proved") assert.match(verdict.leftOut, text.includes("once") ? /^"once"$/ : /^"after press"$/);
   });
 });
@@ -142,7 +142,7 @@ test("presses that no read sees are no counterexample", async () => {
   // The first read already finds START down. The key was pressed before that read, so no read sees it go down.
   const text = "lamp waiting on only after press START\n";
   const [open] = await verdictsOn(text, new FixedAnswerEngine("may fail 0 8\n"));
-  assert.deepEqual(open, { kind: "open", words: "it can become true before the program has read each key up and then down" });
+  assert.deepEqual(open, { kind: "open", reason: "it can become true before the program has read each key up and then down" });
   const [proved] = await verdictsOn(text, new FixedAnswerEngine("holds 12\n"));
   assert.deepEqual(proved, { kind: "proved", states: 12, bySets: false, leftOut: "" });
   const [found] = await verdictsOn("lamp go on only after press START, press START\n",
@@ -150,5 +150,5 @@ test("presses that no read sees are no counterexample", async () => {
   assert.equal(found.kind, "found");
   assert.match(found.found.text, /\n {2}press START\n {2}run \d+\n {2}expect not lamp go on\n$/);
   const [pin] = await verdictsOn("lamp foul on only after press PRESS\n");
-  assert.match(pin.words, /^PRESS is at the TEST pin/);
+  assert.match(pin.reason, /^PRESS is at the TEST pin/);
 });

@@ -16,20 +16,20 @@ test("messages come out of a stream, wherever it is cut", () => {
   for (const step of [1, 2, 7, bytes.length]) {
     const reader = new MessageReader();
     const texts = [];
-    for (let at = 0; at < bytes.length; at += step) texts.push(...reader.take(bytes.subarray(at, at + step)));
+    for (let at = 0; at < bytes.length; at += step) texts.push(...reader.readMessages(bytes.subarray(at, at + step)));
     assert.deepEqual(texts.map(({ text }) => JSON.parse(text).id), [1, "\u00e9"]);
   }
   const reader = new MessageReader();
-  assert.deepEqual([...reader.take(bytesOf("content-length: 2\r\nX: y\r\n\r\n{}"))], [{ text: "{}" }]);
-  assert.throws(() => [...new MessageReader().take(bytesOf("GET / HTTP/1.1\r\n\r\n"))], StreamError);
-  assert.throws(() => [...new MessageReader().take(bytesOf("x".repeat(5000)))], StreamError);
+  assert.deepEqual([...reader.readMessages(bytesOf("content-length: 2\r\nX: y\r\n\r\n{}"))], [{ text: "{}" }]);
+  assert.throws(() => [...new MessageReader().readMessages(bytesOf("GET / HTTP/1.1\r\n\r\n"))], StreamError);
+  assert.throws(() => [...new MessageReader().readMessages(bytesOf("x".repeat(5000)))], StreamError);
 });
 
 test("a message that is too long is left out, and the next one is read", () => {
   const reader = new MessageReader();
-  assert.deepEqual([...reader.take(bytesOf(`Content-Length: ${MAX_MESSAGE + 1}\r\n\r\n`))], []);
-  assert.deepEqual([...reader.take(new Uint8Array(MAX_MESSAGE))], []);
-  const rest = [...reader.take(new Uint8Array([32, ...frameMessage({ id: 1 })]))];
+  assert.deepEqual([...reader.readMessages(bytesOf(`Content-Length: ${MAX_MESSAGE + 1}\r\n\r\n`))], []);
+  assert.deepEqual([...reader.readMessages(new Uint8Array(MAX_MESSAGE))], []);
+  const rest = [...reader.readMessages(new Uint8Array([32, ...frameMessage({ id: 1 })]))];
   assert.deepEqual(rest.map((each) => each.tooLong || JSON.parse(each.text).id), [MAX_MESSAGE + 1, 1]);
 });
 
@@ -38,11 +38,11 @@ test("a size that no message has is an error at once, after the messages before 
   const texts = [];
   const bytes = bytesOf("Content-Length: 2\r\n\r\n{}Content-Length: 99999999999\r\n\r\n");
   assert.throws(() => {
-    for (const { text } of reader.take(bytes)) texts.push(text);
+    for (const { text } of reader.readMessages(bytes)) texts.push(text);
   }, /^Error: Content-Length: 99999999999 is more than a message can have/);
   assert.deepEqual(texts, ["{}"]);
   const { connection, messages } = startServer();
-  assert.throws(() => connection.take(bytes), StreamError);
+  assert.throws(() => connection.receive(bytes), StreamError);
   assert.match(messages[messages.length - 1].error.message, /^Content-Length: 99999999999 is more/);
 });
 
@@ -52,7 +52,7 @@ test("what comes in one chunk with initialize, and with shutdown, is served in i
   const hover = { textDocument, position: { line: 0, character: 0 } };
   const notes = [["initialized", {}], ["textDocument/didOpen", { textDocument }]].map(([method, params]) => ({ method, params }));
   const messagesToServer = [{ id: 1, method: "initialize", params: {} }, ...notes, { id: 2, method: "textDocument/hover", params: hover }];
-  connection.take(new Uint8Array(messagesToServer.flatMap((each) => [...frameMessage({ jsonrpc: "2.0", ...each })])));
+  connection.receive(new Uint8Array(messagesToServer.flatMap((each) => [...frameMessage({ jsonrpc: "2.0", ...each })])));
   const untilReported = async (count) => {
     for (let turns = 0; turns < 2000 && messages.length < count; turns++) await new Promise(setImmediate);
   };
@@ -60,7 +60,7 @@ test("what comes in one chunk with initialize, and with shutdown, is served in i
   assert.deepEqual(messages.slice(0, 2).map(({ id, result }) => [id, result !== undefined]), [[1, true], [2, true]]);
   assert.deepEqual(messages[2].params.diagnostics.map(({ range }) => range.start.line), [0]);
   const end = [{ id: 3, method: "shutdown" }, { id: 4, method: "textDocument/hover", params: hover }, { method: "exit" }];
-  connection.take(new Uint8Array(end.flatMap((each) => [...frameMessage({ jsonrpc: "2.0", ...each })])));
+  connection.receive(new Uint8Array(end.flatMap((each) => [...frameMessage({ jsonrpc: "2.0", ...each })])));
   await untilReported(5);
   assert.deepEqual([messages.find(({ id }) => id === 3).result, messages.find(({ id }) => id === 4).error.code], [null, -32600]);
   assert.equal(status(), 0);
@@ -142,13 +142,13 @@ test("the order of the protocol", async () => {
   const nowhere = { textDocument: { uri: "file:///none.asm" }, position: { line: 0, character: 0 } };
   assert.equal((await answer("textDocument/hover", nowhere)).error.code, -32602);
   assert.equal((await answer("textDocument/hover", { position: { line: -1 } })).error.code, -32602);
-  connection.take(bytesOf("Content-Length: 1\r\n\r\n{"));
+  connection.receive(bytesOf("Content-Length: 1\r\n\r\n{"));
   assert.equal(messages[messages.length - 1].error.code, -32700);
-  connection.take(frameMessage({ jsonrpc: "2.0", id: 7 }));
+  connection.receive(frameMessage({ jsonrpc: "2.0", id: 7 }));
   assert.deepEqual([messages[messages.length - 1].id, messages[messages.length - 1].error.code], [7, -32600]);
   assert.equal((await answer("shutdown")).result, null);
   assert.equal((await answer("textDocument/hover", {})).error.code, -32600);
-  connection.take(frameMessage({ jsonrpc: "2.0", method: "exit" }));
+  connection.receive(frameMessage({ jsonrpc: "2.0", method: "exit" }));
   assert.equal(status(), 0);
 });
 
@@ -227,10 +227,10 @@ test("a board's words and places: a lamp's line leads to its chip", async () => 
 test("the rest of a message that does not come is reported", () => {
   const { connection, messages } = startServer();
   assert.equal(connection.reportIncomplete(), "");
-  connection.take(bytesOf("Content-Length: 20\r\n\r\n{\"id\":"));
+  connection.receive(bytesOf("Content-Length: 20\r\n\r\n{\"id\":"));
   assert.equal(connection.reportIncomplete(), "only 6 of the 20 bytes that Content-Length announces have arrived");
   assert.deepEqual([messages[0].id, messages[0].error.code], [null, -32600]);
   const other = startServer();
-  other.connection.take(bytesOf("Content-Le"));
+  other.connection.receive(bytesOf("Content-Le"));
   assert.match(other.connection.reportIncomplete(), /a part of the head/);
 });

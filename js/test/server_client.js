@@ -16,21 +16,21 @@ export function startServer(files = {}, pause = async () => {}) {
   let status = null;
   const connection = new Connection((bytes) => {
     // Output after the server's end is ignored.
-    if (status === null) messages.push(...[...reader.take(bytes)].map(({ text }) => JSON.parse(text)));
+    if (status === null) messages.push(...[...reader.readMessages(bytes)].map(({ text }) => JSON.parse(text)));
   }, (ended) => {
     status = ended;
   });
   const host = { readFile: (uri) => files[uri] || null, pause };
   const server = new LanguageServer(connection, engine, readPageData(), host);
   const answer = async (method, params, id = messages.length + 1) => {
-    connection.take(frameMessage({ jsonrpc: "2.0", id, method, params }));
+    connection.receive(frameMessage({ jsonrpc: "2.0", id, method, params }));
     for (let turns = 0; turns < 200 && !messages.some((each) => each.id === id); turns++) await new Promise(setImmediate);
     return messages.find((each) => each.id === id);
   };
   const ask = async (method, params) => (await answer(method, params)).result;
   const open = async (uri, text, languageId = "asm") => {
     const textDocument = { uri, languageId, version: 1, text };
-    connection.take(frameMessage({ jsonrpc: "2.0", method: "textDocument/didOpen", params: { textDocument } }));
+    connection.receive(frameMessage({ jsonrpc: "2.0", method: "textDocument/didOpen", params: { textDocument } }));
     const begin = { line: 0, character: 0 };
     await ask("textDocument/codeAction", { textDocument: { uri }, range: { start: begin, end: begin } });
     return messages.filter((each) => each.method === "textDocument/publishDiagnostics" && each.params.uri === uri).pop().params.diagnostics;

@@ -126,7 +126,7 @@ test("colours of a range, and what changed of them", async () => {
   assert.deepEqual(await ask("textDocument/semanticTokens/range", { ...document, range: range(1, 0, 1, 9) }),
     { data: [1, 1, 3, 4, 0, 0, 4, 5, 1, 0] });
   const params = { textDocument: { uri, version: 2 }, contentChanges: [{ range: range(0, 11, 0, 12), text: "15" }] };
-  connection.take(frameMessage({ jsonrpc: "2.0", method: "textDocument/didChange", params }));
+  connection.receive(frameMessage({ jsonrpc: "2.0", method: "textDocument/didChange", params }));
   const delta = await ask("textDocument/semanticTokens/full/delta", { ...document, previousResultId: resultId });
   assert.deepEqual(delta.edits, [{ start: 12, deleteCount: 1, data: [2] }]);
   const same = await ask("textDocument/semanticTokens/full/delta", { ...document, previousResultId: delta.resultId });
@@ -184,7 +184,7 @@ test("diagnostics that a client asks for, and the request to ask again", async (
   const server = startServer({});
   const { capabilities } = await server.begin(client);
   assert.equal(capabilities.diagnosticProvider.interFileDependencies, true);
-  const take = (method, params) => server.connection.take(frameMessage({ jsonrpc: "2.0", method, params }));
+  const take = (method, params) => server.connection.receive(frameMessage({ jsonrpc: "2.0", method, params }));
   take("textDocument/didOpen", { textDocument: { uri, languageId: "asm", version: 1, text: "JMP x\n" } });
   const first = await server.ask("textDocument/diagnostic", document);
   assert.deepEqual([first.kind, first.items.length], ["full", 1]);

@@ -133,13 +133,13 @@ test("a test that runs ends where the client cancels it, and no result is shown"
     assert.ok(isSo());
   };
   const before = pauses;
-  connection.take(frameMessage({ jsonrpc: "2.0", id: 950, method: "workspace/executeCommand",
+  connection.receive(frameMessage({ jsonrpc: "2.0", id: 950, method: "workspace/executeCommand",
     params: { command: "mcs4.runTest", arguments: [tests, "long"] } }));
   await until(() => pauses >= before + 3);
-  connection.take(frameMessage({ jsonrpc: "2.0", id: 950, method: "workspace/symbol", params: { query: "" } }));
+  connection.receive(frameMessage({ jsonrpc: "2.0", id: 950, method: "workspace/symbol", params: { query: "" } }));
   const of950 = () => all.filter(({ id }) => id === 950);
   assert.deepEqual(of950().map(({ error }) => error.message), ["a request with the id 950 waits for its answer"]);
-  connection.take(frameMessage({ jsonrpc: "2.0", method: "$/cancelRequest", params: { id: 950 } }));
+  connection.receive(frameMessage({ jsonrpc: "2.0", method: "$/cancelRequest", params: { id: 950 } }));
   assert.equal(of950()[1].error.code, -32800);
   const cancelledAt = pauses;
   for (let turn = 0; turn < 50; turn++) await new Promise(setImmediate);

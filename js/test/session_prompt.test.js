@@ -56,7 +56,7 @@ function prompted(files = {}) {
   });
   const ask = async (...lines) => {
     out = [];
-    for (const line of lines) await prompt.take(line);
+    for (const line of lines) await prompt.enterLine(line);
     return out;
   };
   return { prompt, ask };

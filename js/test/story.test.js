@@ -12,16 +12,17 @@ import { requestedStory } from "../page/session/address.js";
 const EXAMPLES = new URL("../../examples/", import.meta.url);
 const stories = readdirSync(EXAMPLES, { recursive: true }).filter((name) => name.endsWith(".story"));
 const read = (name) => readFileSync(new URL(name, EXAMPLES), "utf8");
-const actsOf = (steps) => steps.flatMap(({ words }) => words.flat()).filter((part) => typeof part !== "string").map(({ act }) => act);
+const actsOf = (steps) => (
+  steps.flatMap(({ paragraphs }) => paragraphs.flat()).filter((part) => typeof part !== "string").map(({ action }) => action));
 
 test("a text becomes steps, paragraphs and places", () => {
   const one = "## One\n\nPress [5](press 5)\nand [go\non](run to add_up).\n\nThen [?](fly), [x](show nothing).\n\n";
   const steps = parseStory(`# All\n\n${one}## Two\n`);
-  assert.deepEqual(steps.map(({ title, words }) => [title, words]), [
+  assert.deepEqual(steps.map(({ title, paragraphs }) => [title, paragraphs]), [
     ["One", [
       [
-        "Press ", { words: "5", act: { name: "press", argument: "5" } }, " and ",
-        { words: "go on", act: { name: "run to", argument: "add_up" } }, ".",
+        "Press ", { linkText: "5", action: { name: "press", argument: "5" } }, " and ",
+        { linkText: "go on", action: { name: "run to", argument: "add_up" } }, ".",
       ],
       ["Then ", "?", ", ", "x", "."],
     ]],

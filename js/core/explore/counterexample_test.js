@@ -21,7 +21,7 @@ import * as say from "../../words/explore.js";
  * @param {Violation} violation
  */
 export function formatViolationLines(campaign, { steps, time }) {
-  const lastChangeTime = steps.reduce((sum, { wait }) => sum + wait, campaign.begin);
+  const lastChangeTime = steps.reduce((sum, { wait }) => sum + wait, campaign.checkStart);
   return walkLines(campaign, steps) + runLines(time - lastChangeTime);
 }
 
@@ -44,10 +44,10 @@ class TestWriter {
     this.steps = steps;
     this.time = time;
     /** The time of the last change in cycles. */
-    this.lastChangeTime = steps.reduce((sum, { wait }) => sum + wait, campaign.begin);
+    this.lastChangeTime = steps.reduce((sum, { wait }) => sum + wait, campaign.checkStart);
     /** @type {string[]} */
-    this.lines = [`test ${this.property.text}`, ...campaign.before];
-    this.pendingWait = campaign.begin;
+    this.lines = [`test ${this.property.text}`, ...campaign.leadingLines];
+    this.pendingWait = campaign.checkStart;
   }
 
   /** Writes a `run` line for the waits that are not written yet. */
@@ -61,8 +61,8 @@ class TestWriter {
       this.pendingWait += wait;
       if (kind === "none") continue;
       this.writePendingWait();
-      const { downWords, upWords } = this.campaign.inputs[input] || { downWords: "reset", upWords: "" };
-      this.lines.push(`  ${kind === "up" ? upWords : downWords}`);
+      const { downTestLine, upTestLine } = this.campaign.inputs[input] || { downTestLine: "reset", upTestLine: "" };
+      this.lines.push(`  ${kind === "up" ? upTestLine : downTestLine}`);
     }
   }
 
@@ -93,11 +93,11 @@ class TestWriter {
 
   /**
    * Writes an `expect` line for a condition at the time of the violation.
-   * @param {string} words
+   * @param {string} condition
    */
-  writeExpect(words) {
+  writeExpect(condition) {
     this.writeRunUntil(this.time);
-    this.lines.push(`  expect ${words}`);
+    this.lines.push(`  expect ${condition}`);
   }
 
   /**
@@ -111,13 +111,13 @@ class TestWriter {
 
   /**
    * Writes an `until` line, which requires that a condition becomes true before the time of the violation.
-   * @param {string} words the condition
+   * @param {string} condition the condition
    * @param {number} since the time at which the wait for the condition starts, in cycles
    */
-  writeUntil(words, since) {
+  writeUntil(condition, since) {
     const from = Math.max(since, this.lastChangeTime);
     this.writeRunUntil(from);
-    this.lines.push(`  until ${words} within ${Math.max(1, this.time - from)}`);
+    this.lines.push(`  until ${condition} within ${Math.max(1, this.time - from)}`);
   }
 }
 

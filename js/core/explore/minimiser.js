@@ -63,10 +63,10 @@ export class Minimiser {
     const wait = Math.min(this.campaign.maxWait, longestWaitAfter(this.campaign, steps));
     const finalWait = wait > 0 ? [{ wait, kind: /** @type {const} */ ("none"), input: -1 }] : [];
     this.cyclesLeft -= [...steps, ...finalWait].reduce((sum, step) => sum + step.wait + STEP_COST, 0);
-    const { broken } = this.watcher.watch(this.start, [...steps, ...finalWait], [0]);
-    if (!broken) return false;
-    this.steps = steps.slice(0, broken.step);
-    this.time = broken.time;
+    const { violation } = this.watcher.watch(this.start, [...steps, ...finalWait], [0]);
+    if (!violation) return false;
+    this.steps = steps.slice(0, violation.step);
+    this.time = violation.time;
     return true;
   }
 
@@ -100,7 +100,7 @@ export class Minimiser {
    */
   stepsWithout(isRemoved) {
     const { campaign } = this;
-    let down = initialDownInputs(campaign);
+    let downInputs = initialDownInputs(campaign);
     let waited = 0;
     /** @type {WalkStep[]} */
     const remainingSteps = [];
@@ -108,9 +108,9 @@ export class Minimiser {
       waited += step.wait;
       if (isRemoved(at)) continue;
       // While no input is down, a wait can exceed the maximum of the campaign, but must fit into one run.
-      if (waited > (down.length > 0 ? campaign.maxWait : MAX_RUN_CYCLES)) return null;
+      if (waited > (downInputs.length > 0 ? campaign.maxWait : MAX_RUN_CYCLES)) return null;
       remainingSteps.push({ ...step, wait: waited });
-      down = downInputsAfter(down, step);
+      downInputs = downInputsAfter(downInputs, step);
       waited = 0;
     }
     return remainingSteps;
@@ -133,10 +133,10 @@ export class Minimiser {
    */
   async removeStart() {
     const { campaign, steps } = this;
-    let down = initialDownInputs(campaign);
+    let downInputs = initialDownInputs(campaign);
     const idleSteps = steps.flatMap((step, at) => {
-      const isIdle = down.length === 0 && at > 0;
-      down = downInputsAfter(down, step);
+      const isIdle = downInputs.length === 0 && at > 0;
+      downInputs = downInputsAfter(downInputs, step);
       return isIdle ? [at] : [];
     });
     for (const at of idleSteps.reverse()) {

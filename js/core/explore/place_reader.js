@@ -31,7 +31,7 @@ const REGISTERS_PER_CHIP = 4;
  * @param {number} bank
  */
 function countChips({ banks }, bank) {
-  return (banks.find((each) => each.bank === bank) || { chips: 0 }).chips;
+  return (banks.find((candidate) => candidate.bank === bank) || { chips: 0 }).chips;
 }
 
 /**
@@ -55,12 +55,12 @@ function registerPosition(name) {
 function memoryPosition(name, board) {
   const [word, ...parts] = name.split(".");
   if (word !== "ram" && word !== "st") return null;
-  const [bank, at, statusIndex] = parts.map(parseNumber);
-  const register = word === "ram" ? at >> 4 : at;
+  const [bank, address, statusIndex] = parts.map(parseNumber);
+  const register = word === "ram" ? address >> 4 : address;
   if ((register >> 2) >= countChips(board, bank)) return null;
   const line = 1 + (register >> 2) * LINES_PER_CHIP + (register % REGISTERS_PER_CHIP);
   // `0.0.1 HHHHHHHHHHHHHHHH HHHH`
-  const start = word === "ram" ? 6 + (at % 16) : 23 + statusIndex;
+  const start = word === "ram" ? 6 + (address % 16) : 23 + statusIndex;
   return { query: `ram ${bank}`, line, precedingWord: "", start, length: 1 };
 }
 
@@ -75,8 +75,8 @@ function portPosition(name, board) {
   const match = /^ram(\d)\.(\d)$/.exec(name);
   if (!match || Number(match[2]) >= countChips(board, Number(match[1]))) return null;
   // `rams 0.0.H,0.1.H,1.0.H`
-  const before = board.banks.filter(({ bank }) => bank < Number(match[1])).reduce((sum, { chips }) => sum + chips, 0);
-  return { query: "state", line: 0, precedingWord: " rams ", start: 6 * (before + Number(match[2])) + 4, length: 1 };
+  const earlierChips = board.banks.filter(({ bank }) => bank < Number(match[1])).reduce((sum, { chips }) => sum + chips, 0);
+  return { query: "state", line: 0, precedingWord: " rams ", start: 6 * (earlierChips + Number(match[2])) + 4, length: 1 };
 }
 
 /**
@@ -95,13 +95,13 @@ export class PlaceReader {
    * @param {Board} board
    */
   constructor(names, board) {
-    const all = [...new Set(names)];
-    const positions = all.map((name) => findPosition(name, board));
+    const allNames = [...new Set(names)];
+    const positions = allNames.map((name) => findPosition(name, board));
     /** The places that only `trace` reports. */
-    this.remainingPlaces = new PlaceQueries(all.filter((_, at) => !positions[at]));
-    this.positions = positions.flatMap((each) => each || []);
+    this.remainingPlaces = new PlaceQueries(allNames.filter((_, at) => !positions[at]));
+    this.positions = positions.flatMap((position) => position || []);
     /** All places, in the order of the values. */
-    this.names = [...all.filter((_, at) => positions[at]), ...this.remainingPlaces.names];
+    this.names = [...allNames.filter((_, at) => positions[at]), ...this.remainingPlaces.names];
     this.queries = [...new Set(this.positions.map(({ query }) => query))];
     /** The query lines. */
     this.lines = this.queries.map((query) => `${query}\n`).join("") + this.remainingPlaces.lines(1);
@@ -129,11 +129,11 @@ export class PlaceReader {
     const { positions, answerIndexes, remainingPlaces: tracedPlaces } = this;
     const first = values.at;
     let row = "";
-    for (let each = 0; each < positions.length; each++) {
-      const { precedingWord, start, length } = positions[each];
-      const answer = values.answers[first + answerIndexes[each]];
-      const begin = precedingWord === "" ? start : answer.indexOf(precedingWord) + precedingWord.length + start;
-      row += `${each === 0 ? "" : " "}${length === 0 ? answer.slice(begin) : answer.substr(begin, length)}`;
+    for (let index = 0; index < positions.length; index++) {
+      const { precedingWord, start, length } = positions[index];
+      const answer = values.answers[first + answerIndexes[index]];
+      const valueStart = precedingWord === "" ? start : answer.indexOf(precedingWord) + precedingWord.length + start;
+      row += `${index === 0 ? "" : " "}${length === 0 ? answer.slice(valueStart) : answer.substr(valueStart, length)}`;
     }
     values.skip(this.answerCount);
     if (tracedPlaces.names.length === 0) return row;

@@ -97,9 +97,9 @@ class ProgramImport {
   attemptLine(line, convert, fallback) {
     try {
       return convert();
-    } catch (thrown) {
-      if (!(thrown instanceof LineError)) throw thrown;
-      this.faults.push({ line, words: thrown.message });
+    } catch (error) {
+      if (!(error instanceof LineError)) throw error;
+      this.faults.push({ line, words: error.message });
       return fallback;
     }
   }

@@ -99,9 +99,9 @@ class LampRows {
    * Adds the three rows of a die: two, three and two pips.
    * @param {LampCell[]} pips the seven cells of the pips
    */
-  addDie([first, second, ...others]) {
+  addDie([first, second, ...otherPips]) {
     const space = gapCell(DIE_WIDTH);
-    this.rows.push([first, space, second], others.slice(0, 3), [others[3], space, others[4]]);
+    this.rows.push([first, space, second], otherPips.slice(0, 3), [otherPips[3], space, otherPips[4]]);
   }
 
   /**
@@ -112,10 +112,10 @@ class LampRows {
     if (grid.length === 0) return;
     const columns = indices(Math.max(...grid.map(({ column }) => column)) + 1);
     const widths = columns.map((at) => Math.max(2, ...grid.filter(({ column }) => column === at).map(({ lamp }) => this.cellWidth(lamp))));
-    for (const row of indices(Math.max(...grid.map((each) => each.row)) + 1)) {
+    for (const row of indices(Math.max(...grid.map((cell) => cell.row)) + 1)) {
       this.rows.push(columns.map((column) => {
-        const found = grid.find((each) => each.row === row && each.column === column);
-        return found ? this.namedCell(found.lamp, widths[column]) : gapCell(widths[column]);
+        const gridLamp = grid.find((cell) => cell.row === row && cell.column === column);
+        return gridLamp ? this.namedCell(gridLamp.lamp, widths[column]) : gapCell(widths[column]);
       }));
     }
     this.rows.push([]);

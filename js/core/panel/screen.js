@@ -127,8 +127,8 @@ export class Screen {
     if (!snapshot.hasDisplay) return Array(LARGE_ROWS).fill("");
     const { display } = snapshot;
     const [number] = display.split(" ");
-    const [first, ...others] = largeDigitRows(number.slice(0, MAX_LARGE_CHARACTERS));
-    return [`${first.padEnd(LARGE_WIDTH)} ${say.display(escapeControls(display))}`, ...others];
+    const [first, ...otherRows] = largeDigitRows(number.slice(0, MAX_LARGE_CHARACTERS));
+    return [`${first.padEnd(LARGE_WIDTH)} ${say.display(escapeControls(display))}`, ...otherRows];
   }
 
   /** Returns the three rows with the lamps, the registers, and the register pairs. */
@@ -161,7 +161,8 @@ export class Screen {
     if (!source) return "";
     const line = source.map.lineOf(counter);
     if (line === 0) return notInSource(hex(counter, 3));
-    return say.sourceHere(this.addressName(counter), line + source.before, escapeControls(expandTabs(source.lines[line - 1]).trimStart()));
+    const sourceLine = escapeControls(expandTabs(source.lines[line - 1]).trimStart());
+    return say.sourceHere(this.addressName(counter), line + source.linesBefore, sourceLine);
   }
 
   // --- RAM, front panel and listing ---
@@ -190,9 +191,9 @@ export class Screen {
    */
   listingText(row) {
     const { snapshot, subject: { source } } = this.panel;
-    const listed = snapshot.listing[row];
-    if (!listed) return "";
-    const { address, line } = listed;
+    const listingLine = snapshot.listing[row];
+    if (!listingLine) return "";
+    const { address, line } = listingLine;
     const digits = hex(address, 3);
     const marks = `${address === snapshot.counter ? ">" : " "}${snapshot.breakpoints.includes(digits) ? "*" : " "}`;
     if (!source || !source.map.beginsInstruction(address)) return marks + line;
@@ -211,9 +212,9 @@ export class Screen {
     }));
     const rows = [...keys, ...(keys.length > 0 ? [[]] : []), ...lamps];
     const printout = this.printoutRows(count - rows.length);
-    const shown = indices(count).map((at) => rows[at] || []);
-    shown.splice(count - printout.length, printout.length, ...printout.map((text) => [plainPiece(text)]));
-    return shown.map((pieces) => fitToWidth(pieces, FRONT_PANEL_WIDTH));
+    const visibleRows = indices(count).map((at) => rows[at] || []);
+    visibleRows.splice(count - printout.length, printout.length, ...printout.map((text) => [plainPiece(text)]));
+    return visibleRows.map((pieces) => fitToWidth(pieces, FRONT_PANEL_WIDTH));
   }
 
   /** @returns {Piece[][]} the rows with the keys, and with the button or switch at the TEST pin; pressed keys are in brackets */

@@ -17,13 +17,13 @@ import * as say from "../../words/server.js";
 export class ProjectError extends Error {
   /**
    * @param {string} file
-   * @param {string} words
+   * @param {string} reason
    * @param {number} line 0 if the error is not in a line
    */
-  constructor(file, words, line = 0) {
-    super(line > 0 ? `${file}: line ${line}: ${words}` : `${file}: ${words}`);
+  constructor(file, reason, line = 0) {
+    super(line > 0 ? `${file}: line ${line}: ${reason}` : `${file}: ${reason}`);
     this.file = file;
-    this.words = words;
+    this.reason = reason;
     this.line = line;
   }
 }

@@ -36,11 +36,11 @@ const REQUIRED_KEYS = ["board", "program"];
 /**
  * Returns an error in a range of the project file.
  * @param {{ line: number, from: number, to: number }} range
- * @param {string} words
+ * @param {string} message
  * @returns {Fault}
  */
-function errorAt({ line, from, to }, words) {
-  return { number: 0, line, from, to, words };
+function errorAt({ line, from, to }, message) {
+  return { number: 0, line, from, to, words: message };
 }
 
 /**
@@ -69,11 +69,11 @@ function keyErrors({ name, line, from, to, value }) {
   const { inner } = value;
   const values = LIST_KEYS.includes(name) && Array.isArray(inner) ? inner : [value];
   if (LIST_KEYS.includes(name) !== Array.isArray(inner)) return [errorAt(value, description)];
-  return values.flatMap((each) => {
-    if (typeof each.inner !== "string") return [errorAt(each, description)];
-    if (name === "speed") return SPEEDS.some(({ id }) => id === each.inner) ? [] : [errorAt(each, description)];
-    const message = pathError(name, each.inner);
-    return message ? [errorAt(each, message)] : [];
+  return values.flatMap((element) => {
+    if (typeof element.inner !== "string") return [errorAt(element, description)];
+    if (name === "speed") return SPEEDS.some(({ id }) => id === element.inner) ? [] : [errorAt(element, description)];
+    const message = pathError(name, element.inner);
+    return message ? [errorAt(element, message)] : [];
   });
 }
 
@@ -99,7 +99,7 @@ function duplicateErrors(keys) {
  * @returns {NamedFile[]}
  */
 function filesForKey(keys, name) {
-  const key = keys.find((each) => each.name === name);
+  const key = keys.find((candidate) => candidate.name === name);
   if (!key) return [];
   const values = Array.isArray(key.value.inner) ? key.value.inner : [key.value];
   return values.map(({ inner, line, from, to }) => ({ path: String(inner), key: name, line, from, to }));
@@ -111,13 +111,13 @@ function filesForKey(keys, name) {
  * @returns {{ names: ProjectNames | null, faults: Fault[] }}
  */
 export function readProjectToml(text) {
-  const { entries, others, keys, faults } = readBoardText(text.replace(/^\uFEFF/, ""));
-  // `others` lacks the keys whose value is an empty list, because the board reader omits them.
+  const { entries, plainKeys, keys, faults } = readBoardText(text.replace(/^\uFEFF/, ""));
+  // `plainKeys` lacks the keys whose value is an empty list, because the board reader omits them.
   const emptyLists = keys.filter(({ value: { inner } }) => Array.isArray(inner) && inner.length === 0);
   const errors = [
     ...faults.map((fault) => ({ ...fault, number: 0 })),
     ...entries.map((entry) => errorAt(entry, say.NO_TABLES)),
-    ...[...others, ...emptyLists].flatMap(keyErrors),
+    ...[...plainKeys, ...emptyLists].flatMap(keyErrors),
     ...duplicateErrors(keys),
   ];
   if (errors.length === 0) {

@@ -77,12 +77,12 @@ export class BreakpointCommands {
     if (previous) this.list.remove(previous.id);
     const newBreakpoint = this.list.add({ line, address, from: Math.max(1, Number(from)), condition, note });
     const { faults } = await session.applyBreakpoints();
-    const fault = faults.find(([id]) => id === newBreakpoint.id);
-    if (fault) {
+    const breakpointError = faults.find(([id]) => id === newBreakpoint.id);
+    if (breakpointError) {
       this.list.remove(newBreakpoint.id);
       if (previous) this.list.add(previous);
       await this.applyBreakpoints();
-      rejectCommand(fault[1]);
+      rejectCommand(breakpointError[1]);
     }
     await machine.saveAndReport();
     const { address: placedAddress } = this.list.get(newBreakpoint.id) || newBreakpoint;
@@ -100,11 +100,11 @@ export class BreakpointCommands {
     const { session, machine } = this.prompt;
     const previous = this.list.get(id);
     this.list.change(id, changes);
-    const fault = (await session.applyBreakpoints()).faults.find(([other]) => other === id);
-    if (fault && previous) {
+    const breakpointError = (await session.applyBreakpoints()).faults.find(([other]) => other === id);
+    if (breakpointError && previous) {
       this.list.change(id, previous);
       await this.applyBreakpoints();
-      rejectCommand(fault[1]);
+      rejectCommand(breakpointError[1]);
     }
     await machine.saveAndReport();
   }

@@ -57,7 +57,7 @@ export class InspectCommands {
       backtrace: () => calls.print(stateText.frameLines(session)),
       frame: () => calls.print(this.frameText),
       help: (argumentText) => {
-        if (argumentText !== "" && !findCommand(argumentText).command) rejectCommand(findCommand(argumentText).words);
+        if (argumentText !== "" && !findCommand(argumentText).command) rejectCommand(findCommand(argumentText).message);
         calls.print(commandHelp(argumentText));
       },
       quit: () => {
@@ -96,18 +96,18 @@ export class InspectCommands {
   evaluateOrExplain(expression) {
     try {
       return this.evaluate(expression);
-    } catch (thrown) {
-      return thrown instanceof Error ? thrown.message : String(thrown);
+    } catch (error) {
+      return error instanceof Error ? error.message : String(error);
     }
   }
 
   /**
    * Prints the expressions that `display` has added, with their values.
-   * @param {number} [from] the index of the first expression to print
+   * @param {number} [startIndex] the index of the first expression to print
    */
-  showDisplays(from = 0) {
-    this.displays.slice(from).forEach((expression, at) => {
-      this.prompt.calls.print(`${from + at + 1}: ${expression} = ${this.evaluateOrExplain(expression)}`);
+  showDisplays(startIndex = 0) {
+    this.displays.slice(startIndex).forEach((expression, at) => {
+      this.prompt.calls.print(`${startIndex + at + 1}: ${expression} = ${this.evaluateOrExplain(expression)}`);
     });
   }
 
@@ -128,7 +128,7 @@ export class InspectCommands {
    */
   removeDisplays(argumentText) {
     const ids = argumentText.split(/\s+/).filter(Boolean).map(Number);
-    const hasInvalidNumber = ids.some((each) => !(each >= 1 && each <= this.displays.length));
+    const hasInvalidNumber = ids.some((id) => !(id >= 1 && id <= this.displays.length));
     if (hasInvalidNumber) rejectCommand(say.NO_DISPLAY);
     this.displays = argumentText === "" ? [] : this.displays.filter((_, at) => !ids.includes(at + 1));
   }
@@ -157,15 +157,15 @@ export class InspectCommands {
   listSource(argumentText) {
     const { calls, session } = this.prompt;
     const count = stateText.countSourceLines(session);
-    let from = this.lastListedLine + 1;
+    let firstLine = this.lastListedLine + 1;
     if (argumentText !== "" || this.lastListedLine === 0) {
       const line = /^\d+$/.test(argumentText) ? Number(argumentText) : findInstruction(argumentText, session).line;
       if (line === 0) rejectCommand(say.NO_LINE_THERE);
-      from = Math.max(1, line - LIST_LENGTH / 2);
+      firstLine = Math.max(1, line - LIST_LENGTH / 2);
     }
-    if (from > count) rejectCommand(say.sourceHas(count));
-    calls.print(stateText.sourceLines(session, from, from + LIST_LENGTH - 1));
-    this.lastListedLine = Math.min(count, from + LIST_LENGTH - 1);
+    if (firstLine > count) rejectCommand(say.sourceHas(count));
+    calls.print(stateText.sourceLines(session, firstLine, firstLine + LIST_LENGTH - 1));
+    this.lastListedLine = Math.min(count, firstLine + LIST_LENGTH - 1);
   }
 
   /** The text of `frame`: the innermost frame and the next instruction. */

@@ -86,7 +86,7 @@ export class MoveCommands {
   async repeatMove(argumentText, startMove) {
     const { prompt } = this;
     let stopText = "";
-    for (let left = parseCountArgument(argumentText, MAX_STEPS); left > 0; left--) {
+    for (let remaining = parseCountArgument(argumentText, MAX_STEPS); remaining > 0; remaining--) {
       stopText = await prompt.makeMove(startMove);
       if (prompt.lastStop.reason !== "step" || prompt.machine.mustPause) break;
     }
@@ -132,8 +132,8 @@ export class MoveCommands {
         return stop;
       }, () => true));
       if (stopReason === "passed") continue;
-      const left = keys.slice(at + 1).map(({ name }) => name).join(" ");
-      prompt.showStop(left === "" ? stopText : say.notPressed(stopText, left));
+      const remainingKeys = keys.slice(at + 1).map(({ name }) => name).join(" ");
+      prompt.showStop(remainingKeys === "" ? stopText : say.notPressed(stopText, remainingKeys));
       return;
     }
     prompt.showStop(stoppedAt(session.counterText));

@@ -36,10 +36,10 @@ export class PromptKeys {
 
   /** Returns the text of `info keys`. */
   infoText() {
-    const down = pressedKeys(this.session);
+    const keysDown = pressedKeys(this.session);
     const { names } = this;
     if (names.length === 0) return say.NO_KEYS;
-    return `${names.join(" ")}\n${down.length > 0 ? say.down(down.join(" ")) : say.NO_KEY_IS_DOWN}`;
+    return `${names.join(" ")}\n${keysDown.length > 0 ? say.down(keysDown.join(" ")) : say.NO_KEY_IS_DOWN}`;
   }
 
   /**
@@ -48,8 +48,8 @@ export class PromptKeys {
    * @returns {NamedKey | null}
    */
   findKey(word) {
-    const named = this.namedKeys.get(word);
-    if (named) return named;
+    const namedKey = this.namedKeys.get(word);
+    if (namedKey) return namedKey;
     const [, row, column] = /^(\d+)\.(\d+)$/.exec(word) || [];
     const { rows, columns } = readBoard(this.session.debugger.session.statusQueries.board);
     if (row === undefined || Number(row) >= rows || Number(column) >= columns) return null;

@@ -29,7 +29,7 @@ export function sourceLine(session, line) {
   const { map, breakpoints } = session;
   const address = map.addressOf(line);
   const pointer = line === session.line ? ">" : " ";
-  const mark = breakpoints.all.some((each) => each.line === line && each.isOn) ? "*" : " ";
+  const mark = breakpoints.all.some((breakpoint) => breakpoint.line === line && breakpoint.isOn) ? "*" : " ";
   const addressColumn = address === undefined ? "   " : hex(address, 3);
   const text = expandTabs((session.program.split("\n")[line - 1] || "").replace(/\r$/, ""));
   return `${pointer}${mark}${String(line).padStart(4)}  ${addressColumn}  ${text}`.trimEnd();
@@ -46,13 +46,13 @@ export function countSourceLines({ program }) {
 /**
  * Returns the text of a range of source lines; fails if the first line is after the end of the source.
  * @param {DebugSession} session
- * @param {number} from the first line
- * @param {number} to the last line, inclusive
+ * @param {number} firstLine the first line
+ * @param {number} lastLine the last line, inclusive
  */
-export function sourceLines(session, from, to) {
-  const last = Math.min(to, countSourceLines(session));
-  if (from > last) rejectCommand(say.sourceHas(countSourceLines(session)));
-  return indices(last - from + 1).map((at) => sourceLine(session, from + at)).join("\n");
+export function sourceLines(session, firstLine, lastLine) {
+  const last = Math.min(lastLine, countSourceLines(session));
+  if (firstLine > last) rejectCommand(say.sourceHas(countSourceLines(session)));
+  return indices(last - firstLine + 1).map((at) => sourceLine(session, firstLine + at)).join("\n");
 }
 
 /**
@@ -196,8 +196,8 @@ export function breakpointLines({ breakpoints }, extraText) {
  * @param {number} count the maximum number of nibbles
  */
 export function nibbleLine(session, text, count) {
-  const [, bank, at] = /^ram\.([0-7])\.(\w+)$/i.exec(text) || [];
-  const first = parseNumber(at || "");
+  const [, bank, address] = /^ram\.([0-7])\.(\w+)$/i.exec(text) || [];
+  const first = parseNumber(address || "");
   if (bank === undefined || !(first <= 255)) rejectCommand(say.noPlaceOfRam(text));
   const state = readState(session);
   const values = indices(Math.min(count, 256 - first)).map((offset) => state.character(Number(bank), first + offset));

@@ -53,8 +53,8 @@ export function viewSize(rows, columns) {
  * @param {number} length
  */
 function cutText(text, length) {
-  const shown = [...escapeControls(text).replace(/[\t\n]/g, " ")];
-  return shown.length > length ? `${shown.slice(0, length - 2).join("")}..` : shown.join("");
+  const characters = [...escapeControls(text).replace(/[\t\n]/g, " ")];
+  return characters.length > length ? `${characters.slice(0, length - 2).join("")}..` : characters.join("");
 }
 
 export class View {
@@ -95,10 +95,10 @@ export class View {
     const { total } = session.debugger.session.count;
     const { registers, ports } = new MachineState(session.debugger.session.takeSnapshot());
     const { accumulator, carry, bank, test } = registers;
-    const now = new Map([["acc", accumulator], ["cy", carry], ["test", test], ["dcl", bank], ["SRC", ports.sources[0]]]);
-    for (const at of indices(8)) now.set(`P${at}`, `${registers.registers[2 * at]}${registers.registers[2 * at + 1]}`);
-    if (total !== this.valuesCycleCount) this.previousValues = this.currentValues.size > 0 ? this.currentValues : now;
-    this.currentValues = now;
+    const newValues = new Map([["acc", accumulator], ["cy", carry], ["test", test], ["dcl", bank], ["SRC", ports.sources[0]]]);
+    for (const at of indices(8)) newValues.set(`P${at}`, `${registers.registers[2 * at]}${registers.registers[2 * at + 1]}`);
+    if (total !== this.valuesCycleCount) this.previousValues = this.currentValues.size > 0 ? this.currentValues : newValues;
+    this.currentValues = newValues;
     this.valuesCycleCount = total;
   }
 
@@ -172,9 +172,9 @@ export class View {
   boardLines(columns) {
     const { machine, session, inspectCommands } = this.prompt;
     const keys = pressedKeys(session).join(" ");
-    const shown = machine.frontPanelText.currentText();
+    const panelText = machine.frontPanelText.currentText();
     const displays = inspectCommands.displays.slice(0, MAX_DISPLAYS)
       .map((expression) => `${expression} = ${inspectCommands.evaluateOrExplain(expression)}`);
-    return [shown, keys && say.down(keys), ...displays].filter(Boolean).map((line) => cutText(line, columns));
+    return [panelText, keys && say.down(keys), ...displays].filter(Boolean).map((line) => cutText(line, columns));
   }
 }

@@ -82,10 +82,10 @@ function counterField() {
  */
 function romField(name, { chip, port }) {
   const inputs = [...port].reduce((sum, mark, at) => sum + (mark === "i" ? 2 ** (3 - at) : 0), 0);
-  const shown = indices(NIBBLES).filter((levels) => (levels & ~inputs) === 0);
+  const possibleLevels = indices(NIBBLES).filter((levels) => (levels & ~inputs) === 0);
   return {
     name, count: NIBBLES,
-    texts: (number) => ((number & inputs) === 0 ? shown.map((levels) => hex(number | levels, 1)) : []),
+    texts: (number) => ((number & inputs) === 0 ? possibleLevels.map((levels) => hex(number | levels, 1)) : []),
     between: (low, high) => [[rangeComparison("romport", Number(chip), low, high)]],
   };
 }
@@ -129,8 +129,8 @@ function memoryField(place) {
 export function outputLineField(line, { roms }) {
   const [, rom, romLine] = /^rom(\d+)\.(\d)$/.exec(line) || [];
   if (rom) {
-    const found = roms.find(({ chip }) => Number(chip) === Number(rom));
-    const isInput = found !== undefined && found.port[3 - Number(romLine)] === "i";
+    const romWithLine = roms.find(({ chip }) => Number(chip) === Number(rom));
+    const isInput = romWithLine !== undefined && romWithLine.port[3 - Number(romLine)] === "i";
     return isInput ? null : bitField(line, "romport", Number(rom), `line${romLine}`);
   }
   const [, bank, chip, ramLine] = /^ram(\d)\.(\d)\.(\d)$/.exec(line) || [];
@@ -150,7 +150,7 @@ export function findField(place, board) {
   const simple = registerField(place) || memoryField(place) || outputLineField(place, board);
   if (simple) return simple;
   const [, chip] = /^rom(\d+)$/.exec(place) || [];
-  const rom = chip && board.roms.find((each) => Number(each.chip) === Number(chip));
+  const rom = chip && board.roms.find((candidate) => Number(candidate.chip) === Number(chip));
   if (rom) return romField(place, rom);
   const [, bank, ram] = /^ram(\d)\.(\d)$/.exec(place) || [];
   return bank ? cellField(place, "ramport", Number(bank) * 4 + Number(ram), NIBBLES) : null;

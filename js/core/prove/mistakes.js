@@ -46,13 +46,13 @@ const lacksRom = (board, address) => portMarks(board, address >> 8) === "";
  */
 const MISTAKE_CHECKS = {
   ram: ({ board, code, dcl, banks }) => {
-    const bank = board.banks.find((each) => Number(each.bank) === dcl);
+    const bank = board.banks.find((candidate) => Number(candidate.bank) === dcl);
     return RAM_OPCODES.has(code) && (banks.get(dcl) || 0) >> 6 >= (bank ? Number(bank.chips) : 0);
   },
   rom: ({ board, address, code, pair }) => {
-    const next = (address + 1) % ADDRESS_COUNT;
-    return lacksRom(board, address) || (hasTwoWords(code) && lacksRom(board, next))
-      || (isFin(code) && lacksRom(board, next - next % PAGE_BYTES + pair));
+    const nextAddress = (address + 1) % ADDRESS_COUNT;
+    return lacksRom(board, address) || (hasTwoWords(code) && lacksRom(board, nextAddress))
+      || (isFin(code) && lacksRom(board, nextAddress - nextAddress % PAGE_BYTES + pair));
   },
   rdr: ({ board, code, source }) => code === RDR && !portMarks(board, source >> 4).includes("i"),
   wrr: ({ board, code, source }) => code === WRR && /^i*$/.test(portMarks(board, source >> 4)),
@@ -72,8 +72,8 @@ function parseMachineState({ codes, names: { board } }, answer) {
   return {
     board, address, code: codes[address], dcl: Number(bank), pair: parseInt(highDigit + lowDigit, 16), source: parseInt(source, 16),
     isSecondCyclePending: owed === "1",
-    banks: new Map(banks.map((each) => {
-      const [number, byte] = each.split(".");
+    banks: new Map(banks.map((bankText) => {
+      const [number, byte] = bankText.split(".");
       return [Number(number), parseInt(byte, 16)];
     })),
   };

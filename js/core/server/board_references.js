@@ -21,7 +21,7 @@ const NUMBER_KEYS = { rom: "chip", ram: "bank" };
  * @param {string} name
  */
 function keyValue({ keys }, name) {
-  const key = keys.find((each) => each.name === name);
+  const key = keys.find((candidate) => candidate.name === name);
   return key && key.value.inner;
 }
 
@@ -35,7 +35,7 @@ export class BoardReferences {
     /** @type {KeyedValue[]} */
     this.values = entries.flatMap((entry) => entry.keys.flatMap(({ name, value }) => {
       const inner = Array.isArray(value.inner) ? value.inner : [value];
-      return inner.map((each) => ({ ...each, key: name, entry }));
+      return inner.map((element) => ({ ...element, key: name, entry }));
     }));
     /** @type {Map<Entry, number>} the index of each table among tables with the same name */
     this.tableIndexes = new Map();
@@ -70,9 +70,9 @@ export class BoardReferences {
    */
   findPart({ inner, key, entry }) {
     if (entry.table === "[keys]" && key === "chain") return this.chains[Number(inner)] || null;
-    const found = LINE_NAME.exec(String(inner));
-    if (!found || key === "port") return null;
-    const [, kind, number] = found;
+    const match = LINE_NAME.exec(String(inner));
+    if (!match || key === "port") return null;
+    const [, kind, number] = match;
     if (kind === "chain") return this.chains[Number(number)] || null;
     return this.chips.get(`${kind} ${Number(number)}`) || null;
   }
@@ -105,9 +105,9 @@ export class BoardReferences {
    * @param {import("../board/face.js").Face} face
    */
   describeValue(value, face) {
-    const found = LINE_NAME.exec(String(value.inner));
-    if (!found || value.key === "port") return "";
-    const [name, kind, first, second, third] = found;
+    const match = LINE_NAME.exec(String(value.inner));
+    if (!match || value.key === "port") return "";
+    const [name, kind, first, second, third] = match;
     const lineText = kind === "rom" ? say.lineOfRom(second, first)
       : kind === "chain" ? say.bitOfChain(second, first)
         : say.lineOfRam(third, second, first);

@@ -46,13 +46,13 @@ function asList(value) {
  */
 export function readClient(params) {
   const capabilities = getField(params, "capabilities");
-  const folders = asList(getField(params, "workspaceFolders")).map((each) => getField(each, "uri"));
+  const folders = asList(getField(params, "workspaceFolders")).map((folder) => getField(folder, "uri"));
   return {
     showsMarkdown: asList(fieldAt(capabilities, "textDocument", "hover", "contentFormat")).includes("markdown"),
     pullsDiagnostics: fieldAt(capabilities, "textDocument", "diagnostic") !== undefined,
     refreshesDiagnostics: fieldAt(capabilities, "workspace", "diagnostics", "refreshSupport") === true,
     commands: new Set(asList(fieldAt(capabilities, "experimental", "commands", "commands"))),
-    folders: [...folders, getField(params, "rootUri")].filter((each) => typeof each === "string"),
+    folders: [...folders, getField(params, "rootUri")].filter((folder) => typeof folder === "string"),
   };
 }
 

@@ -123,8 +123,8 @@ export class LanguageServer {
    * @returns {import("./dependent_language.js").DependencyTexts}
    */
   findDependencies(uri) {
-    const { folder, board, program, tests } = findDependencies(uri, (each, inside) => this.readText(each, inside));
-    const namedText = (/** @type {string} */ each) => ({ uri: each, text: this.readText(each, folder) });
+    const { folder, board, program, tests } = findDependencies(uri, (fileUri, projectFolder) => this.readText(fileUri, projectFolder));
+    const namedText = (/** @type {string} */ fileUri) => ({ uri: fileUri, text: this.readText(fileUri, folder) });
     return { board: namedText(board), program: namedText(program), tests: tests.map(namedText) };
   }
 
@@ -134,7 +134,7 @@ export class LanguageServer {
    */
   allTexts() {
     const readText = (/** @type {string} */ uri, /** @type {string} */ folder) => this.readText(uri, folder);
-    const found = new Map([...this.texts].map(([uri, { open }]) => [uri, open]));
+    const textsByUri = new Map([...this.texts].map(([uri, { open }]) => [uri, open]));
     const projects = [
       ...this.client.folders.map((uri) => projectInFolder(`${uri.replace(/\/$/, "")}/`, readText)),
       ...[...this.texts.keys()].map((uri) => findProject(uri, readText)),
@@ -142,11 +142,11 @@ export class LanguageServer {
     for (const project of projects) {
       if (!project) continue;
       for (const uri of [project.program, project.board, ...project.tests, ...project.properties]) {
-        const text = found.has(uri) ? null : readText(uri, project.folder);
-        if (text !== null) found.set(uri, new OpenText(uri, "", text, null));
+        const text = textsByUri.has(uri) ? null : readText(uri, project.folder);
+        if (text !== null) textsByUri.set(uri, new OpenText(uri, "", text, null));
       }
     }
-    return [...found.values()];
+    return [...textsByUri.values()];
   }
 
   /** @param {any} document the `textDocument` of the notification */
@@ -154,9 +154,9 @@ export class LanguageServer {
     const uri = needText(getField(document, "uri"), "textDocument.uri");
     const text = needText(getField(document, "text"), "textDocument.text");
     const openText = new OpenText(uri, String(getField(document, "languageId")), text, getField(document, "version"));
-    const checked = { open: openText, faults: [], diagnostics: [], checkedEdits: -1, check: Promise.resolve() };
-    this.texts.set(uri, checked);
-    this.checkWithDependents(checked);
+    const checkedText = { open: openText, faults: [], diagnostics: [], checkedEdits: -1, check: Promise.resolve() };
+    this.texts.set(uri, checkedText);
+    this.checkWithDependents(checkedText);
   }
 
   /** @param {any} params */
@@ -187,7 +187,7 @@ export class LanguageServer {
    * @param {string} uri the URI of the program
    */
   findBoard(uri) {
-    return findBoard(uri, (each, folder) => this.readText(each, folder));
+    return findBoard(uri, (fileUri, folder) => this.readText(fileUri, folder));
   }
 
   /**
@@ -214,7 +214,7 @@ export class LanguageServer {
     // A program depends only on its board. If the changed text cannot be a board, the search for the program's board is unnecessary.
     const dependsOnProgram = isTestFile(text.open) || isPropertyFile(text.open);
     if (!dependsOnProgram) return !NON_BOARD_FILES.test(uri) && this.findBoard(other).uri === uri;
-    const { board, program, tests } = findDependencies(other, (each, folder) => this.readText(each, folder));
+    const { board, program, tests } = findDependencies(other, (fileUri, folder) => this.readText(fileUri, folder));
     return [board, program, ...tests].includes(uri);
   }
 
@@ -261,15 +261,15 @@ export class LanguageServer {
     await this.host.pause();
     if (!isWanted()) return;
     try {
-      const found = await this.findErrors(openText, isWanted);
-      if (!found || !isWanted()) return;
-      Object.assign(text, { faults: found.faults, diagnostics: toDiagnostics(found.faults, found.isWhole), checkedEdits: edits });
+      const result = await this.findErrors(openText, isWanted);
+      if (!result || !isWanted()) return;
+      Object.assign(text, { faults: result.faults, diagnostics: toDiagnostics(result.faults, result.isComplete), checkedEdits: edits });
       this.publish(text);
       // The program is assembled now, so that the first hover is fast.
-      if (found.faults.length === 0 && this.findLanguage(openText) === this.program) this.program.assembleProgram(openText);
-    } catch (thrown) {
+      if (result.faults.length === 0 && this.findLanguage(openText) === this.program) this.program.assembleProgram(openText);
+    } catch (error) {
       Object.assign(text, { faults: [], diagnostics: [], checkedEdits: edits });
-      this.connection.logMessage(say.faultsOf(uri, thrown instanceof Error ? thrown.message : String(thrown)));
+      this.connection.logMessage(say.faultsOf(uri, error instanceof Error ? error.message : String(error)));
     }
   }
 
@@ -289,9 +289,9 @@ export class LanguageServer {
   async findErrors(openText, isWanted) {
     const tooLong = lengthError(openText);
     const isKnown = isProgram(openText) || isBoard(openText) || isTestFile(openText) || isPropertyFile(openText);
-    if (tooLong) return { faults: isKnown ? [tooLong] : [], isWhole: true };
+    if (tooLong) return { faults: isKnown ? [tooLong] : [], isComplete: true };
     const language = this.findLanguage(openText);
-    return language ? language.findErrors(openText, isWanted) : { faults: [], isWhole: true };
+    return language ? language.findErrors(openText, isWanted) : { faults: [], isComplete: true };
   }
 
   // --- tests
@@ -305,8 +305,8 @@ export class LanguageServer {
   async runTest(uri, name, pending) {
     const text = this.requestedText({ textDocument: { uri } });
     const { edits } = text.open;
-    const { words, hasPassed, failure } = await this.runs.run(text.open, name, pending);
-    this.connection.show(words, !hasPassed);
+    const { message, hasPassed, failure } = await this.runs.run(text.open, name, pending);
+    this.connection.show(message, !hasPassed);
     if (failure && text.open.edits === edits && failure.uri === uri) {
       text.diagnostics = [...text.diagnostics, ...toDiagnostics([failure.fault], true)];
       this.publish(text);

@@ -98,13 +98,13 @@ export class Requests {
    * Calls a function with the text that a request names, and with the language (language.js) of this text.
    * @template Result
    * @param {any} params
-   * @param {(language: Language, openText: OpenText) => Result} act
+   * @param {(language: Language, openText: OpenText) => Result} callback
    * @returns {Result | null} null for a text in an unknown language
    */
-  callWithLanguage(params, act) {
+  callWithLanguage(params, callback) {
     const { open: openText } = this.server.requestedText(params);
     const language = this.server.findLanguage(openText);
-    return language && act(language, openText);
+    return language && callback(language, openText);
   }
 
   /** @returns {Record<string, RequestHandler>} */
@@ -134,11 +134,11 @@ export class Requests {
   /**
    * Handles a request for semantic tokens.
    * @param {any} params
-   * @param {(openText: OpenText, words: import("./token_codes.js").ColouredWord[]) => object} act returns the response for the words to
-   *   colour
+   * @param {(openText: OpenText, words: import("./token_codes.js").ColouredWord[]) => object} callback returns the response for the words
+   *   to colour
    */
-  colours(params, act) {
-    return this.callWithLanguage(params, (language, openText) => act(openText, language.colours ? language.colours(openText) : []));
+  colours(params, callback) {
+    return this.callWithLanguage(params, (language, openText) => callback(openText, language.colours ? language.colours(openText) : []));
   }
 
   /**
@@ -179,11 +179,11 @@ export class Requests {
    * Calls a function with the position that a request names, and with the text and its language.
    * @template Result
    * @param {any} params
-   * @param {(language: Language, openText: OpenText, position: Position) => Result} act
+   * @param {(language: Language, openText: OpenText, position: Position) => Result} callback
    */
-  callAtPosition(params, act) {
+  callAtPosition(params, callback) {
     const position = needPosition(getField(params, "position"));
-    return this.callWithLanguage(params, (language, openText) => act(language, openText, openText.clampPosition(position)));
+    return this.callWithLanguage(params, (language, openText) => callback(language, openText, openText.clampPosition(position)));
   }
 
   /** @returns {Record<string, RequestHandler>} */
@@ -191,8 +191,8 @@ export class Requests {
     return {
       "textDocument/hover": (params) => this.hover(params),
       "textDocument/definition": (params) => this.callAtPosition(params, (language, openText, position) => {
-        const found = language.definition ? language.definition(openText, position) : null;
-        return found && ("uri" in found ? found : { uri: openText.uri, range: found });
+        const target = language.definition ? language.definition(openText, position) : null;
+        return target && ("uri" in target ? target : { uri: openText.uri, range: target });
       }),
       "textDocument/references": (params) => this.references(params),
       "textDocument/documentHighlight": (params) => this.callAtPosition(params, (language, openText, position) => (
@@ -209,11 +209,11 @@ export class Requests {
 
   /** @param {any} params */
   hover(params) {
-    const found = this.callAtPosition(params, (language, openText, position) => (
+    const hoverHelp = this.callAtPosition(params, (language, openText, position) => (
       language.hover ? language.hover(openText, position) : null));
-    if (!found) return null;
-    const { words, markdown, ...range } = found;
-    const contents = this.server.client.showsMarkdown ? { kind: "markdown", value: markdown } : { kind: "plaintext", value: words };
+    if (!hoverHelp) return null;
+    const { plainText, markdown, ...range } = hoverHelp;
+    const contents = this.server.client.showsMarkdown ? { kind: "markdown", value: markdown } : { kind: "plaintext", value: plainText };
     return { contents, ...range };
   }
 
@@ -285,11 +285,11 @@ export class Requests {
    * Calls a function with the position of the call hierarchy item that a request names, and with the text and its language.
    * @template Result
    * @param {any} params
-   * @param {(language: Language, openText: OpenText, position: Position) => Result} act
+   * @param {(language: Language, openText: OpenText, position: Position) => Result} callback
    */
-  callAtItem(params, act) {
+  callAtItem(params, callback) {
     const item = getField(params, "item");
     const { start } = needRange(getField(item, "selectionRange"));
-    return this.callAtPosition({ textDocument: { uri: getField(item, "uri") }, position: start }, act);
+    return this.callAtPosition({ textDocument: { uri: getField(item, "uri") }, position: start }, callback);
   }
 }

@@ -84,31 +84,31 @@ export class TextBench {
    */
   queries() {
     return {
-      findBoardError: async (sent) => this.wiring(sent),
-      findLineErrors: async (sent) => this.errors(sent),
-      findRefusal: async (sent) => this.programRefusal(sent),
-      readMap: async (sent) => this.read(sent).map,
+      findBoardError: async (sentBoard) => this.wiring(sentBoard),
+      findLineErrors: async (sentProgram) => this.errors(sentProgram),
+      findRefusal: async (sentProgram) => this.programRefusal(sentProgram),
+      readMap: async (sentProgram) => this.read(sentProgram).map,
       readRomNumbers: async () => this.boardSession.roms,
     };
   }
 
   /**
    * Returns the answers to `map` for a program; null if the bench rejects the program.
-   * @param {string} sent the result of `sentText`
+   * @param {string} sentProgram the result of `sentText`
    */
-  map(sent) {
-    if (findSendingError(sent)) return null;
-    const { answers } = this.engine.ask(this.emptySession, `map\n${sent}.\n`);
+  map(sentProgram) {
+    if (findSendingError(sentProgram)) return null;
+    const { answers } = this.engine.ask(this.emptySession, `map\n${sentProgram}.\n`);
     return parseRefusal(answers[0]) ? null : answers;
   }
 
   /**
    * Assembles a program. If the text is the same as in the last call, returns the same result again.
-   * @param {string} sent the result of `sentText`
+   * @param {string} sentProgram the result of `sentText`
    * @returns {Program}
    */
-  read(sent) {
-    if (!this.program || this.program.text !== sent) this.program = readProgram(this.engine, sent);
+  read(sentProgram) {
+    if (!this.program || this.program.text !== sentProgram) this.program = readProgram(this.engine, sentProgram);
     return this.program;
   }
 }

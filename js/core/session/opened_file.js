@@ -66,11 +66,12 @@ function textsInLines(script) {
   const inputs = readInputs(script);
   /** @type {(kind: string) => string | null} */
   const lastText = (kind) => {
-    const found = inputs.filter((input) => input.kind === kind).pop();
-    return found ? found.text.map((line) => `${line}\n`).join("") : null;
+    const lastInput = inputs.filter((input) => input.kind === kind).pop();
+    return lastInput ? lastInput.text.map((line) => `${line}\n`).join("") : null;
   };
   const otherInputs = inputs.filter(({ kind }) => kind !== "wire" && kind !== "asm");
-  const lines = otherInputs.map(({ line, text }) => [line, ...text, ...(text.length > 0 ? ["."] : [])].map((each) => `${each}\n`).join(""));
+  const lines = otherInputs.map(({ line, text }) => (
+    [line, ...text, ...(text.length > 0 ? ["."] : [])].map((benchLine) => `${benchLine}\n`).join("")));
   return { board: lastText("wire"), program: lastText("asm"), tests: null, properties: null, lines: lines.join("") };
 }
 
@@ -107,10 +108,10 @@ function readTextFile(name, text) {
   if (HEX_FILES.test(name) || /^\s*:[0-9A-F]{10}/i.test(text)) return { kind: "image", bytes: readHex(text) };
   if (/^\s*S[0-9][0-9A-F]{8}/.test(text)) return { kind: "image", bytes: readSRecords(text) };
   const texts = readTexts(name, text);
-  for (const each of [texts.board, texts.program, texts.tests, texts.properties]) {
-    if (each === null || each.length <= MAX_STORED_LENGTH) continue;
-    const [size, most] = [each.length, MAX_STORED_LENGTH].map((count) => count.toLocaleString("en"));
-    throw new UnusableFile(say.tooLong(size, most));
+  for (const storedText of [texts.board, texts.program, texts.tests, texts.properties]) {
+    if (storedText === null || storedText.length <= MAX_STORED_LENGTH) continue;
+    const [size, maxLength] = [storedText.length, MAX_STORED_LENGTH].map((count) => count.toLocaleString("en"));
+    throw new UnusableFile(say.tooLong(size, maxLength));
   }
   return { kind: "texts", texts };
 }

@@ -48,9 +48,9 @@ export class TextTooLong extends InvalidProject {}
 export function tooLongMessage({ boardText, programText, testText = "", propertiesText = "" }) {
   const namedTexts = [[say.BOARD_TEXT, boardText], [say.SOURCE_TEXT, programText], [say.TESTS_TEXT, testText],
     [say.PROPERTIES_TEXT, propertiesText]];
-  const [what, text] = namedTexts.find(([, each]) => each.length > MAX_STORED_LENGTH) || namedTexts[0];
-  const [size, most] = [text.length, MAX_STORED_LENGTH].map((count) => count.toLocaleString("en"));
-  return text.length > MAX_STORED_LENGTH ? say.textTooLong(what, size, most) : "";
+  const [what, text] = namedTexts.find(([, candidate]) => candidate.length > MAX_STORED_LENGTH) || namedTexts[0];
+  const [size, maxLength] = [text.length, MAX_STORED_LENGTH].map((count) => count.toLocaleString("en"));
+  return text.length > MAX_STORED_LENGTH ? say.textTooLong(what, size, maxLength) : "";
 }
 
 // --- writing ---
@@ -148,11 +148,11 @@ export class Lines {
     this.at = 0;
   }
 
-  get next() {
+  get nextLine() {
     return this.lines[this.at];
   }
 
-  take() {
+  takeLine() {
     const line = this.lines[this.at];
     this.at += 1;
     return line;
@@ -163,7 +163,7 @@ export class Lines {
    * @param {string} expected a description of the expected line
    * @returns {InvalidProject}
    */
-  fault(expected) {
+  createLineError(expected) {
     return new InvalidProject(say.lineMustBe(this.at + 1, expected));
   }
 
@@ -172,7 +172,7 @@ export class Lines {
    * @param {string} word
    */
   readUpToDot(word) {
-    if (this.next !== word) throw this.fault(`\`${word}\``);
+    if (this.nextLine !== word) throw this.createLineError(`\`${word}\``);
     const end = this.lines.indexOf(DOT, this.at + 1);
     if (end < 0) throw new InvalidProject(say.noEnd(word));
     const lines = this.lines.slice(this.at + 1, end);
@@ -192,10 +192,10 @@ function checkEnvelope(text) {
   if (!version) throw new InvalidProject(say.NO_PROJECT);
   if (firstLine !== FIRST_LINE) throw new InvalidProject(say.otherVersion(version[1]));
   if (!text.endsWith(`\n${LAST_LINE}\n`)) throw new InvalidProject(say.cutOff(LAST_LINE));
-  const found = /^[^\n]*\ncksum (\d+)\n/.exec(text);
-  if (!found) return;
-  const sum = checksum(new TextEncoder().encode(text.slice(found[0].length)));
-  if (sum !== Number(found[1])) {
+  const match = /^[^\n]*\ncksum (\d+)\n/.exec(text);
+  if (!match) return;
+  const sum = checksum(new TextEncoder().encode(text.slice(match[0].length)));
+  if (sum !== Number(match[1])) {
     throw new InvalidProject(say.OTHER_CHECKSUM);
   }
 }
@@ -212,15 +212,15 @@ function readHead(lines) {
   const breakpoints = [];
   /** @type {string[]} */
   const watched = [];
-  while (lines.next !== "wire") {
-    const [match, word, value] = /^(name|unended|value) (.+)$|^#/.exec(lines.next) || [];
-    const breakpoint = parseBreakpoint(lines.next || "");
+  while (lines.nextLine !== "wire") {
+    const [match, word, value] = /^(name|unended|value) (.+)$|^#/.exec(lines.nextLine) || [];
+    const breakpoint = parseBreakpoint(lines.nextLine || "");
     if (breakpoint) breakpoints.push(breakpoint);
-    else if (match === undefined) throw lines.fault(say.ONE_OF_HEAD);
+    else if (match === undefined) throw lines.createLineError(say.ONE_OF_HEAD);
     if (word === "name") name = shortName(value);
     if (word === "unended") unended.add(value);
     if (word === "value") watched.push(value);
-    lines.take();
+    lines.takeLine();
   }
   return { name, unended, breakpoints, watched };
 }
@@ -246,7 +246,7 @@ export function readTexts(lines, acceptsLongTexts = false) {
   const { name, unended, breakpoints, watched } = readHead(lines);
   const [boardText, programText] = [readText(lines, "wire", unended), readText(lines, "asm", unended)];
   const [testText, propertiesText] = (/** @type {Word[]} */ (["test", "properties"])).map((word) => (
-    lines.next === word ? readText(lines, word, unended) : ""));
+    lines.nextLine === word ? readText(lines, word, unended) : ""));
   const texts = { name, boardText, programText, testText, propertiesText };
   const message = tooLongMessage(texts);
   if (message && !acceptsLongTexts) throw new TextTooLong(message);
@@ -264,12 +264,12 @@ function readFile(lines, size) {
   const file = new Uint8Array(size);
   let end = 0;
   lines.readUpToDot(`session ${size}`).forEach((line, at) => {
-    const found = /^([0-9a-f]{5}) ([0-9a-f]{32})$/.exec(line);
-    const address = found ? parseInt(found[1], 16) : 0;
-    if (!found || address % BYTES_PER_LINE !== 0 || address < end || address >= size) {
+    const match = /^([0-9a-f]{5}) ([0-9a-f]{32})$/.exec(line);
+    const address = match ? parseInt(match[1], 16) : 0;
+    if (!match || address % BYTES_PER_LINE !== 0 || address < end || address >= size) {
       throw new InvalidProject(say.notOfSession(firstLineNumber + at));
     }
-    file.set((found[2].match(/../g) || []).map((digits) => parseInt(digits, 16)), address);
+    file.set((match[2].match(/../g) || []).map((digits) => parseInt(digits, 16)), address);
     end = address + BYTES_PER_LINE;
   });
   return file;
@@ -288,13 +288,13 @@ export function readProject(bytes, size, acceptsLongTexts = false) {
   const text = decodeUtf8(bytes);
   checkEnvelope(text);
   const lines = new Lines(text);
-  lines.take();
-  if (CHECKSUM_LINE.test(lines.next)) lines.take();
+  lines.takeLine();
+  if (CHECKSUM_LINE.test(lines.nextLine)) lines.takeLine();
   const texts = readTexts(lines, acceptsLongTexts);
   const file = readFile(lines, size);
-  if (lines.next !== LAST_LINE) throw lines.fault(say.END_OF_FILE);
-  lines.take();
-  if (lines.at !== lines.lines.length - 1) throw lines.fault(say.END_OF_FILE);
+  if (lines.nextLine !== LAST_LINE) throw lines.createLineError(say.END_OF_FILE);
+  lines.takeLine();
+  if (lines.at !== lines.lines.length - 1) throw lines.createLineError(say.END_OF_FILE);
   return { ...texts, file };
 }
 

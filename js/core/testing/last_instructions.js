@@ -57,5 +57,5 @@ export function lastInstructions(session, { board, map }) {
     elapsed += actionCycles;
   });
   const last = [...lines.slice(-MAX_INSTRUCTIONS), say.nextInstructionLine(trace.next(session.file, elapsed))];
-  return last.flatMap((each) => each.split("\n"));
+  return last.flatMap((traceLine) => traceLine.split("\n"));
 }

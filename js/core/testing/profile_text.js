@@ -20,17 +20,17 @@ const cell = (value, width) => String(value).padStart(width);
 const formatMilliseconds = (cycles) => say.inMilliseconds(formatTenths(cycles * CYCLE_MS));
 
 /** @type {(ownCycles: number, total: number) => string} returns two table cells: the cycles, and their percentage of the total */
-const formatShare = (own, total) => `${cell(own, 10)} ${cell(formatTenths((100 * own) / total), 6)}`;
+const formatShare = (ownCycles, total) => `${cell(ownCycles, 10)} ${cell(formatTenths((100 * ownCycles) / total), 6)}`;
 
 /**
  * Returns the row of a label.
  * @param {ProfileRow} row
  * @param {number} total
  */
-function formatLabelRow({ label, address, own, calls }, total) {
+function formatLabelRow({ label, address, ownCycles, calls }, total) {
   const place = `${(label || say.NO_LABEL).padEnd(LABEL_WIDTH)} ${(address < 0 ? "" : hex(address, 3)).padEnd(4)}`;
   const callColumns = calls && calls.times > 0 ? ` ${cell(calls.times, 9)} ${cell(calls.withCalls, 10)} ${cell(calls.longest, 10)}` : "";
-  return `${place} ${formatShare(own, total)}${callColumns}`;
+  return `${place} ${formatShare(ownCycles, total)}${callColumns}`;
 }
 
 /**

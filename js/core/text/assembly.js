@@ -69,8 +69,8 @@ const MAX_CACHED_LENGTH = 255;
  */
 export function splitStatement(line) {
   if (line.length > MAX_CACHED_LENGTH) return splitLine(line);
-  const before = cache.get(line);
-  if (before) return before;
+  const cachedParts = cache.get(line);
+  if (cachedParts) return cachedParts;
   if (cache.size >= MAX_CACHED_LINES) cache.clear();
   const parts = splitLine(line);
   cache.set(line, parts);
@@ -93,10 +93,10 @@ function splitLine(line) {
     const value = trimmedWord(line, equals + 1, comment);
     return { label: label || trimmedWord(line, from, equals), defines: true, head: null, operands: value ? [value] : [], comment };
   }
-  const found = /^\s*([^\s,]+)/.exec(line.slice(from, comment));
-  if (!found) return { label, defines: false, head: null, operands: [], comment };
-  const end = from + found[0].length;
-  const head = { text: found[1], from: end - found[1].length, to: end };
+  const match = /^\s*([^\s,]+)/.exec(line.slice(from, comment));
+  if (!match) return { label, defines: false, head: null, operands: [], comment };
+  const end = from + match[0].length;
+  const head = { text: match[1], from: end - match[1].length, to: end };
   return { label, defines: false, head, operands: splitOperands(line, end, comment), comment };
 }
 
@@ -153,9 +153,9 @@ export function findDefinedNames(lines) {
  * @returns {Word | null}
  */
 export function wordAt(line, column) {
-  const before = /\w*$/.exec(line.slice(0, column));
-  const after = /^\w*/.exec(line.slice(column));
-  const from = column - (before ? before[0].length : 0);
-  const to = column + (after ? after[0].length : 0);
+  const matchBefore = /\w*$/.exec(line.slice(0, column));
+  const matchAfter = /^\w*/.exec(line.slice(column));
+  const from = column - (matchBefore ? matchBefore[0].length : 0);
+  const to = column + (matchAfter ? matchAfter[0].length : 0);
   return from === to ? null : { text: line.slice(from, to), from, to };
 }

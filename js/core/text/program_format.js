@@ -69,13 +69,13 @@ function splitLine(line, canStartStatement, layout) {
   const code = trimBlanks(mark < 0 ? line : line.slice(0, mark));
   const empty = { name: "", value: "", label: "", head: "", operands: "" };
   const comment = mark < 0 ? "" : trimBlanks(line.slice(mark));
-  const rest = { comment, indent: mark < 0 ? 0 : columnAfter(line.slice(0, mark), 0, layout) };
+  const commentParts = { comment, indent: mark < 0 ? 0 : columnAfter(line.slice(0, mark), 0, layout) };
   const definition = DEFINITION.exec(code);
-  if (definition) return { ...empty, ...rest, name: definition[1], value: definition[2] };
-  const found = CODE.exec(code);
-  if (!found || (found[2] && !canStartStatement(found[2].toUpperCase()))) return null;
-  const operands = (found[3] || "").split(",").map(trimBlanks).join(", ");
-  return { ...empty, ...rest, label: found[1] || "", head: found[2] || "", operands };
+  if (definition) return { ...empty, ...commentParts, name: definition[1], value: definition[2] };
+  const match = CODE.exec(code);
+  if (!match || (match[2] && !canStartStatement(match[2].toUpperCase()))) return null;
+  const operands = (match[3] || "").split(",").map(trimBlanks).join(", ");
+  return { ...empty, ...commentParts, label: match[1] || "", head: match[2] || "", operands };
 }
 
 /**
@@ -84,7 +84,7 @@ function splitLine(line, canStartStatement, layout) {
  * @param {(SplitLine | null)[]} lines
  */
 function nameWidths(lines) {
-  const widths = lines.map((each) => (each ? each.name.length : 0));
+  const widths = lines.map((line) => (line ? line.name.length : 0));
   for (let at = 1; at < widths.length; at++) if (widths[at] > 0) widths[at] = Math.max(widths[at], widths[at - 1]);
   for (let at = widths.length - 2; at >= 0; at--) if (widths[at] > 0) widths[at] = Math.max(widths[at], widths[at + 1]);
   return widths;
@@ -148,21 +148,21 @@ export function formatProgramLines(lines, canStartStatement, layout) {
  */
 export function findLengthError(lines) {
   const text = lines.join("\n");
-  const sent = sentText(text, ";").length;
-  if (sent > MAX_SENT_LENGTH) return say.layoutTooLong(MAX_SENT_LENGTH.toLocaleString("en"), sent.toLocaleString("en"));
+  const sentLength = sentText(text, ";").length;
+  if (sentLength > MAX_SENT_LENGTH) return say.layoutTooLong(MAX_SENT_LENGTH.toLocaleString("en"), sentLength.toLocaleString("en"));
   return text.length > MAX_STORED_LENGTH ? say.layoutTooLong(MAX_STORED_LENGTH.toLocaleString("en"), text.length.toLocaleString("en")) : "";
 }
 
 /**
  * Returns the changes between two versions of a text, one per changed line. A change omits the common prefix and suffix of the old and the
  * new line.
- * @param {string[]} before the old lines
- * @param {string[]} after the new lines; their number equals that of the old lines
+ * @param {string[]} oldLines the old lines
+ * @param {string[]} newLines the new lines; their number equals that of the old lines
  * @returns {Change[]}
  */
-export function findLineChanges(before, after) {
-  return before.flatMap((old, line) => {
-    const text = after[line];
+export function findLineChanges(oldLines, newLines) {
+  return oldLines.flatMap((old, line) => {
+    const text = newLines[line];
     if (old === text) return [];
     const shorter = Math.min(old.length, text.length);
     let [from, suffix] = [0, 0];

@@ -53,31 +53,31 @@ export function createFirstProperties({ keys, lamps }) {
  * @param {string[]} words
  */
 function findCondition(words) {
-  const [first, ...rest] = words;
-  if (CONDITION_START.test(first || "")) return rest;
-  return first === "at" && rest.length > 0 ? rest.slice(1) : null;
+  const [first, ...conditionWords] = words;
+  if (CONDITION_START.test(first || "")) return conditionWords;
+  return first === "at" && conditionWords.length > 0 ? conditionWords.slice(1) : null;
 }
 
 /**
  * Returns the words that can come next in a line that starts with a label.
  * @param {string[]} words the words of the line so far
  */
-function nextWordsAfterLabel([, second, ...more]) {
-  if (second === undefined) return AFTER_LABEL;
-  return second === "to" && more.length === 1 ? AFTER_TARGET : [];
+function nextWordsAfterLabel([, secondWord, ...laterWords]) {
+  if (secondWord === undefined) return AFTER_LABEL;
+  return secondWord === "to" && laterWords.length === 1 ? AFTER_TARGET : [];
 }
 
 /**
  * Returns the words that can come next in a line.
  * @param {string[]} previousWords the words before the unfinished word
- * @param {string} typed the unfinished word
+ * @param {string} unfinishedWord the unfinished word
  * @param {TestNames} names
  * @param {PropertyForms} forms
  * @returns {CompletionItem[]}
  */
-function nextWords(previousWords, typed, names, { lines, conditions }) {
+function nextWords(previousWords, unfinishedWord, names, { lines, conditions }) {
   const labels = withoutDescription(names.labels.map((label) => `@${label}`));
-  if (typed.startsWith("@")) return labels;
+  if (unfinishedWord.startsWith("@")) return labels;
   if (previousWords.length === 0) return [...firstWords(lines.filter(({ word }) => /^[a-z]+$/.test(word))), ...labels];
   const last = previousWords[previousWords.length - 1];
   if (previousWords[0] === "press" || last === "press") return withoutDescription(names.keys);
@@ -97,7 +97,7 @@ function nextWords(previousWords, typed, names, { lines, conditions }) {
  * @returns {Completion}
  */
 export function completeProperty(lines, line, column, names, forms) {
-  return completeWord(lines[line], column, (previousWords, typed) => nextWords(previousWords, typed, names, forms));
+  return completeWord(lines[line], column, (previousWords, unfinishedWord) => nextWords(previousWords, unfinishedWord, names, forms));
 }
 
 /**
@@ -110,6 +110,6 @@ export function completeProperty(lines, line, column, names, forms) {
 export function helpForProperty(lines, line, column, forms) {
   const words = wordsUpTo(lines[line], column);
   if (words.length === 0) return "";
-  const known = words.length === 1 && forms.lines.find(({ word }) => word === words[0]);
-  return known ? `${known.form}: ${known.does}` : findDescription(forms.conditions, words[words.length - 1]);
+  const form = words.length === 1 && forms.lines.find(({ word }) => word === words[0]);
+  return form ? `${form.form}: ${form.effect}` : findDescription(forms.conditions, words[words.length - 1]);
 }

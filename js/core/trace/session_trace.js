@@ -30,12 +30,12 @@ const RAN_TO_END = "end";
  * @param {YieldToMessages} yieldToMessages
  */
 async function runState(engine, state, cycles, yieldToMessages) {
-  for (let done = 0; done < cycles;) {
-    const [answer] = engine.serve(state, `run ${Math.min(MAX_RUN_CYCLES, cycles - done)}\n`, state).answers;
+  for (let cyclesRun = 0; cyclesRun < cycles;) {
+    const [answer] = engine.serve(state, `run ${Math.min(MAX_RUN_CYCLES, cycles - cyclesRun)}\n`, state).answers;
     const run = readRun(answer);
     if (!run) throw new Error(`the bench answered a run by: ${answer}`);
-    done += run.cycles;
-    if (run.end !== RAN_TO_END) return { cycles: done, end: run.end };
+    cyclesRun += run.cycles;
+    if (run.end !== RAN_TO_END) return { cycles: cyclesRun, end: run.end };
     await yieldToMessages();
   }
   return { cycles, end: RAN_TO_END };

@@ -7,9 +7,9 @@ import * as say from "../../words/waves.js";
  * @typedef {import("../bench/answers.js").Board} Board
  * @typedef {import("./wave_lines.js").WaveLine} WaveLine
  *
- * A choice of lines. `lines` are all lines of a board, followed by the requested values. `chosen` are the indexes of the requested lines in
- * `lines`, in the order of the request.
- * @typedef {{ lines: WaveLine[], chosen: number[] }} LineChoice
+ * A choice of lines. `lines` are all lines of a board, followed by the requested values. `chosenIndexes` are the indexes of the requested
+ * lines in `lines`, in the order of the request.
+ * @typedef {{ lines: WaveLine[], chosenIndexes: number[] }} LineChoice
  */
 
 /** The error for a name that matches no line. */
@@ -63,10 +63,10 @@ function lineIndices(lines, word) {
  */
 export function chooseLines(board, text, hasLabels, words) {
   const lines = createBoardLines(board, text, hasLabels);
-  const all = lines.map((_, at) => at);
-  if (words.length === 0) return { lines, chosen: all.filter((at) => isOneBitLine(lines[at])) };
+  const allIndexes = lines.map((_, at) => at);
+  if (words.length === 0) return { lines, chosenIndexes: allIndexes.filter((at) => isOneBitLine(lines[at])) };
   /** @type {Set<number>} */
-  const chosen = new Set();
+  const chosenIndexes = new Set();
   for (const word of words) {
     let indices = lineIndices(lines, word);
     const value = indices.length === 0 ? createValueLine(word, board) : null;
@@ -76,9 +76,9 @@ export function chooseLines(board, text, hasLabels, words) {
     }
     if (indices.length === 0) throw new UnknownLineError(word === "label" ? say.LABEL_NEEDS_PROGRAM : say.noSuchLine(word));
     for (const number of indices) {
-      if (chosen.has(number)) throw new UnknownLineError(say.lineTwice(lines[number].name));
-      chosen.add(number);
+      if (chosenIndexes.has(number)) throw new UnknownLineError(say.lineTwice(lines[number].name));
+      chosenIndexes.add(number);
     }
   }
-  return { lines, chosen: [...chosen] };
+  return { lines, chosenIndexes: [...chosenIndexes] };
 }

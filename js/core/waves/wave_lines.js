@@ -196,10 +196,10 @@ export function characterNames({ banks }) {
 export function createBoardLines(board, text, hasLabels, values = []) {
   const face = new Face(text);
   const bits = [...chipLines(board, face), ...frontPanelLines(board, face), createLine("test", "test", "test")];
-  const others = values.flatMap((name) => createValueLine(name, board) || []);
+  const valueLines = values.flatMap((name) => createValueLine(name, board) || []);
   const counter = createLine("pc", "pc", "pc", { width: 12 });
   const labels = hasLabels ? [createLine("label", "label", "label", { width: 16 })] : [];
-  return [...bits, ...portLines(bits, face), ...decoderLines(board, bits, face), ...others, counter, ...labels];
+  return [...bits, ...portLines(bits, face), ...decoderLines(board, bits, face), ...valueLines, counter, ...labels];
 }
 
 /**

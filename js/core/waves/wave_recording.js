@@ -13,10 +13,10 @@ import { valueText } from "./wave_words.js";
  * @typedef {import("./wave_lines.js").WaveLine} WaveLine
  * @typedef {import("./wave_words.js").NumberBase} NumberBase
  *
- * The instruction at a moment: its address, its listing line (`listed`), and its source line with the line number (0 for none). `isSecond`
- * is true if the recording starts at the second cycle of the instruction, and the moment is this cycle. `isEnd` is true at the end of the
- * recording; the instruction is then the next to run.
- * @typedef {{ address: number, listed: string, line: number, source: string, isSecond: boolean, isEnd: boolean }} Instruction
+ * The instruction at a moment: its address, its listing line, and its source line with the line number (0 for none). `isSecond` is true if
+ * the recording starts at the second cycle of the instruction, and the moment is this cycle. `isEnd` is true at the end of the recording;
+ * the instruction is then the next to run.
+ * @typedef {{ address: number, listingLine: string, line: number, source: string, isSecond: boolean, isEnd: boolean }} Instruction
  */
 
 /** The kinds of lines whose values are computed from other lines or from the program counter. */
@@ -28,10 +28,10 @@ const DERIVED_KINDS = new Set(["pc", "label", "port", "shift", "scan"]);
  */
 function labelsBelow(labels) {
   const below = new Int16Array(ADDRESS_COUNT);
-  let [next, now] = [0, -1];
+  let [nextLabel, currentLabel] = [0, -1];
   for (let address = 0; address < below.length; address++) {
-    while (next < labels.length && labels[next].address <= address) now = next++;
-    below[address] = now;
+    while (nextLabel < labels.length && labels[nextLabel].address <= address) currentLabel = nextLabel++;
+    below[address] = currentLabel;
   }
   return below;
 }
@@ -170,19 +170,19 @@ export class Waves {
    * Extends the track of a derived line up to the end of the recording.
    * @param {number} line
    * @param {Track} track
-   * @param {number} after the moment up to which the track is already computed
+   * @param {number} computedUntil the moment up to which the track is already computed
    */
-  extendTrack(line, track, after) {
+  extendTrack(line, track, computedUntil) {
     const { kind, members } = this.lines[line];
     const tracks = members.map((member) => this.tracks[member]);
     if (kind === "shift") {
       const [clock, data] = tracks;
-      extendShiftTrack({ clock, data, rise: this.findRiseBefore(line, after) }, track, after, this.cycles);
+      extendShiftTrack({ clock, data, rise: this.findRiseBefore(line, computedUntil) }, track, computedUntil, this.cycles);
     }
-    if (kind === "port" || kind === "scan") this.extendPortTrack(tracks, track, after);
+    if (kind === "port" || kind === "scan") this.extendPortTrack(tracks, track, computedUntil);
     if (kind !== "pc" && kind !== "label") return;
     const [moments, counters] = [this.moments.all, this.counters.all];
-    for (let at = countUpTo(moments, after); at < moments.length; at++) {
+    for (let at = countUpTo(moments, computedUntil); at < moments.length; at++) {
       track.set(kind === "pc" ? counters[at] : this.labelIndexes[counters[at]] + 1, moments[at]);
     }
   }
@@ -201,15 +201,15 @@ export class Waves {
    * Extends the track of a port or key scan up to the end of the recording. Bit k of the value is the value of member line k.
    * @param {Track[]} members
    * @param {Track} track
-   * @param {number} after the moment up to which the track is already computed
+   * @param {number} computedUntil the moment up to which the track is already computed
    */
-  extendPortTrack(members, track, after) {
+  extendPortTrack(members, track, computedUntil) {
     const moments = members.map((member) => member.moments.all);
-    const nextIndexes = moments.map((each) => countUpTo(each, after));
+    const nextIndexes = moments.map((memberMoments) => countUpTo(memberMoments, computedUntil));
     for (;;) {
       let moment = Infinity;
-      moments.forEach((each, bit) => {
-        if (nextIndexes[bit] < each.length) moment = Math.min(moment, each[nextIndexes[bit]]);
+      moments.forEach((memberMoments, bit) => {
+        if (nextIndexes[bit] < memberMoments.length) moment = Math.min(moment, memberMoments[nextIndexes[bit]]);
       });
       if (moment === Infinity) return;
       let value = 0;
@@ -312,7 +312,7 @@ export class Waves {
     const line = program ? program.lines[address] : 0;
     return {
       address,
-      listed: this.listing.get(address) || "",
+      listingLine: this.listing.get(address) || "",
       line,
       source: line > 0 ? this.sources[line - 1].trim() : "",
       isSecond: sample === 0 && this.isOwed,

@@ -69,7 +69,7 @@ async function readTexts(session, name, texts) {
   const { program } = texts;
   const map = program && await readCheckedMap(engine, parseRomCodes(await readAnswers(session, listQueries(PAGE_NUMBERS))), program);
   endEngine();
-  return { board, face, source: map && { map, lines: program.text.split("\n"), before: program.before } };
+  return { board, face, source: map && { map, lines: program.text.split("\n"), linesBefore: program.linesBefore } };
 }
 
 /**
@@ -147,7 +147,7 @@ export async function run(values, words) {
     });
     const panel = new Panel((lines) => readAnswers(session, lines), {
       ...panelTexts, name: basename(names.session), describeRefusal, isPaused: values.stopped === true,
-      note: missingPartNote(panelTexts, board.before),
+      note: missingPartNote(panelTexts, board.linesBefore),
     }, performance.now());
     return await runPanel(terminal, panel);
   } catch (error) {

@@ -102,7 +102,7 @@ async function readSession(folder, names, texts) {
   const engine = await startEngine();
   const { file, faults } = newSession(engine, texts);
   if (faults.length === 0) return engine.bytesOf(file);
-  const makeGivenText = (/** @type {string} */ textName, /** @type {string} */ text) => ({ name: textName, text, before: 0 });
+  const makeGivenText = (/** @type {string} */ textName, /** @type {string} */ text) => ({ name: textName, text, linesBefore: 0 });
   const board = makeGivenText(names.board, texts.boardText);
   const program = makeGivenText(names.program, texts.programText);
   throw await rejectedTextsError(engine, { board, program }, faults);

@@ -104,7 +104,7 @@ function reportStop({ isStuck, cycles }, wantedCycles) {
 async function printVcd(openedSession, cycles, words) {
   const { engine, state, board, program } = openedSession;
   const choice = convertLineErrors(() => chooseLines(board, readBoardText(openedSession), program !== null, words));
-  const { lines, chosen } = linesWithMembers(choice.lines, choice.chosen);
+  const { lines, chosen } = linesWithMembers(choice.lines, choice.chosenIndexes);
   /** @type {VcdText | null} */
   let text = null;
   for await (const waves of recordPieces(engine, state, { lines, program, cycles }, yieldToMessages)) {
@@ -128,7 +128,7 @@ function buzzerLine({ board, boardText, face: { buzzer } }, word) {
   if (word === undefined && !boardText) throw new CommandError(say.NO_BUZZER_GIVEN);
   if (word === undefined && !buzzer) throw new CommandError(say.noBuzzer(boardText.name));
   if (word === undefined && !hasOutput(board, buzzer.place)) {
-    throw new CommandError(say.noOutputAt(boardText.name, buzzer.line + boardText.before, buzzer.place));
+    throw new CommandError(say.noOutputAt(boardText.name, buzzer.line + boardText.linesBefore, buzzer.place));
   }
   const name = word ?? buzzer.place;
   const isOutput = /^(rom|ram|chain)[\d.]*\.\d+$/.test(name) && hasOutput(board, name);
@@ -147,7 +147,7 @@ async function writeWav(openedSession, cycles, word, name) {
   const { engine, state, board } = openedSession;
   const line = buzzerLine(openedSession, word);
   const choice = convertLineErrors(() => chooseLines(board, "", false, [line]));
-  const { lines, chosen } = linesWithMembers(choice.lines, choice.chosen);
+  const { lines, chosen } = linesWithMembers(choice.lines, choice.chosenIndexes);
   const edges = [];
   let [level, recordedCycles] = [-1, 0];
   for await (const waves of recordPieces(engine, state, { lines, program: null, cycles }, yieldToMessages)) {

@@ -124,7 +124,7 @@ export class ExploreView {
       words.set(label);
     }
     // The list would change continuously during a search, so it is empty until the end.
-    this.listNeverRunLines(isRunning || !isSearched ? [] : coverage.left);
+    this.listNeverRunLines(isRunning || !isSearched ? [] : coverage.unexecutedLines);
   }
 
   /** @param {number[]} lines the lines that never ran */

@@ -82,7 +82,7 @@ export class BreakpointsView {
    */
   showRow(row, breakpoint, fault, map) {
     const { isOn, hits } = breakpoint;
-    const { mark, words } = breakpointMark(breakpoint, fault);
+    const { mark, description: words } = breakpointMark(breakpoint, fault);
     row.isOn.checked = isOn;
     row.mark.set(mark);
     row.mark.node.title = words;

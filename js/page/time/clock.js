@@ -54,7 +54,7 @@ export class Clock {
 
   /** The time in milliseconds up to which cycles have been simulated. */
   get now() {
-    return this.isFull ? performance.now() : this.time.reached;
+    return this.isFull ? performance.now() : this.time.simulatedUntil;
   }
 
   /**

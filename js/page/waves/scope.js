@@ -189,14 +189,14 @@ export class Scope {
     field("behind").setAttribute("aria-invalid", String(cyclesAfter > maxCycles));
     if (cyclesAfter > maxCycles) this.status.set(say.maxAfter(maxCycles.toLocaleString("en")));
     const stopsTime = byId("stops-time", HTMLInputElement).checked;
-    return cyclesAfter > maxCycles ? null : { most: maxCycles, behind: cyclesAfter, trigger, stopsTime };
+    return cyclesAfter > maxCycles ? null : { maxCycles, cyclesAfterTrigger: cyclesAfter, trigger, stopsTime };
   }
 
   async beginLive() {
     const choice = this.readLiveChoice();
     if (!choice) return;
     this.selectTriggerLine(choice.trigger);
-    const { trigger, behind: cyclesAfter, stopsTime } = choice;
+    const { trigger, cyclesAfterTrigger: cyclesAfter, stopsTime } = choice;
     const result = await this.calls.startLive({ trigger, behind: cyclesAfter, stopsTime }, this.choice.values);
     if (!result) return;
     const { recorded, fault } = result;
@@ -241,7 +241,7 @@ export class Scope {
   addPart(part) {
     const { liveWaves } = this;
     if (!liveWaves || !liveWaves.isOn) return;
-    if (part) liveWaves.take(part);
+    if (part) liveWaves.append(part);
     else liveWaves.markLost();
     if (!liveWaves.isOn) this.drawLive(liveWaves);
     else if (this.isUpToDate) {
@@ -274,7 +274,7 @@ export class Scope {
 
   /** @param {LiveWaves} liveWaves */
   showLive(liveWaves) {
-    this.status.set(liveWaves.words);
+    this.status.set(liveWaves.statusText);
     this.count.set(liveWaves.isOn ? liveWaves.lengthText : "");
     this.recordWord.set(liveWaves.isOn ? say.STOP_RECORDING : say.RECORD);
     this.calls.showRecording(liveWaves.isOn);
