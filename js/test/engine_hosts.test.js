@@ -92,10 +92,10 @@ testOnBothHosts("a trace goes through breakpoints, its last lines end at one, an
     for await (const piece of pieces) lines.push(...piece);
     return lines;
   };
-  const next = await linesOf(trace.next(1200, null));
+  const next = await linesOf(trace.traceNext(1200, null));
   assert.deepEqual([next[0], next.length], ["       0  (the second cycle)         acc 1 cy 0", 901]);
   assert.equal(next[2], "       2  001 E1    WMP              acc 2 cy 0  out 0.0 2 lamps .");
-  assert.deepEqual(await linesOf(trace.last(1, 100000, null)), [
+  assert.deepEqual(await linesOf(trace.traceLast(1, 100000, null)), [
     "       2  001 E1    WMP              acc 2 cy 0  out 0.0 2 lamps .", "       3  002 40 00 JUN 0x000        stops before it: break",
   ]);
   assert.deepEqual(engine.ask(state, "breaks\nseq\n").answers, ["breaks 002", "seq 4"]);
@@ -111,7 +111,7 @@ testOnBothHosts("a VCD file is written piece by piece", async (engine) => {
   let file = "";
   for await (const waves of recordPieces(engine, state, { lines, program: null, cycles: 45000 }, async () => {})) {
     if (!text) text = new VcdText(waves, chosen);
-    file += (file === "" ? text.head() : "") + [...text.changes()].join("");
+    file += (file === "" ? text.formatHead() : "") + [...text.formatChanges()].join("");
   }
   file += text.end();
   assert.match(file, /\$var wire 4 H ram0\.0\[3:0\] \$end\n[^]*\n#4860000\n/);

@@ -17,7 +17,7 @@ import { hasExpectedResult, joinReports, formatTap, formatReportTests } from "..
 import { Search } from "../core/explore/search.js";
 import { createSubject } from "../core/explore/subject.js";
 import {
-  chooseStep, downInputsAfter, initialDownInputs, areStepsAllowed, createRandom, nextAges, initialAges,
+  chooseStep, updateDownInputs, initialDownInputs, areStepsAllowed, createRandom, updateAges, createInitialAges,
 } from "../core/explore/walks.js";
 import { Watcher } from "../core/explore/walk_watcher.js";
 import { Engine } from "../core/engine/engine.js";
@@ -244,15 +244,15 @@ test("walks keep to how many keys are down, for how long, and how far apart", ()
   const { campaign } = campaignOf("press A B C D\ntogether 3\nwait 1 to 60\nheld at most 90\napart at least 40\n");
   const random = createRandom(7);
   const steps = [];
-  let [down, since] = [initialDownInputs(campaign), initialAges(campaign)];
+  let [down, since] = [initialDownInputs(campaign), createInitialAges(campaign)];
   for (let count = 0; count < 5000; count++) {
     const step = chooseStep(campaign, down, since, random);
     assert.ok(step.wait >= 1 && step.wait <= 60);
-    [down, since] = [downInputsAfter(down, step), nextAges(since, step)];
+    [down, since] = [updateDownInputs(down, step), updateAges(since, step)];
     steps.push(step);
   }
   assert.ok(areStepsAllowed(campaign, steps));
-  assert.ok(steps.some((_, at) => steps.slice(0, at).reduce(downInputsAfter, []).length === 3 && at < 200));
+  assert.ok(steps.some((_, at) => steps.slice(0, at).reduce(updateDownInputs, []).length === 3 && at < 200));
   assert.ok(!areStepsAllowed(campaign, [{ wait: 10, kind: "down", input: 0 }, { wait: 91, kind: "up", input: 0 }]));
   assert.ok(!areStepsAllowed(campaign, [{ wait: 10, kind: "up", input: 0 }]));
 });
@@ -262,10 +262,10 @@ test("keys that are down together at first go up in time, one after the other", 
   const campaign = { ...read, inputs: read.inputs.map((input) => ({ ...input, isDown: true })) };
   const random = createRandom(3);
   const steps = [];
-  let [down, since] = [initialDownInputs(campaign), initialAges(campaign)];
+  let [down, since] = [initialDownInputs(campaign), createInitialAges(campaign)];
   while (down.length > 0) {
     const step = chooseStep(campaign, down, since, random);
-    [down, since] = [downInputsAfter(down, step), nextAges(since, step)];
+    [down, since] = [updateDownInputs(down, step), updateAges(since, step)];
     steps.push(step);
   }
   assert.ok(areStepsAllowed(campaign, steps));
@@ -322,17 +322,17 @@ test("what stands at places is what trace reports of them", () => {
     const poke = ["acc", "r0", "r7", "r15", "ram.0.0x1F", "ram.5.64", "st.0.3.2", "st.5.4.1", "ram0.0", "ram5.1"]
       .map((name) => `poke ${name} ${Math.floor(16 * random())}\n`).join("");
     engine.serve(file, `${poke}poke cy ${times % 2}\npress 0 ${times % 4}\nrun ${1 + Math.floor(90 * random())}\n`, file);
-    const { answers } = engine.ask(file, `${looks.lines}${places.lines(1)}seq\n`);
+    const { answers } = engine.ask(file, `${looks.lines}${places.formatLines(1)}seq\n`);
     const reported = new PlaceValues(answers);
-    const row = looks.row(reported);
-    assert.equal(row, reported.row(places));
+    const row = looks.takeRow(reported);
+    assert.equal(row, reported.takeRow(places));
     assert.match(reported.take(), /^seq /);
   }
 });
 
 test("a count that is refused reports nothing", () => {
   const reported = new PlaceValues(["no 11", "count ran 2 end lines 1", "00F 2", "seq 4"]);
-  assert.deepEqual([reported.counts(), reported.counts()], [[], [{ address: 15, begun: 2, jumped: -1 }]]);
+  assert.deepEqual([reported.takeCountsIfAny(), reported.takeCountsIfAny()], [[], [{ address: 15, begun: 2, jumped: -1 }]]);
   assert.equal(reported.take(), "seq 4");
 });
 
@@ -346,10 +346,10 @@ test("a walk that is counted leaves what one that is watched does", () => {
   const depths = new Set();
   let lit = 0;
   for (let times = 0; times < 80; times++) {
-    let [down, since] = [initialDownInputs(campaign), initialAges(campaign)];
+    let [down, since] = [initialDownInputs(campaign), createInitialAges(campaign)];
     const steps = [...Array(12)].map(() => {
       const step = chooseStep(campaign, down, since, random);
-      [down, since] = [downInputsAfter(down, step), nextAges(since, step)];
+      [down, since] = [updateDownInputs(down, step), updateAges(since, step)];
       return step;
     });
     const memories = properties.map(({ createMemory }) => createMemory(7, 0));
@@ -379,8 +379,8 @@ test("files that are kept come back as they were", () => {
   engine.serve(other, "press 0 1\nrun 500\n", other);
   const kept = files.encode(other);
   assert.ok(kept.indexes.length < 500);
-  assert.deepEqual(files.file(files.encode(subject.file)), subject.file);
-  assert.deepEqual(files.file(kept), other);
+  assert.deepEqual(files.decode(files.encode(subject.file)), subject.file);
+  assert.deepEqual(files.decode(kept), other);
 });
 
 test("reports are joined: the shortest finds, and all that was run", async () => {
@@ -407,7 +407,7 @@ test("what was run is reported with what was not", () => {
   assert.ok(coverage.add([{ address: 2, begun: 1, jumped: 0 }]));
   assert.equal(new Coverage(coverage.text).text, "107");
   const at = (line, address, isBranch) => ({ line, address, isBranch });
-  assert.deepEqual(coverage.summary([at(1, 0, false), at(2, 2, true), at(3, 4, true)]),
+  assert.deepEqual(coverage.summarise([at(1, 0, false), at(2, 2, true), at(3, 4, true)]),
     { run: 2, all: 3, ways: 2, allWays: 4, unexecutedLines: [3], oneWay: [] });
 });
 

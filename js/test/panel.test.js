@@ -12,7 +12,7 @@ import { romCodes } from "../core/engine/rom_codes.js";
 import { buildLampRows, formatCell } from "../core/panel/lamp_rows.js";
 import { largeDigitRows } from "../core/panel/large_digits.js";
 import { Panel } from "../core/panel/terminal_panel.js";
-import { Screen, fitsPanel, middleRows } from "../core/panel/screen.js";
+import { Screen, fitsPanel, countMiddleRows } from "../core/panel/screen.js";
 import { splitKeys } from "../core/panel/terminal_keys.js";
 import { sentText } from "../core/text/sendable_text.js";
 import { PanelTerminal } from "../node/panel_terminal.mjs";
@@ -56,7 +56,7 @@ async function openPanel({ board, program }, { lines = "", isPaused = false, has
   const typed = async (keys) => {
     for (const key of splitKeys(keys)) {
       await panel.handleKey(key, now);
-      await panel.snapshot.refresh(middleRows(SIZE));
+      await panel.snapshot.refresh(countMiddleRows(SIZE));
     }
   };
   /** Lets time pass, frame by frame. */
@@ -65,9 +65,9 @@ async function openPanel({ board, program }, { lines = "", isPaused = false, has
       now += 100;
       await panel.keepRealTime(now);
     }
-    await panel.snapshot.refresh(middleRows(SIZE));
+    await panel.snapshot.refresh(countMiddleRows(SIZE));
   };
-  const rows = (size = SIZE) => screen.rows(size).map(({ pieces }) => pieces.map(({ text }) => text).join(""));
+  const rows = (size = SIZE) => screen.buildRows(size).map(({ pieces }) => pieces.map(({ text }) => text).join(""));
   return { panel, screen, ask, typed, pass, rows, text: (size = SIZE) => rows(size).map((row) => row.trimEnd()).join("\n") };
 }
 
@@ -127,7 +127,7 @@ test("time runs as fast as in the chip, and what a slow host misses is left out"
 
 test("a session at a breakpoint is paused; a step is one instruction; breakpoints come and go", async () => {
   const { typed, text, panel } = await openPanel(COUNTER, { lines: "poke r3 15\npoke r2 3\nbreak 2\nrun 100\n" });
-  await panel.snapshot.refresh(middleRows(SIZE));
+  await panel.snapshot.refresh(countMiddleRows(SIZE));
   assert.match(text(), /paused at a breakpoint\n/);
   assert.match(text(), />\*002 72 00 ISZ R2, 0x000/);
   await typed("\r");
@@ -190,7 +190,7 @@ test("lamps while time runs: levels of brightness; paused, those of an instant",
   const { pass, typed, text, screen } = await openPanel({ board, program });
   await pass(200);
   assert.match(text(), /\(:\) seldom[^]*\(\*\) mostly[^]*\(\*\) always[^]*\( \) never/);
-  const seldom = screen.rows(SIZE).flatMap(({ pieces }) => pieces).find((piece) => piece.text.includes("seldom"));
+  const seldom = screen.buildRows(SIZE).flatMap(({ pieces }) => pieces).find((piece) => piece.text.includes("seldom"));
   assert.deepEqual([seldom.colour, seldom.level], ["red", 1]);
   await typed(" ");
   assert.doesNotMatch(text(), /\(:\)/);

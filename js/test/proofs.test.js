@@ -6,7 +6,7 @@ import { BenchCalls } from "../core/engine/bench_calls.js";
 import { Engine } from "../core/engine/engine.js";
 import { Prover } from "../core/prove/prover.js";
 import { beginProving, createPropertyVerdict } from "../core/prove/bounded_proof.js";
-import { boundsUpTo } from "../core/prove/question.js";
+import { listBounds } from "../core/prove/question.js";
 import { findPropertyLine, isStillValid } from "../core/prove/verdict_validity.js";
 import { markOf, proofsTabMark, finalSummary, describeVerdict, progressSummary } from "../words/prove_results.js";
 import { pageModule } from "./page_session.js";
@@ -88,9 +88,9 @@ async function runProofs(answer, { most = 50000, answerMistakes, answerSets, ans
 const kinds = (all) => all.map(({ verdict: { kind } }) => kind);
 
 test("the bound on the states doubles up to the one that was asked for", () => {
-  assert.deepEqual(boundsUpTo(77), [77]);
-  assert.deepEqual(boundsUpTo(10000), [10000]);
-  assert.deepEqual(boundsUpTo(50000), [10000, 20000, 40000, 50000]);
+  assert.deepEqual(listBounds(77), [77]);
+  assert.deepEqual(listBounds(10000), [10000]);
+  assert.deepEqual(listBounds(50000), [10000, 20000, 40000, 50000]);
 });
 
 test("each question goes on only while there are more states, and says how many were searched", async () => {

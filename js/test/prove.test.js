@@ -10,7 +10,7 @@ import { createSubject } from "../core/explore/subject.js";
 import { createRandom } from "../core/explore/walks.js";
 import { replayCounterexample } from "../core/prove/counterexample.js";
 import { listComparisons } from "../core/prove/condition_comparisons.js";
-import { allMistakes, cyclesToMistake } from "../core/prove/mistakes.js";
+import { listMistakes, countCyclesToMistake } from "../core/prove/mistakes.js";
 import {
   MAX_STOPWATCH_CYCLES, MAX_PRESSES, createQuestion, mistakeQuestion, neverQuestion, questionText, readAnswer,
 } from "../core/prove/question.js";
@@ -254,7 +254,7 @@ test("mistakes are one more thing that must never be", () => {
   const question = { ...mistakeQuestion(["code", "ram"]), forbidden: [["in register 1 whole 0 3"]] };
   const lines = questionText({ board: "rom = []\n", program: "NOP" }, question, { maxStates: 77 }).split("\n");
   assert.deepEqual(lines.slice(8), ["never", "in register 1 whole 0 3", "never", "mistake code ram", "prove", ""]);
-  assert.deepEqual(allMistakes().map(({ word, property: { form } }) => `${word} ${form}`),
+  assert.deepEqual(listMistakes().map(({ word, property: { form } }) => `${word} ${form}`),
     ["code code", "call calls", "return returns", "ram mistake", "rom mistake", "rdr mistake", "wrr mistake"]);
 });
 
@@ -378,8 +378,8 @@ test("mistakes are seen before the instruction that makes them", () => {
   for (const { program, made } of PROGRAMS_WITH_MISTAKES) {
     const own = createSubject(engine, BOARD, `${program}\n${program.includes("ORG") ? "" : "end: JUN end\n"}`);
     for (const word of ["ram", "rom", "rdr", "wrr"]) {
-      assert.equal(cyclesToMistake(own, own.file, word, 20), made[word] === undefined ? -1 : made[word], `${program}: ${word}`);
-      if (made[word] > 0) assert.equal(cyclesToMistake(own, own.file, word, made[word] - 1), -1, `${program}: ${word}, too late`);
+      assert.equal(countCyclesToMistake(own, own.file, word, 20), made[word] === undefined ? -1 : made[word], `${program}: ${word}`);
+      if (made[word] > 0) assert.equal(countCyclesToMistake(own, own.file, word, made[word] - 1), -1, `${program}: ${word}, too late`);
     }
   }
 });

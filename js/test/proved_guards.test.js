@@ -7,7 +7,7 @@ import { readCampaign } from "../core/explore/campaign.js";
 import { InitialProof } from "../core/explore/initial_proof.js";
 import { createSubject } from "../core/explore/subject.js";
 import { beginProving } from "../core/prove/bounded_proof.js";
-import { createQuestion, omittedGuards } from "../core/prove/question.js";
+import { createQuestion, nameOmittedGuards } from "../core/prove/question.js";
 import { pageModule } from "./page_session.js";
 
 // A reaction timer. After START, it waits and then switches the lamp `go` on. PRESS, a key at TEST, stops it. A press of PRESS during the
@@ -113,8 +113,9 @@ test("a property is asked without guards that depend on the past", () => {
     const left = text.replace(/(once|after press) [^,]*, /g, "");
     assert.deepEqual(askedAs(text), askedAs(left), text);
   }
-  assert.equal(omittedGuards(propertyOf("once r0 = 1, after press START within 9, once r0 = 2, never r1 = 1")), '"once" and "after press"');
-  assert.equal(omittedGuards(propertyOf("while r0 = 1, never r1 = 1")), "");
+  const guarded = propertyOf("once r0 = 1, after press START within 9, once r0 = 2, never r1 = 1");
+  assert.equal(nameOmittedGuards(guarded), '"once" and "after press"');
+  assert.equal(nameOmittedGuards(propertyOf("while r0 = 1, never r1 = 1")), "");
   // The cells that a guard reads do not matter, because the prover ignores the guard.
   assert.notEqual(askedAs("once rom1 in 8, never r1 = 1").question, null);
   assert.equal(askedAs("while rom1 in 8, never r1 = 1").question, null);

@@ -2,7 +2,7 @@
 import assert from "node:assert/strict";
 import { test } from "node:test";
 import { readFileSync } from "node:fs";
-import { quickFixes, toDiagnostics } from "../core/server/diagnostics.js";
+import { createQuickFixes, toDiagnostics } from "../core/server/diagnostics.js";
 import { MAX_MESSAGE, MessageReader, StreamError, frameMessage } from "../core/server/framing.js";
 import { findBoard, isBoard, isProgram } from "../core/server/text_kinds.js";
 import { OpenText } from "../core/server/open_text.js";
@@ -129,8 +129,8 @@ test("faults with what cures them, and that there may be more", () => {
   assert.deepEqual(toDiagnostics(faults, true).map(({ severity, code }) => [severity, code]), [[1, 30], [1, 32]]);
   assert.deepEqual(toDiagnostics(faults, false).map(({ severity }) => severity), [1, 1, 3]);
   const at = (line, character) => ({ start: { line, character }, end: { line, character } });
-  assert.deepEqual(quickFixes("u", faults, at(1, 11)).map(({ title }) => title), ["Write JUN"]);
-  assert.deepEqual(quickFixes("u", faults, at(1, 12)), []);
+  assert.deepEqual(createQuickFixes("u", faults, at(1, 11)).map(({ title }) => title), ["Write JUN"]);
+  assert.deepEqual(createQuickFixes("u", faults, at(1, 12)), []);
 });
 
 test("the order of the protocol", async () => {

@@ -93,7 +93,7 @@ export function describePropertyResult(property, report) {
  * @param {Report} report
  */
 export function coverageOf({ covered, instructions }) {
-  const { run, all, ways, allWays, unexecutedLines } = new Coverage(covered).summary(instructions);
+  const { run, all, ways, allWays, unexecutedLines } = new Coverage(covered).summarise(instructions);
   return {
     instructions: { part: run, whole: all, words: `${run} of ${all} instructions were run` },
     ways: { part: ways, whole: allWays, words: `${ways} of ${allWays} branch directions` },

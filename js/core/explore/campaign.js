@@ -49,7 +49,7 @@ import { noKey } from "../../words/testing.js";
  * @param {string} originalLine
  * @param {number} column
  */
-function columnInLine(originalLine, column) {
+function findOriginalColumn(originalLine, column) {
   let at = originalLine.length - originalLine.trimStart().length;
   for (let remaining = column; remaining > 0 && at < originalLine.length - 1; remaining--) {
     at += 1;
@@ -470,7 +470,7 @@ export function readCampaign(text, subject, needsInputs = true) {
       if (property) reader.properties.push({ ...property, line: index + 1 });
     } catch (error) {
       if (!(error instanceof ConditionError)) throw error;
-      const column = error.column < 0 ? -1 : columnInLine(originalLine, error.column);
+      const column = error.column < 0 ? -1 : findOriginalColumn(originalLine, error.column);
       faults.push({ line: index + 1, column, words: column < 0 ? error.message : inColumn(error.message, column) });
     }
   });

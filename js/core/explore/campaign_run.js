@@ -1,6 +1,6 @@
 // Runs a campaign: searches for counterexamples, minimises and confirms them, and creates the report.
 
-import { omittedGuards } from "../prove/question.js";
+import { nameOmittedGuards } from "../prove/question.js";
 import { formatTest, formatViolationLines } from "./counterexample_test.js";
 import { Model } from "./model.js";
 import { InitialProof } from "./initial_proof.js";
@@ -162,7 +162,7 @@ export class CampaignRun {
    * Returns the session file at the end of a counterexample.
    * @param {Violation} violation
    */
-  sessionAtViolation(violation) {
+  createSessionFile(violation) {
     const { campaign, subject: { engine }, search: { start } } = this;
     const file = start.file.slice();
     engine.serve(file, formatViolationLines(campaign, violation), file);
@@ -206,7 +206,7 @@ export class CampaignRun {
         text: property.text, line: property.line, isGoal: property.isGoal, isSkipped: property.form === "model" && this.model === null,
         applied: search.appliedProperties.has(at) || property.isGoal,
         chains: this.model && at === this.modelIndex ? this.model.sequenceCount : 0,
-        states: proof.states[at], leftOut: omittedGuards(property), found: this.counterexamples[at],
+        states: proof.states[at], leftOut: nameOmittedGuards(property), found: this.counterexamples[at],
       })),
     };
   }

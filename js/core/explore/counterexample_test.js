@@ -85,10 +85,10 @@ class TestWriter {
    * Returns the text of the property's condition, or of its negation.
    * @param {boolean} holds false for the negation
    */
-  conditionText(holds) {
+  formatCondition(holds) {
     const { condition, address } = this.property;
     if (condition) return holds ? condition.text : condition.negation;
-    return holds ? this.counterCondition(address) : `not ${this.counterCondition(address)}`;
+    return holds ? this.formatCounterCondition(address) : `not ${this.formatCounterCondition(address)}`;
   }
 
   /**
@@ -104,7 +104,7 @@ class TestWriter {
    * Returns the text of the condition that the program counter is at an address. Uses the label if the address has one.
    * @param {number} address
    */
-  counterCondition(address) {
+  formatCounterCondition(address) {
     const [label] = this.subject.names.map.labelsAt(address);
     return label ? `@${label}` : `pc 0x${hex(address, 3)}`;
   }
@@ -126,24 +126,24 @@ class TestWriter {
  * @type {Record<Property["form"], (writer: TestWriter) => void>}
  */
 const FINAL_LINES = {
-  never: (writer) => writer.writeExpect(writer.conditionText(false)),
-  always: (writer) => writer.writeExpect(writer.conditionText(true)),
-  at: (writer) => writer.writeExpect(writer.conditionText(true)),
-  "only after": (writer) => writer.writeExpect(writer.conditionText(false)),
-  "never for": (writer) => writer.writeUntil(writer.conditionText(false), writer.time - writer.property.limit),
-  every: (writer) => writer.writeUntil(writer.counterCondition(writer.property.address), writer.time - writer.property.limit),
-  within: (writer) => writer.writeUntil(writer.counterCondition(writer.property.address), writer.time - writer.property.limit),
-  "after press": (writer) => writer.writeUntil(writer.conditionText(true), writer.time - writer.property.limit),
-  once: (writer) => writer.writeExpect(`not ${writer.counterCondition(writer.property.address)}`),
-  reach: (writer) => writer.writeExpect(writer.conditionText(true)),
-  "reach at": (writer) => writer.writeExpect(writer.counterCondition(writer.property.address)),
+  never: (writer) => writer.writeExpect(writer.formatCondition(false)),
+  always: (writer) => writer.writeExpect(writer.formatCondition(true)),
+  at: (writer) => writer.writeExpect(writer.formatCondition(true)),
+  "only after": (writer) => writer.writeExpect(writer.formatCondition(false)),
+  "never for": (writer) => writer.writeUntil(writer.formatCondition(false), writer.time - writer.property.limit),
+  every: (writer) => writer.writeUntil(writer.formatCounterCondition(writer.property.address), writer.time - writer.property.limit),
+  within: (writer) => writer.writeUntil(writer.formatCounterCondition(writer.property.address), writer.time - writer.property.limit),
+  "after press": (writer) => writer.writeUntil(writer.formatCondition(true), writer.time - writer.property.limit),
+  once: (writer) => writer.writeExpect(`not ${writer.formatCounterCondition(writer.property.address)}`),
+  reach: (writer) => writer.writeExpect(writer.formatCondition(true)),
+  "reach at": (writer) => writer.writeExpect(writer.formatCounterCondition(writer.property.address)),
   model: () => undefined,
   code: (writer) => {
     writer.writeRunUntil(writer.time + 1);
   },
-  calls: (writer) => writer.writeExpect(`not ${writer.counterCondition(writer.counterAtViolation)}`),
-  returns: (writer) => writer.writeExpect(`not ${writer.counterCondition(writer.counterAtViolation)}`),
-  mistake: (writer) => writer.writeExpect(`not ${writer.counterCondition(writer.counterAtViolation)}`),
+  calls: (writer) => writer.writeExpect(`not ${writer.formatCounterCondition(writer.counterAtViolation)}`),
+  returns: (writer) => writer.writeExpect(`not ${writer.formatCounterCondition(writer.counterAtViolation)}`),
+  mistake: (writer) => writer.writeExpect(`not ${writer.formatCounterCondition(writer.counterAtViolation)}`),
 };
 
 /** @type {Partial<Record<Property["form"], string>>} the comments below the name of a test, by property form */

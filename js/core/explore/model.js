@@ -72,7 +72,7 @@ export class Model {
       if (fault !== "") return null;
       const expectedText = expectedTexts[at].trim();
       const cycles = keys.length * (this.campaign.downTime + this.campaign.upTime);
-      const { number, fullText, lampsOn } = this.displayAfter(keys);
+      const { number, fullText, lampsOn } = this.readDisplayAfter(keys);
       if (expectedText !== "" && fullText !== expectedText) {
         return { keys, expectedText, lampsOn: number === expectedText ? lampsOn : [], cycles };
       }
@@ -85,7 +85,7 @@ export class Model {
    * display` prints them (`fullText`), and the names of all lamps that are on except the minus lamp.
    * @param {number[]} keys
    */
-  displayAfter(keys) {
+  readDisplayAfter(keys) {
     const { downTime, upTime } = this.campaign;
     const { face } = this.subject.names;
     const lines = keys.map((input) => (

@@ -39,7 +39,7 @@ function countChips({ banks }, bank) {
  * @param {string} name
  * @returns {AnswerPosition | null}
  */
-function registerPosition(name) {
+function findRegister(name) {
   const found = REGISTER_POSITIONS.get(name);
   if (found) return { query: "regs", line: 0, precedingWord: "", start: found[0], length: found[1] };
   const register = /^r(\d+)$/.exec(name);
@@ -52,7 +52,7 @@ function registerPosition(name) {
  * @param {Board} board
  * @returns {AnswerPosition | null}
  */
-function memoryPosition(name, board) {
+function findMemory(name, board) {
   const [word, ...parts] = name.split(".");
   if (word !== "ram" && word !== "st") return null;
   const [bank, address, statusIndex] = parts.map(parseNumber);
@@ -71,7 +71,7 @@ function memoryPosition(name, board) {
  * @param {Board} board
  * @returns {AnswerPosition | null}
  */
-function portPosition(name, board) {
+function findPort(name, board) {
   const match = /^ram(\d)\.(\d)$/.exec(name);
   if (!match || Number(match[2]) >= countChips(board, Number(match[1]))) return null;
   // `rams 0.0.H,0.1.H,1.0.H`
@@ -86,7 +86,7 @@ function portPosition(name, board) {
  */
 function findPosition(name, board) {
   if (name === "lamps") return { query: "lamps", line: 0, precedingWord: "", start: 6, length: 0 };
-  return registerPosition(name) || memoryPosition(name, board) || portPosition(name, board);
+  return findRegister(name) || findMemory(name, board) || findPort(name, board);
 }
 
 export class PlaceReader {
@@ -104,7 +104,7 @@ export class PlaceReader {
     this.names = [...allNames.filter((_, at) => positions[at]), ...this.remainingPlaces.names];
     this.queries = [...new Set(this.positions.map(({ query }) => query))];
     /** The query lines. */
-    this.lines = this.queries.map((query) => `${query}\n`).join("") + this.remainingPlaces.lines(1);
+    this.lines = this.queries.map((query) => `${query}\n`).join("") + this.remainingPlaces.formatLines(1);
     const counts = this.queries.map((query) => (
       query.startsWith("ram ") ? 1 + LINES_PER_CHIP * countChips(board, Number(query.slice(4))) : 1));
     /** For each position, the index of its line in the answers to all queries. */
@@ -117,7 +117,7 @@ export class PlaceReader {
    * Returns the indices of some places in the list of all places.
    * @param {string[]} places
    */
-  indexes(places) {
+  findIndexes(places) {
     return places.map((place) => this.names.indexOf(place));
   }
 
@@ -125,7 +125,7 @@ export class PlaceReader {
    * Returns the values of all places, separated by blanks, from the answers to the query lines.
    * @param {PlaceValues} values
    */
-  row(values) {
+  takeRow(values) {
     const { positions, answerIndexes, remainingPlaces: tracedPlaces } = this;
     const first = values.at;
     let row = "";
@@ -137,6 +137,6 @@ export class PlaceReader {
     }
     values.skip(this.answerCount);
     if (tracedPlaces.names.length === 0) return row;
-    return row === "" ? values.row(tracedPlaces) : `${row} ${values.row(tracedPlaces)}`;
+    return row === "" ? values.takeRow(tracedPlaces) : `${row} ${values.takeRow(tracedPlaces)}`;
   }
 }

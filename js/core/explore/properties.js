@@ -318,7 +318,7 @@ function updateGuard({ kind, key }, since, event, { time, input }, holds) {
  * @param {Guard} guard
  * @param {number} since the memory of the guard
  */
-function lastOpenCycle({ kind, limit }, since) {
+function findLastOpenCycle({ kind, limit }, since) {
   if (since === UNSET) return UNSET;
   return kind === "press" && limit > 0 ? since + limit : Infinity;
 }
@@ -356,7 +356,7 @@ export function guardedProperty(text, property, guards) {
     hasApplied: (memory) => memory[ownStart - 1] > 0 && property.hasApplied(memory.slice(ownStart)),
     update: (memory, event, moment) => {
       const ownMemory = memory.slice(ownStart);
-      const lastOpen = Math.min(...guards.map((guard, index) => lastOpenCycle(guard, memory[index])));
+      const lastOpen = Math.min(...guards.map((guard, index) => findLastOpenCycle(guard, memory[index])));
       // When a guard closes, the condition no longer counts as true.
       const hasClosed = property.form === "never for" && lastOpen < moment.time && lastOpen !== UNSET;
       const closingMoment = { ...moment, time: lastOpen + 1, changeTime: lastOpen + 1, holds: false };
@@ -364,7 +364,7 @@ export function guardedProperty(text, property, guards) {
       guards.forEach((guard, index) => {
         memory[index] = updateGuard(guard, memory[index], event, moment, moment.areOpen[index] === true);
       });
-      const isOpen = guards.every((guard, index) => memory[index] !== UNSET && moment.time <= lastOpenCycle(guard, memory[index]));
+      const isOpen = guards.every((guard, index) => memory[index] !== UNSET && moment.time <= findLastOpenCycle(guard, memory[index]));
       if (isOpen) memory[ownStart - 1] = 1;
       if (violationTime === UNSET) violationTime = notifyGuarded(property, ownMemory, event, moment, isOpen);
       memory.splice(ownStart, ownMemory.length, ...ownMemory);

@@ -136,8 +136,8 @@ function formatLineNumbers(lines) {
  * Returns the lines of the report that say which code was executed.
  * @param {Report} report
  */
-export function coverageLines({ covered, instructions }) {
-  const { run, all, ways, allWays, unexecutedLines, oneWay } = new Coverage(covered).summary(instructions);
+export function formatCoverage({ covered, instructions }) {
+  const { run, all, ways, allWays, unexecutedLines, oneWay } = new Coverage(covered).summarise(instructions);
   const lines = [say.covered(say.partOf(run, all), say.partOf(ways, allWays))];
   if (unexecutedLines.length > 0) lines.push(say.neverRun(formatLineNumbers(unexecutedLines)));
   if (oneWay.length > 0) lines.push(say.alwaysOneWay(formatLineNumbers(oneWay)));
@@ -157,7 +157,7 @@ export function formatTap(report) {
     if (property.isSkipped) lines.push(`# ${say.notRun(propertyLocation(property, report), property.text)}`);
   }
   const rate = seconds > 0 ? say.stepsPerSecond(formatNumber(steps / seconds)) : "";
-  lines.push(...coverageLines(report).map((line) => `# ${line}`));
+  lines.push(...formatCoverage(report).map((line) => `# ${line}`));
   lines.push(say.figures(seeds, formatNumber(steps), seconds.toFixed(1), rate, formatNumber(states), isStopped));
   return `${lines.join("\n")}\n`;
 }

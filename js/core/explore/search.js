@@ -1,5 +1,5 @@
 // Searches for violations by random walks that start at stored states. For most walks, the search only reads a snapshot after each change.
-// If a walk shows something new, the search repeats the walk to count its instructions (walk_counter.js). The search watches a walk
+// If a walk reaches a new state, the search repeats the walk to count its instructions (walk_counter.js). The search watches a walk
 // instruction by instruction (walk_watcher.js) if the walk executes code for the first time, if a property needs more data, or if a
 // property seems violated. It also watches a sample of the other walks.
 
@@ -9,8 +9,8 @@ import { DeltaFiles } from "./delta_files.js";
 import { PlaceReader } from "./place_reader.js";
 import { Conditions, PlaceValues, listConditions } from "./place_queries.js";
 import { listAddresses } from "./properties.js";
-import { chooseStep, downInputsAfter, initialDownInputs, changeLine, walkLines, createRandom } from "./walks.js";
-import { nextAges, initialAges, randomBelow } from "./walks.js";
+import { chooseStep, updateDownInputs, initialDownInputs, changeLine, walkLines, createRandom } from "./walks.js";
+import { updateAges, createInitialAges, randomBelow } from "./walks.js";
 import { Watcher } from "./walk_watcher.js";
 import { MAX_ENABLED_BREAKPOINTS } from "../debug/breakpoints.js";
 import { MAX_RUN_CYCLES, runLines } from "../engine/key_queue.js";
@@ -41,7 +41,7 @@ const MAX_WALK_STEPS = 16;
 const MAX_DEPTH = 120;
 const MAX_STATES = 20000;
 const MAX_SNAPSHOTS = 200000;
-/** One of WATCH_INTERVAL walks is watched even if the walk shows nothing new. */
+/** One of WATCH_INTERVAL walks is watched even if the walk reaches no new state. */
 const WATCH_INTERVAL = 32;
 /**
  * The number of candidate states that are picked at random for each walk. The walk starts at the candidate at which the fewest walks have
@@ -65,7 +65,7 @@ export class Search {
     this.watcher = new Watcher(subject, campaign, this.coverage);
     const conditionPlaces = campaign.properties.flatMap(listConditions).flatMap((condition) => (condition ? condition.places : []));
     this.places = new PlaceReader([...campaign.notedPlaces, ...conditionPlaces], subject.names.board);
-    this.notedIndexes = this.places.indexes(campaign.notedPlaces);
+    this.notedIndexes = this.places.findIndexes(campaign.notedPlaces);
     this.conditions = campaign.properties.map((property) => new Conditions(property, this.places));
     /** @type {number[]} the indices of the properties for which the search still looks for a violation */
     this.openProperties = campaign.properties.flatMap(({ form }, at) => (form === "model" ? [] : [at]));
@@ -82,7 +82,7 @@ export class Search {
     this.files = new DeltaFiles(this.start.file);
     const { file, time, downInputs, memories } = this.start;
     /** @type {State[]} */
-    this.states = [{ delta: this.files.encode(file), time, downInputs, ages: initialAges(campaign), memories, parent: null, steps: [],
+    this.states = [{ delta: this.files.encode(file), time, downInputs, ages: createInitialAges(campaign), memories, parent: null, steps: [],
       depth: 0, resumeCount: 0 }];
   }
 
@@ -168,8 +168,8 @@ export class Search {
    * the walk executes no code for the first time. Otherwise, watches the walk.
    * @param {import("./walk_watcher.js").WalkStart} start
    * @param {WalkStep[]} steps
-   * @param {number[]} newSteps the indices of the steps that show something new; this method adds the steps that execute code for the first
-   *   time
+   * @param {number[]} newSteps the indices of the steps after which the state is new; this method adds the steps that execute code for the
+   *   first time
    * @param {Snapshot[]} snapshots
    */
   rerunWalk(start, steps, newSteps, snapshots) {
@@ -189,7 +189,7 @@ export class Search {
    * @param {State} state
    */
   restoreFile(state) {
-    return this.files.file(state.delta);
+    return this.files.decode(state.delta);
   }
 
   /**
@@ -227,8 +227,8 @@ export class Search {
     let { ages } = state;
     for (let remaining = 1 + randomBelow(this.random, MAX_WALK_STEPS); remaining > 0; remaining--) {
       const step = chooseStep(this.campaign, currentDown, ages, this.random);
-      ages = nextAges(ages, step);
-      currentDown = downInputsAfter(currentDown, step);
+      ages = updateAges(ages, step);
+      currentDown = updateDownInputs(currentDown, step);
       steps.push(step);
     }
     return steps;
@@ -251,8 +251,8 @@ export class Search {
   }
 
   /**
-   * Runs a walk and reads a snapshot after each change. Returns the snapshots, the indices of the steps after which something is new, and
-   * whether a property seems violated.
+   * Runs a walk and reads a snapshot after each change. Returns the snapshots; the indices of the steps that reach a new state or execute
+   * code for the first time; and whether a property seems violated.
    * @param {Uint8Array} file
    * @param {State} state
    * @param {WalkStep[]} steps
@@ -272,10 +272,10 @@ export class Search {
     const snapshots = [];
     const estimatedState = new EstimatedState(this, state);
     for (const [at, step] of steps.entries()) {
-      const instructionCounts = counts ? values.counts() : [];
+      const instructionCounts = counts ? values.takeCountsIfAny() : [];
       if (values.takeRun().end !== "end") return { newSteps, isSuspect: true, snapshots };
       if (step.kind !== "none") values.skip(1);
-      const snapshot = this.snapshotForRow(places.row(values));
+      const snapshot = this.getSnapshot(places.takeRow(values));
       snapshots.push(snapshot);
       if (estimatedState.canBeViolated(step, snapshot, instructionCounts)) return { newSteps, isSuspect: true, snapshots };
       if (this.coverage.add(instructionCounts)) newSteps.push(at);
@@ -289,7 +289,7 @@ export class Search {
    * @param {string} row the values of all places, separated by blanks
    * @returns {Snapshot}
    */
-  snapshotForRow(row) {
+  getSnapshot(row) {
     const knownSnapshot = this.snapshots.get(row);
     if (knownSnapshot) return knownSnapshot;
     const values = row.split(" ");
@@ -330,7 +330,7 @@ export class Search {
       const walkPart = steps.slice(from, at + 1);
       this.subject.engine.serve(file, walkLines(this.campaign, walkPart), file);
       const { time, downInputs, memories } = stepStates[at];
-      const ages = walkPart.reduce(nextAges, parent.ages);
+      const ages = walkPart.reduce(updateAges, parent.ages);
       parent = { delta: this.files.encode(file), time, downInputs, ages, memories, parent, steps: walkPart,
         depth: state.depth + at + 1, resumeCount: 0 };
       this.states.push(parent);
@@ -400,7 +400,7 @@ class EstimatedState {
    */
   canBeViolated(step, { holds, areOpen }, instructionCounts) {
     const { campaign: { properties, inputs }, conditionProperties, memories } = this;
-    this.downInputs = downInputsAfter(this.downInputs, step);
+    this.downInputs = updateDownInputs(this.downInputs, step);
     const input = step.kind === "down" ? inputs[step.input].name : "";
     const time = this.time + step.wait;
     const moment = { time, changeTime: time, address: -1, holds: false, areOpen: NO_GUARDS, input, downCount: this.downInputs.length };

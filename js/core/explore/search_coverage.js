@@ -54,7 +54,7 @@ export class Coverage {
    * branch always went in the same direction.
    * @param {Instruction[]} instructions
    */
-  summary(instructions) {
+  summarise(instructions) {
     const unexecutedLines = instructions.filter(({ address }) => !(this.flags[address] & STARTED)).map(({ line }) => line);
     const forks = instructions.filter(({ isBranch }) => isBranch);
     const oneWay = forks.filter(({ address }) => (this.flags[address] & STARTED) && (this.flags[address] & (JUMPED | CONTINUED)) !== 6)

@@ -49,7 +49,7 @@ export function parseSearchTexts(engine, { boardText, programText, testText, pro
     const { message } = findLeadingTests(prepared.names, testText, from.state);
     if (message) errors.push({ line: from.line, column: -1, words: message });
   }
-  if (errors.length > 0) return { parsedTexts: null, faults: propertyFaults(errors) };
+  if (errors.length > 0) return { parsedTexts: null, faults: toPropertyFaults(errors) };
   return { parsedTexts: { subject, campaign, prepared }, faults: [] };
 }
 
@@ -58,7 +58,7 @@ export function parseSearchTexts(engine, { boardText, programText, testText, pro
  * @param {{ line: number, words: string }[]} faults
  * @returns {TextFault[]}
  */
-function propertyFaults(faults) {
+function toPropertyFaults(faults) {
   return faults.map(({ line, words }) => ({ text: "properties", number: 0, line, words }));
 }
 
@@ -74,7 +74,7 @@ export async function prepareSearch(engine, texts) {
   if (!parsedTexts) return { searchSetup: null, faults };
   const { searchSetup, message } = await startCampaign(parsedTexts, parsedTexts.prepared, texts.testText);
   const { from } = searchSetup.campaign;
-  if (message && from) return { searchSetup: null, faults: propertyFaults([{ line: from.line, words: message }]) };
+  if (message && from) return { searchSetup: null, faults: toPropertyFaults([{ line: from.line, words: message }]) };
   return { searchSetup, faults: [] };
 }
 
@@ -107,7 +107,7 @@ export class SlicedSearch {
     while (counterexamples.length === 0 && !campaignRun.isDone && performance.now() < end) {
       const counterexample = await campaignRun.runFor(SLICE_MS);
       if (counterexample && counterexample.violation) {
-        counterexamples.push({ property: counterexample.property, file: campaignRun.sessionAtViolation(counterexample.violation) });
+        counterexamples.push({ property: counterexample.property, file: campaignRun.createSessionFile(counterexample.violation) });
       }
     }
     return { report: this.report(), found: counterexamples, isDone: campaignRun.isDone };

@@ -3,7 +3,7 @@
 
 import { isCall, isReturn } from "../engine/rom_codes.js";
 import { PlaceValues } from "./place_queries.js";
-import { downInputsAfter, changeLine } from "./walks.js";
+import { updateDownInputs, changeLine } from "./walks.js";
 
 /**
  * @typedef {import("./properties.js").Property} Property
@@ -55,7 +55,7 @@ export function countWalk({ subject: { engine, codes }, campaign, coverage }, st
   const values = new PlaceValues(engine.ask(start.file, lines).answers);
   let { time, downInputs, memories } = start;
   return steps.map((step) => {
-    const counts = values.counts();
+    const counts = values.takeCountsIfAny();
     values.skip(step.kind === "none" ? 1 : 2);
     let openedCalls = 0;
     for (const { address, begun } of counts) {
@@ -63,7 +63,7 @@ export function countWalk({ subject: { engine, codes }, campaign, coverage }, st
       else if (isReturn(codes[address])) openedCalls -= begun;
     }
     time += step.wait;
-    downInputs = downInputsAfter(downInputs, step);
+    downInputs = updateDownInputs(downInputs, step);
     memories = memories.map((memory, at) => updateMemory(campaign.properties[at], memory, step, openedCalls));
     return { time, downInputs, memories, isNew: coverage.add(counts) };
   });

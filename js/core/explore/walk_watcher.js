@@ -5,7 +5,7 @@ import { instructionCycles, isCall, isReturn } from "../engine/rom_codes.js";
 import { parseTraceLine } from "../engine/forecast_answers.js";
 import { Conditions, PlaceQueries, PlaceValues, listConditions } from "./place_queries.js";
 import { listAddresses } from "./properties.js";
-import { downInputsAfter, changeLine } from "./walks.js";
+import { updateDownInputs, changeLine } from "./walks.js";
 
 /**
  * @typedef {import("./campaign.js").Campaign} Campaign
@@ -87,7 +87,7 @@ export class Watcher {
   watchChange(start, step, openProperties) {
     const memories = start.memories.map((memory) => [...memory]);
     const walk = new Walk(this, memories, openProperties, start);
-    walk.values = new PlaceValues(this.subject.engine.ask(start.file, this.places.lines(1)).answers).changes(this.places).values;
+    walk.values = new PlaceValues(this.subject.engine.ask(start.file, this.places.formatLines(1)).answers).takeChanges(this.places).values;
     walk.notifyInputChange(step);
     const violation = walk.firstViolation && { ...walk.firstViolation, step: 0 };
     return { violation, stepStates: [{ time: walk.time, downInputs: walk.downInputs, memories, isNew: false }] };
@@ -104,14 +104,14 @@ export class Watcher {
     const { campaign, places, subject: { engine } } = this;
     const lines = steps.map((step) => {
       const countLine = this.asksCounts ? `count ${step.wait}\n` : "";
-      return `${places.lines(step.wait)}${countLine}run ${step.wait}\n${changeLine(campaign, step)}`;
+      return `${places.formatLines(step.wait)}${countLine}run ${step.wait}\n${changeLine(campaign, step)}`;
     }).join("");
     const placeValues = new PlaceValues(engine.ask(file, lines).answers);
     /** @type {StepReport[]} */
     const stepReports = [];
     for (const step of steps) {
-      const { values, changes } = placeValues.changes(places);
-      const counts = this.asksCounts ? placeValues.counts() : [];
+      const { values, changes } = placeValues.takeChanges(places);
+      const counts = this.asksCounts ? placeValues.takeCountsIfAny() : [];
       stepReports.push({ values, changes, counts, runAnswer: placeValues.take(), list: null });
       if (step.kind !== "none") placeValues.skip(1);
     }
@@ -284,7 +284,7 @@ class Walk {
    */
   notifyInputChange(step) {
     const { campaign: { inputs } } = this.watcher;
-    this.downInputs = downInputsAfter(this.downInputs, step);
+    this.downInputs = updateDownInputs(this.downInputs, step);
     if (step.kind === "down") this.notify("down", this.time, { input: inputs[step.input].name });
     if (step.kind === "reset") {
       this.notify("reset", this.time);

@@ -106,7 +106,7 @@ function chooseChange(campaign, downInputs, ages, wait, random) {
  * Returns the age of each input at power-on, which is the number of cycles since its last change: 0 if the input is down, else Infinity.
  * @param {Campaign} campaign
  */
-export function initialAges({ inputs }) {
+export function createInitialAges({ inputs }) {
   return inputs.map(({ isDown }) => (isDown ? 0 : Infinity));
 }
 
@@ -115,7 +115,7 @@ export function initialAges({ inputs }) {
  * @param {number[]} ages
  * @param {WalkStep} step
  */
-export function nextAges(ages, { wait, input }) {
+export function updateAges(ages, { wait, input }) {
   return ages.map((cycles, at) => (at === input ? 0 : cycles + wait));
 }
 
@@ -124,7 +124,7 @@ export function nextAges(ages, { wait, input }) {
  * @param {number[]} downInputs
  * @param {WalkStep} step
  */
-export function downInputsAfter(downInputs, { kind, input }) {
+export function updateDownInputs(downInputs, { kind, input }) {
   if (kind === "down") return [...downInputs, input];
   return kind === "up" ? downInputs.filter((at) => at !== input) : downInputs;
 }
@@ -137,13 +137,13 @@ export function downInputsAfter(downInputs, { kind, input }) {
  */
 export function areStepsAllowed(campaign, steps) {
   let downInputs = initialDownInputs(campaign);
-  let ages = initialAges(campaign);
+  let ages = createInitialAges(campaign);
   for (const step of steps) {
     if (step.kind === "down" && (downInputs.includes(step.input) || ages[step.input] + step.wait < campaign.minReleaseTime)) return false;
     if (step.kind === "up" && !downInputs.includes(step.input)) return false;
-    if (step.wait > longestAllowedWait(campaign, downInputs, ages)) return false;
-    ages = nextAges(ages, step);
-    downInputs = downInputsAfter(downInputs, step);
+    if (step.wait > findLongestWait(campaign, downInputs, ages)) return false;
+    ages = updateAges(ages, step);
+    downInputs = updateDownInputs(downInputs, step);
     if (downInputs.filter((at) => campaign.inputs[at].isKey).length > campaign.maxKeysDown) return false;
   }
   return true;
@@ -155,7 +155,7 @@ export function areStepsAllowed(campaign, steps) {
  * @param {number[]} downInputs
  * @param {number[]} ages
  */
-function longestAllowedWait({ maxHoldTime }, downInputs, ages) {
+function findLongestWait({ maxHoldTime }, downInputs, ages) {
   return Math.min(...downInputs.map((at) => maxHoldTime - ages[at]));
 }
 
@@ -164,9 +164,9 @@ function longestAllowedWait({ maxHoldTime }, downInputs, ages) {
  * @param {Campaign} campaign
  * @param {WalkStep[]} steps
  */
-export function longestWaitAfter(campaign, steps) {
-  const downInputs = steps.reduce(downInputsAfter, initialDownInputs(campaign));
-  return longestAllowedWait(campaign, downInputs, steps.reduce(nextAges, initialAges(campaign)));
+export function findLongestWaitAfter(campaign, steps) {
+  const downInputs = steps.reduce(updateDownInputs, initialDownInputs(campaign));
+  return findLongestWait(campaign, downInputs, steps.reduce(updateAges, createInitialAges(campaign)));
 }
 
 /**

@@ -131,7 +131,7 @@ export function describeCell(descriptions, name) {
  * @param {ManualSection[]} manual
  * @returns {Map<string, string>}
  */
-export function cellWords(manual) {
+export function readCellDescriptions(manual) {
   const descriptions = new Map();
   for (const [names, description] of sectionRows(manual, CELLS)) {
     for (const [, name] of names.matchAll(/`([^`]+)`/g)) descriptions.set(name, cellText(description));

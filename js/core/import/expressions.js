@@ -73,7 +73,7 @@ class Evaluation {
   }
 
   /**
-   * Records an error, unless there was one before.
+   * Records an error, unless an earlier error is recorded.
    * @param {string} message
    */
   fail(message) {

@@ -21,7 +21,7 @@ const NAME_PLUS_OFFSET = /^([a-z_]\w*)\s*\+\s*(0x[0-9a-f]+|\d+)$/i;
  * @param {string} message
  * @returns {GoToTarget}
  */
-function targetError(message) {
+function createTargetError(message) {
   return { address: 0, message };
 }
 
@@ -38,8 +38,8 @@ export function parseGoal(text, map) {
   if (value !== undefined && value + parseNumber(offset) <= LAST_ADDRESS) return { address: value + parseNumber(offset), message: "" };
   const address = LISTING_ADDRESS.test(word) ? parseInt(word, 16) : parseNumber(word);
   if (address <= LAST_ADDRESS) return { address, message: "" };
-  if (!Number.isNaN(parseNumber(word))) return targetError(say.beyondLast(word));
-  if (word === "") return targetError(say.nothingToGoTo(say.ADDRESS_FORMS));
-  if (map) return targetError(say.noNameOrAddress(word, say.ADDRESS_FORMS));
-  return targetError(say.noAddress(word, say.ADDRESS_FORMS));
+  if (!Number.isNaN(parseNumber(word))) return createTargetError(say.beyondLast(word));
+  if (word === "") return createTargetError(say.nothingToGoTo(say.ADDRESS_FORMS));
+  if (map) return createTargetError(say.noNameOrAddress(word, say.ADDRESS_FORMS));
+  return createTargetError(say.noAddress(word, say.ADDRESS_FORMS));
 }

@@ -29,7 +29,7 @@ import * as say from "../../words/machine.js";
 const NO_EDITOR = { showNext: () => {}, showAddresses: () => {}, reveal: () => {} };
 
 /** @param {number} address */
-function hexAddress(address) {
+function formatAddress(address) {
   return `0x${hex(address, 3)}`;
 }
 
@@ -83,9 +83,9 @@ export class SourceSync {
     this.text = text;
     this.lastResult = result;
     const map = new SourceMap(result.map, text);
-    this.mismatch = this.mismatchReason(result, map);
+    this.mismatch = this.findMismatch(result, map);
     this.map = this.mismatch === "" && map.count > 0 ? map : null;
-    this.editor.showAddresses(lineAddresses(map));
+    this.editor.showAddresses(listLineAddresses(map));
     this.calls.changed(this.map, this.mismatch);
   }
 
@@ -94,7 +94,7 @@ export class SourceSync {
    * @param {ProgramCheck} result
    * @param {SourceMap} map
    */
-  mismatchReason({ refusal, difference }, map) {
+  findMismatch({ refusal, difference }, map) {
     if (refusal) {
       const lineText = refusal.line > 0 ? say.inSourceLine(refusal.line) : "";
       const errorText = refusal.number > 0 ? `no ${refusal.number}: ${this.calls.describeRefusal(refusal.number)}` : say.DOT_ENDS;
@@ -102,8 +102,8 @@ export class SourceSync {
     }
     if (!difference) return "";
     const line = map.lineOf(difference.address);
-    if (!difference.hasRom) return say.noRomAt(hexAddress(difference.address), line);
-    return say.differsAt(hexAddress(difference.address), line);
+    if (!difference.hasRom) return say.noRomAt(formatAddress(difference.address), line);
+    return say.differsAt(formatAddress(difference.address), line);
   }
 
   /**
@@ -152,6 +152,6 @@ export class SourceSync {
  * Returns the addresses of all lines, "" for a line without bytes.
  * @param {SourceMap} map
  */
-function lineAddresses(map) {
+function listLineAddresses(map) {
   return map.sizes.slice(1).map((size, at) => (size > 0 ? hex(map.addresses[at + 1], 3) : ""));
 }

@@ -26,7 +26,7 @@ import * as say from "../../words/panel.js";
  * @typedef {import("../machine/source_map.js").SourceMap} SourceMap
  * @typedef {import("./terminal_keys.js").TypedKey} TypedKey
  *
- * A function that sends lines to the session and resolves to the answers. Throws if the session has ended.
+ * A function that sends lines to the session and resolves to the answers. Rejects if the session has ended.
  * @typedef {(lines: string) => Promise<string[]>} Ask
  *
  * The source of the program in ROM: its source map, its lines, and the number of lines before these lines in the file (`linesBefore`).
@@ -114,7 +114,7 @@ export class Panel {
   }
 
   /**
-   * Lets time run again.
+   * Resumes time.
    * @param {number} now the current time in milliseconds
    */
   resume(now) {

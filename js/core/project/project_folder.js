@@ -32,7 +32,7 @@ export class ProjectError extends Error {
  * Checks the bytes of a project file before they are decoded as text. Returns an error message, "" for none.
  * @param {Uint8Array} bytes
  */
-function bytesError(bytes) {
+function findBytesError(bytes) {
   if (bytes.length === 0) return say.EMPTY;
   const { length } = bytes;
   if (length > MAX_PROJECT_TOML_BYTES) return say.tooLong(length, MAX_PROJECT_TOML_BYTES);
@@ -57,7 +57,7 @@ function listPaths({ board, program, tests, properties, speed }) {
  * @returns {ProjectFolder}
  */
 export function readProject(bytes, checkFile, file = PROJECT_FILE) {
-  const message = bytesError(bytes);
+  const message = findBytesError(bytes);
   if (message) throw new ProjectError(file, message);
   const { names, faults } = readProjectToml(new TextDecoder().decode(bytes));
   if (!names) throw new ProjectError(file, faults[0].words, faults[0].line);

@@ -48,7 +48,7 @@ function errorAt({ line, from, to }, message) {
  * @param {string} key
  * @param {string} path
  */
-function pathError(key, path) {
+function findPathError(key, path) {
   if (path === "") return say.emptyPath(key, KEY_TEXTS.get(key));
   // eslint-disable-next-line no-control-regex
   if (/[\u0000-\u001f\u007f]/.test(path)) return say.controlCharacter(key);
@@ -63,7 +63,7 @@ function pathError(key, path) {
  * @param {Key} key
  * @returns {Fault[]}
  */
-function keyErrors({ name, line, from, to, value }) {
+function findKeyErrors({ name, line, from, to, value }) {
   const description = KEY_TEXTS.get(name);
   if (!description) return [errorAt({ line, from, to }, say.noKey(name))];
   const { inner } = value;
@@ -72,7 +72,7 @@ function keyErrors({ name, line, from, to, value }) {
   return values.flatMap((element) => {
     if (typeof element.inner !== "string") return [errorAt(element, description)];
     if (name === "speed") return SPEEDS.some(({ id }) => id === element.inner) ? [] : [errorAt(element, description)];
-    const message = pathError(name, element.inner);
+    const message = findPathError(name, element.inner);
     return message ? [errorAt(element, message)] : [];
   });
 }
@@ -82,7 +82,7 @@ function keyErrors({ name, line, from, to, value }) {
  * @param {Key[]} keys
  * @returns {Fault[]}
  */
-function duplicateErrors(keys) {
+function findDuplicateKeys(keys) {
   /** @type {Map<string, number>} */
   const lines = new Map();
   return keys.flatMap((key) => {
@@ -98,7 +98,7 @@ function duplicateErrors(keys) {
  * @param {string} name
  * @returns {NamedFile[]}
  */
-function filesForKey(keys, name) {
+function listFilesForKey(keys, name) {
   const key = keys.find((candidate) => candidate.name === name);
   if (!key) return [];
   const values = Array.isArray(key.value.inner) ? key.value.inner : [key.value];
@@ -117,15 +117,15 @@ export function readProjectToml(text) {
   const errors = [
     ...faults.map((fault) => ({ ...fault, number: 0 })),
     ...entries.map((entry) => errorAt(entry, say.NO_TABLES)),
-    ...[...plainKeys, ...emptyLists].flatMap(keyErrors),
-    ...duplicateErrors(keys),
+    ...[...plainKeys, ...emptyLists].flatMap(findKeyErrors),
+    ...findDuplicateKeys(keys),
   ];
   if (errors.length === 0) {
     const missingKeys = REQUIRED_KEYS.filter((name) => !keys.some((key) => key.name === name));
     errors.push(...missingKeys.map((name) => errorAt({ line: 1, from: 0, to: 0 }, say.missing(name, KEY_TEXTS.get(name)))));
   }
   if (errors.length > 0) return { names: null, faults: errors.sort((one, other) => one.line - other.line) };
-  const [[board], [program], tests, properties] = ["board", "program", ...LIST_KEYS].map((name) => filesForKey(keys, name));
+  const [[board], [program], tests, properties] = ["board", "program", ...LIST_KEYS].map((name) => listFilesForKey(keys, name));
   const speed = keys.find(({ name }) => name === "speed");
   return { names: { board, program, tests, properties, speed: speed ? String(speed.value.inner) : "" }, faults: [] };
 }

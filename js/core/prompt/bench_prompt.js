@@ -137,8 +137,8 @@ export class SessionPrompt {
       this.isEnded = true;
       return true;
     }
-    if (word === "help") return this.help(argumentText);
-    if (word === "source") return this.source(argumentText);
+    if (word === "help") return this.printHelp(argumentText);
+    if (word === "source") return this.serveSourceFile(argumentText);
     if (opensText(line)) {
       const { file } = this.sources;
       this.openText = { word: /** @type {TextWord} */ (word), lines: [], commandLine: file ? file.lineNumber : 0 };
@@ -245,7 +245,7 @@ export class SessionPrompt {
    * Executes the lines of a file. Throws RejectedLine if the file cannot be executed.
    * @param {string} name
    */
-  async source(name) {
+  async serveSourceFile(name) {
     try {
       return await this.sources.serve(name);
     } catch (error) {
@@ -279,7 +279,7 @@ export class SessionPrompt {
    * Prints the description of a topic, or the list of all lines. Throws RejectedLine if the topic is unknown.
    * @param {string} topic the first word of a line, `places` for the names in `poke` lines, or an error number; "" for all lines
    */
-  help(topic) {
+  printHelp(topic) {
     const [word = ""] = topic.split(/[ \t]+/);
     const helpText = word === "" ? listAllLines() : this.describeTopic(word);
     if (helpText === "") throw new RejectedLine(noLine(word, []));

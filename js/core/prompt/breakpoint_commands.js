@@ -1,7 +1,7 @@
 // The prompt commands for breakpoints and watches.
 
 import { watchedPlaces } from "../bench/answers.js";
-import { addressText, breakpointLines } from "./state_text.js";
+import { formatAddress, formatBreakpointList } from "./state_text.js";
 import { findInstruction, rejectCommand } from "./argument_parsers.js";
 import * as say from "../../words/prompt.js";
 
@@ -86,7 +86,7 @@ export class BreakpointCommands {
     }
     await machine.saveAndReport();
     const { address: placedAddress } = this.list.get(newBreakpoint.id) || newBreakpoint;
-    calls.print(say.breakpointAt(newBreakpoint.id, addressText(session, placedAddress)));
+    calls.print(say.breakpointAt(newBreakpoint.id, formatAddress(session, placedAddress)));
     this.lastBreakpointNumber = newBreakpoint.id;
     return newBreakpoint.id;
   }
@@ -181,6 +181,6 @@ export class BreakpointCommands {
 
   /** The text of `info breakpoints`. */
   get breakpointsText() {
-    return breakpointLines(this.prompt.session, (id) => this.prompt.stops.describeActions(id));
+    return formatBreakpointList(this.prompt.session, (id) => this.prompt.stops.describeActions(id));
   }
 }

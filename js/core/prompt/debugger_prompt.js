@@ -17,7 +17,7 @@ import { ChangeCommands } from "./change_commands.js";
 import { COMMANDS, findCommand } from "./prompt_commands.js";
 import { PromptKeys } from "./prompt_keys.js";
 import { INFO_WORDS, InspectCommands } from "./inspect_commands.js";
-import { nextInstruction } from "./state_text.js";
+import { formatNextInstruction } from "./state_text.js";
 import { MoveCommands } from "./move_commands.js";
 import { SourceCommand } from "./source_command.js";
 import { StopCommands } from "./stop_commands.js";
@@ -239,7 +239,7 @@ export class Prompt {
     await this.machine.move;
     const message = this.lastStop.words.replace(say.PAGE_REMEMBERS, say.SESSION_REMEMBERS);
     if (message.startsWith(say.NOTHING_DONE)) rejectCommand(message);
-    const nextActions = await this.stops.commandsAtStop();
+    const nextActions = await this.stops.finishStop();
     this.stopActions = { ...nextActions, hasMoved: true };
     return nextActions.words ? `${message} ${nextActions.words}` : message;
   }
@@ -261,7 +261,7 @@ export class Prompt {
     this.inspectCommands.lastListedLine = 0;
     if (this.stopActions.isSilent) return;
     if (reason) this.calls.print(reason);
-    this.calls.print(nextInstruction(this.session));
+    this.calls.print(formatNextInstruction(this.session));
     this.inspectCommands.showDisplays();
   }
 

@@ -27,7 +27,7 @@ const HELP_WORDS = ["places"];
 /** @type {(words: string[], prefix: string) => string[]} returns the words that start with a prefix */
 const filterByPrefix = (words, prefix) => words.filter((word) => word.startsWith(prefix));
 /** @type {(count: number) => string[]} returns the numbers from 0 to `count` - 1 as words */
-const numberWords = (count) => indices(count).map(String);
+const listNumbers = (count) => indices(count).map(String);
 
 /**
  * A function that resolves to the candidate words for the argument at an index.
@@ -35,11 +35,11 @@ const numberWords = (count) => indices(count).map(String);
  */
 
 /** @type {(words: string[]) => ArgumentWords} proposes words only for the first argument */
-const wordsForFirstArgument = (words) => async (argumentIndex) => (argumentIndex === 0 ? words : []);
+const proposeFirstArgument = (words) => async (argumentIndex) => (argumentIndex === 0 ? words : []);
 /** @type {ArgumentWords} proposes row numbers for the first argument, and column numbers for the second */
 const completeKeys = async (argumentIndex, ask) => {
   const { rows, columns } = readBoard(await ask("board"));
-  return argumentIndex > 1 ? [] : numberWords(argumentIndex === 0 ? rows : columns);
+  return argumentIndex > 1 ? [] : listNumbers(argumentIndex === 0 ? rows : columns);
 };
 
 /**
@@ -47,10 +47,10 @@ const completeKeys = async (argumentIndex, ask) => {
  * @type {Record<string, ArgumentWords>}
  */
 const ARGUMENT_COMPLETIONS = {
-  help: wordsForFirstArgument([...ANSWER_FORMATS.keys(), ...PROMPT_WORDS, ...HELP_WORDS]),
-  poke: wordsForFirstArgument(POKE_NAMES),
+  help: proposeFirstArgument([...ANSWER_FORMATS.keys(), ...PROMPT_WORDS, ...HELP_WORDS]),
+  poke: proposeFirstArgument(POKE_NAMES),
   trace: async (argumentIndex) => (argumentIndex > 0 ? TRACE_NAMES : []),
-  test: wordsForFirstArgument(["0", "1"]),
+  test: proposeFirstArgument(["0", "1"]),
   press: completeKeys,
   release: completeKeys,
   ram: async (argumentIndex, ask) => (argumentIndex > 0 ? [] : readBoard(await ask("board")).banks.map(({ bank }) => String(bank))),

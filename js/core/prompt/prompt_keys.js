@@ -3,7 +3,7 @@
 import { readBoard } from "../bench/answers.js";
 import { matrixKey, formatKey } from "../board/key_place.js";
 import { listNamedKeys, createKey } from "../testing/test_text.js";
-import { pressedKeys } from "./state_text.js";
+import { listPressedKeys } from "./state_text.js";
 import { rejectCommand } from "./argument_parsers.js";
 import * as say from "../../words/prompt.js";
 
@@ -35,8 +35,8 @@ export class PromptKeys {
   }
 
   /** Returns the text of `info keys`. */
-  infoText() {
-    const keysDown = pressedKeys(this.session);
+  formatInfo() {
+    const keysDown = listPressedKeys(this.session);
     const { names } = this;
     if (names.length === 0) return say.NO_KEYS;
     return `${names.join(" ")}\n${keysDown.length > 0 ? say.down(keysDown.join(" ")) : say.NO_KEY_IS_DOWN}`;

@@ -27,7 +27,7 @@ export const COMMANDS_END = "end";
 const SILENT_COMMAND = "silent";
 
 /** @type {(command: string) => string} returns the line that applies a command to the breakpoint that was set last */
-const forLastBreakpoint = (command) => `${command} ${LAST_BREAKPOINT}`;
+const addLastBreakpoint = (command) => `${command} ${LAST_BREAKPOINT}`;
 
 export class StopCommands {
   /** @param {Prompt} prompt */
@@ -150,7 +150,7 @@ export class StopCommands {
    * Deletes a temporary breakpoint.
    * @returns {Promise<{ commands: string[], isSilent: boolean, words: string }>}
    */
-  async commandsAtStop() {
+  async finishStop() {
     const { lastStop: { reason, id }, session, breakpoints } = this.prompt;
     const breakpoint = reason === "breakpoint" ? this.list.get(id) || this.list.findByAddress(session.address) : undefined;
     const { isTemporary, commands } = breakpoint ? this.getActions(breakpoint.id) : NO_ACTIONS;
@@ -194,8 +194,8 @@ export class StopCommands {
     const place = line > 0 ? String(line) : `0x${hex(address, 3)}`;
     const words = [isTemporary ? "tbreak" : "break", place, ...(remainingHits > 1 ? [`from ${remainingHits}`] : [])];
     return [
-      `${words.join(" ")}${say.ifCondition(condition)}${say.logNote(note)}`, ...(isOn ? [] : [forLastBreakpoint("disable")]),
-      ...(commands.length > 0 ? [forLastBreakpoint("commands"), ...commands.map((command) => `  ${command}`), COMMANDS_END] : []),
+      `${words.join(" ")}${say.ifCondition(condition)}${say.logNote(note)}`, ...(isOn ? [] : [addLastBreakpoint("disable")]),
+      ...(commands.length > 0 ? [addLastBreakpoint("commands"), ...commands.map((command) => `  ${command}`), COMMANDS_END] : []),
     ];
   }
 }

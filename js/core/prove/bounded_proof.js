@@ -8,7 +8,7 @@ import { parseSearchTexts } from "../explore/sliced_search.js";
 import { formatNumber } from "../explore/report.js";
 import { isConfirmed } from "../testing/confirmation.js";
 import { PropertyJudge } from "./property_judge.js";
-import { MAX_SETS, boundsUpTo, questionText, readAnswer } from "./question.js";
+import { MAX_SETS, listBounds, questionText, readAnswer } from "./question.js";
 import * as say from "../../words/prove.js";
 
 /**
@@ -57,7 +57,7 @@ class ProverQueries {
     this.searchedStates = 0;
     /** @type {Answer} */
     let answer = { kind: "more" };
-    for (const bound of boundsUpTo(this.maxStates)) {
+    for (const bound of listBounds(this.maxStates)) {
       await this.calls.seen(this.searchedStates);
       answer = this.askWithin(question, { maxStates: bound });
       if (answer.kind !== "more") break;

@@ -8,7 +8,7 @@ import { listAddresses } from "../explore/properties.js";
 import { Minimiser } from "../explore/minimiser.js";
 import { Watcher } from "../explore/walk_watcher.js";
 import { initialDownInputs, areStepsAllowed, walkLines } from "../explore/walks.js";
-import { cyclesToMistake } from "./mistakes.js";
+import { countCyclesToMistake } from "./mistakes.js";
 import { listInputs, replayValues } from "./input_replay.js";
 
 /**
@@ -90,7 +90,7 @@ function splitCycles(cycles) {
  * @param {WalkStep[]} steps
  * @param {number} time the time, in cycles from the start of the walk
  */
-function stepsBefore(steps, time) {
+function listStepsBefore(steps, time) {
   let end = 0;
   return steps.filter(({ wait }) => {
     end += wait;
@@ -137,7 +137,7 @@ class Replay {
     const { subject, freeCampaign, needsFullWalk } = this;
     const { steps, time, file, remainingCycles } = replayValues(subject, freeCampaign.inputs, values);
     if (this.excludesMistake) {
-      const cycles = cyclesToMistake(subject, file, this.mistake, remainingCycles);
+      const cycles = countCyclesToMistake(subject, file, this.mistake, remainingCycles);
       return cycles < 0 ? null : { property: 0, steps, time: time + cycles };
     }
     // Add one more cycle, in which the instruction at a label starts.
@@ -145,7 +145,7 @@ class Replay {
     const violationTime = needsFullWalk ? this.findViolationTime(subject.file, [...steps.flatMap(splitLongWait), ...waits])
       : this.findViolationTime(file, waits);
     if (violationTime < 0) return null;
-    return needsFullWalk ? { property: 0, steps: stepsBefore(steps, violationTime), time: violationTime }
+    return needsFullWalk ? { property: 0, steps: listStepsBefore(steps, violationTime), time: violationTime }
       : { property: 0, steps, time: time + violationTime };
   }
 
@@ -212,7 +212,8 @@ class Replay {
     const isTest = violation.steps.every(({ kind, input }) => kind === "none" || isNamed(input));
     const text = isTest ? formatTest(subject, subject.file, freeCampaign, violation) : formatViolationLines(freeCampaign, violation);
     const steps = violation.steps.filter(({ kind }) => kind !== "none").length;
-    return { steps, cycles: violation.time, isAllowed: this.isAllowed(violation), isTest, text, linesBefore: this.linesBefore(violation) };
+    const linesBefore = this.formatLinesBefore(violation);
+    return { steps, cycles: violation.time, isAllowed: this.isAllowed(violation), isTest, text, linesBefore };
   }
 
   /**
@@ -220,14 +221,14 @@ class Replay {
    * instruction, the lines end before its second cycle.
    * @param {Violation} violation
    */
-  linesBefore(violation) {
+  formatLinesBefore(violation) {
     const { subject: { engine, file }, freeCampaign } = this;
     const lastChangeTime = violation.steps.reduce((sum, { wait }) => sum + wait, 0);
-    const linesTo = (/** @type {number} */ time) => (
+    const formatLinesTo = (/** @type {number} */ time) => (
       formatViolationLines(freeCampaign, { ...violation, time: Math.max(lastChangeTime, time) }));
-    const { answers } = engine.ask(file, `${linesTo(violation.time - 1)}regs\n`);
+    const { answers } = engine.ask(file, `${formatLinesTo(violation.time - 1)}regs\n`);
     const { owed } = readCounter(answers[answers.length - 1]);
-    return linesTo(violation.time - (owed === "1" ? 2 : 1));
+    return formatLinesTo(violation.time - (owed === "1" ? 2 : 1));
   }
 }
 

@@ -75,7 +75,7 @@ class ValueReplay {
   }
 
   /** Returns the opcode of the next instruction if the instruction reads an input and no second cycle is pending; otherwise -1. */
-  nextReadCode() {
+  findNextReadCode() {
     const { counter, owed } = readCounter(this.subject.engine.ask(this.file, "regs\n").answers[0]);
     const code = this.subject.codes[parseInt(counter, 16)];
     return owed === "1" || !this.readsInput(code) ? -1 : code;
@@ -135,7 +135,7 @@ class ValueReplay {
 
   /** Runs to the next instruction that reads an input, for at most DEFAULT_PAUSE cycles. Returns false if the program cannot continue. */
   runToRead() {
-    for (let remaining = DEFAULT_PAUSE; remaining > 0 && this.nextReadCode() < 0;) {
+    for (let remaining = DEFAULT_PAUSE; remaining > 0 && this.findNextReadCode() < 0;) {
       const { cycles, end } = this.run(Math.min(remaining, this.readAddresses.length <= MAX_ENABLED_BREAKPOINTS ? MAX_RUN_CYCLES : 1));
       remaining -= cycles;
       if (end === "code" || end === "") return false;
@@ -148,7 +148,7 @@ class ValueReplay {
    * @param {number} value the value that the program reads in the next cycle; 0 if the cycle does not read an input
    */
   setInputs(value) {
-    const code = this.nextReadCode();
+    const code = this.findNextReadCode();
     if (code === RDR) this.setKeys(value);
     else if (code >= 0) this.setTest(value);
   }

@@ -3,8 +3,8 @@
 
 import { formatSteps } from "../explore/report.js";
 import { replayCounterexample } from "./counterexample.js";
-import { allMistakes } from "./mistakes.js";
-import { createQuestion, jointQuestion, omittedGuards, mistakeQuestion, needsCounting, needsSeparateQuestion } from "./question.js";
+import { listMistakes } from "./mistakes.js";
+import { createQuestion, combineQuestions, nameOmittedGuards, mistakeQuestion, needsCounting, needsSeparateQuestion } from "./question.js";
 import * as say from "../../words/prove.js";
 
 /**
@@ -42,14 +42,14 @@ const FINAL_ANSWERS = new Set(["more", "full"]);
  * @param {boolean} bySets
  * @returns {Verdict}
  */
-const createProvedVerdict = (property, states, bySets) => ({ kind: "proved", states, bySets, leftOut: omittedGuards(property) });
+const createProvedVerdict = (property, states, bySets) => ({ kind: "proved", states, bySets, leftOut: nameOmittedGuards(property) });
 
 /**
  * Returns the reason why a property is not decided when the bench does not confirm its counterexample.
  * @param {Property} property
  */
 function explainUnconfirmed(property) {
-  if (property.guards.length > 0) return say.failsWithoutGuards(omittedGuards(property), property.isGoal);
+  if (property.guards.length > 0) return say.failsWithoutGuards(nameOmittedGuards(property), property.isGoal);
   return property.form === "only after" ? say.TRUE_BEFORE_KEYS_ARE_READ : say.NOT_CONFIRMED;
 }
 
@@ -66,7 +66,7 @@ export class PropertyJudge {
     /** @type {{ property: Property, propertyQuestion: PropertyQuestion }[]} the properties of the text, each with its question */
     this.textProperties = campaign.properties.filter(({ line }) => line > 0)
       .map((property) => ({ property, propertyQuestion: createQuestion(property, campaign, subject) }));
-    this.mistakes = allMistakes();
+    this.mistakes = listMistakes();
     /** The number of properties and common mistakes that have a verdict. */
     this.judgedCount = 0;
     /** @type {Answer | null} the answer about all combined questions; null before the prover was asked */
@@ -207,7 +207,7 @@ export class PropertyJudge {
   async askAbout(property, question) {
     if (needsSeparateQuestion(property, question)) return this.calls.ask(question);
     const { jointQuestions } = this;
-    if (!this.jointAnswer) this.jointAnswer = await this.calls.ask(jointQuestion(jointQuestions));
+    if (!this.jointAnswer) this.jointAnswer = await this.calls.ask(combineQuestions(jointQuestions));
     const { jointAnswer } = this;
     const isDecisive = jointAnswer.kind === "holds" || FINAL_ANSWERS.has(jointAnswer.kind) || jointQuestions.length === 1;
     return isDecisive ? jointAnswer : this.calls.ask(question);

@@ -77,7 +77,7 @@ const EMPTY_QUESTION = { forbidden: [], mistakes: [], stopwatch: null, presses: 
  * @param {number} maxBound
  * @param {number} [firstBound]
  */
-export function boundsUpTo(maxBound, firstBound = FIRST_BOUND) {
+export function listBounds(maxBound, firstBound = FIRST_BOUND) {
   const bounds = [];
   for (let bound = firstBound; bound < maxBound; bound *= 2) bounds.push(bound);
   return [...bounds, maxBound];
@@ -117,7 +117,7 @@ export const needsSeparateQuestion = ({ isGoal, guards }, question) => isGoal ||
  * @param {Question[]} questions
  * @returns {Question}
  */
-export function jointQuestion(questions) {
+export function combineQuestions(questions) {
   const forbidden = questions.flatMap((question) => question.forbidden);
   return { ...EMPTY_QUESTION, forbidden, mistakes: questions.flatMap(({ mistakes }) => mistakes) };
 }
@@ -135,7 +135,7 @@ const orImpossibleCondition = (lists) => (lists.length > 0 ? lists : [IMPOSSIBLE
  * @param {number} limit
  * @returns {Question}
  */
-function timeQuestion(begins, ends, limit) {
+function createTimeQuestion(begins, ends, limit) {
   if (limit > MAX_STOPWATCH_CYCLES) throw new UnsupportedQuestion(say.timeTooLong(formatNumber(MAX_STOPWATCH_CYCLES)));
   return { ...EMPTY_QUESTION, stopwatch: { begins: orImpossibleCondition(begins), ends: orImpossibleCondition(ends), within: limit } };
 }
@@ -158,7 +158,7 @@ function findMatrixKey(face, name) {
  * @param {Subject} subject
  * @returns {Question}
  */
-function pressQuestion({ condition, address, keys }, { names: { board, face }, codes }) {
+function createPressQuestion({ condition, address, keys }, { names: { board, face }, codes }) {
   if (keys.length > MAX_PRESSES) throw new UnsupportedQuestion(say.tooManyPresses(MAX_PRESSES));
   // JIN and BBL can jump from the label to itself in one cycle. The prover would not detect that the label is reached again.
   if (!condition && (isJin(codes[address]) || isReturn(codes[address]))) throw new UnsupportedQuestion(say.LABEL_REPEATS);
@@ -171,7 +171,7 @@ function pressQuestion({ condition, address, keys }, { names: { board, face }, c
  * @param {Property} property
  * @param {Board} board
  */
-function neverMetQuestion({ condition, address }, board) {
+function createNeverMetQuestion({ condition, address }, board) {
   return neverQuestion(condition ? listComparisons(condition, true, board) : [addressComparisons(address)]);
 }
 
@@ -181,19 +181,19 @@ function neverMetQuestion({ condition, address }, board) {
  * @type {Record<string, (property: Property & { condition: Condition }, board: Board, subject: Subject) => Question>}
  */
 const QUESTIONS_BY_FORM = {
-  never: neverMetQuestion,
+  never: createNeverMetQuestion,
   always: ({ condition }, board) => neverQuestion(listComparisons(condition, false, board)),
   at: ({ condition, address }, board) => (
     neverQuestion(listComparisons(condition, false, board).map((comparisons) => [...addressComparisons(address), ...comparisons]))),
-  "only after": (property, _board, subject) => pressQuestion(property, subject),
-  reach: neverMetQuestion,
+  "only after": (property, _board, subject) => createPressQuestion(property, subject),
+  reach: createNeverMetQuestion,
   "reach at": ({ address }) => neverQuestion([addressComparisons(address)]),
   "never for": ({ condition, limit }, board) => (
-    timeQuestion(listComparisons(condition, true, board, true), listComparisons(condition, false, board, true), limit)),
+    createTimeQuestion(listComparisons(condition, true, board, true), listComparisons(condition, false, board, true), limit)),
   // The program counter is 000 at power-on, so the stopwatch starts there. If address 000 is reached again, the stopwatch already runs.
   every: ({ address, limit }) => (
-    timeQuestion([addressComparisons(POWER_ON_ADDRESS), addressComparisons(address)], [addressComparisons(address)], limit)),
-  within: ({ start, address, limit }) => timeQuestion([addressComparisons(start)], [addressComparisons(address)], limit),
+    createTimeQuestion([addressComparisons(POWER_ON_ADDRESS), addressComparisons(address)], [addressComparisons(address)], limit)),
+  within: ({ start, address, limit }) => createTimeQuestion([addressComparisons(start)], [addressComparisons(address)], limit),
 };
 
 /**
@@ -219,20 +219,20 @@ export function createQuestion(property, { from }, subject) {
  * Returns the first words of the guards that the question about a property omits, as text; "" if there are none.
  * @param {Property} property
  */
-export const omittedGuards = ({ guards }) => say.guardsNamed(new Set(guards.map(({ kind }) => kind)));
+export const nameOmittedGuards = ({ guards }) => say.guardsNamed(new Set(guards.map(({ kind }) => kind)));
 
 /**
  * Returns the lines for a condition. The lines of each conjunction follow a line that contains only `word`.
  * @param {string} word
  * @param {Comparisons[]} lists
  */
-const conditionLines = (word, lists) => lists.flatMap((conjunction) => [word, ...conjunction]);
+const formatCondition = (word, lists) => lists.flatMap((conjunction) => [word, ...conjunction]);
 
 /**
  * Returns the lines that require the program to read a key up and then down.
  * @param {MatrixKey} key
  */
-const keyPressLines = (key) => ["up", "down"].map((level) => [level, formatKey(key)].join(" "));
+const formatKeyPress = (key) => ["up", "down"].map((level) => [level, formatKey(key)].join(" "));
 
 /**
  * Formats a question for the prover.
@@ -247,9 +247,9 @@ export function questionText({ board, program }, { forbidden: nevers, mistakes, 
   const texts = [`wire\n${sentText(board, "#")}.`, `asm\n${sentText(program, ";")}.`];
   const mistakeLines = mistakes.length > 0 ? ["never", ["mistake", ...mistakes].join(" ")] : [];
   const stopwatchLines = stopwatch
-    ? [`within ${stopwatch.within}`, ...conditionLines("begin", stopwatch.begins), ...conditionLines("end", stopwatch.ends)] : [];
-  const pressLines = presses ? [...conditionLines("open", presses.opens), ...presses.keys.flatMap(keyPressLines)] : [];
-  const neverLines = conditionLines("never", nevers);
+    ? [`within ${stopwatch.within}`, ...formatCondition("begin", stopwatch.begins), ...formatCondition("end", stopwatch.ends)] : [];
+  const pressLines = presses ? [...formatCondition("open", presses.opens), ...presses.keys.flatMap(formatKeyPress)] : [];
+  const neverLines = formatCondition("never", nevers);
   return `${[...limitLines, ...texts, ...neverLines, ...mistakeLines, ...stopwatchLines, ...pressLines, "prove"].join("\n")}\n`;
 }
 

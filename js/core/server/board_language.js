@@ -34,7 +34,7 @@ export class BoardLanguage {
   constructor(bench, tables, refusalMessage) {
     this.parts = PARTS.board;
     this.tables = tables;
-    this.errorFinder = new TextErrorFinder(bench.queries(), { instructions: new Map(), tables }, refusalMessage);
+    this.errorFinder = new TextErrorFinder(bench.createQueries(), { instructions: new Map(), tables }, refusalMessage);
   }
 
   /**
@@ -87,7 +87,7 @@ export class BoardLanguage {
   references({ text }, { line, character }, withDefinition) {
     const references = new BoardReferences(text);
     const value = references.valueAt(line + 1, character);
-    const part = (value && references.findPart(value)) || references.partAtLine(line + 1);
+    const part = (value && references.findPart(value)) || references.findPartAtLine(line + 1);
     if (!part) return [];
     const matchingValues = references.values.filter((candidate) => references.findPart(candidate) === part);
     return [...(withDefinition ? [part] : []), ...matchingValues].map((target) => rangeInLine(target.line, target.from, target.to));

@@ -20,7 +20,7 @@ const NUMBER_KEYS = { rom: "chip", ram: "bank" };
  * @param {Entry} entry
  * @param {string} name
  */
-function keyValue({ keys }, name) {
+function getKeyValue({ keys }, name) {
   const key = keys.find((candidate) => candidate.name === name);
   return key && key.value.inner;
 }
@@ -46,7 +46,7 @@ export class BoardReferences {
     for (const entry of entries) {
       const { table } = entry;
       const index = counts.get(table) || 0;
-      const chip = `${table} ${keyValue(entry, NUMBER_KEYS[table])}`;
+      const chip = `${table} ${getKeyValue(entry, NUMBER_KEYS[table])}`;
       this.tableIndexes.set(entry, index);
       counts.set(table, index + 1);
       if (!this.chips.has(chip)) this.chips.set(chip, entry);
@@ -81,7 +81,7 @@ export class BoardReferences {
    * Returns the table of a chip or chain that contains a line; null if there is none.
    * @param {number} line the line number from 1
    */
-  partAtLine(line) {
+  findPartAtLine(line) {
     const contains = (/** @type {Entry} */ entry) => line >= entry.line && entry.keys.some((key) => line <= key.line);
     return this.entries.filter((entry) => ["rom", "ram", "chain"].includes(entry.table) && contains(entry)).pop() || null;
   }
@@ -92,7 +92,7 @@ export class BoardReferences {
    */
   partName(entry) {
     const kind = entry.table.replace(/[[\]]/g, "");
-    const number = NUMBER_KEYS[kind] && keyValue(entry, NUMBER_KEYS[kind]);
+    const number = NUMBER_KEYS[kind] && getKeyValue(entry, NUMBER_KEYS[kind]);
     if (number !== undefined) return `${kind} ${kind === "ram" ? "bank " : ""}${number}`;
     if (entry.table === "[keys]") return "keys";
     return `${kind} ${this.tableIndexes.get(entry)}`;

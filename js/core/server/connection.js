@@ -84,7 +84,7 @@ export class Connection extends MessageStream {
    * Returns the error for a request that is not allowed in the current state; null if it is allowed.
    * @param {string} method
    */
-  lifecycleError(method) {
+  findLifecycleError(method) {
     if (this.state === "shut") return new ProtocolError(INVALID_REQUEST, say.EXIT_AFTER_SHUTDOWN);
     if (this.state === "new" && method !== "initialize") return new ProtocolError(NOT_INITIALIZED, say.INITIALIZE_FIRST);
     if (this.state === "open" && method === "initialize") return new ProtocolError(INVALID_REQUEST, say.INITIALIZE_ONCE);
@@ -97,7 +97,7 @@ export class Connection extends MessageStream {
    * @param {any} params
    */
   async serveRequest(id, method, params) {
-    const stateError = this.lifecycleError(method);
+    const stateError = this.findLifecycleError(method);
     const handler = Object.prototype.hasOwnProperty.call(this.handlers.requests, method) && this.handlers.requests[method];
     if (stateError || !handler || this.pendingRequests.has(id)) {
       const notServed = handler ? new ProtocolError(INVALID_REQUEST, say.idWaits(id))

@@ -88,7 +88,7 @@ export class DependentLanguage {
    * @param {DependencyTexts} dependencies
    * @returns {ShownFault | null}
    */
-  dependencyError({ board, program }) {
+  findDependencyError({ board, program }) {
     const missingFile = [board, program].find(({ text }) => text === null);
     const errorAtStart = (/** @type {string} */ message) => ({ number: 0, line: 1, from: 0, to: 0, words: message });
     if (missingFile) return errorAtStart(say.dependencyMissing(decodeFileName(missingFile.uri)));
@@ -103,7 +103,7 @@ export class DependentLanguage {
    * @param {OpenText} openText
    * @returns {TestNames}
    */
-  names({ uri }) {
+  findNames({ uri }) {
     const { board, program } = this.findDependencies(uri);
     const face = new Face(board.text || "");
     const keys = [...face.keys.values()].map(({ text }) => text).filter((name) => name !== "");

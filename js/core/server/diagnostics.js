@@ -78,7 +78,7 @@ function touchesRange({ line, from, to }, { start, end }) {
  * @param {Fault[]} faults
  * @param {Range} range
  */
-export function quickFixes(uri, faults, range) {
+export function createQuickFixes(uri, faults, range) {
   return faults.filter((fault) => touchesRange(fault, range)).flatMap((fault) => {
     const texts = fault.quickFixTexts || [];
     return texts.map((newText) => ({

@@ -23,7 +23,7 @@ export class StreamError extends Error {}
  * Returns the length of the body in bytes; throws StreamError if the header does not contain exactly one length.
  * @param {string} header
  */
-function contentLength(header) {
+function parseContentLength(header) {
   const sizes = header.split("\r\n").map((line) => CONTENT_LENGTH.exec(line)).filter((match) => match !== null);
   if (sizes.length !== 1) throw new StreamError(say.HEAD_SYNTAX);
   const size = Number(/** @type {RegExpExecArray} */ (sizes[0])[1]);
@@ -75,7 +75,7 @@ export class MessageReader {
     for (let at = start; at < bytes.length; at++) {
       this.header += String.fromCharCode(bytes[at]);
       if (this.header.endsWith("\r\n\r\n")) {
-        this.size = contentLength(this.header);
+        this.size = parseContentLength(this.header);
         this.missingBytes = this.size;
         this.body = this.size <= MAX_MESSAGE ? new Uint8Array(this.size) : null;
         this.header = "";

@@ -8,7 +8,8 @@ import { readClient } from "./capabilities.js";
 import { toDiagnostics, lengthError } from "./diagnostics.js";
 import { getField } from "./framing.js";
 import {
-  NON_BOARD_FILES, findBoard, findDependencies, isBoard, isProgram, isProjectFile, isPropertyFile, isTestFile, findProject, projectInFolder,
+  NON_BOARD_FILES, findBoard, findDependencies, findProject, findProjectInFolder, isBoard, isProgram, isProjectFile, isPropertyFile,
+  isTestFile,
 } from "./text_kinds.js";
 import { OpenText } from "./open_text.js";
 import { ProgramLanguage } from "./program_language.js";
@@ -63,14 +64,14 @@ export class LanguageServer {
     this.runs = new TestRuns(engine, refusalMessage, dependencies, host.pause);
     /** @type {Client} the client; it has no capabilities before `initialize` */
     this.client = readClient({});
-    connection.handlers = { requests: new Requests(this).allHandlers(), notifications: this.notifications() };
+    connection.handlers = { requests: new Requests(this).createHandlers(), notifications: this.createNotificationHandlers() };
   }
 
   /**
    * Returns the handlers of notifications, by method name.
    * @returns {Record<string, RequestHandler>}
    */
-  notifications() {
+  createNotificationHandlers() {
     return {
       "textDocument/didOpen": (params) => this.didOpen(getField(params, "textDocument")),
       "textDocument/didChange": (params) => this.didChange(params),
@@ -86,7 +87,7 @@ export class LanguageServer {
    * @param {any} params
    * @returns {CheckedText}
    */
-  requestedText(params) {
+  getRequestedText(params) {
     const uri = needText(getField(getField(params, "textDocument"), "uri"), "textDocument.uri");
     const text = this.texts.get(uri);
     if (!text) throw new ProtocolError(INVALID_PARAMS, say.notOpen(uri));
@@ -132,11 +133,11 @@ export class LanguageServer {
    * Returns the open texts, the texts of their projects, and the texts of projects in the client's open folders.
    * @returns {OpenText[]}
    */
-  allTexts() {
+  listTexts() {
     const readText = (/** @type {string} */ uri, /** @type {string} */ folder) => this.readText(uri, folder);
     const textsByUri = new Map([...this.texts].map(([uri, { open }]) => [uri, open]));
     const projects = [
-      ...this.client.folders.map((uri) => projectInFolder(`${uri.replace(/\/$/, "")}/`, readText)),
+      ...this.client.folders.map((uri) => findProjectInFolder(`${uri.replace(/\/$/, "")}/`, readText)),
       ...[...this.texts.keys()].map((uri) => findProject(uri, readText)),
     ];
     for (const project of projects) {
@@ -161,7 +162,7 @@ export class LanguageServer {
 
   /** @param {any} params */
   didChange(params) {
-    const text = this.requestedText(params);
+    const text = this.getRequestedText(params);
     const changes = getField(params, "contentChanges");
     if (!Array.isArray(changes)) throw new ProtocolError(INVALID_PARAMS, say.CONTENT_CHANGES_SYNTAX);
     // All changes are validated before the first change is applied.
@@ -176,7 +177,7 @@ export class LanguageServer {
 
   /** @param {any} params */
   didClose(params) {
-    const { open: openText } = this.requestedText(params);
+    const { open: openText } = this.getRequestedText(params);
     this.texts.delete(openText.uri);
     if (!this.client.pullsDiagnostics) this.connection.notify("textDocument/publishDiagnostics", { uri: openText.uri, diagnostics: [] });
     this.checkDependents((uri) => this.affectsErrorsIn(openText.uri, uri));
@@ -303,7 +304,7 @@ export class LanguageServer {
    * @param {import("./connection.js").PendingRequest} pending
    */
   async runTest(uri, name, pending) {
-    const text = this.requestedText({ textDocument: { uri } });
+    const text = this.getRequestedText({ textDocument: { uri } });
     const { edits } = text.open;
     const { message, hasPassed, failure } = await this.runs.run(text.open, name, pending);
     this.connection.show(message, !hasPassed);

@@ -28,7 +28,7 @@ const VALUE_COMPLETION = 12;
  * @param {CompletionContext} context
  * @returns {CompletedWord[]}
  */
-function matchingConditions(textBefore, { instructions, conditions }) {
+function findConditions(textBefore, { instructions, conditions }) {
   const { head } = splitStatement(textBefore);
   const instruction = head && head.to < textBefore.length && instructions.get(head.text.toUpperCase());
   if (!instruction || parseOperandKinds(instruction.form)[0] !== "c" || textBefore.slice(head.to).includes(",")) return [];
@@ -54,13 +54,13 @@ function isInOperands(textBefore) {
  * @param {string} trigger the typed character that triggered the request, "" for none
  * @param {CompletionContext} context
  */
-export function programCompletion(lines, { line, character }, trigger, context) {
+export function createProgramCompletion(lines, { line, character }, trigger, context) {
   const textBefore = lines[line].slice(0, character);
   if (trigger !== "" && !isInOperands(textBefore)) return { from: character, to: character, list: [] };
   const completion = completeProgram(lines, line, character, context.instructions);
   const names = findDefinedNames(lines);
   /** @type {(text: string) => CompletedWord} */
-  const completedWord = (text) => {
+  const createCompletedWord = (text) => {
     const instruction = context.instructions.get(text);
     if (instruction) return { text, what: "", kind: KEYWORD_COMPLETION, documentation: describeInstruction(instruction) };
     if (DIRECTIVES.includes(text)) return { text, what: "", kind: KEYWORD_COMPLETION, documentation: describeDirective(text) };
@@ -68,6 +68,6 @@ export function programCompletion(lines, { line, character }, trigger, context) 
     const isLabel = !splitStatement(lines[(names.get(text) || 1) - 1]).defines;
     return { text, what: context.meaningOf(text), kind: isLabel ? FUNCTION_COMPLETION : CONSTANT_COMPLETION };
   };
-  const completions = completion.list.map((item) => ({ ...completedWord(item.text), ...(item.what ? { what: item.what } : {}) }));
-  return { ...completion, list: [...matchingConditions(textBefore, context), ...completions] };
+  const completions = completion.list.map((item) => ({ ...createCompletedWord(item.text), ...(item.what ? { what: item.what } : {}) }));
+  return { ...completion, list: [...findConditions(textBefore, context), ...completions] };
 }

@@ -61,7 +61,7 @@ function describeCondition(text, word, { instructions, conditions, valueOf }) {
  * Returns a Markdown table with the manual's description of an instruction.
  * @param {Instruction} instruction
  */
-function instructionTable(instruction) {
+function formatInstructionTable(instruction) {
   const { form, code, byteCount, cycles } = instruction;
   const effect = escapeMarkdown(describeEffect(instruction));
   return formatTable(say.HEAD_OF_INSTRUCTIONS, [[formatCode(form), formatCode(code), byteCount, cycles, effect]]);
@@ -74,7 +74,7 @@ function instructionTable(instruction) {
  * @param {HoverContext} context
  * @returns {Hover | null}
  */
-export function programHover(lines, { line, character }, context) {
+export function createProgramHover(lines, { line, character }, context) {
   const text = lines[line];
   if (character > splitStatement(text).comment) return null;
   const helpText = helpForProgram(lines, line, character, context.instructions, context.meaningOf);
@@ -84,7 +84,7 @@ export function programHover(lines, { line, character }, context) {
   const instruction = word && context.instructions.get(word.text.toUpperCase());
   const comment = word && !instruction ? findNameComment(lines, word.text) : [];
   const markdown = [
-    instruction ? instructionTable(instruction) : escapeMarkdown(helpText), escapeMarkdown(condition),
+    instruction ? formatInstructionTable(instruction) : escapeMarkdown(helpText), escapeMarkdown(condition),
     comment.length > 0 ? formatBlock(comment) : "", escapeMarkdown(lineText),
   ].filter((paragraph) => paragraph !== "").join("\n\n");
   const range = word && (helpText !== "" || condition !== "") ? { range: rangeInLine(line + 1, word.from, word.to) } : {};

@@ -11,8 +11,8 @@ import { findDefinition, findRenamingError, nameAt, findReferences } from "../te
 import { sentText } from "../text/sendable_text.js";
 import { createHints } from "./inlay_hints.js";
 import { ProgramCalls } from "./program_calls.js";
-import { programCompletion } from "./program_completion.js";
-import { programHover } from "./program_hover.js";
+import { createProgramCompletion } from "./program_completion.js";
+import { createProgramHover } from "./program_hover.js";
 import { REQUEST_FAILED, ProtocolError, rangeInLine } from "./lsp_protocol.js";
 import { signatureAt } from "./signature_help.js";
 import * as say from "../../words/server.js";
@@ -40,7 +40,7 @@ const TOKEN_TYPES = { comment: "comment", instruction: "keyword", directive: "ma
  * @param {string[]} lines
  * @returns {Map<string, Range[]>}
  */
-function operandRanges(lines) {
+function findOperandRanges(lines) {
   /** @type {Map<string, Range[]>} */
   const rangesByName = new Map();
   lines.forEach((text, line) => {
@@ -91,8 +91,8 @@ export class ProgramLanguage {
     };
     const errorFinder = new TextErrorFinder({
       findBoardError: async () => null,
-      findLineErrors: (sentProgram) => queryBench(() => this.bench.errors(sentProgram)),
-      findRefusal: (sentProgram) => queryBench(() => this.bench.programRefusal(sentProgram)),
+      findLineErrors: (sentProgram) => queryBench(() => this.bench.findLineErrors(sentProgram)),
+      findRefusal: (sentProgram) => queryBench(() => this.bench.findProgramRefusal(sentProgram)),
       readMap: (sentProgram) => queryBench(() => this.bench.read(sentProgram).map),
       readRomNumbers: () => queryBench(() => this.bench.boardSession.roms),
     }, { instructions: this.instructions, tables: new Map() }, this.refusalMessage);
@@ -106,7 +106,7 @@ export class ProgramLanguage {
   assembleProgram({ text }) {
     if (this.lastAssembled && this.lastAssembled.text === text) return this.lastAssembled.program;
     const sentProgram = sentText(text, ";");
-    const answers = this.bench.map(sentProgram);
+    const answers = this.bench.readMap(sentProgram);
     const program = answers ? { map: new SourceMap(answers, sentProgram), bytes: () => this.bench.read(sentProgram).bytes } : null;
     this.lastAssembled = { text, program };
     return program;
@@ -119,7 +119,7 @@ export class ProgramLanguage {
   hover(openText, position) {
     const { lines } = openText;
     const program = this.assembleProgram(openText);
-    return programHover(lines, position, {
+    return createProgramHover(lines, position, {
       instructions: this.instructions,
       conditions: this.conditions,
       meaningOf: (name) => (program ? program.map.meaningOf(name) : ""),
@@ -197,7 +197,7 @@ export class ProgramLanguage {
    */
   completion(openText, position, trigger) {
     const program = this.assembleProgram(openText);
-    return programCompletion(openText.lines, position, trigger, {
+    return createProgramCompletion(openText.lines, position, trigger, {
       instructions: this.instructions, conditions: this.conditions, meaningOf: (name) => (program ? program.map.meaningOf(name) : ""),
     });
   }
@@ -289,7 +289,7 @@ export class ProgramLanguage {
    * Returns the call hierarchy of a program.
    * @param {OpenText} openText
    */
-  calls(openText) {
+  createCallHierarchy(openText) {
     const program = this.assembleProgram(openText);
     return new ProgramCalls(openText.lines, program && program.map);
   }
@@ -299,7 +299,7 @@ export class ProgramLanguage {
    * @param {Position} position
    */
   routine(openText, { line, character }) {
-    return this.calls(openText).routine(nameAt(openText.lines, line, character), line);
+    return this.createCallHierarchy(openText).routine(nameAt(openText.lines, line, character), line);
   }
 
   /**
@@ -307,7 +307,7 @@ export class ProgramLanguage {
    * @param {Position} position
    */
   callers(openText, { line, character }) {
-    return this.calls(openText).callers(nameAt(openText.lines, line, character), line);
+    return this.createCallHierarchy(openText).callers(nameAt(openText.lines, line, character), line);
   }
 
   /**
@@ -315,7 +315,7 @@ export class ProgramLanguage {
    * @param {Position} position
    */
   callees(openText, { line, character }) {
-    return this.calls(openText).callees(nameAt(openText.lines, line, character), line);
+    return this.createCallHierarchy(openText).callees(nameAt(openText.lines, line, character), line);
   }
 
   /**
@@ -323,7 +323,7 @@ export class ProgramLanguage {
    * @param {OpenText} openText
    */
   lenses(openText) {
-    const rangesByName = operandRanges(openText.lines);
-    return this.calls(openText).lenses((name) => rangesByName.get(name) || []);
+    const rangesByName = findOperandRanges(openText.lines);
+    return this.createCallHierarchy(openText).lenses((name) => rangesByName.get(name) || []);
   }
 }

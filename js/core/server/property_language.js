@@ -43,7 +43,7 @@ export class PropertyLanguage extends DependentLanguage {
    */
   async findErrors({ uri, lines, text }) {
     const dependencies = this.findDependencies(uri);
-    const dependencyError = this.dependencyError(dependencies);
+    const dependencyError = this.findDependencyError(dependencies);
     if (dependencyError) return { faults: [dependencyError], isComplete: true };
     if (text.trim() === "") return { faults: [], isComplete: true };
     const { faults } = readCampaign(text, this.subject(dependencies.board.text || "", dependencies.program.text || ""));
@@ -78,7 +78,7 @@ export class PropertyLanguage extends DependentLanguage {
    */
   completion(openText, { line, character }, trigger) {
     if (trigger !== "" && openText.lines[line].slice(0, character).trim() === "") return { from: character, to: character, list: [] };
-    return this.addKinds(completeProperty(openText.lines, line, character, this.names(openText), this.forms));
+    return this.addKinds(completeProperty(openText.lines, line, character, this.findNames(openText), this.forms));
   }
 
   /**

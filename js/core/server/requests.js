@@ -1,15 +1,15 @@
 // Defines the handlers of all requests. A handler checks the parameters, calls the object that handles the kind of text (its `Language`,
 // language.js), and converts the result to the protocol's format.
 
-import { capabilitiesFor, readClient, RUN_TEST } from "./capabilities.js";
+import { listCapabilities, readClient, RUN_TEST } from "./capabilities.js";
 import { toCodeLens } from "./code_lens.js";
-import { quickFixes } from "./diagnostics.js";
+import { createQuickFixes } from "./diagnostics.js";
 import { findFolds } from "./folding_ranges.js";
 import { getField } from "./framing.js";
 import { INVALID_PARAMS, ProtocolError, needPosition, needRange, needText } from "./lsp_protocol.js";
 import { selectionRangeAt } from "./selection_ranges.js";
 import { TokenMemory } from "./token_memory.js";
-import { workspaceSymbols } from "./workspace_symbols.js";
+import { findWorkspaceSymbols } from "./workspace_symbols.js";
 import * as say from "../../words/server.js";
 
 /**
@@ -59,18 +59,18 @@ export class Requests {
    * Returns the handlers by method name.
    * @returns {Record<string, RequestHandler>}
    */
-  allHandlers() {
-    return { ...this.serverRequests(), ...this.positionRequests(), ...this.textRequests(), ...this.callRequests() };
+  createHandlers() {
+    return { ...this.createServerHandlers(), ...this.createPositionHandlers(), ...this.createTextHandlers(), ...this.createCallHandlers() };
   }
 
   // --- requests to the server
 
   /** @returns {Record<string, RequestHandler>} */
-  serverRequests() {
+  createServerHandlers() {
     return {
       "initialize": (params) => this.initialize(params),
       "shutdown": () => null,
-      "workspace/symbol": (params) => workspaceSymbols(this.server, needText(getField(params, "query"), "query")),
+      "workspace/symbol": (params) => findWorkspaceSymbols(this.server, needText(getField(params, "query"), "query")),
       "workspace/executeCommand": (params, pending) => this.execute(params, pending),
     };
   }
@@ -78,7 +78,7 @@ export class Requests {
   /** @param {any} params */
   initialize(params) {
     this.server.client = readClient(params);
-    return { capabilities: capabilitiesFor(this.server.client), serverInfo: { name: "mcs4 lsp" } };
+    return { capabilities: listCapabilities(this.server.client), serverInfo: { name: "mcs4 lsp" } };
   }
 
   /**
@@ -102,13 +102,13 @@ export class Requests {
    * @returns {Result | null} null for a text in an unknown language
    */
   callWithLanguage(params, callback) {
-    const { open: openText } = this.server.requestedText(params);
+    const { open: openText } = this.server.getRequestedText(params);
     const language = this.server.findLanguage(openText);
     return language && callback(language, openText);
   }
 
   /** @returns {Record<string, RequestHandler>} */
-  textRequests() {
+  createTextHandlers() {
     return {
       "textDocument/documentSymbol": (params) => this.callWithLanguage(params, (language, openText) => (
         language.symbols ? language.symbols(openText) : [])),
@@ -122,11 +122,12 @@ export class Requests {
       "textDocument/foldingRange": (params) => this.callWithLanguage(params, (language, openText) => (
         findFolds(openText.lines, language.parts))),
       "textDocument/inlayHint": (params) => this.hints(params),
-      "textDocument/semanticTokens/full": (params) => this.colours(params, (openText, words) => this.tokens.allTokens(openText, words)),
+      "textDocument/semanticTokens/full": (params) => this.colours(params, (openText, words) => (
+        this.tokens.encodeAllTokens(openText, words))),
       "textDocument/semanticTokens/full/delta": (params) => this.colours(params, (openText, words) => (
-        this.tokens.changedTokens(openText, words, getField(params, "previousResultId")))),
+        this.tokens.encodeChangedTokens(openText, words, getField(params, "previousResultId")))),
       "textDocument/semanticTokens/range": (params) => this.colours(params, (openText, words) => (
-        this.tokens.tokensInRange(words, needRange(getField(params, "range"))))),
+        this.tokens.encodeTokensInRange(words, needRange(getField(params, "range"))))),
       "textDocument/diagnostic": (params) => this.diagnostic(params),
     };
   }
@@ -158,15 +159,15 @@ export class Requests {
 
   /** @param {any} params */
   async codeAction(params) {
-    const text = this.server.requestedText(params);
+    const text = this.server.getRequestedText(params);
     const range = needRange(getField(params, "range"));
     await this.server.waitForCheck(text);
-    return quickFixes(text.open.uri, text.faults, range);
+    return createQuickFixes(text.open.uri, text.faults, range);
   }
 
   /** @param {any} params */
   async diagnostic(params) {
-    const text = this.server.requestedText(params);
+    const text = this.server.getRequestedText(params);
     await this.server.waitForCheck(text);
     const resultId = JSON.stringify(text.diagnostics);
     if (getField(params, "previousResultId") === resultId) return { kind: "unchanged", resultId };
@@ -187,7 +188,7 @@ export class Requests {
   }
 
   /** @returns {Record<string, RequestHandler>} */
-  positionRequests() {
+  createPositionHandlers() {
     return {
       "textDocument/hover": (params) => this.hover(params),
       "textDocument/definition": (params) => this.callAtPosition(params, (language, openText, position) => {
@@ -257,7 +258,7 @@ export class Requests {
   // --- requests about routines
 
   /** @returns {Record<string, RequestHandler>} */
-  callRequests() {
+  createCallHandlers() {
     return {
       "textDocument/prepareCallHierarchy": (params) => this.callAtPosition(params, (language, openText, position) => {
         const routine = language.routine ? language.routine(openText, position) : null;

@@ -32,7 +32,7 @@ function createSignature(label, documentation, operands) {
  * @param {string} description the description of the directive, which starts with its form and a colon
  * @param {string} kind the kind of operand, as the letter that instruction forms use
  */
-function directiveSignature(description, kind) {
+function createDirectiveSignature(description, kind) {
   const form = description.split(":")[0];
   return createSignature(form, description, [{ operand: form.slice(form.indexOf(" ") + 1), description: describeOperand(kind) }]);
 }
@@ -42,8 +42,8 @@ function directiveSignature(description, kind) {
  * @param {string} head the upper-case mnemonic or directive
  * @param {Map<string, Instruction>} instructions
  */
-function statementSignature(head, instructions) {
-  if (describeDirective(head)) return directiveSignature(describeDirective(head), head === "ORG" ? "t" : "b");
+function createStatementSignature(head, instructions) {
+  if (describeDirective(head)) return createDirectiveSignature(describeDirective(head), head === "ORG" ? "t" : "b");
   const instruction = instructions.get(head);
   const kinds = instruction ? parseOperandKinds(instruction.form) : [];
   if (!instruction || kinds.length === 0) return null;
@@ -62,7 +62,7 @@ export function signatureAt(line, column, instructions) {
   const textBefore = line.slice(0, column);
   const { head, comment } = splitStatement(textBefore);
   if (!head || head.to === column || comment < textBefore.length) return null;
-  const signature = statementSignature(head.text.toUpperCase(), instructions);
+  const signature = createStatementSignature(head.text.toUpperCase(), instructions);
   if (!signature) return null;
   const commas = textBefore.slice(head.to).split(",").length - 1;
   const isList = head.text.toUpperCase() === "DB";

@@ -57,7 +57,7 @@ export class TestLanguage extends DependentLanguage {
    */
   async findErrors({ uri, lines, text }) {
     const dependencies = this.findDependencies(uri);
-    const dependencyError = this.dependencyError(dependencies);
+    const dependencyError = this.findDependencyError(dependencies);
     if (dependencyError) return { faults: [dependencyError], isComplete: true };
     const { prepared } = this.prepareTexts({ boardText: dependencies.board.text || "", programText: dependencies.program.text || "" });
     if (!prepared || text.trim() === "") return { faults: [], isComplete: true };
@@ -82,7 +82,7 @@ export class TestLanguage extends DependentLanguage {
    */
   completion(openText, { line, character }, trigger) {
     if (trigger !== "" && openText.lines[line].slice(0, character).trim() === "") return { from: character, to: character, list: [] };
-    return this.addKinds(completeTest(openText.lines, line, character, this.names(openText), this.forms));
+    return this.addKinds(completeTest(openText.lines, line, character, this.findNames(openText), this.forms));
   }
 
   /**

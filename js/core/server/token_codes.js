@@ -51,7 +51,7 @@ export function encodeTokens(words) {
  * @param {number[]} newTokens
  * @returns {{ start: number, deleteCount: number, data: number[] }[]}
  */
-export function tokenEdits(oldTokens, newTokens) {
+export function computeTokenEdits(oldTokens, newTokens) {
   const minLength = Math.min(oldTokens.length, newTokens.length);
   let [start, suffix] = [0, 0];
   while (start < minLength && oldTokens[start] === newTokens[start]) start += 1;

@@ -61,7 +61,7 @@ export function tooLongMessage({ boardText, programText, testText = "", properti
  * @param {Word} word
  * @param {string} text
  */
-function textLines(word, text) {
+function formatTextLines(word, text) {
   const lines = text.split("\n");
   if (lines[lines.length - 1] === "") lines.pop();
   return [word, ...lines.map((line) => (/^\.+$/.test(line) ? `.${line}` : line)), DOT];
@@ -72,7 +72,7 @@ function textLines(word, text) {
  * @param {Word} word
  * @param {string} text
  */
-function unendedLine(word, text) {
+function listUnendedLine(word, text) {
   return text === "" || text.endsWith("\n") ? [] : [`unended ${word}`];
 }
 
@@ -80,7 +80,7 @@ function unendedLine(word, text) {
  * Returns the lines of a project file that contain a session file.
  * @param {Uint8Array} file
  */
-function sessionLines(file) {
+function formatSessionLines(file) {
   const lines = [];
   for (let at = 0; at < file.length; at += BYTES_PER_LINE) {
     const bytes = file.subarray(at, at + BYTES_PER_LINE);
@@ -114,11 +114,11 @@ function toOneLine(text) {
  */
 export function projectLines({ name, boardText, programText, testText = "", propertiesText = "", breakpoints = [], watched = [] }) {
   const [board, program, tests, properties] = [boardText, programText, testText, propertiesText].map(removeCarriageReturns);
-  const head = [`name ${toOneLine(name)}`, ...unendedLine("wire", board), ...unendedLine("asm", program), ...unendedLine("test", tests),
-    ...unendedLine("properties", properties), ...formatBreakpoints(breakpoints),
+  const head = [`name ${toOneLine(name)}`, ...listUnendedLine("wire", board), ...listUnendedLine("asm", program),
+    ...listUnendedLine("test", tests), ...listUnendedLine("properties", properties), ...formatBreakpoints(breakpoints),
     ...watched.map((text) => ["value", toOneLine(text)].join(" "))];
-  return [...head, ...textLines("wire", board), ...textLines("asm", program), ...(tests === "" ? [] : textLines("test", tests)),
-    ...(properties === "" ? [] : textLines("properties", properties))];
+  return [...head, ...formatTextLines("wire", board), ...formatTextLines("asm", program),
+    ...(tests === "" ? [] : formatTextLines("test", tests)), ...(properties === "" ? [] : formatTextLines("properties", properties))];
 }
 
 /**
@@ -126,7 +126,7 @@ export function projectLines({ name, boardText, programText, testText = "", prop
  * @param {Project} project
  */
 export function projectText(project) {
-  const body = `${[say.ABOUT_PROJECT, ...projectLines(project), ...sessionLines(project.file), LAST_LINE].join("\n")}\n`;
+  const body = `${[say.ABOUT_PROJECT, ...projectLines(project), ...formatSessionLines(project.file), LAST_LINE].join("\n")}\n`;
   return `${FIRST_LINE}\ncksum ${checksum(new TextEncoder().encode(body))}\n${body}`;
 }
 

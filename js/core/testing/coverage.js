@@ -31,7 +31,7 @@ import * as say from "../../words/testing.js";
  * @param {SourceMap} map
  * @returns {LineCoverage[]}
  */
-function coveredLines({ codes, startCounts, jumpCounts }, map) {
+function listCoveredLines({ codes, startCounts, jumpCounts }, map) {
   /** @type {LineCoverage[]} */
   const lines = [];
   for (let line = 1; line <= map.count; line++) {
@@ -65,7 +65,7 @@ function findSubroutines({ codes, startCounts }, map, lines) {
  * @returns {Coverage}
  */
 export function computeCoverage(recorder, map) {
-  const lines = coveredLines(recorder, map);
+  const lines = listCoveredLines(recorder, map);
   const jumps = lines.filter(({ isJump }) => isJump);
   /** @type {LineRange[]} */
   const unexecutedRanges = [];
@@ -91,7 +91,7 @@ export function computeCoverage(recorder, map) {
  */
 export function formatCoverageSummary({ instructions, instructionsRun, directions, directionsRun }) {
   /** @type {(part: number, total: number) => string} */
-  const percent = (part, total) => (total > 0 ? ` (${formatTenths((100 * part) / total)} %)` : "");
+  const formatPercent = (part, total) => (total > 0 ? ` (${formatTenths((100 * part) / total)} %)` : "");
   const counts = [instructionsRun, instructions, directionsRun, directions];
-  return say.coverageSummary(counts, percent(instructionsRun, instructions), percent(directionsRun, directions));
+  return say.coverageSummary(counts, formatPercent(instructionsRun, instructions), formatPercent(directionsRun, directions));
 }

@@ -19,7 +19,7 @@
  * Returns the first label at each address, in ascending address order.
  * @param {SourceMap} map
  */
-function sortedLabels(map) {
+function sortLabels(map) {
   return [...map.labels].map(([address, [label]]) => ({ address, label })).sort((one, other) => one.address - other.address);
 }
 
@@ -30,7 +30,7 @@ function sortedLabels(map) {
  * @returns {Profile}
  */
 export function computeProfile({ cycleCounts, calls, keys, total, earlierInstructionCycles }, map) {
-  const labels = [{ address: -1, label: "" }, ...sortedLabels(map)];
+  const labels = [{ address: -1, label: "" }, ...sortLabels(map)];
   const rows = labels.map((label) => ({ ...label, ownCycles: 0, calls: calls.get(label.address) || null }));
   let at = 0;
   cycleCounts.forEach((cycles, address) => {

@@ -172,10 +172,10 @@ export class TestRun {
     if (action.kind === "expect") return session.check(action.condition).message;
     if ("keys" in action) return this.operateKeys(session, action.keys, action.kind);
     if (action.kind === "set") {
-      for (const command of action.commands) session.command(command);
+      for (const command of action.commands) session.executeCommand(command);
       if (action.changesRom) session.readCodes();
     }
-    if (action.kind === "reset") session.command("reset");
+    if (action.kind === "reset") session.executeCommand("reset");
     if (action.kind === "mark") session.markedCycles = session.elapsed;
     if (action.kind === "pace") [this.keyDownCycles, this.keyUpCycles] = [action.down, action.up];
     if (action.kind === "save") this.save(session, action.state);
@@ -207,14 +207,14 @@ export class TestRun {
    * @param {TestSession} session
    */
   describeStop({ counter }) {
-    return say.beforeInvalidOpcode(this.addressText(counter));
+    return say.beforeInvalidOpcode(this.formatAddress(counter));
   }
 
   /**
    * Returns an address together with its label.
    * @param {number} address
    */
-  addressText(address) {
+  formatAddress(address) {
     const name = this.prepared.names.map.nameOf(address);
     return `${hex(address, 3)}${name && ` (${name})`}`;
   }
@@ -248,12 +248,12 @@ export class TestRun {
       if (!key) return message;
       const { name, press, release } = key;
       if (kind !== "release") {
-        session.command(press);
+        session.executeCommand(press);
         this.recorder.recordPress(name, session.elapsed);
       }
       const downMessage = kind === "keys" ? await this.runCycles(session, this.keyDownCycles) : "";
       if (downMessage !== "") return downMessage;
-      if (kind !== "press") session.command(release);
+      if (kind !== "press") session.executeCommand(release);
       const upMessage = kind === "keys" ? await this.runCycles(session, this.keyUpCycles) : "";
       if (upMessage !== "") return upMessage;
     }
@@ -312,7 +312,7 @@ export class TestRun {
     for (; session.elapsed < end && stop === "end"; piece = piece < 10000 ? piece * 10 : MAX_RUN_CYCLES) {
       const maxCycles = end - session.elapsed;
       piece = Math.min(piece, maxCycles);
-      const cycles = condition.places.length > 0 ? this.cyclesToChange(session, condition, extraValues, piece, maxCycles) : 0;
+      const cycles = condition.places.length > 0 ? this.countCyclesToChange(session, condition, extraValues, piece, maxCycles) : 0;
       stop = await session.run(cycles || piece);
       if (cycles > 0 || (piece === 1 && session.check(condition).holds)) break;
     }
@@ -343,7 +343,7 @@ export class TestRun {
    * @param {number} piece
    * @param {number} maxResult the largest possible result
    */
-  cyclesToChange(session, condition, extraValues, piece, maxResult) {
+  countCyclesToChange(session, condition, extraValues, piece, maxResult) {
     const { lines } = new ForecastAnswers(session.ask(`trace ${piece} ${condition.places.join(" ")}\n`)).takeTrace();
     for (const line of lines) {
       const { cycles, address, row } = parseTraceLine(line);

@@ -83,7 +83,7 @@ export class TestSession {
    * Executes a command other than `run`. Throws if the bench rejects the command.
    * @param {string} line
    */
-  command(line) {
+  executeCommand(line) {
     if (line === "reset" && this.owed === "1") this.subtractLastCycle();
     const [answer, regs] = this.engine.serve(this.file, `${line}\nregs\n`, this.file).answers;
     if (!answer.startsWith("ok ")) throw new Error(`the bench answered ${answer} to: ${line}`);

@@ -74,7 +74,7 @@ function fail(message, column = -1) {
  * Returns the address in a place such as `rom.0x12`; NaN for a place that is not in ROM.
  * @param {string} place
  */
-const romAddress = (place) => (place.startsWith("rom.") ? parseNumber(place.slice("rom.".length)) : NaN);
+const parseRomAddress = (place) => (place.startsWith("rom.") ? parseNumber(place.slice("rom.".length)) : NaN);
 
 /**
  * Creates a key from its name and location, with the commands that press and release it.
@@ -444,7 +444,7 @@ class TestReader {
     const { board, map } = this.names;
     const { place, lines, fault, column } = readSetting(text, map, board);
     if (fault) fail(fault, startColumn + column);
-    const address = romAddress(place);
+    const address = parseRomAddress(place);
     const hasRom = Number.isNaN(address) || board.roms.some(({ chip }) => Number(chip) === Math.floor(address / 256));
     if (!hasRom) fail(say.noRomAt(text.trim().split(/[ \t=]+/)[0].slice("rom.".length)), startColumn + 1);
     return { commands: lines.trimEnd().split("\n"), changesRom: !Number.isNaN(address) };

@@ -30,8 +30,8 @@ function describeLine({ name, kind, isInput }) {
   return kind === "ram" ? say.lineOfRam(third, second, first) : say.bitOfChain(second, first);
 }
 
-/** The number of characters before the caret in which the key of the value is searched. */
-const MAX_CHARACTERS_BEFORE_CURSOR = 2000;
+/** The maximum number of characters before the caret that the search for the key of a value examines. */
+const MAX_CHARACTERS_BEFORE_CARET = 2000;
 
 /** The chains and signal lines that a board text defines, and the ROM and RAM bank numbers that the text does not use. */
 class BoardParts {
@@ -121,7 +121,7 @@ export function completeBoard(lines, line, column, tables) {
   const parts = new BoardParts(lines.map((lineText, number) => (number === line ? "" : lineText)).join("\n"));
   // The array that contains the caret can start up to nine lines above.
   const linesBefore = lines.slice(Math.max(0, line - 9), line).map((lineText) => lineText.slice(0, commentAt(lineText, "#")));
-  const value = VALUE.exec([...linesBefore, textBefore].join("\n").slice(-MAX_CHARACTERS_BEFORE_CURSOR));
+  const value = VALUE.exec([...linesBefore, textBefore].join("\n").slice(-MAX_CHARACTERS_BEFORE_CARET));
   const isInValue = value && (textBefore.includes(value[1]) || value[0].includes("["));
   if (value && isInValue) return completeValue(text, column, value, parts.listValues(table, value[1]));
   const keys = tables.get(table) || new Map();

@@ -1,8 +1,9 @@
-// Finds the help and the completions for properties texts. They come from the manual's tables and from the names of the board and the
-// program.
+// Finds the help and the completions for properties texts, in the manual's tables and among the names of the board and the program.
 
 import { withoutDescription } from "./completion.js";
-import { completeWord, conditionForms, findDescription, firstWords, formsByTable, nextConditionWords, wordsUpTo } from "./test_words.js";
+import {
+  completeWord, findDescription, formsByTable, listFirstWords, listNextConditionWords, readConditionForms, wordsUpTo,
+} from "./test_words.js";
 import * as say from "../../words/text.js";
 
 /**
@@ -35,7 +36,7 @@ const AFTER_TARGET = ["within"];
  */
 export function propertyForms(manual) {
   const lines = SECTIONS.flatMap((title) => formsByTable(manual, title).flat());
-  return { lines, conditions: conditionForms(manual).filter(({ word }) => !TEST_WORDS.has(word)) };
+  return { lines, conditions: readConditionForms(manual).filter(({ word }) => !TEST_WORDS.has(word)) };
 }
 
 /**
@@ -62,7 +63,7 @@ function findCondition(words) {
  * Returns the words that can come next in a line that starts with a label.
  * @param {string[]} words the words of the line so far
  */
-function nextWordsAfterLabel([, secondWord, ...laterWords]) {
+function listWordsAfterLabel([, secondWord, ...laterWords]) {
   if (secondWord === undefined) return AFTER_LABEL;
   return secondWord === "to" && laterWords.length === 1 ? AFTER_TARGET : [];
 }
@@ -75,15 +76,15 @@ function nextWordsAfterLabel([, secondWord, ...laterWords]) {
  * @param {PropertyForms} forms
  * @returns {CompletionItem[]}
  */
-function nextWords(previousWords, unfinishedWord, names, { lines, conditions }) {
+function listNextWords(previousWords, unfinishedWord, names, { lines, conditions }) {
   const labels = withoutDescription(names.labels.map((label) => `@${label}`));
   if (unfinishedWord.startsWith("@")) return labels;
-  if (previousWords.length === 0) return [...firstWords(lines.filter(({ word }) => /^[a-z]+$/.test(word))), ...labels];
+  if (previousWords.length === 0) return [...listFirstWords(lines.filter(({ word }) => /^[a-z]+$/.test(word))), ...labels];
   const last = previousWords[previousWords.length - 1];
   if (previousWords[0] === "press" || last === "press") return withoutDescription(names.keys);
-  if (previousWords[0].startsWith("@")) return withoutDescription(nextWordsAfterLabel(previousWords));
+  if (previousWords[0].startsWith("@")) return withoutDescription(listWordsAfterLabel(previousWords));
   const condition = findCondition(previousWords);
-  if (condition) return nextConditionWords(condition, names, conditions, CONDITION_END);
+  if (condition) return listNextConditionWords(condition, names, conditions, CONDITION_END);
   return previousWords[0] === "note" ? withoutDescription(["lamps"]) : [];
 }
 
@@ -97,7 +98,7 @@ function nextWords(previousWords, unfinishedWord, names, { lines, conditions }) 
  * @returns {Completion}
  */
 export function completeProperty(lines, line, column, names, forms) {
-  return completeWord(lines[line], column, (previousWords, unfinishedWord) => nextWords(previousWords, unfinishedWord, names, forms));
+  return completeWord(lines[line], column, (previousWords, unfinishedWord) => listNextWords(previousWords, unfinishedWord, names, forms));
 }
 
 /**

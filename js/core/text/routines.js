@@ -170,7 +170,7 @@ export class Routines {
    * @param {number} line the line of the call
    * @returns {Routine[]}
    */
-  routinesContaining(line) {
+  findRoutinesContaining(line) {
     const inside = this.routines.filter((candidate) => this.findReachedLines(candidate.line).has(line));
     if (inside.length > 0) return inside;
     const above = [...this.names].filter(([, at]) => at - 1 <= line && !this.parts[at - 1].defines).pop();
@@ -188,7 +188,7 @@ export class Routines {
     const callersByLine = new Map();
     for (const call of this.findCallsInLines(this.statements.keys())) {
       if (call.target !== callee) continue;
-      for (const routine of this.routinesContaining(call.line)) {
+      for (const routine of this.findRoutinesContaining(call.line)) {
         const callers = callersByLine.get(routine.line) || { routine, places: [] };
         callers.places.push(call);
         callersByLine.set(routine.line, callers);

@@ -67,7 +67,7 @@ export function toggleComments(lines, mark) {
  * @param {string} line
  * @param {CommentMark} mark
  */
-function alignedLine(line, mark) {
+function replaceNonAscii(line, mark) {
   if (/^[\t -~]*$/.test(line)) return line;
   const commentStart = commentAt(line, mark);
   return line.slice(0, commentStart) + line.slice(commentStart).replace(/[^\t -~]/g, " ");
@@ -114,7 +114,7 @@ function mapLines(text, change) {
  * @param {CommentMark} mark
  */
 export function asciiCommentsText(text, mark) {
-  return mapLines(text, (line) => alignedLine(line, mark));
+  return mapLines(text, (line) => replaceNonAscii(line, mark));
 }
 
 /**

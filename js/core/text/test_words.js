@@ -1,4 +1,4 @@
-// Finds the help and the completions for test texts. They come from the manual's tables and from the names of the board and the program.
+// Finds the help and the completions for test texts, in the manual's tables and among the names of the board and the program.
 
 import { splitCell, cellText } from "../help/manual.js";
 import { withoutDescription } from "./completion.js";
@@ -43,7 +43,7 @@ export function formsByTable(manual, title) {
  * Returns the forms of conditions in the manual, including conditions that only some kinds of text allow.
  * @param {ManualSection[]} manual
  */
-export function conditionForms(manual) {
+export function readConditionForms(manual) {
   const [forms] = formsByTable(manual, say.CONDITIONS);
   return forms || [];
 }
@@ -55,7 +55,7 @@ export function conditionForms(manual) {
  */
 export function testForms(manual) {
   const [steps] = formsByTable(manual, say.LINES_OF_TEST);
-  return { steps: steps || [], conditions: conditionForms(manual) };
+  return { steps: steps || [], conditions: readConditionForms(manual) };
 }
 
 /**
@@ -63,7 +63,7 @@ export function testForms(manual) {
  * @param {Form[]} forms
  * @returns {CompletionItem[]}
  */
-export function firstWords(forms) {
+export function listFirstWords(forms) {
   const words = new Map(forms.map((form) => [form.word, form]));
   return [...words.values()].map(({ word, form, effect }) => ({ text: word, what: `${form.slice(word.length)}   ${effect}` }));
 }
@@ -76,13 +76,13 @@ export function firstWords(forms) {
  * @param {TestForms} forms
  * @returns {CompletionItem[]}
  */
-function nextWords(previousWords, unfinishedWord, { keys, lamps, labels }, forms) {
+function listNextWords(previousWords, unfinishedWord, { keys, lamps, labels }, forms) {
   const [first] = previousWords;
-  if (first === undefined) return firstWords(forms.steps);
+  if (first === undefined) return listFirstWords(forms.steps);
   if (first === "press" || first === "release" || first === "keys") return withoutDescription(keys);
   if (first !== "until" && first !== "expect") return [];
   if (unfinishedWord.startsWith("@")) return withoutDescription(labels.map((label) => `@${label}`));
-  return nextConditionWords(previousWords.slice(1), { keys, lamps, labels }, forms.conditions, ["within"]);
+  return listNextConditionWords(previousWords.slice(1), { keys, lamps, labels }, forms.conditions, ["within"]);
 }
 
 /** The words that join conditions. */
@@ -96,11 +96,11 @@ const CONJUNCTIONS = new Set(["and", "or", "&&", "||"]);
  * @param {string[]} nextKeywords the words that can follow a complete condition
  * @returns {CompletionItem[]}
  */
-export function nextConditionWords(previousWords, { keys, lamps, labels }, conditions, nextKeywords) {
+export function listNextConditionWords(previousWords, { keys, lamps, labels }, conditions, nextKeywords) {
   const start = previousWords.reduce((last, word, at) => (CONJUNCTIONS.has(word) ? at + 1 : last), 0);
   const words = previousWords.slice(start).map((word) => word.replace(/^[(!]+/, "")).filter((word) => word !== "not" && word !== "");
   const conjunctions = ["and", "or", ...nextKeywords];
-  if (words.length === 0) return [...firstWords(conditions), ...withoutDescription(labels.map((label) => `@${label}`))];
+  if (words.length === 0) return [...listFirstWords(conditions), ...withoutDescription(labels.map((label) => `@${label}`))];
   const [word] = words;
   if (word === "lamp") return withoutDescription(words.length === 1 ? lamps : ["on", "off", ...conjunctions]);
   if (word === "key") return withoutDescription(words.length === 1 ? keys : ["down", "up", ...conjunctions]);
@@ -138,7 +138,7 @@ export function completeTest(lines, line, column, names, forms) {
   const sharedSteps = lines.slice(0, line).flatMap((previousLine) => (/^\s*steps\s+(\S+)\s*$/.exec(previousLine) || []).slice(1));
   return completeWord(lines[line], column, (previousWords, unfinishedWord) => (
     previousWords.length === 1 && previousWords[0] === "do" ? withoutDescription(sharedSteps)
-      : nextWords(previousWords, unfinishedWord, names, forms)));
+      : listNextWords(previousWords, unfinishedWord, names, forms)));
 }
 
 /**

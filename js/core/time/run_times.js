@@ -36,7 +36,7 @@ function formatRunTime(cycles) {
  * @returns {RunTimes}
  */
 export function runTimes(answers, firstAnswer, lastAnswer, describePlace) {
-  const errorResult = (/** @type {string} */ message) => ({ runs: [], sum: "", message });
+  const createErrorResult = (/** @type {string} */ message) => ({ runs: [], sum: "", message });
   let cycles = 0;
   /** @type {{ time: string, stop: string, place: string }[]} */
   const runs = [];
@@ -45,7 +45,7 @@ export function runTimes(answers, firstAnswer, lastAnswer, describePlace) {
     const answer = answers[at - 1];
     if (answer.startsWith("ok ")) isOpen = false;
     if (at >= firstAnswer && (at <= lastAnswer || lastAnswer === 0)) {
-      if (REFUSAL.test(answer)) return errorResult(say.isRefusal(at, answer));
+      if (REFUSAL.test(answer)) return createErrorResult(say.isRefusal(at, answer));
       const run = readRun(answer);
       if (run) {
         cycles += run.cycles;
@@ -59,8 +59,8 @@ export function runTimes(answers, firstAnswer, lastAnswer, describePlace) {
       isOpen = false;
     }
   }
-  if (answers.length < lastAnswer) return errorResult(say.onlyAnswers(answers.length));
-  if (runs.length === 0) return errorResult(say.NO_RUN);
+  if (answers.length < lastAnswer) return createErrorResult(say.onlyAnswers(answers.length));
+  if (runs.length === 0) return createErrorResult(say.NO_RUN);
   const rows = runs.map(({ time, stop, place }) => `${time}${place === "" ? say.WHY_STOPPED[stop] : say.toPlace(place)}`);
   return { runs: rows, sum: formatRunTime(cycles), message: "" };
 }

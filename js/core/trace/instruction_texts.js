@@ -141,7 +141,7 @@ export class InstructionTexts {
    * @param {number} cycles the cycles before the instruction
    * @param {number} address
    */
-  instructionLine(cycles, address) {
+  formatInstructionLine(cycles, address) {
     const { label, text } = /** @type {{ label: string, text: string }} */ (this.texts.get(address));
     return `${label}${formatElapsed(cycles)}${text}`;
   }
@@ -151,7 +151,7 @@ export class InstructionTexts {
    * @param {number} cycles the cycles before the line
    * @param {string} text
    */
-  plainLine(cycles, text) {
+  formatPlainLine(cycles, text) {
     return `${formatElapsed(cycles)}${text.padEnd(this.width)}  `;
   }
 }

@@ -77,10 +77,10 @@ export class TraceLines {
    * @param {State} state
    * @param {number} elapsed the number of cycles before the line
    */
-  secondCycleLines(state, elapsed) {
+  listSecondCycle(state, elapsed) {
     const [answer] = this.engine.ask(state, "state\n").answers;
     if (stateValue(answer, "owed") !== "1") return [];
-    return [`${this.texts.plainLine(elapsed, say.SECOND_CYCLE)}acc ${stateValue(answer, "acc")} cy ${stateValue(answer, "cy")}`];
+    return [`${this.texts.formatPlainLine(elapsed, say.SECOND_CYCLE)}acc ${stateValue(answer, "acc")} cy ${stateValue(answer, "cy")}`];
   }
 
   /**
@@ -121,7 +121,7 @@ export class TraceLines {
       const registers = newRow === row ? "" : formatRegisterChanges(newRow, row);
       const changes = groups.reduce((sum, group) => sum + updateGroup(group, group.rows.get(startCycle)), registers);
       row = newRow;
-      const start = this.texts.instructionLine(elapsed + startCycle, address);
+      const start = this.texts.formatInstructionLine(elapsed + startCycle, address);
       lines.push(`${start}acc ${row[ROW_INDICES.acc]} cy ${row[ROW_INDICES.cy]}${changes && ` ${changes}`}`);
       nextCycle = startCycle + instructionCycles(this.texts.codes[address]);
     };
@@ -143,11 +143,11 @@ export class TraceLines {
    * @param {State} state
    * @param {number} elapsed the number of cycles before the instruction
    */
-  next(state, elapsed) {
+  formatNext(state, elapsed) {
     const { engine, texts } = this;
     const address = parseInt(stateValue(engine.ask(state, "regs\n").answers[0], "pc"), 16);
     texts.readInstructions(engine, state, [address]);
-    return texts.instructionLine(elapsed, address);
+    return texts.formatInstructionLine(elapsed, address);
   }
 }
 

@@ -87,7 +87,7 @@ function formatBits(bits, base) {
  * @param {number[]} bits
  * @param {NumberBase} base
  */
-export function shiftText(value, bits, base) {
+export function formatShift(value, bits, base) {
   return value === AT_REST ? say.atRest(formatBits(bits, base)) : String(value & 1);
 }
 
@@ -121,7 +121,7 @@ export function parseScan({ places, columns, width }, value) {
  * @param {WaveLine} line
  * @param {number} value
  */
-export function scanText(line, value) {
+export function formatScan(line, value) {
   const { rows, columns, keys } = parseScan(line, value);
   if (rows.length === 0) return say.NO_ROW;
   const rowText = say.rowsDriven(rows);

@@ -35,7 +35,7 @@ export function listRequestableNames(board, text, hasLabels) {
  * @param {WaveLine} line
  * @param {number} number the lamp number
  */
-function numberedName({ group, places }, number) {
+function formatNumberedName({ group, places }, number) {
   if (group === "lamps") return `lamp${number}`;
   return group === "keys" ? `key${places[0]}` : "";
 }
@@ -45,9 +45,9 @@ function numberedName({ group, places }, number) {
  * @param {WaveLine[]} lines
  * @param {string} word
  */
-function lineIndices(lines, word) {
+function findLineIndexes(lines, word) {
   const lamps = lines.findIndex(({ group }) => group === "lamps");
-  const namedLine = lines.findIndex((line, at) => line.name === word || numberedName(line, at - lamps) === word);
+  const namedLine = lines.findIndex((line, at) => line.name === word || formatNumberedName(line, at - lamps) === word);
   if (namedLine >= 0) return [namedLine];
   return lines.flatMap((line, at) => (canBeRequested(line) && line.group === word ? [at] : []));
 }
@@ -68,7 +68,7 @@ export function chooseLines(board, text, hasLabels, words) {
   /** @type {Set<number>} */
   const chosenIndexes = new Set();
   for (const word of words) {
-    let indices = lineIndices(lines, word);
+    let indices = findLineIndexes(lines, word);
     const value = indices.length === 0 ? createValueLine(word, board) : null;
     if (value) {
       const knownLine = lines.findIndex(({ name }) => name === value.name);

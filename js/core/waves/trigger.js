@@ -56,7 +56,7 @@ export function findLineByName(text, lines) {
  * Returns the name of the line in an edge trigger such as `rom0.2 rises`; "" for any other text.
  * @param {string} text
  */
-export function lineNameInEdge(text) {
+export function findLineNameInEdge(text) {
   const match = EDGE_SYNTAX.exec(text.trim());
   return match ? match[1] : "";
 }

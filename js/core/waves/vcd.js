@@ -9,7 +9,8 @@ import { isDecoder } from "./decoders.js";
 /** The number of time units per cycle. A unit is 100 ns. */
 const UNITS_PER_CYCLE = CYCLE_TENTHS_US;
 /**
- * A number greater than the number of lines in any recording. `sortedChanges` encodes a change as one number: moment * MAX_LINES + line.
+ * A number greater than the number of lines in any recording. `sortChanges` encodes a change as one number: moment * MAX_LINES + index,
+ * where `index` is the position of the line among the chosen lines.
  */
 const MAX_LINES = 8192;
 /** The maximum number of text lines per part of the file. The file has parts because a long recording does not fit into one string. */
@@ -24,7 +25,7 @@ const CODE_LETTERS = "ACDEFGHIJKLMNOPQSTUVWY";
  * Returns the short code that identifies a signal line in the file.
  * @param {number} number the index of the line, from 0
  */
-function lineCode(number) {
+function createLineCode(number) {
   let text = "";
   const { length } = CODE_LETTERS;
   for (let remaining = number; remaining >= 0; remaining = Math.floor(remaining / length) - 1) {
@@ -38,7 +39,7 @@ function lineCode(number) {
  * @param {Waves} waves
  * @param {number} line
  */
-function variableType({ lines }, line) {
+function formatVariableType({ lines }, line) {
   return lines[line].kind === "label" || isDecoder(lines[line]) ? "string 1" : `wire ${lines[line].width}`;
 }
 
@@ -51,7 +52,7 @@ export class VcdText {
   constructor(waves, chosenLines) {
     this.waves = waves;
     this.chosenLines = chosenLines;
-    this.codes = chosenLines.map((_, at) => lineCode(at));
+    this.codes = chosenLines.map((_, at) => createLineCode(at));
     /** The start of the recording, which is time 0 in the file. */
     this.startMoment = waves.from;
     /** The last moment written to the file so far. */
@@ -76,14 +77,14 @@ export class VcdText {
   }
 
   /** Returns the header of the file, including the values at the start of the recording. */
-  head() {
+  formatHead() {
     const { waves, chosenLines, codes } = this;
     return `${[
       "$version Fethsaim $end",
       `$comment ${UNITS_PER_CYCLE} units of time are a cycle of the 4004, ${CYCLE_US} microseconds $end`,
       "$timescale 100 ns $end",
       "$scope module board $end",
-      ...chosenLines.map((line, at) => `$var ${variableType(waves, line)} ${codes[at]} ${waves.lines[line].name} $end`),
+      ...chosenLines.map((line, at) => `$var ${formatVariableType(waves, line)} ${codes[at]} ${waves.lines[line].name} $end`),
       "$upscope $end",
       "$enddefinitions $end",
       "#0",
@@ -94,12 +95,12 @@ export class VcdText {
   }
 
   /** Yields the changes in parts. */
-  * changes() {
+  * formatChanges() {
     const { waves, chosenLines } = this;
     const tracks = chosenLines.map((line) => waves.getTrack(line));
     const counts = new Uint32Array(chosenLines.length);
     let lines = [];
-    for (const change of sortedChanges(waves, chosenLines)) {
+    for (const change of sortChanges(waves, chosenLines)) {
       const moment = Math.floor(change / MAX_LINES);
       const index = change % MAX_LINES;
       counts[index] += 1;
@@ -125,7 +126,7 @@ export class VcdText {
  * @param {Waves} waves
  * @param {number[]} chosenLines
  */
-function sortedChanges(waves, chosenLines) {
+function sortChanges(waves, chosenLines) {
   const counts = chosenLines.map((line) => waves.changesOf(line).length);
   const changes = new Float64Array(counts.reduce((sum, count) => sum + count, 0));
   let at = 0;
@@ -145,8 +146,8 @@ function sortedChanges(waves, chosenLines) {
  */
 export function* vcdParts(waves, chosenLines) {
   const text = new VcdText(waves, chosenLines);
-  yield text.head();
-  yield* text.changes();
+  yield text.formatHead();
+  yield* text.formatChanges();
   const end = text.end();
   if (end) yield end;
 }

@@ -54,7 +54,7 @@ export function chosenValueNames(lines, chosenNames) {
  * @param {WaveLine[]} lines
  * @param {string} text
  */
-function matchingLines(lines, text) {
+function findMatchingLines(lines, text) {
   const searchedName = normalizeName(text);
   const exactMatches = lines.filter(({ name }) => normalizeName(name) === searchedName);
   if (exactMatches.length > 0) return exactMatches;
@@ -73,7 +73,7 @@ export function searchLines(allLines, text, chosenNames) {
   const isAll = text.trim() === "";
   const isCharacter = (/** @type {WaveLine} */ { group }) => group.startsWith(say.RAM_GROUP);
   let remaining = isAll ? 0 : MAX_NIBBLES;
-  const matching = matchingLines(allLines, text);
+  const matching = findMatchingLines(allLines, text);
   if (matching.length === 0 && !isAll) return { lines: matching, note: say.noName(text.trim()) };
   const lines = matching.filter((line) => !isCharacter(line) || chosenNames.has(line.name) || remaining-- > 0);
   const hidden = matching.length - lines.length;

@@ -2,7 +2,7 @@
 // The recording of a running session grows at its end and drops cycles at its start. A moment is a time, counted in cycles.
 
 import { ADDRESS_COUNT } from "../bench/rom_bytes.js";
-import { extendShiftTrack, findLastRise, scanText, shiftText } from "./decoders.js";
+import { extendShiftTrack, findLastRise, formatScan, formatShift } from "./decoders.js";
 import { NumberQueue, countUpTo } from "./number_queue.js";
 import { Track, emptyTrack } from "./track.js";
 import { valueText } from "./wave_words.js";
@@ -26,7 +26,7 @@ const DERIVED_KINDS = new Set(["pc", "label", "port", "shift", "scan"]);
  * Returns for each address the index of the nearest label at the same or a lower address; -1 for none.
  * @param {{ address: number }[]} labels the labels in ascending address order
  */
-function labelsBelow(labels) {
+function findLabelsBelow(labels) {
   const below = new Int16Array(ADDRESS_COUNT);
   let [nextLabel, currentLabel] = [0, -1];
   for (let address = 0; address < below.length; address++) {
@@ -53,7 +53,7 @@ export class Waves {
     this.listing = new Map(listing);
     this.program = program;
     this.sources = program ? program.text.split("\n") : [];
-    this.labelIndexes = labelsBelow(program ? program.labels : []);
+    this.labelIndexes = findLabelsBelow(program ? program.labels : []);
     /** @type {Map<number, Track>} the tracks computed so far, by line index */
     this.derivedTracks = new Map();
     /** @type {Map<number, number>} the moment of the last rising clock edge before the recording, by shift register line */
@@ -271,9 +271,9 @@ export class Waves {
   valueAt(line, moment) {
     const { kind, width, members } = this.lines[line];
     if (kind === "label") return this.labelAt(moment) || "-";
-    if (kind === "scan") return scanText(this.lines[line], this.numberAt(line, moment));
+    if (kind === "scan") return formatScan(this.lines[line], this.numberAt(line, moment));
     if (kind === "shift") {
-      return shiftText(this.numberAt(line, moment), members.slice(2).map((member) => this.tracks[member].valueAt(moment)), this.base);
+      return formatShift(this.numberAt(line, moment), members.slice(2).map((member) => this.tracks[member].valueAt(moment)), this.base);
     }
     return valueText(this.numberAt(line, moment), width, kind === "pc" ? "hex" : this.base);
   }

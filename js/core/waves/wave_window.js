@@ -89,8 +89,8 @@ export class WaveWindow {
   }
 
   /**
-   * Adapts to a recording that has grown at its end or lost cycles at its start. Whatever was at the end, the visible range or a cursor,
-   * moves with the end. A short recording stays completely visible.
+   * Adapts to a recording that has grown at its end or lost cycles at its start. If the visible range or a cursor was at the end, it moves
+   * with the end. A short recording stays completely visible.
    * @param {number} begin
    * @param {number} end
    */

@@ -110,9 +110,9 @@ async function printVcd(openedSession, cycles, words) {
   for await (const waves of recordPieces(engine, state, { lines, program, cycles }, yieldToMessages)) {
     if (!text) {
       text = new VcdText(waves, chosen);
-      print(text.head());
+      print(text.formatHead());
     }
-    for (const part of text.changes()) print(part);
+    for (const part of text.formatChanges()) print(part);
   }
   if (!text) return;
   print(text.end());

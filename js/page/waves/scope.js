@@ -3,7 +3,7 @@
 import { Cell, block, button, byId, descendant, field, onClick } from "../ui/dom.js";
 import { download } from "../session/download.js";
 import { LiveWaves } from "../../core/waves/live_waves.js";
-import { findLineByName, lineNameInEdge } from "../../core/waves/trigger.js";
+import { findLineByName, findLineNameInEdge } from "../../core/waves/trigger.js";
 import { vcdParts } from "../../core/waves/vcd.js";
 import { WaveChoice } from "./wave_choice.js";
 import { renderPng, toSvg } from "./wave_pictures.js";
@@ -214,7 +214,7 @@ export class Scope {
    */
   selectTriggerLine(trigger) {
     const boardLines = this.calls.boardLines();
-    const line = boardLines[findLineByName(lineNameInEdge(trigger), boardLines)];
+    const line = boardLines[findLineByName(findLineNameInEdge(trigger), boardLines)];
     if (line && line.kind === "value" && !this.choice.selectedNames.has(line.name)) this.choice.select(line.name, true);
   }
 
