@@ -30,7 +30,7 @@ test("tests pass, and what they have run is counted", async () => {
   assert.deepEqual(faults, []);
   assert.deepEqual(outcomes.map(({ failure, cycles }) => [failure, cycles]), [[null, 1621], [null, 538]]);
   assert.equal(formatCoverageSummary(coverage), "20 of 20 instructions were run (100.0 %), 6 of 6 branch directions (100.0 %)");
-  assert.deepEqual(coverage.lines.find(({ line }) => line === 18), { line: 18, count: 4, isJump: true, taken: 1 });
+  assert.deepEqual(coverage.lines.find(({ line }) => line === 18), { line: 18, count: 4, isJump: true, jumpCount: 1 });
   assert.equal(profile.total, 2159);
   assert.deepEqual(profile.rows.map(({ label, ownCycles }) => [label, ownCycles]),
     [["turn", 2084], ["next", 60], ["wait", 8], ["first", 4], ["", 3]]);

@@ -113,7 +113,7 @@ class Replay {
     this.freeCampaign = createFreeCampaign(campaign, property, listInputs(subject));
     this.initialDown = initialDownInputs(this.freeCampaign);
     const [{ form, guards }] = this.freeCampaign.properties;
-    /** True if the property excludes a common mistake that watching a walk cannot detect; `cyclesToMistake` detects such a mistake. */
+    /** True if the property excludes a common mistake that watching a walk cannot detect; `countCyclesToMistake` detects it. */
     this.excludesMistake = form === "mistake";
     this.needsFullWalk = FORMS_WITH_MEMORY.has(form) || guards.length > 0;
   }

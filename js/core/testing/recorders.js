@@ -1,6 +1,6 @@
-// Recorders of what a test executes. An ExecutionRecorder counts how often each instruction starts and jumps, and its cycles. It also
-// measures each call, and the time from a key press to a lamp change. The numbers come from the queries `count` and `trace`, which predict
-// a run before it is executed. The subclasses record less, for tools that print no profile.
+// Recorders of the instructions, calls and key presses in a test. An ExecutionRecorder counts how often each instruction starts and jumps,
+// and its cycles. It also measures each call, and the time from a key press to a lamp change. The numbers come from the queries `count` and
+// `trace`, which predict a run before it is executed. The subclasses record less, for tools that print no profile.
 
 import { ADDRESS_COUNT } from "../bench/rom_bytes.js";
 import { parseTraceLine } from "../engine/forecast_answers.js";

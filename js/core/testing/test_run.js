@@ -280,7 +280,7 @@ export class TestRun {
   }
 
   /**
-   * Runs to a label with a temporary breakpoint. Resolves to the reason for the stop ("end" if the time is over).
+   * Runs to a label with a temporary breakpoint. Resolves to the reason for the stop ("end" if the time limit is reached).
    * @param {TestSession} session
    * @param {Condition} condition
    * @param {number} end
