@@ -65,8 +65,8 @@ async function askModel(command, keySequences) {
   const { status, stdout, stderr, signal } = await runCommand("sh", ["-c", command], `${keySequences.join("\n")}\n`);
   const lines = stdout.split("\n").slice(0, -1);
   const [words] = stderr.split("\n");
-  if (status !== 0) return { shown: [], fault: say.modelEnded(signal || `status ${status}`, words) };
-  return { shown: lines, fault: lines.length === keySequences.length ? "" : say.modelPrinted(lines.length, keySequences.length) };
+  if (status !== 0) return { expectedTexts: [], fault: say.modelEnded(signal || `status ${status}`, words) };
+  return { expectedTexts: lines, fault: lines.length === keySequences.length ? "" : say.modelPrinted(lines.length, keySequences.length) };
 }
 
 /** The search of one campaign. A campaign consists of the properties in one file. */
@@ -91,11 +91,11 @@ class Exploration {
     const { engine, settings: { texts: { board, program, properties } } } = this;
     const { prepared, faults: textErrors } = prepareTests(engine, { boardText: board.text, programText: program.text });
     if (!prepared) throw await createRejectedTextsError(engine, { board, program }, textErrors);
-    const subject = createSubject(engine, board.text, program.text, program.before);
+    const subject = createSubject(engine, board.text, program.text, program.linesBefore);
     const { campaign, faults } = readCampaign(properties.text, subject);
     if (faults.length > 0) throw new CommandError(faults.map(({ line, words }) => `${properties.name}:${line}: ${words}`).join("\n"));
     const testText = readStartTests(campaign, properties.name);
-    const { searchSetup, words } = await startCampaign({ subject, campaign }, prepared, testText);
+    const { searchSetup, message: words } = await startCampaign({ subject, campaign }, prepared, testText);
     if (words) throw new CommandError(`${properties.name}:${campaign.from ? campaign.from.line : 0}: ${words}`);
     return { ...searchSetup, texts: [board.text, program.text, properties.text, testText] };
   }
@@ -140,7 +140,7 @@ class Exploration {
     while (performance.now() < end && !isStopped && !run.isDone) {
       const counterexample = await run.runFor(SLICE_TIME);
       if (run.fault && !isStopped) throw new CommandError(`${names.properties}:${campaign.properties[run.modelIndex].line}: ${run.fault}`);
-      if (counterexample) this.printCounterexample(campaign.properties[counterexample.property], counterexample.found);
+      if (counterexample) this.printCounterexample(campaign.properties[counterexample.property], counterexample.counterexample);
       await yieldToMessages();
     }
     const { user, system } = process.cpuUsage(startUsage);

@@ -15,9 +15,9 @@ const UTF8_MARK = Buffer.from([0xEF, 0xBB, 0xBF]);
 const UTF_16_ENCODINGS = { fffe: "utf-16le", feff: "utf-16be" };
 
 /**
- * The text of a board or a program, from a file. `name` is the name of the file. `before` is the number of lines before the text in the file.
+ * The text of a board or a program, from a file. `name` is the name of the file. `linesBefore` is the number of lines before the text in the file.
  * `encoding` is the encoding in which a command prints the text.
- * @typedef {{ name: string, text: string, before: number, encoding: BufferEncoding }} InputText
+ * @typedef {{ name: string, text: string, linesBefore: number, encoding: BufferEncoding }} InputText
  */
 
 /**
@@ -119,10 +119,10 @@ export class InputTexts {
     if (beginIndex < 0 && bytes.length > MAX_TEXT_BYTES) {
       throw new CommandError(`${name} has ${bytes.length} bytes, more than the text of a board or a program can have (${MAX_TEXT_BYTES})`);
     }
-    if (beginIndex < 0) return { name, text: lines.join("\n"), before: 0, encoding };
+    if (beginIndex < 0) return { name, text: lines.join("\n"), linesBefore: 0, encoding };
     const endIndex = lines.indexOf(".", beginIndex);
     const textLines = lines.slice(beginIndex + 1, endIndex < 0 ? lines.length : endIndex);
-    return { name, text: textLines.map((line) => `${line}\n`).join(""), before: beginIndex + 1, encoding };
+    return { name, text: textLines.map((line) => `${line}\n`).join(""), linesBefore: beginIndex + 1, encoding };
   }
 
   /** Returns the text on standard input. */

@@ -56,7 +56,7 @@ export function listenToInput(connection, onEnd) {
     clearTimeout(timer);
     partCount += 1;
     try {
-      connection.take(bytes);
+      connection.receive(bytes);
     } catch (error) {
       end(errorMessage(error));
       return;

@@ -179,7 +179,7 @@ export async function readCheckedMap(engine, codes, program) {
   if (faults.length > 0) throw await createRejectedTextsError(engine, { program }, faults);
   if (!otherByte) return map;
   const { address, romByte, line, sourceByte } = otherByte;
-  throw new CommandError(otherProgram(program.name, address, romByte, line + program.before, sourceByte));
+  throw new CommandError(otherProgram(program.name, address, romByte, line + program.linesBefore, sourceByte));
 }
 
 /** Lets signal handlers run between the pieces of a long computation. Resolves to true. */
@@ -217,6 +217,6 @@ export async function makeAddressDescriber(texts, engine, programName, session) 
   ]);
   const program = texts.readText(programName, "asm");
   const map = await readCheckedMap(engine, romCodes(engine, await openSession(engine, texts, session)), program);
-  const source = { lines: program.text.split("\n"), before: program.before };
+  const source = { lines: program.text.split("\n"), linesBefore: program.linesBefore };
   return (address) => formatSourceLocation(map, source, address);
 }

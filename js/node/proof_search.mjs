@@ -18,8 +18,8 @@ import { removeFolder, createTemporaryFolder } from "./temporary_folders.mjs";
  * @typedef {import("./input_texts.mjs").InputText} InputText
  * @typedef {{ board: InputText, program: InputText, properties: { name: string, text: string } }} Texts
  *
- * The limits of a search. `most` is the maximum number of states, and `memory` the maximum memory for them in MB (0 for all memory).
- * @typedef {{ most: number, memory: number }} Limits
+ * The limits of a search. `maxStates` is the maximum number of states, and `memory` the maximum memory for them in MB (0 for all memory).
+ * @typedef {{ maxStates: number, memory: number }} Limits
  */
 
 /** A run of `mcs4 prove`: the texts, the limits and the prover. */
@@ -45,12 +45,12 @@ class ProofSession {
     const { board, program, properties } = this.texts;
     const { prepared, faults: textErrors } = prepareTests(engine, { boardText: board.text, programText: program.text });
     if (!prepared) throw await createRejectedTextsError(engine, { board, program }, textErrors);
-    const subject = createSubject(engine, board.text, program.text, program.before);
+    const subject = createSubject(engine, board.text, program.text, program.linesBefore);
     const { campaign, faults } = readCampaign(properties.text, subject, false);
     if (faults.length > 0) throw new CommandError(faults.map(({ line, words }) => `${properties.name}:${line}: ${words}`).join("\n"));
     return new PropertyJudge(subject, campaign, {
       ask: (question) => this.ask(question, this.limits),
-      askBySets: (question) => this.ask(question, { most: 0, sets: MAX_SETS }),
+      askBySets: (question) => this.ask(question, { maxStates: 0, sets: MAX_SETS }),
       confirms: (counterexample, isGoal) => this.confirm(counterexample, isGoal),
       reason: (answer) => this.describeNoAnswer(answer),
       yieldToMessages: async () => {
@@ -64,8 +64,8 @@ class ProofSession {
    * @param {import("../core/prove/question.js").NoAnswer} answer
    */
   describeNoAnswer(answer) {
-    const { most, memory } = this.limits;
-    if (answer.kind === "more") return say.moreStates(formatNumber(most));
+    const { maxStates, memory } = this.limits;
+    if (answer.kind === "more") return say.moreStates(formatNumber(maxStates));
     if (answer.kind === "lost") return say.GAVE_UP;
     if (answer.states === 0) return say.NO_MEMORY;
     return memory > 0 ? say.noRoomIn(formatNumber(answer.states), memory) : say.noRoom(formatNumber(answer.states));

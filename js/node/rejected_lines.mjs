@@ -50,7 +50,7 @@ export class RejectedLines {
       const index = textLines.findIndex((textLine) => (number === NOT_ASCII ? INVALID_CHARACTER.test(textLine) : textLine.length > MAX_LINE_LENGTH));
       return index < 0 ? null : { line: index + 1, words: describeRefusal(number) };
     }
-    const makeUnnamedText = (/** @type {string} */ text) => ({ name: "", text, before: 0 });
+    const makeUnnamedText = (/** @type {string} */ text) => ({ name: "", text, linesBefore: 0 });
     const text = textLines.map((textLine) => `${textLine}\n`).join("");
     const board = this.boardText === null ? undefined : makeUnnamedText(this.boardText);
     const texts = new RejectedTexts(this.engine, { board, program: makeUnnamedText(text) });

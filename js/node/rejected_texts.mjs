@@ -132,13 +132,13 @@ export class RejectedTexts {
     if (kind === "tests") return `${file}:${line}: ${fault.words}`;
     const checkedText = kind === "properties" ? undefined : this.givenTexts[kind];
     if (!checkedText) throw new Error(`there is no text of the kind ${kind}`);
-    const { name, text, before } = checkedText;
+    const { name, text, linesBefore } = checkedText;
     const error = number > 0 ? this.findError(fault, text) : null;
     const lineNumber = line || (error ? error.line : 0);
     const shownLines = lineNumber > 0 && number > 0 ? [text.split("\n")[lineNumber - 1]] : [];
     const hint = number === UNKNOWN_FORM && shownLines.length > 0 ? findSpellingHint(shownLines[0]) : "";
     const reason = `${number > 0 ? `no ${number}: ` : ""}${fault.words || (error ? error.words : describeRefusal(number))}${hint}`;
-    const location = lineNumber > 0 ? `line ${lineNumber + before}: ` : "";
+    const location = lineNumber > 0 ? `line ${lineNumber + linesBefore}: ` : "";
     return [`${name}: ${location}${reason}`, ...shownLines.map((shownLine) => `    ${shownLine.slice(0, MAX_SHOWN_LENGTH)}`)].join("\n");
   }
 

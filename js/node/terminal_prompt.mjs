@@ -177,7 +177,7 @@ export class TerminalPrompt {
     this.isBusy = true;
     this.history.add(line);
     try {
-      await this.prompt.take(line);
+      await this.prompt.enterLine(line);
     } catch (error) {
       this.endWithError(error);
       return;

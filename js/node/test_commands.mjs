@@ -82,7 +82,7 @@ export async function countCycles({ name, Counting, checkNames = () => {}, print
   const { faults, other: otherByte, counted: counts } = await countSession(engine, state, program.text, cycles, Counting);
   if (otherByte) {
     const { address, romByte, line, sourceByte } = otherByte;
-    throw new CommandError(otherProgram(programName, address, romByte, line + program.before, sourceByte));
+    throw new CommandError(otherProgram(programName, address, romByte, line + program.linesBefore, sourceByte));
   }
   if (!counts) throw await createRejectedTextsError(engine, { program }, faults);
   if (counts.stop !== "end") printError(`${name}: ${sessionStopped(counts.elapsed, counts.stop)}\n`);

@@ -10,7 +10,7 @@ import {
 } from "./compose_debug.js";
 import { lampNames } from "../core/board/face_board.js";
 import { currentWiredText, describesBoard, textsToStore } from "../core/board/wired_board_text.js";
-import { cellWords } from "../core/help/manual.js";
+import { readCellDescriptions } from "../core/help/manual.js";
 import { Layout } from "./layout.js";
 import { LogView } from "./lines/log_view.js";
 import { sessionTitle } from "../core/session/session_summary.js";
@@ -43,7 +43,7 @@ export class Page {
   /** @param {PageServices} services */
   constructor(services) {
     const { bench, makeBench, store, errorMessages, notice, manual } = services;
-    this.cellWords = cellWords(manual);
+    this.cellWords = readCellDescriptions(manual);
     this.bench = bench;
     this.store = store;
     this.errorMessages = errorMessages;

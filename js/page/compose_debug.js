@@ -123,7 +123,7 @@ export function makeSourceValues(page) {
       const name = source.map && source.map.names.get(word);
       return name ? { ...name, description: source.meaningOf(word) } : undefined;
     },
-    describeInstruction: (word) => (editors.instructions.get(word) || { does: "" }).does,
+    describeInstruction: (word) => (editors.instructions.get(word) || { effect: "" }).effect,
     map: () => source.map,
     showWatched: () => page.watchView.show(),
     showLines: (lines) => editors.program.lineValues.show(lines),

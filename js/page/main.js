@@ -118,7 +118,7 @@ function listenToChoices(page) {
     speedSelect.value = page.runController.clock.speed.id;
     typingField.checked = page.isTyping;
   };
-  speedSelect.replaceChildren(...SPEEDS.map(({ id, words }) => element("option", { value: id }, words)));
+  speedSelect.replaceChildren(...SPEEDS.map(({ id, label: words }) => element("option", { value: id }, words)));
   speedSelect.addEventListener("change", () => {
     preferences.set("speed", speedSelect.value);
     page.runController.setSpeed(findSpeed(speedSelect.value)).catch((fault) => page.recovery.reportFailure(fault));

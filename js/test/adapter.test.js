@@ -14,11 +14,11 @@ test("responses have the order of the requests and consecutive numbers; an inval
   assert.equal((await getResponse("nothing")).message, "unsupported request: nothing");
   assert.equal((await getResponse("toString")).message, "unsupported request: toString");
   assert.equal((await getResponse("stackTrace", { threadId: 1 })).message, "nothing is launched yet");
-  connection.take(frameMessage({ seq: 70, type: "request" }));
-  connection.take(frameMessage([]));
-  connection.take(new TextEncoder().encode("Content-Length: 3\r\n\r\n{x}"));
-  connection.take(new TextEncoder().encode(`Content-Length: ${MAX_MESSAGE + 1}\r\n\r\n`));
-  connection.take(new Uint8Array(MAX_MESSAGE + 1));
+  connection.receive(frameMessage({ seq: 70, type: "request" }));
+  connection.receive(frameMessage([]));
+  connection.receive(new TextEncoder().encode("Content-Length: 3\r\n\r\n{x}"));
+  connection.receive(new TextEncoder().encode(`Content-Length: ${MAX_MESSAGE + 1}\r\n\r\n`));
+  connection.receive(new Uint8Array(MAX_MESSAGE + 1));
   await waitFor(({ message }) => (message || "").includes("was not read"));
   const errors = messages.filter(({ success }) => success === false).slice(-4)
     .map(({ request_seq, message }) => `${request_seq} ${message}`);

@@ -62,7 +62,9 @@ export function startAdapter(files = FILES, sessions = {}) {
   const reader = new MessageReader();
   const messages = [];
   const exitStatuses = [];
-  const connection = new AdapterConnection((bytes) => messages.push(...[...reader.take(bytes)].map(({ text }) => JSON.parse(text))));
+  const connection = new AdapterConnection((bytes) => {
+    messages.push(...[...reader.readMessages(bytes)].map(({ text }) => JSON.parse(text)));
+  });
   const host = {
     nameOf: (name, folder) => (/^([A-Z]:)?\//.test(name) ? name : `${folder}/${name}`),
     beside: (name, sibling) => sibling.replace(/[^/]*$/, name),
@@ -96,7 +98,7 @@ export function startAdapter(files = FILES, sessions = {}) {
   /** Sends a request. Returns the number of the request. */
   const sendRequest = (command, args) => {
     seq += 1;
-    connection.take(frameMessage({ seq, type: "request", command, arguments: args }));
+    connection.receive(frameMessage({ seq, type: "request", command, arguments: args }));
     return seq;
   };
   const responseTo = (requestNumber) => waitFor((message) => message.type === "response" && message.request_seq === requestNumber);

@@ -289,10 +289,10 @@ test("a request that arrives while the session file is written is answered", asy
 
 test("an incomplete message is reported to the client", () => {
   const { connection, messages } = startAdapter();
-  connection.take(frameMessage({ seq: 1, type: "request", command: "initialize", arguments: {} }).subarray(0, 60));
+  connection.receive(frameMessage({ seq: 1, type: "request", command: "initialize", arguments: {} }).subarray(0, 60));
   assert.match(connection.reportIncomplete(), /^only \d+ of the \d+ bytes that Content-Length announces have arrived$/);
   assert.equal(messages[0].message, connection.reader.incomplete);
   const otherClient = startAdapter();
-  otherClient.connection.take(new TextEncoder().encode("Content-Len"));
+  otherClient.connection.receive(new TextEncoder().encode("Content-Len"));
   assert.equal(otherClient.connection.reportIncomplete(), "only a part of the head of a message has arrived");
 });

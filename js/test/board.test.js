@@ -23,7 +23,7 @@ const tables = boardTables([{ title: "The keys of the text", tables: [{ caption:
 
 const bench = new TextBench(new Engine(new globalThis.WebAssembly.Module(pageModule)));
 const errorOf = (text) => {
-  const error = bench.wiring(text);
+  const error = bench.findBoardError(text);
   return error && createBoardError(text, error, tables, (number) => `words of ${number}`);
 };
 const describeError = (text) => {

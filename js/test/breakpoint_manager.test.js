@@ -202,7 +202,8 @@ test("an invalid condition is reported; a disabled breakpoint is kept; hits are 
   assert.deepEqual([[...manager.errors], bench.breaks], [[[first.id, "it is none"]], []]);
   manager.count({ hits: [[second.id, 2], [second.id, 1]], notes: [], noteCount: 0 });
   assert.equal(second.hits, 3);
-  assert.deepEqual([...breakpointMarks(manager.list.all, manager.errors).lines.values()].map(({ mark, words }) => `${mark} ${words}`),
+  assert.deepEqual([...breakpointMarks(manager.list.all, manager.errors).lines.values()].map(({ mark, description }) => (
+    `${mark} ${description}`)),
     ["\u25CF breakpoint if no: it stops every time, because of an error: it is none", "\u25CB breakpoint: it is off"]);
   assert.deepEqual(manager.list.savedBreakpoints[1], { line: 4, address: 2, isOn: false, condition: "", from: 1, note: "" });
 });

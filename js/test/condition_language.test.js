@@ -179,7 +179,7 @@ const USES = {
   },
   "mcs4 debug": async (text) => {
     conditionContext();
-    await prompt.take(`print ${text}`);
+    await prompt.enterLine(`print ${text}`);
     return /^(true|false)$/.test(printed) ? printed === "true" : printed;
   },
   breakpoint: (text) => {

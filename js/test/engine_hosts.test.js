@@ -92,10 +92,10 @@ testOnBothHosts("a trace continues through breakpoints, its last lines end at on
     for await (const piece of pieces) lines.push(...piece);
     return lines;
   };
-  const next = await collectLines(trace.next(1200, null));
+  const next = await collectLines(trace.traceNext(1200, null));
   assert.deepEqual([next[0], next.length], ["       0  (the second cycle)         acc 1 cy 0", 901]);
   assert.equal(next[2], "       2  001 E1    WMP              acc 2 cy 0  out 0.0 2 lamps .");
-  assert.deepEqual(await collectLines(trace.last(1, 100000, null)), [
+  assert.deepEqual(await collectLines(trace.traceLast(1, 100000, null)), [
     "       2  001 E1    WMP              acc 2 cy 0  out 0.0 2 lamps .", "       3  002 40 00 JUN 0x000        stops before it: break",
   ]);
   assert.deepEqual(engine.ask(state, "breaks\nseq\n").answers, ["breaks 002", "seq 4"]);
@@ -106,12 +106,12 @@ testOnBothHosts("a VCD file is written piece by piece", async (engine) => {
   const state = copyWithoutStops(engine, stateAfter(engine, `${BOARD}${PROGRAM}`));
   const board = readBoard(engine.ask(state, "board\n").answers);
   const choice = chooseLines(board, "", false, ["ram0.0", "acc", "pc", "ram0.0[3:0]"]);
-  const { lines, chosen } = linesWithMembers(choice.lines, choice.chosen);
+  const { lines, chosen } = linesWithMembers(choice.lines, choice.chosenIndexes);
   let text = null;
   let file = "";
   for await (const waves of recordPieces(engine, state, { lines, program: null, cycles: 45000 }, async () => {})) {
     if (!text) text = new VcdText(waves, chosen);
-    file += (file === "" ? text.head() : "") + [...text.changes()].join("");
+    file += (file === "" ? text.formatHead() : "") + [...text.formatChanges()].join("");
   }
   file += text.end();
   assert.match(file, /\$var wire 4 H ram0\.0\[3:0\] \$end\n[^]*\n#4860000\n/);
@@ -197,8 +197,8 @@ testOnBothHosts("tests, coverage and profile of examples", async (engine) => {
   for (const name of ["three_lamps", "lock"]) {
     const sources = [{ name: `${name}.test`, text: example(`${name}/${name}.test`).replace("cycles 538", "cycles 540") }];
     const { outcomes, coverage, profile } = await runTests(engine, { ...readTexts(name), sources }, async () => true);
-    const { text, before } = { text: readTexts(name).programText, before: 0 };
-    reports.push(testsTap(outcomes), coverageText(coverage, { text, before }), lcovText(coverage, { name, before }), profileText(profile));
+    const source = { name, text: readTexts(name).programText, linesBefore: 0 };
+    reports.push(testsTap(outcomes), coverageText(coverage, source), lcovText(coverage, source), profileText(profile));
   }
   assert.ok(reports[0].includes("not ok 2"));
   return reports;

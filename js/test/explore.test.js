@@ -17,7 +17,7 @@ import { hasExpectedResult, joinReports, formatTap, formatReportTests } from "..
 import { Search } from "../core/explore/search.js";
 import { createSubject } from "../core/explore/subject.js";
 import {
-  chooseStep, downInputsAfter, initialDownInputs, areStepsAllowed, createRandom, nextAges, initialAges,
+  chooseStep, updateDownInputs, initialDownInputs, areStepsAllowed, createRandom, updateAges, createInitialAges,
 } from "../core/explore/walks.js";
 import { Watcher } from "../core/explore/walk_watcher.js";
 import { Engine } from "../core/engine/engine.js";
@@ -123,7 +123,7 @@ test("errors in a text of properties are reported with the valid names", () => {
 test("a text without inputs is an error, unless the front panel has keys or TEST", () => {
   const bareSubject = createSubject(engine, BOARD.replace(/^#.*\n/gm, ""), PROGRAM);
   assert.match(readCampaign("never lamp 0 on\n", bareSubject).faults[0].words, /^nothing may change/);
-  assert.deepEqual(readCampaign("test\n", bareSubject).campaign.inputs.map(({ downWords }) => downWords), ["set test 0"]);
+  assert.deepEqual(readCampaign("test\n", bareSubject).campaign.inputs.map(({ downTestLine }) => downTestLine), ["set test 0"]);
   assert.deepEqual(campaignOf("").campaign.inputs.map(({ name }) => name), ["A", "B", "C", "D", "WALK"]);
   assert.deepEqual(campaignOf("press B\nreset\n").campaign.inputs.map(({ name }) => name), ["B"]);
 });
@@ -197,14 +197,14 @@ test("a model determines what the display must show, and its errors are reported
   // The lamp stays on until the user presses B. This wrong model ignores B.
   const answerModel = (chains) => {
     askedKeys.push(...chains);
-    return { shown: chains.map((keys) => (keys.includes("A") ? "1" : "0")), fault: "" };
+    return { expectedTexts: chains.map((keys) => (keys.includes("A") ? "1" : "0")), fault: "" };
   };
   const run = new CampaignRun(displaySubject, campaign, 1, () => true, MAX_MINIMISING_CYCLES, answerModel);
   while (!run.counterexamples[0]) await run.runFor(20);
   assert.equal(run.counterexamples[0].test, "test model ./says\n  pace 300 200\n  keys A B\n  expect display 1\n");
   assert.match(askedKeys[0], /^[AB]( [AB])*$/);
   const failingRun = new CampaignRun(displaySubject, campaign, 1, () => true, MAX_MINIMISING_CYCLES,
-    () => ({ shown: [], fault: "it died" }));
+    () => ({ expectedTexts: [], fault: "it died" }));
   await failingRun.runFor(20);
   assert.equal(failingRun.fault, "it died");
 });
@@ -247,15 +247,15 @@ test("walks respect the limits on the number, duration and distance of key press
   const { campaign } = campaignOf("press A B C D\ntogether 3\nwait 1 to 60\nheld at most 90\napart at least 40\n");
   const random = createRandom(7);
   const steps = [];
-  let [down, ages] = [initialDownInputs(campaign), initialAges(campaign)];
+  let [down, ages] = [initialDownInputs(campaign), createInitialAges(campaign)];
   for (let count = 0; count < 5000; count++) {
     const step = chooseStep(campaign, down, ages, random);
     assert.ok(step.wait >= 1 && step.wait <= 60);
-    [down, ages] = [downInputsAfter(down, step), nextAges(ages, step)];
+    [down, ages] = [updateDownInputs(down, step), updateAges(ages, step)];
     steps.push(step);
   }
   assert.ok(areStepsAllowed(campaign, steps));
-  assert.ok(steps.some((_, index) => steps.slice(0, index).reduce(downInputsAfter, []).length === 3 && index < 200));
+  assert.ok(steps.some((_, index) => steps.slice(0, index).reduce(updateDownInputs, []).length === 3 && index < 200));
   assert.ok(!areStepsAllowed(campaign, [{ wait: 10, kind: "down", input: 0 }, { wait: 91, kind: "up", input: 0 }]));
   assert.ok(!areStepsAllowed(campaign, [{ wait: 10, kind: "up", input: 0 }]));
 });
@@ -265,10 +265,10 @@ test("keys that are down at the start are released in time, one after the other"
   const campaign = { ...read, inputs: read.inputs.map((input) => ({ ...input, isDown: true })) };
   const random = createRandom(3);
   const steps = [];
-  let [down, ages] = [initialDownInputs(campaign), initialAges(campaign)];
+  let [down, ages] = [initialDownInputs(campaign), createInitialAges(campaign)];
   while (down.length > 0) {
     const step = chooseStep(campaign, down, ages, random);
-    [down, ages] = [downInputsAfter(down, step), nextAges(ages, step)];
+    [down, ages] = [updateDownInputs(down, step), updateAges(ages, step)];
     steps.push(step);
   }
   assert.ok(areStepsAllowed(campaign, steps));
@@ -325,17 +325,17 @@ test("the values of places are those that `trace` reports", () => {
     const poke = ["acc", "r0", "r7", "r15", "ram.0.0x1F", "ram.5.64", "st.0.3.2", "st.5.4.1", "ram0.0", "ram5.1"]
       .map((name) => `poke ${name} ${Math.floor(16 * random())}\n`).join("");
     engine.serve(file, `${poke}poke cy ${round % 2}\npress 0 ${round % 4}\nrun ${1 + Math.floor(90 * random())}\n`, file);
-    const { answers } = engine.ask(file, `${reader.lines}${queries.lines(1)}seq\n`);
+    const { answers } = engine.ask(file, `${reader.lines}${queries.formatLines(1)}seq\n`);
     const values = new PlaceValues(answers);
-    const row = reader.row(values);
-    assert.equal(row, values.row(queries));
+    const row = reader.takeRow(values);
+    assert.equal(row, values.takeRow(queries));
     assert.match(values.take(), /^seq /);
   }
 });
 
 test("a rejected count has no results", () => {
   const values = new PlaceValues(["no 11", "count ran 2 end lines 1", "00F 2", "seq 4"]);
-  assert.deepEqual([values.counts(), values.counts()], [[], [{ address: 15, startCount: 2, jumpCount: -1 }]]);
+  assert.deepEqual([values.takeCountsIfAny(), values.takeCountsIfAny()], [[], [{ address: 15, startCount: 2, jumpCount: -1 }]]);
   assert.equal(values.take(), "seq 4");
 });
 
@@ -349,24 +349,25 @@ test("a counted walk ends in the same state as a watched walk", () => {
   const depths = new Set();
   let litCount = 0;
   for (let round = 0; round < 80; round++) {
-    let [down, ages] = [initialDownInputs(campaign), initialAges(campaign)];
+    let [down, ages] = [initialDownInputs(campaign), createInitialAges(campaign)];
     const steps = [...Array(12)].map(() => {
       const step = chooseStep(campaign, down, ages, random);
-      [down, ages] = [downInputsAfter(down, step), nextAges(ages, step)];
+      [down, ages] = [updateDownInputs(down, step), updateAges(ages, step)];
       return step;
     });
-    const start = { file: threeCallSubject.file, time: 7, down: initialDownInputs(campaign),
-      memories: properties.map(({ from }) => from(7, 0)) };
-    const { broken, after } = watcher.watch(start, steps, propertyIndexes);
+    const memories = properties.map(({ createMemory }) => createMemory(7, 0));
+    const start = { file: threeCallSubject.file, time: 7, downInputs: initialDownInputs(campaign),
+      memories };
+    const { violation: broken, stepStates: after } = watcher.watch(start, steps, propertyIndexes);
     assert.equal(broken, null);
     const countedStates = countWalk({ subject: threeCallSubject, campaign, coverage: new Coverage() }, start, steps);
-    countedStates.forEach(({ time, down: isDown, memories }, index) => {
-      assert.deepEqual({ time, down: isDown }, { time: after[index].time, down: after[index].down });
+    countedStates.forEach(({ time, downInputs, memories: countedMemories }, index) => {
+      assert.deepEqual({ time, downInputs }, { time: after[index].time, downInputs: after[index].downInputs });
       // The search must store how long the lamp has been on, because the state of the machine does not contain it.
       const isLit = after[index].memories[0][0] !== -1;
       litCount += Number(isLit);
-      assert.deepEqual(memories.slice(Number(isLit)), after[index].memories.slice(Number(isLit)));
-      depths.add(memories[properties.findIndex(({ form }) => form === "calls")][0]);
+      assert.deepEqual(countedMemories.slice(Number(isLit)), after[index].memories.slice(Number(isLit)));
+      depths.add(countedMemories[properties.findIndex(({ form }) => form === "calls")][0]);
     });
   }
   assert.deepEqual([...depths].sort(), [0, 1, 2, 3]);
@@ -382,8 +383,8 @@ test("encoded files are decoded unchanged", () => {
   engine.serve(otherFile, "press 0 1\nrun 500\n", otherFile);
   const encoded = files.encode(otherFile);
   assert.ok(encoded.indexes.length < 500);
-  assert.deepEqual(files.file(files.encode(subject.file)), subject.file);
-  assert.deepEqual(files.file(encoded), otherFile);
+  assert.deepEqual(files.decode(files.encode(subject.file)), subject.file);
+  assert.deepEqual(files.decode(encoded), otherFile);
 });
 
 test("joined reports have the shortest counterexamples and the combined coverage", async () => {
@@ -412,8 +413,8 @@ test("coverage is reported with the lines that were not run", () => {
   assert.ok(coverage.add([{ address: 2, startCount: 1, jumpCount: 0 }]));
   assert.equal(new Coverage(coverage.text).text, "107");
   const createInstruction = (line, address, isBranch) => ({ line, address, isBranch });
-  assert.deepEqual(coverage.summary([createInstruction(1, 0, false), createInstruction(2, 2, true), createInstruction(3, 4, true)]),
-    { run: 2, all: 3, ways: 2, allWays: 4, left: [3], oneWay: [] });
+  assert.deepEqual(coverage.summarise([createInstruction(1, 0, false), createInstruction(2, 2, true), createInstruction(3, 4, true)]),
+    { run: 2, all: 3, ways: 2, allWays: 4, unexecutedLines: [3], oneWay: [] });
 });
 
 const SAVING = "test it is lit\n  press A\n  run 400\n  save lit\n\n"
@@ -456,8 +457,8 @@ test("the same seed gives the same counterexample for each slice length", async 
   const counterexamples = [];
   for (const slice of [1, 500]) {
     const search = new SlicedSearch(engine, texts, searchSetup, { seed: 3, seconds: 5 }, pause);
-    while (!search.run.counterexamples[0]) await search.runFor(slice);
-    counterexamples.push(search.run.counterexamples[0]);
+    while (!search.campaignRun.counterexamples[0]) await search.runFor(slice);
+    counterexamples.push(search.campaignRun.counterexamples[0]);
   }
   assert.deepEqual(counterexamples[0], counterexamples[1]);
 });
@@ -513,8 +514,8 @@ test("the lines before a counterexample contain shared steps instead of `do`, an
   const propertiesText = "from lit\npress A B\nnever lamp on on\n";
   const { searchSetup, faults } = await prepareSearch(engine, { ...texts, testText, propertiesText });
   assert.deepEqual(faults, []);
-  assert.deepEqual(searchSetup.campaign.before, ["  repeat 2", "  run 5", "  press A", "  reset", "  end"]);
+  assert.deepEqual(searchSetup.campaign.leadingLines, ["  repeat 2", "  run 5", "  press A", "  reset", "  end"]);
   // After a power cycle, the number of open calls is unknown.
-  assert.equal(searchSetup.campaign.calls.least, 0);
-  assert.ok(searchSetup.campaign.calls.most > 0);
+  assert.equal(searchSetup.campaign.calls.min, 0);
+  assert.ok(searchSetup.campaign.calls.max > 0);
 });

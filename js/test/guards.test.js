@@ -144,14 +144,14 @@ function randomRun(random) {
  * violated.
  */
 function findViolationTime(property, { c, g, acts }) {
-  const memory = property.from(0, 0);
+  const memory = property.createMemory(0, 0);
   const areGuardsOpenAt = (time) => property.guards.map(({ condition }) => condition !== null && g[time]);
   let violation = -1;
   const notify = (event, time, input = "") => {
     const isState = event === "values";
     const areOpen = isState || event === "down" ? areGuardsOpenAt(time) : [];
-    const violationNow = property.update(memory, event,
-      { time, changed: time, address: -1, holds: isState && c[time], areOpen, input, isDown: 0 });
+    const moment = { time, changeTime: time, address: -1, holds: isState && c[time], areOpen, input, downCount: 0 };
+    const violationNow = property.update(memory, event, moment);
     if (violationNow >= 0 && (violation < 0 || violationNow < violation)) violation = violationNow;
   };
   let start = 0;

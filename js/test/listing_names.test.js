@@ -10,15 +10,16 @@ const MAP = new SourceMap(["map lines 5 names 4", "line 1 000 0", "line 2 000 2"
 const listingLine = (line) => ({ address: parseInt(line.slice(0, 3), 16), line });
 
 test("a line has its labels, its target's label and its line of the source", () => {
-  assert.deepEqual(addLineNames(listingLine("000 50 02 JMS 0x002"), MAP), { address: 0, first: "000", second: "001", bytes: "000 50 02",
-    labels: "go:", instruction: "JMS put", source: "line 2: go: jms put ; far" });
-  assert.deepEqual(addLineNames(listingLine("002 C0    BBL 0"), MAP), { address: 2, first: "002", second: "", bytes: "002 C0   ",
+  assert.deepEqual(addLineNames(listingLine("000 50 02 JMS 0x002"), MAP), { address: 0, firstAddress: "000", secondAddress: "001",
+    bytes: "000 50 02", labels: "go:", instruction: "JMS put", source: "line 2: go: jms put ; far" });
+  assert.deepEqual(addLineNames(listingLine("002 C0    BBL 0"), MAP), { address: 2, firstAddress: "002", secondAddress: "", bytes: "002 C0   ",
     labels: "put: out:", instruction: "BBL 0", source: "line 4: out: BBL 0" });
   assert.equal(addLineNames(listingLine("003 40 02 JUN 0x002"), MAP).instruction, "JUN out");
 });
 
 test("a line that is not part of the program stays unchanged", () => {
-  const plain = { address: 5, first: "005", second: "006", bytes: "005 40 02", labels: "", instruction: "JUN 0x002", source: "" };
+  const plain = { address: 5, firstAddress: "005", secondAddress: "006", bytes: "005 40 02", labels: "",
+    instruction: "JUN 0x002", source: "" };
   assert.deepEqual(addLineNames(listingLine("005 40 02 JUN 0x002"), MAP), plain);
   assert.deepEqual(addLineNames(listingLine("005 40 02 JUN 0x002"), null), plain);
 });
@@ -36,14 +37,14 @@ test("the width of the labels", () => {
 test("go to: names, hexadecimal and decimal addresses", () => {
   const addresses = ["put", " on ", "PUT", "put + 7", "put+0x07", "01E", "01e", "0x1E", "0x01e", "30", "100", "4095", "0", "0xFFF", "0030"];
   assert.deepEqual(addresses.map((text) => parseGoal(text, MAP)), [2, 12, 2, 9, 9, 30, 30, 30, 30, 30, 256, 4095, 0, 4095, 30]
-    .map((address) => ({ address, words: "" })));
+    .map((address) => ({ address, message: "" })));
 });
 
 test("go to: invalid addresses are rejected with a reason", () => {
   for (const [text, words] of [["4096", /^4096 is not an address: the last one is FFF/], ["0x1000", /the last one/],
     ["put2", /^put2 is neither/], ["put + 4095", /^put \+ 4095 is neither/],
     ["", /^Enter where to go/], ["1E", /^1E is neither/], ["-1", /neither/], ["01E0", /neither/]]) {
-    assert.match(parseGoal(text, MAP).words, words);
+    assert.match(parseGoal(text, MAP).message, words);
   }
-  assert.match(parseGoal("put", null).words, /^put is not an address: .* Names are known only while/);
+  assert.match(parseGoal("put", null).message, /^put is not an address: .* Names are known only while/);
 });

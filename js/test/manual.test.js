@@ -2,7 +2,7 @@ import assert from "node:assert/strict";
 import { execFileSync } from "node:child_process";
 import { test } from "node:test";
 import {
-  cellWords, matchLines, readInstructions, readLineForms, splitCell, cellText, searchManual, describeCell,
+  readCellDescriptions, matchLines, readInstructions, readLineForms, splitCell, cellText, searchManual, describeCell,
 } from "../core/help/manual.js";
 
 const SCRIPT = "import json; from manual_tables import manual_tables; print(json.dumps(manual_tables()))";
@@ -42,7 +42,7 @@ test("a search finds rows, and whole sections by their titles", () => {
 });
 
 test("cells of the page have descriptions", () => {
-  const words = cellWords(MANUAL);
+  const words = readCellDescriptions(MANUAL);
   for (const name of ["acc", "owed", "dcl", "ret 3", "R", "latch", "SRC, ROMs"]) assert.ok(words.has(name), name);
   assert.equal(describeCell(words, "R15"), words.get("R"));
   assert.equal(describeCell(words, "bank 3"), words.get("bank"));

@@ -12,7 +12,7 @@ import { romCodes } from "../core/engine/rom_codes.js";
 import { buildLampRows, formatCell } from "../core/panel/lamp_rows.js";
 import { largeDigitRows } from "../core/panel/large_digits.js";
 import { Panel } from "../core/panel/terminal_panel.js";
-import { Screen, fitsPanel, middleRows } from "../core/panel/screen.js";
+import { Screen, fitsPanel, countMiddleRows } from "../core/panel/screen.js";
 import { splitKeys } from "../core/panel/terminal_keys.js";
 import { sentText } from "../core/text/sendable_text.js";
 import { PanelTerminal } from "../node/panel_terminal.mjs";
@@ -44,7 +44,7 @@ async function openPanel({ board, program }, { lines = "", isPaused = false, has
   const ask = async (sessionLines) => engine.serve(state, sessionLines, state).answers;
   const answers = await ask(`wire\n${sentText(board, "#")}.\nasm\n${program}.\n${lines}`);
   assert.deepEqual(answers.filter((answer) => answer.startsWith("no ")), []);
-  const sourceOf = () => ({ map: sessionProgram(engine, romCodes(engine, state), program).map, lines: program.split("\n"), before: 0 });
+  const sourceOf = () => ({ map: sessionProgram(engine, romCodes(engine, state), program).map, lines: program.split("\n"), linesBefore: 0 });
   const options = {
     name: "s.mcs", board: readBoard(await ask("board\n")), face: new Face(board), note: "", isPaused,
     source: hasSource ? sourceOf() : null,
@@ -57,7 +57,7 @@ async function openPanel({ board, program }, { lines = "", isPaused = false, has
   const typed = async (keys) => {
     for (const key of splitKeys(keys)) {
       await panel.handleKey(key, now);
-      await panel.snapshot.refresh(middleRows(TERMINAL_SIZE));
+      await panel.snapshot.refresh(countMiddleRows(TERMINAL_SIZE));
     }
   };
   /** Lets time pass, frame by frame. */
@@ -66,9 +66,9 @@ async function openPanel({ board, program }, { lines = "", isPaused = false, has
       now += 100;
       await panel.keepRealTime(now);
     }
-    await panel.snapshot.refresh(middleRows(TERMINAL_SIZE));
+    await panel.snapshot.refresh(countMiddleRows(TERMINAL_SIZE));
   };
-  const rows = (size = TERMINAL_SIZE) => screen.rows(size).map(({ pieces }) => pieces.map(({ text }) => text).join(""));
+  const rows = (size = TERMINAL_SIZE) => screen.buildRows(size).map(({ pieces }) => pieces.map(({ text }) => text).join(""));
   return { panel, screen, ask, typed, pass, rows, text: (size = TERMINAL_SIZE) => rows(size).map((row) => row.trimEnd()).join("\n") };
 }
 
@@ -128,7 +128,7 @@ test("the panel runs at the speed of the chip, and skips time that a slow host m
 
 test("a session at a breakpoint is paused; Enter runs one instruction; Tab toggles a breakpoint", async () => {
   const { typed, text, panel } = await openPanel(COUNTER, { lines: "poke r3 15\npoke r2 3\nbreak 2\nrun 100\n" });
-  await panel.snapshot.refresh(middleRows(TERMINAL_SIZE));
+  await panel.snapshot.refresh(countMiddleRows(TERMINAL_SIZE));
   assert.match(text(), /paused at a breakpoint\n/);
   assert.match(text(), />\*002 72 00 ISZ R2, 0x000/);
   await typed("\r");
@@ -191,7 +191,7 @@ test("lamps have levels of brightness while running, and the state of an instant
   const { pass, typed, text, screen } = await openPanel({ board, program });
   await pass(200);
   assert.match(text(), /\(:\) seldom[^]*\(\*\) mostly[^]*\(\*\) always[^]*\( \) never/);
-  const seldom = screen.rows(TERMINAL_SIZE).flatMap(({ pieces }) => pieces).find((piece) => piece.text.includes("seldom"));
+  const seldom = screen.buildRows(TERMINAL_SIZE).flatMap(({ pieces }) => pieces).find((piece) => piece.text.includes("seldom"));
   assert.deepEqual([seldom.colour, seldom.level], ["red", 1]);
   await typed(" ");
   assert.doesNotMatch(text(), /\(:\)/);

@@ -19,7 +19,7 @@ const rows = manual.split("### The 45 instructions")[1].split("### What SRC")[0]
   .map((line) => line.slice(1, -1).split("|").map((cell) => cell.trim()));
 const instructions = readInstructions([{ title: "The 45 instructions", tables: [{ caption: "", head: [], rows }] }]);
 const programFacts = (text) => ({ instructions, names: findDefinedNames(text.split("\n")) });
-const errorOf = (line, number = 30, text = line) => (explainProgramLine(line, number, programFacts(text)) || { words: "" }).words;
+const errorOf = (line, number = 30, text = line) => (explainProgramLine(line, number, programFacts(text)) || { message: "" }).message;
 const wrongWordOf = (line, number = 30) => (explainProgramLine(line, number, programFacts(line)) || { word: { text: "" } }).word.text;
 
 test("the manual's table has all 45 instructions", () => {
@@ -109,16 +109,16 @@ test("all errors have a message and a position; lines that cannot be sent are se
   const result = await findProgramFaults(text, instructions, () => "", bench);
   assert.deepEqual(result.faults.map(({ line, from, words }) => [line, from, words.split(";")[0]]),
     [[1, 7, "LDX is not an instruction"], [2, 9, "strat is not defined"], [3, 3, "\u00e9 is not an ASCII character"]]);
-  assert.deepEqual([result.isWhole, result.rest, bench.asked.refused], [true, null, 0]);
+  assert.deepEqual([result.isComplete, result.generalRefusal, bench.asked.refused], [true, null, 0]);
   assert.deepEqual(bench.asked.sent, ["start: LDX 5\nFIM P0, strat\n\n"]);
 });
 
 test("a program without errors is tried on the board; after 100 errors there can be more", async () => {
   const bench = createFakeBench([], 42);
   const result = await findProgramFaults("NOP\n", instructions, () => "", bench);
-  assert.deepEqual(result, { faults: [], isWhole: true, rest: { number: 42, line: 0 } });
+  assert.deepEqual(result, { faults: [], isComplete: true, generalRefusal: { number: 42, line: 0 } });
   const benchWithManyErrors = createFakeBench(Array.from({ length: 100 }, (_, at) => ({ line: at + 1, number: 30 })));
-  assert.equal((await findProgramFaults("LDX\n".repeat(101), instructions, () => "", benchWithManyErrors)).isWhole, false);
+  assert.equal((await findProgramFaults("LDX\n".repeat(101), instructions, () => "", benchWithManyErrors)).isComplete, false);
 });
 
 test("a text is sent line by line, without comments and indentation", () => {
@@ -188,15 +188,15 @@ test("the message about assembled bytes names the bytes that stay in ROM", () =>
 
 test("a text with an error in each line of code is probably not a program", () => {
   const createErrors = (...lines) => lines.map((line) => ({ number: 30, line, from: 0, to: 1, words: "" }));
-  assert.equal(isProbablyNotProgram("hello there\n\n; a remark\nand more\n", { faults: createErrors(1, 4), isWhole: true, rest: null }),
+  assert.equal(isProbablyNotProgram("hello there\n\n; a remark\nand more\n", { faults: createErrors(1, 4), isComplete: true, generalRefusal: null }),
     true);
-  assert.equal(isProbablyNotProgram("hello there\n NOP\n", { faults: createErrors(1), isWhole: true, rest: null }), false);
+  assert.equal(isProbablyNotProgram("hello there\n NOP\n", { faults: createErrors(1), isComplete: true, generalRefusal: null }), false);
   // The search for errors stops after a maximum number of errors.
   const longText = "prose\n".repeat(500);
   const errors = createErrors(...Array.from({ length: 20 }, (_, line) => line + 1));
-  assert.equal(isProbablyNotProgram(longText, { faults: errors, isWhole: false, rest: null }), true);
-  assert.equal(isProbablyNotProgram(`NOP\n${longText}`, { faults: createErrors(2, 3), isWhole: false, rest: null }), false);
+  assert.equal(isProbablyNotProgram(longText, { faults: errors, isComplete: false, generalRefusal: null }), true);
+  assert.equal(isProbablyNotProgram(`NOP\n${longText}`, { faults: createErrors(2, 3), isComplete: false, generalRefusal: null }), false);
   for (const textWithoutCode of ["", "; a remark\n"]) {
-    assert.equal(isProbablyNotProgram(textWithoutCode, { faults: [], isWhole: true, rest: null }), false);
+    assert.equal(isProbablyNotProgram(textWithoutCode, { faults: [], isComplete: true, generalRefusal: null }), false);
   }
 });

@@ -42,7 +42,7 @@ async function createPrompt({ board, program } = { board: BOARD, program: PROGRA
   await prompt.begin();
   const ask = async (...lines) => {
     printed = [];
-    for (const line of lines) await prompt.take(line);
+    for (const line of lines) await prompt.enterLine(line);
     return printed;
   };
   return { prompt, session, ask, printed: () => printed };
@@ -51,16 +51,16 @@ async function createPrompt({ board, program } = { board: BOARD, program: PROGRA
 test("each command has a handler, is found by its names, and has help", async () => {
   const { prompt } = await createPrompt();
   assert.deepEqual(Object.keys(prompt.handlers).sort(), COMMANDS.map(({ name }) => name).sort());
-  const words = COMMANDS.flatMap(({ name, short }) => [name, ...short]);
+  const words = COMMANDS.flatMap(({ name, abbreviations }) => [name, ...abbreviations]);
   assert.equal(new Set(words).size, words.length);
   for (const word of words) assert.ok(findCommand(word).command, word);
-  for (const { name, use, does } of COMMANDS) {
-    assert.ok(commandHelp(name).startsWith(`${use}: ${does}.`), name);
-    assert.ok(use.startsWith(name === "x" ? "x[" : name), name);
+  for (const { name, usage, effect } of COMMANDS) {
+    assert.ok(commandHelp(name).startsWith(`${usage}: ${effect}.`), name);
+    assert.ok(usage.startsWith(name === "x" ? "x[" : name), name);
   }
   assert.equal(findCommand("und").command.name, "undisplay");
-  assert.equal(findCommand("re").words, "re is ambiguous: reverse-step, reverse-next, reverse-continue, release, reset");
-  assert.equal(findCommand("bogus").words, "there is no command bogus; help shows them all");
+  assert.equal(findCommand("re").message, "re is ambiguous: reverse-step, reverse-next, reverse-continue, release, reset");
+  assert.equal(findCommand("bogus").message, "there is no command bogus; help shows them all");
 });
 
 test("places, counts and times are parsed", async () => {

@@ -6,7 +6,7 @@ import { BenchCalls } from "../core/engine/bench_calls.js";
 import { Engine } from "../core/engine/engine.js";
 import { Prover } from "../core/prove/prover.js";
 import { beginProving, createPropertyVerdict } from "../core/prove/bounded_proof.js";
-import { boundsUpTo } from "../core/prove/question.js";
+import { listBounds } from "../core/prove/question.js";
 import { findPropertyLine, isStillValid } from "../core/prove/verdict_validity.js";
 import { markOf, proofsTabMark, finalSummary, describeVerdict, progressSummary } from "../words/prove_results.js";
 import { pageModule } from "./page_session.js";
@@ -88,9 +88,9 @@ async function runProofs(answer, { most: maximum = 50000, answerMistakes, answer
 const kindsOf = (all) => all.map(({ verdict: { kind } }) => kind);
 
 test("the bound on the number of states doubles up to the requested maximum", () => {
-  assert.deepEqual(boundsUpTo(77), [77]);
-  assert.deepEqual(boundsUpTo(10000), [10000]);
-  assert.deepEqual(boundsUpTo(50000), [10000, 20000, 40000, 50000]);
+  assert.deepEqual(listBounds(77), [77]);
+  assert.deepEqual(listBounds(10000), [10000]);
+  assert.deepEqual(listBounds(50000), [10000, 20000, 40000, 50000]);
 });
 
 test("a question is repeated with a larger bound while there are more states, and reports its progress", async () => {
@@ -112,7 +112,7 @@ test("properties are proved together first, and separately only if necessary", a
   const openResult = await runProofs((bound) => (bound < 50000 ? "too many\n" : "no 90\n"));
   assert.deepEqual(kindsOf(openResult.all), ["open", "open", "open"]);
   assert.deepEqual(openResult.engine.asked.map(([, nevers]) => nevers), [2, 2, 2, 2, 1, 1, 1, 1]);
-  assert.match(openResult.all[0].verdict.words, /memory has room for only 40,000 states/);
+  assert.match(openResult.all[0].verdict.reason, /memory has room for only 40,000 states/);
   const singleResult = await runProofs(() => LAMP_ON_ANSWER, { propertiesText: "test\nnever lamp lit on\n" });
   assert.deepEqual(singleResult.engine.asked, [[10000, 1]]);
 });
@@ -133,7 +133,7 @@ test("seven mistakes are checked for each program: together first, and separatel
   // A report of the prover that the bench does not confirm is not a counterexample.
   const answerMistakes = (words) => (words.includes("wrr") ? "may fail 0\n" : NO_MISTAKE_ANSWER);
   const unconfirmedResult = await runProofs(() => "", { ...noProperties, answerMistakes });
-  assert.equal(unconfirmedResult.made[6].verdict.words, "the bench does not confirm the counterexample that was found");
+  assert.equal(unconfirmedResult.made[6].verdict.reason, "the bench does not confirm the counterexample that was found");
 });
 
 test("sets of states prove the absence of mistakes, and properties that the search does not decide", async () => {
@@ -149,7 +149,7 @@ test("sets of states prove the absence of mistakes, and properties that the sear
   assert.deepEqual(someResult.engine.bySets, [words, ...words.split(" ")]);
   assert.deepEqual(someResult.engine.mistakes, [words, words, words, words]);
   assert.deepEqual(kindsOf(someResult.made), ["open", "proved", "open", "open", "open", "open", "open"]);
-  assert.match(someResult.made[0].verdict.words, /more than/);
+  assert.match(someResult.made[0].verdict.reason, /more than/);
 });
 
 test("each property with a stopwatch is proved separately, and never with sets of states", async () => {
@@ -160,23 +160,24 @@ test("each property with a stopwatch is proved separately, and never with sets o
   assert.deepEqual(engine.asked, [[10000, 1]]);
   assert.deepEqual(kindsOf(all), ["proved", "found", "proved", "open"]);
   assert.deepEqual(all[2].verdict, { kind: "proved", states: 7, bySets: false, leftOut: "" });
-  const { text } = all[1].verdict.found;
+  const { text } = all[1].verdict.counterexample;
   assert.match(text, /^test never lamp lit on for 9\n {2}press WALK\n {2}run \d+\n {2}until not lamp lit on within 9\n$/);
 });
 
 test("a counterexample contains the lines after which one step breaks the property", async () => {
-  const { all: [{ verdict: { found } }], engine } = await runProofs(() => LAMP_ON_ANSWER, { propertiesText: "test\nnever lamp lit on\n" });
+  const { all: [{ verdict }], engine } = await runProofs(() => LAMP_ON_ANSWER, { propertiesText: "test\nnever lamp lit on\n" });
+  const { counterexample: found } = verdict;
   assert.ok(found.isTest && found.isAllowed);
   const file = engine.begin();
   const lampsAfter = (lines) => engine.ask(file, `${lines}lamps\n`).answers.slice(-1)[0];
   engine.serve(file, `wire\n${texts.boardText}.\nasm\n${texts.programText}.\n`, file);
-  assert.match(lampsAfter(found.before), /^lamps \.\.$/);
-  assert.match(lampsAfter(`${found.before}step\n`), /^lamps \*\.$/);
+  assert.match(lampsAfter(found.linesBefore), /^lamps \.\.$/);
+  assert.match(lampsAfter(`${found.linesBefore}step\n`), /^lamps \*\.$/);
 });
 
 test("an unconfirmed counterexample leaves a property undecided, and an unexpected answer is an error", async () => {
   const wrongResult = await runProofs(() => "may fail 1\n", { propertiesText: "test\nnever lamp 1 on\n" });
-  assert.deepEqual(wrongResult.all[0].verdict, { kind: "open", words: "the bench does not confirm the counterexample that was found" });
+  assert.deepEqual(wrongResult.all[0].verdict, { kind: "open", reason: "the bench does not confirm the counterexample that was found" });
   await assert.rejects(runProofs(() => "no 25\n"), /ended without an answer: no 25/);
   const { faults } = await runProofs(() => "holds 1\n", { propertiesText: "never lamp purple on\n" });
   assert.deepEqual(faults.map(({ line }) => line), [1]);
@@ -184,7 +185,7 @@ test("an unconfirmed counterexample leaves a property undecided, and an unexpect
 
 test("a verdict remains valid while its property, the program and the board are unchanged", () => {
   const proved = { text: "never lamp 1 on", line: 2, isGoal: false, verdict: { kind: "proved", states: 3, bySets: false, leftOut: "" } };
-  const open = { ...proved, verdict: { kind: "open", words: "why" } };
+  const open = { ...proved, verdict: { kind: "open", reason: "why" } };
   const changeTexts = (change) => ({ ...texts, ...change });
   const changeProperties = (text) => changeTexts({ propertiesText: text });
   assert.ok(isStillValid(proved, texts, texts));
@@ -247,7 +248,7 @@ test("the page receives each verdict and the number of states so far", async () 
     nevers) => (nevers.length === 1 ? LAMP_ON_ANSWER : bound < 20000 ? "too many\n" : "holds 12345\n"));
   const reports = [];
   const { faults, isStopped } = await createProver(engine).prove(texts, 50000, new AbortController().signal,
-    ({ judged: all, count, states }) => reports.push([all.length, count, states]));
+    ({ verdicts: all, count, states }) => reports.push([all.length, count, states]));
   assert.deepEqual([faults, isStopped], [[], false]);
   assert.deepEqual(reports[0], [0, 10, 0]);
   assert.ok(reports.some(([, , states]) => states === 10000));
@@ -268,9 +269,10 @@ test("cancelling ends the worker at once; a silent worker is not ended", async (
 });
 
 test("verdicts are described", () => {
-  const found = { steps: 2, cycles: 1204, isAllowed: true, isTest: true, text: "", before: "" };
+  const found = { steps: 2, cycles: 1204, isAllowed: true, isTest: true, text: "", linesBefore: "" };
   const proved = { kind: "proved", states: 96937, bySets: false, leftOut: '"once"' };
-  const verdicts = [{ ...proved, states: 1, bySets: true, leftOut: "" }, proved, { kind: "found", found }, { kind: "open", words: "why" }];
+  const verdicts = [{ ...proved, states: 1, bySets: true, leftOut: "" }, proved, { kind: "found", counterexample: found },
+    { kind: "open", reason: "why" }];
   const all = verdicts.map((verdict, at) => ({ text: `p${at}`, line: at + 1, isGoal: false, verdict }));
   const goals = all.map((propertyVerdict) => ({ ...propertyVerdict, isGoal: true }));
   assert.deepEqual(all.map(markOf), ["proved", "proved", "can fail", "not decided"]);
@@ -279,8 +281,8 @@ test("verdicts are described", () => {
     "for all inputs: 1 set of states", 'for all inputs: 96,937 states, even without "once"', "broken by 2 steps, 1,204 cycles", "why"]);
   assert.equal(finalSummary(all, false), "2 proved, 1 can fail, 1 not decided.");
   assert.equal(finalSummary(goals, true), "Cancelled: 1 reached, 2 never reached, 1 not decided.");
-  assert.equal(progressSummary({ judged: all.slice(1), count: 4, states: 0 }), "Property 4 of 4");
-  assert.equal(progressSummary({ judged: [], count: 4, states: 20000 }), "Property 1 of 4: more than 20,000 states so far");
+  assert.equal(progressSummary({ verdicts: all.slice(1), count: 4, states: 0 }), "Property 4 of 4");
+  assert.equal(progressSummary({ verdicts: [], count: 4, states: 20000 }), "Property 1 of 4: more than 20,000 states so far");
   assert.equal(proofsTabMark(all), "1 can fail");
   assert.equal(proofsTabMark(all.slice(0, 2)), "2 proved");
   assert.equal(proofsTabMark([]), "");

@@ -10,7 +10,7 @@ import { createSubject } from "../core/explore/subject.js";
 import { createRandom } from "../core/explore/walks.js";
 import { replayCounterexample } from "../core/prove/counterexample.js";
 import { listComparisons } from "../core/prove/condition_comparisons.js";
-import { allMistakes, cyclesToMistake } from "../core/prove/mistakes.js";
+import { listMistakes, countCyclesToMistake } from "../core/prove/mistakes.js";
 import {
   MAX_STOPWATCH_CYCLES, MAX_PRESSES, createQuestion, mistakeQuestion, neverQuestion, questionText, readAnswer,
 } from "../core/prove/question.js";
@@ -153,12 +153,12 @@ test("a condition about a display becomes comparisons of its lamps", () => {
 });
 
 test("conditions that use inputs, or too many places, are rejected with a reason", () => {
-  assert.deepEqual(questionOf("never rom1 in 3"), { question: null, words: "its condition uses rom1, an input" });
-  assert.deepEqual(questionOf("never rom1.1 = 1 for 1 ms"), { question: null, words: "its condition uses rom1.1, an input" });
-  assert.match(questionOf("never r0 + r1 + r2 + r3 + r4 = 9").words, /uses too many places/);
-  assert.match(questionOf("after press A within 1 ms lamp on on").words, /of the form "after press" cannot be proved yet/);
-  assert.match(questionOf("@look at most once for each press").words, /of the form "once" cannot be proved yet/);
-  assert.equal(questionOf("while r0 = 2, never r1 = 1").question.nevers.length, 1);
+  assert.deepEqual(questionOf("never rom1 in 3"), { question: null, reason: "its condition uses rom1, an input" });
+  assert.deepEqual(questionOf("never rom1.1 = 1 for 1 ms"), { question: null, reason: "its condition uses rom1.1, an input" });
+  assert.match(questionOf("never r0 + r1 + r2 + r3 + r4 = 9").reason, /uses too many places/);
+  assert.match(questionOf("after press A within 1 ms lamp on on").reason, /of the form "after press" cannot be proved yet/);
+  assert.match(questionOf("@look at most once for each press").reason, /of the form "once" cannot be proved yet/);
+  assert.equal(questionOf("while r0 = 2, never r1 = 1").question.forbidden.length, 1);
 });
 
 const AT_ADDRESS_0 = ["in counter 3 whole 0 0", "in counter 4 whole 0 0", "in counter 5 whole 0 0"];
@@ -206,12 +206,12 @@ test("key presses become a question about the rows and columns of the key matrix
 });
 
 test("key presses that the prover cannot count are rejected with a reason", () => {
-  const refusalOf = (text, usedSubject) => questionOf(text, usedSubject).words;
+  const refusalOf = (text, usedSubject) => questionOf(text, usedSubject).reason;
   assert.match(refusalOf("lamp on on only after press A, press WALK"), /^WALK is at the TEST pin/);
   assert.match(refusalOf("rom1 in 3 only after press A"), /^its condition uses rom1, an input/);
   const questionWithPresses = (count) => questionOf(`lamp on on only after ${Array(count).fill("press A").join(", ")}`);
   assert.equal(questionWithPresses(MAX_PRESSES).question.presses.keys.length, 100);
-  assert.match(questionWithPresses(MAX_PRESSES + 1).words, /^it names more than 100 presses/);
+  assert.match(questionWithPresses(MAX_PRESSES + 1).reason, /^it names more than 100 presses/);
   // A one-cycle instruction at `same` is followed by another instruction that begins at `same`.
   for (const [code, isAllowed] of [["JIN P0", false], ["BBL 0", false], ["FIN P0", true], ["JUN same", true]]) {
     const jumpSubject = createSubject(engine, BOARD, `        FIM P0, 2\nsame:   ${code}\n        NOP\n`);
@@ -223,40 +223,40 @@ test("key presses that the prover cannot count are rejected with a reason", () =
 test("a time that is too long for the stopwatch is rejected with a reason", () => {
   assert.equal(questionOf(`every ${MAX_STOPWATCH_CYCLES} @look`).question.stopwatch.within, MAX_STOPWATCH_CYCLES);
   assert.deepEqual(questionOf(`every ${MAX_STOPWATCH_CYCLES + 1} @look`),
-    { question: null, words: "its time is longer than 16,777,214 cycles" });
+    { question: null, reason: "its time is longer than 16,777,214 cycles" });
 });
 
 test("the lines of a stopwatch follow the texts", () => {
   const stopwatch = { begins: [["in register 1 whole 0 3"], []], ends: [["out counter 1 whole 0 0"]], within: 5 };
-  const lines = questionText({ board: "rom = []\n", program: "NOP" }, { ...neverQuestion([]), stopwatch }, { most: 77 }).split("\n");
+  const lines = questionText({ board: "rom = []\n", program: "NOP" }, { ...neverQuestion([]), stopwatch }, { maxStates: 77 }).split("\n");
   assert.deepEqual(lines.slice(8),
     ["within 5", "begin", "in register 1 whole 0 3", "begin", "end", "out counter 1 whole 0 0", "prove", ""]);
 });
 
 test("the lines of key presses follow the conditions that they enable", () => {
   const presses = { opens: [["in register 1 whole 0 3"], []], keys: [matrixKey(0, 2), matrixKey(1, 0)] };
-  const lines = questionText({ board: "rom = []\n", program: "NOP" }, { ...neverQuestion([]), presses }, { most: 77 }).split("\n");
+  const lines = questionText({ board: "rom = []\n", program: "NOP" }, { ...neverQuestion([]), presses }, { maxStates: 77 }).split("\n");
   assert.deepEqual(lines.slice(8), ["open", "in register 1 whole 0 3", "open", "up 0 2", "down 0 2", "up 1 0", "down 1 0", "prove", ""]);
 });
 
 test("a question contains its limits, both texts and the forbidden conditions", () => {
   const nevers = [["in register 1 whole 0 3", "out counter 1 whole 0 0"], []];
-  const question = questionText({ board: "rom = []\n", program: "NOP" }, neverQuestion(nevers), { most: 77 });
+  const question = questionText({ board: "rom = []\n", program: "NOP" }, neverQuestion(nevers), { maxStates: 77 });
   assert.deepEqual(question.split("\n"), ["most 77", "pause 1000000", "wire", "rom = []", ".", "asm", "NOP", ".", "never",
     "in register 1 whole 0 3", "out counter 1 whole 0 0", "never", "prove", ""]);
 });
 
 test("a question can have a limit of memory, and of sets", () => {
   const questionLines = (limits) => questionText({ board: "rom = []\n", program: "NOP" }, neverQuestion([[]]), limits).split("\n");
-  assert.deepEqual(questionLines({ most: 77, memory: 5 }).slice(0, 4), ["most 77", "memory 5", "pause 1000000", "wire"]);
-  assert.deepEqual(questionLines({ most: 0, sets: 9 }).slice(0, 4), ["most 0", "sets 9", "pause 1000000", "wire"]);
+  assert.deepEqual(questionLines({ maxStates: 77, memory: 5 }).slice(0, 4), ["most 77", "memory 5", "pause 1000000", "wire"]);
+  assert.deepEqual(questionLines({ maxStates: 0, sets: 9 }).slice(0, 4), ["most 0", "sets 9", "pause 1000000", "wire"]);
 });
 
 test("mistakes are another forbidden condition", () => {
-  const question = { ...mistakeQuestion(["code", "ram"]), nevers: [["in register 1 whole 0 3"]] };
-  const lines = questionText({ board: "rom = []\n", program: "NOP" }, question, { most: 77 }).split("\n");
+  const question = { ...mistakeQuestion(["code", "ram"]), forbidden: [["in register 1 whole 0 3"]] };
+  const lines = questionText({ board: "rom = []\n", program: "NOP" }, question, { maxStates: 77 }).split("\n");
   assert.deepEqual(lines.slice(8), ["never", "in register 1 whole 0 3", "never", "mistake code ram", "prove", ""]);
-  assert.deepEqual(allMistakes().map(({ word, property: { form } }) => `${word} ${form}`),
+  assert.deepEqual(listMistakes().map(({ word, property: { form } }) => `${word} ${form}`),
     ["code code", "call calls", "return returns", "ram mistake", "rom mistake", "rdr mistake", "wrr mistake"]);
 });
 
@@ -382,10 +382,10 @@ test("mistakes are detected before the instruction that makes them", () => {
   for (const { program, made } of PROGRAMS_WITH_MISTAKES) {
     const mistakeSubject = createSubject(engine, BOARD, `${program}\n${program.includes("ORG") ? "" : "end: JUN end\n"}`);
     for (const word of ["ram", "rom", "rdr", "wrr"]) {
-      assert.equal(cyclesToMistake(mistakeSubject, mistakeSubject.file, word, 20), made[word] === undefined ? -1 : made[word],
+      assert.equal(countCyclesToMistake(mistakeSubject, mistakeSubject.file, word, 20), made[word] === undefined ? -1 : made[word],
         `${program}: ${word}`);
       if (!(made[word] > 0)) continue;
-      assert.equal(cyclesToMistake(mistakeSubject, mistakeSubject.file, word, made[word] - 1), -1, `${program}: ${word}, too late`);
+      assert.equal(countCyclesToMistake(mistakeSubject, mistakeSubject.file, word, made[word] - 1), -1, `${program}: ${word}, too late`);
     }
   }
 });
@@ -395,8 +395,8 @@ test("verdicts are printed as TAP, and determine the exit status", () => {
   const goal = { ...property, text: "reach it", isGoal: true };
   const provedVerdict = { kind: "proved", states: 96937, bySets: false, leftOut: "" };
   const setVerdict = { kind: "proved", states: 23, bySets: true, leftOut: '"once" and "after press"' };
-  const openVerdict = { kind: "open", words: "why" };
-  const foundVerdict = { kind: "found", found: { steps: 1, cycles: 1200, isAllowed: true, isTest: true, text: "test x\n  run 1\n" } };
+  const openVerdict = { kind: "open", reason: "why" };
+  const foundVerdict = { kind: "found", counterexample: { steps: 1, cycles: 1200, isAllowed: true, isTest: true, text: "test x\n  run 1\n" } };
   const verdicts = [{ property, verdict: provedVerdict }, { property, verdict: openVerdict }, { property: goal, verdict: foundVerdict },
     { property: goal, verdict: provedVerdict }, { property, verdict: setVerdict }, { property: goal, verdict: setVerdict }];
   assert.equal(tapHead(verdicts.length) + verdicts.map((propertyVerdict, at) => formatJudgedTap(propertyVerdict, at, "p")).join(""),

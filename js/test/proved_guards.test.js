@@ -7,7 +7,7 @@ import { readCampaign } from "../core/explore/campaign.js";
 import { InitialProof } from "../core/explore/initial_proof.js";
 import { createSubject } from "../core/explore/subject.js";
 import { beginProving } from "../core/prove/bounded_proof.js";
-import { createQuestion, omittedGuards } from "../core/prove/question.js";
+import { createQuestion, nameOmittedGuards } from "../core/prove/question.js";
 import { pageModule } from "./page_session.js";
 
 // A reaction timer. After START, it waits and then switches the lamp `go` on. PRESS, a key at TEST, stops it. A press of PRESS during the
@@ -113,8 +113,9 @@ test("the question about a property omits guards that depend on the past", () =>
     const textWithoutGuards = text.replace(/(once|after press) [^,]*, /g, "");
     assert.deepEqual(questionOf(text), questionOf(textWithoutGuards), text);
   }
-  assert.equal(omittedGuards(propertyOf("once r0 = 1, after press START within 9, once r0 = 2, never r1 = 1")), '"once" and "after press"');
-  assert.equal(omittedGuards(propertyOf("while r0 = 1, never r1 = 1")), "");
+  const guarded = propertyOf("once r0 = 1, after press START within 9, once r0 = 2, never r1 = 1");
+  assert.equal(nameOmittedGuards(guarded), '"once" and "after press"');
+  assert.equal(nameOmittedGuards(propertyOf("while r0 = 1, never r1 = 1")), "");
   // The cells that a guard reads do not matter, because the prover ignores the guard.
   assert.notEqual(questionOf("once rom1 in 8, never r1 = 1").question, null);
   assert.equal(questionOf("while rom1 in 8, never r1 = 1").question, null);
@@ -124,7 +125,7 @@ test("a proof without a guard is also a proof with it; a counterexample must res
   const verdicts = await findVerdicts(GUARDED_PROPERTIES.map(([text]) => `${text}\n`).join(""));
   GUARDED_PROPERTIES.forEach(([text, expected], at) => {
     const verdict = verdicts[at];
-    assert.equal(verdict.kind === "open" ? verdict.words : verdict.kind, expected, text);
+    assert.equal(verdict.kind === "open" ? verdict.reason : verdict.kind, expected, text);
     if (verdict.kind === "proved") assert.match(verdict.leftOut, text.includes("once") ? /^"once"$/ : /^"after press"$/);
   });
 });
@@ -143,7 +144,7 @@ test("presses that no read detects are not a counterexample", async () => {
   // The first read already finds START down. The key was pressed before that read, so no read sees it go down.
   const text = "lamp waiting on only after press START\n";
   const [open] = await findVerdicts(text, new FixedAnswerEngine("may fail 0 8\n"));
-  assert.deepEqual(open, { kind: "open", words: "it can become true before the program has read each key up and then down" });
+  assert.deepEqual(open, { kind: "open", reason: "it can become true before the program has read each key up and then down" });
   const [proved] = await findVerdicts(text, new FixedAnswerEngine("holds 12\n"));
   assert.deepEqual(proved, { kind: "proved", states: 12, bySets: false, leftOut: "" });
   const [found] = await findVerdicts("lamp go on only after press START, press START\n",
@@ -151,5 +152,5 @@ test("presses that no read detects are not a counterexample", async () => {
   assert.equal(found.kind, "found");
   assert.match(found.found.text, /\n {2}press START\n {2}run \d+\n {2}expect not lamp go on\n$/);
   const [pin] = await findVerdicts("lamp foul on only after press PRESS\n");
-  assert.match(pin.words, /^PRESS is at the TEST pin/);
+  assert.match(pin.reason, /^PRESS is at the TEST pin/);
 });

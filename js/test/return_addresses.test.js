@@ -29,10 +29,10 @@ test("the address of the call before a return address, also across the end of RO
 });
 
 test("the counter and return addresses are described", () => {
-  assert.deepEqual(describeCounter(5, MAP), { isLive: true, words: "one + 1, line 3", title: "one: FIM P0, 0x50" });
-  assert.equal(describeCounter(9, MAP).words, "");
-  assert.equal(describeCounter(5, null).words, "");
-  assert.deepEqual(describeReturn(2, true, MAP), { isLive: true, words: "go + 2, call in line 1", title: "go: JMS one" });
-  assert.equal(describeReturn(2, true, null).words, "");
-  assert.equal(describeReturn(2, false, MAP).words, "stale");
+  assert.deepEqual(describeCounter(5, MAP), { isLive: true, description: "one + 1, line 3", title: "one: FIM P0, 0x50" });
+  assert.equal(describeCounter(9, MAP).description, "");
+  assert.equal(describeCounter(5, null).description, "");
+  assert.deepEqual(describeReturn(2, true, MAP), { isLive: true, description: "go + 2, call in line 1", title: "go: JMS one" });
+  assert.equal(describeReturn(2, true, null).description, "");
+  assert.equal(describeReturn(2, false, MAP).description, "stale");
 });

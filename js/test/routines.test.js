@@ -47,7 +47,7 @@ test("the routine at a line, and the number of references to labels", () => {
   assert.equal(routines.getByName("none"), null);
   const uses = routines.countUses();
   assert.deepEqual([uses.get("show"), uses.get("loop"), uses.get("unused"), uses.has("four")],
-    [{ calls: 2, others: 0 }, { calls: 0, others: 1 }, { calls: 0, others: 0 }, false]);
+    [{ calls: 2, otherUses: 0 }, { calls: 0, otherUses: 1 }, { calls: 0, otherUses: 0 }, false]);
 });
 
 test("texts without statements or with one instruction", () => {

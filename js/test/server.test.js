@@ -2,7 +2,7 @@
 import assert from "node:assert/strict";
 import { test } from "node:test";
 import { readFileSync } from "node:fs";
-import { quickFixes, toDiagnostics } from "../core/server/diagnostics.js";
+import { createQuickFixes, toDiagnostics } from "../core/server/diagnostics.js";
 import { MAX_MESSAGE, MessageReader, StreamError, frameMessage } from "../core/server/framing.js";
 import { findBoard, isBoard, isProgram } from "../core/server/text_kinds.js";
 import { OpenText } from "../core/server/open_text.js";
@@ -16,20 +16,20 @@ test("messages are read from a stream in pieces of any size", () => {
   for (const step of [1, 2, 7, bytes.length]) {
     const reader = new MessageReader();
     const texts = [];
-    for (let offset = 0; offset < bytes.length; offset += step) texts.push(...reader.take(bytes.subarray(offset, offset + step)));
+    for (let offset = 0; offset < bytes.length; offset += step) texts.push(...reader.readMessages(bytes.subarray(offset, offset + step)));
     assert.deepEqual(texts.map(({ text }) => JSON.parse(text).id), [1, "\u00e9"]);
   }
   const reader = new MessageReader();
-  assert.deepEqual([...reader.take(bytesOf("content-length: 2\r\nX: y\r\n\r\n{}"))], [{ text: "{}" }]);
-  assert.throws(() => [...new MessageReader().take(bytesOf("GET / HTTP/1.1\r\n\r\n"))], StreamError);
-  assert.throws(() => [...new MessageReader().take(bytesOf("x".repeat(5000)))], StreamError);
+  assert.deepEqual([...reader.readMessages(bytesOf("content-length: 2\r\nX: y\r\n\r\n{}"))], [{ text: "{}" }]);
+  assert.throws(() => [...new MessageReader().readMessages(bytesOf("GET / HTTP/1.1\r\n\r\n"))], StreamError);
+  assert.throws(() => [...new MessageReader().readMessages(bytesOf("x".repeat(5000)))], StreamError);
 });
 
 test("a message that is too long is skipped, and the next message is read", () => {
   const reader = new MessageReader();
-  assert.deepEqual([...reader.take(bytesOf(`Content-Length: ${MAX_MESSAGE + 1}\r\n\r\n`))], []);
-  assert.deepEqual([...reader.take(new Uint8Array(MAX_MESSAGE))], []);
-  const results = [...reader.take(new Uint8Array([32, ...frameMessage({ id: 1 })]))];
+  assert.deepEqual([...reader.readMessages(bytesOf(`Content-Length: ${MAX_MESSAGE + 1}\r\n\r\n`))], []);
+  assert.deepEqual([...reader.readMessages(new Uint8Array(MAX_MESSAGE))], []);
+  const results = [...reader.readMessages(new Uint8Array([32, ...frameMessage({ id: 1 })]))];
   assert.deepEqual(results.map((result) => result.tooLong || JSON.parse(result.text).id), [MAX_MESSAGE + 1, 1]);
 });
 
@@ -38,11 +38,11 @@ test("an impossible size is an error at once, after the messages before it", () 
   const texts = [];
   const bytes = bytesOf("Content-Length: 2\r\n\r\n{}Content-Length: 99999999999\r\n\r\n");
   assert.throws(() => {
-    for (const { text } of reader.take(bytes)) texts.push(text);
+    for (const { text } of reader.readMessages(bytes)) texts.push(text);
   }, /^Error: Content-Length: 99999999999 is more than a message can have/);
   assert.deepEqual(texts, ["{}"]);
   const { connection, messages } = startServer();
-  assert.throws(() => connection.take(bytes), StreamError);
+  assert.throws(() => connection.receive(bytes), StreamError);
   assert.match(messages[messages.length - 1].error.message, /^Content-Length: 99999999999 is more/);
 });
 
@@ -53,7 +53,7 @@ test("messages in one chunk with `initialize`, or with `shutdown`, are served in
   const notifications = [["initialized", {}], ["textDocument/didOpen", { textDocument }]].map(([method, params]) => ({ method, params }));
   const messagesToServer =
     [{ id: 1, method: "initialize", params: {} }, ...notifications, { id: 2, method: "textDocument/hover", params: hover }];
-  connection.take(new Uint8Array(messagesToServer.flatMap((message) => [...frameMessage({ jsonrpc: "2.0", ...message })])));
+  connection.receive(new Uint8Array(messagesToServer.flatMap((message) => [...frameMessage({ jsonrpc: "2.0", ...message })])));
   const waitForMessages = async (count) => {
     for (let turn = 0; turn < 2000 && messages.length < count; turn++) await new Promise(setImmediate);
   };
@@ -61,7 +61,7 @@ test("messages in one chunk with `initialize`, or with `shutdown`, are served in
   assert.deepEqual(messages.slice(0, 2).map(({ id, result }) => [id, result !== undefined]), [[1, true], [2, true]]);
   assert.deepEqual(messages[2].params.diagnostics.map(({ range }) => range.start.line), [0]);
   const lastMessages = [{ id: 3, method: "shutdown" }, { id: 4, method: "textDocument/hover", params: hover }, { method: "exit" }];
-  connection.take(new Uint8Array(lastMessages.flatMap((message) => [...frameMessage({ jsonrpc: "2.0", ...message })])));
+  connection.receive(new Uint8Array(lastMessages.flatMap((message) => [...frameMessage({ jsonrpc: "2.0", ...message })])));
   await waitForMessages(5);
   assert.deepEqual([messages.find(({ id }) => id === 3).result, messages.find(({ id }) => id === 4).error.code], [null, -32600]);
   assert.equal(getExitStatus(), 0);
@@ -132,8 +132,8 @@ test("errors have quick fixes, and a note that there may be more", () => {
   assert.deepEqual(toDiagnostics(errors, true).map(({ severity, code }) => [severity, code]), [[1, 30], [1, 32]]);
   assert.deepEqual(toDiagnostics(errors, false).map(({ severity }) => severity), [1, 1, 3]);
   const rangeAt = (line, character) => ({ start: { line, character }, end: { line, character } });
-  assert.deepEqual(quickFixes("u", errors, rangeAt(1, 11)).map(({ title }) => title), ["Write JUN"]);
-  assert.deepEqual(quickFixes("u", errors, rangeAt(1, 12)), []);
+  assert.deepEqual(createQuickFixes("u", errors, rangeAt(1, 11)).map(({ title }) => title), ["Write JUN"]);
+  assert.deepEqual(createQuickFixes("u", errors, rangeAt(1, 12)), []);
 });
 
 test("requests in the wrong order are rejected", async () => {
@@ -145,13 +145,13 @@ test("requests in the wrong order are rejected", async () => {
   const nowhere = { textDocument: { uri: "file:///none.asm" }, position: { line: 0, character: 0 } };
   assert.equal((await getResponse("textDocument/hover", nowhere)).error.code, -32602);
   assert.equal((await getResponse("textDocument/hover", { position: { line: -1 } })).error.code, -32602);
-  connection.take(bytesOf("Content-Length: 1\r\n\r\n{"));
+  connection.receive(bytesOf("Content-Length: 1\r\n\r\n{"));
   assert.equal(messages[messages.length - 1].error.code, -32700);
-  connection.take(frameMessage({ jsonrpc: "2.0", id: 7 }));
+  connection.receive(frameMessage({ jsonrpc: "2.0", id: 7 }));
   assert.deepEqual([messages[messages.length - 1].id, messages[messages.length - 1].error.code], [7, -32600]);
   assert.equal((await getResponse("shutdown")).result, null);
   assert.equal((await getResponse("textDocument/hover", {})).error.code, -32600);
-  connection.take(frameMessage({ jsonrpc: "2.0", method: "exit" }));
+  connection.receive(frameMessage({ jsonrpc: "2.0", method: "exit" }));
   assert.equal(getExitStatus(), 0);
 });
 
@@ -232,10 +232,10 @@ test("hover, definitions and references in a board: a lamp's line leads to its c
 test("an incomplete message is reported", () => {
   const { connection, messages } = startServer();
   assert.equal(connection.reportIncomplete(), "");
-  connection.take(bytesOf("Content-Length: 20\r\n\r\n{\"id\":"));
+  connection.receive(bytesOf("Content-Length: 20\r\n\r\n{\"id\":"));
   assert.equal(connection.reportIncomplete(), "only 6 of the 20 bytes that Content-Length announces have arrived");
   assert.deepEqual([messages[0].id, messages[0].error.code], [null, -32600]);
   const otherServer = startServer();
-  otherServer.connection.take(bytesOf("Content-Le"));
+  otherServer.connection.receive(bytesOf("Content-Le"));
   assert.match(otherServer.connection.reportIncomplete(), /a part of the head/);
 });

@@ -17,21 +17,21 @@ export function startServer(files = {}, pause = async () => {}) {
   let exitCode = null;
   const connection = new Connection((bytes) => {
     // Output after the server's end is ignored.
-    if (exitCode === null) messages.push(...[...reader.take(bytes)].map(({ text }) => JSON.parse(text)));
+    if (exitCode === null) messages.push(...[...reader.readMessages(bytes)].map(({ text }) => JSON.parse(text)));
   }, (exitStatus) => {
     exitCode = exitStatus;
   });
   const host = { readFile: (uri) => files[uri] || null, pause };
   const server = new LanguageServer(connection, engine, readPageData(), host);
   const getResponse = async (method, params, id = messages.length + 1) => {
-    connection.take(frameMessage({ jsonrpc: "2.0", id, method, params }));
+    connection.receive(frameMessage({ jsonrpc: "2.0", id, method, params }));
     for (let turn = 0; turn < 200 && !messages.some((message) => message.id === id); turn++) await new Promise(setImmediate);
     return messages.find((message) => message.id === id);
   };
   const request = async (method, params) => (await getResponse(method, params)).result;
   const openText = async (uri, text, languageId = "asm") => {
     const textDocument = { uri, languageId, version: 1, text };
-    connection.take(frameMessage({ jsonrpc: "2.0", method: "textDocument/didOpen", params: { textDocument } }));
+    connection.receive(frameMessage({ jsonrpc: "2.0", method: "textDocument/didOpen", params: { textDocument } }));
     const start = { line: 0, character: 0 };
     await request("textDocument/codeAction", { textDocument: { uri }, range: { start, end: start } });
     return messages.filter((message) => message.method === "textDocument/publishDiagnostics"

@@ -132,7 +132,7 @@ test("semantic tokens of a range, and their changes", async () => {
   assert.deepEqual(await request("textDocument/semanticTokens/range", { ...document, range: range(1, 0, 1, 9) }),
     { data: [1, 1, 3, 4, 0, 0, 4, 5, 1, 0] });
   const params = { textDocument: { uri, version: 2 }, contentChanges: [{ range: range(0, 11, 0, 12), text: "15" }] };
-  connection.take(frameMessage({ jsonrpc: "2.0", method: "textDocument/didChange", params }));
+  connection.receive(frameMessage({ jsonrpc: "2.0", method: "textDocument/didChange", params }));
   const delta = await request("textDocument/semanticTokens/full/delta", { ...document, previousResultId: resultId });
   assert.deepEqual(delta.edits, [{ start: 12, deleteCount: 1, data: [2] }]);
   const emptyDelta = await request("textDocument/semanticTokens/full/delta", { ...document, previousResultId: delta.resultId });
@@ -190,7 +190,7 @@ test("diagnostics on request, and the server's request for a refresh", async () 
   const server = startServer({});
   const { capabilities } = await server.initialize(client);
   assert.equal(capabilities.diagnosticProvider.interFileDependencies, true);
-  const notify = (method, params) => server.connection.take(frameMessage({ jsonrpc: "2.0", method, params }));
+  const notify = (method, params) => server.connection.receive(frameMessage({ jsonrpc: "2.0", method, params }));
   notify("textDocument/didOpen", { textDocument: { uri, languageId: "asm", version: 1, text: "JMP x\n" } });
   const firstReport = await server.request("textDocument/diagnostic", document);
   assert.deepEqual([firstReport.kind, firstReport.items.length], ["full", 1]);

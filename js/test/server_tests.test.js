@@ -135,13 +135,13 @@ test("a running test ends when the client cancels it, without a result", async (
     assert.ok(isDone());
   };
   const countBefore = pauseCount;
-  connection.take(frameMessage({ jsonrpc: "2.0", id: 950, method: "workspace/executeCommand",
+  connection.receive(frameMessage({ jsonrpc: "2.0", id: 950, method: "workspace/executeCommand",
     params: { command: "mcs4.runTest", arguments: [tests, "long"] } }));
   await waitUntil(() => pauseCount >= countBefore + 3);
-  connection.take(frameMessage({ jsonrpc: "2.0", id: 950, method: "workspace/symbol", params: { query: "" } }));
+  connection.receive(frameMessage({ jsonrpc: "2.0", id: 950, method: "workspace/symbol", params: { query: "" } }));
   const getResponses = () => all.filter(({ id }) => id === 950);
   assert.deepEqual(getResponses().map(({ error }) => error.message), ["a request with the id 950 waits for its answer"]);
-  connection.take(frameMessage({ jsonrpc: "2.0", method: "$/cancelRequest", params: { id: 950 } }));
+  connection.receive(frameMessage({ jsonrpc: "2.0", method: "$/cancelRequest", params: { id: 950 } }));
   assert.equal(getResponses()[1].error.code, -32800);
   const countAtCancel = pauseCount;
   for (let turn = 0; turn < 50; turn++) await new Promise(setImmediate);

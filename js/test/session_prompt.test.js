@@ -56,7 +56,7 @@ function createPrompt(files = {}) {
   });
   const ask = async (...lines) => {
     output = [];
-    for (const line of lines) await prompt.take(line);
+    for (const line of lines) await prompt.enterLine(line);
     return output;
   };
   return { prompt, ask };

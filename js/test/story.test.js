@@ -12,16 +12,17 @@ import { readRequestedStory } from "../page/session/address.js";
 const EXAMPLES = new URL("../../examples/", import.meta.url);
 const stories = readdirSync(EXAMPLES, { recursive: true }).filter((name) => name.endsWith(".story"));
 const readExample = (name) => readFileSync(new URL(name, EXAMPLES), "utf8");
-const actionsOf = (steps) => steps.flatMap(({ words }) => words.flat()).filter((part) => typeof part !== "string").map(({ act }) => act);
+const actionsOf = (steps) => (
+  steps.flatMap(({ paragraphs }) => paragraphs.flat()).filter((part) => typeof part !== "string").map(({ action }) => action));
 
 test("a story is parsed into steps, paragraphs and links", () => {
   const firstStep = "## One\n\nPress [5](press 5)\nand [go\non](run to add_up).\n\nThen [?](fly), [x](show nothing).\n\n";
   const steps = parseStory(`# All\n\n${firstStep}## Two\n`);
-  assert.deepEqual(steps.map(({ title, words }) => [title, words]), [
+  assert.deepEqual(steps.map(({ title, paragraphs }) => [title, paragraphs]), [
     ["One", [
       [
-        "Press ", { words: "5", act: { name: "press", argument: "5" } }, " and ",
-        { words: "go on", act: { name: "run to", argument: "add_up" } }, ".",
+        "Press ", { linkText: "5", action: { name: "press", argument: "5" } }, " and ",
+        { linkText: "go on", action: { name: "run to", argument: "add_up" } }, ".",
       ],
       ["Then ", "?", ", ", "x", "."],
     ]],

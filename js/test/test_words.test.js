@@ -62,15 +62,15 @@ test("test results are described", () => {
   assert.equal(textErrorsMessage([fault, fault], () => ""), "Nothing was run: Tests, line 3: a condition is missing, and 1 more.");
   const refused = { text: "board", line: 0, number: 25, words: "" };
   assert.equal(textErrorsMessage([refused], (number) => `refusal ${number}`), "Nothing was run: Board: no 25: refusal 25.");
-  const jump = { line: 2, count: 3, isJump: true, taken: 3 };
-  const coverage = { lines: [jump], instructions: 2, run: 1, ways: 2, directionsRun: 1, never: [] };
+  const jump = { line: 2, count: 3, isJump: true, jumpCount: 3 };
+  const coverage = { lines: [jump], instructions: 2, instructionsRun: 1, directions: 2, directionsRun: 1, unexecutedRanges: [] };
   assert.equal(coverageMessage({ coverage }), "1 of 2 instructions were run (50.0 %), 1 of 2 branch directions (50.0 %). "
     + "1 jump always went one way. Counts are in the margin.");
   assert.equal(coverageMessage({ coverage: null }), "");
 });
 
 test("line counts are formatted", () => {
-  const line = (count, isJump = false, taken = 0) => ({ line: 1, count, isJump, taken });
+  const line = (count, isJump = false, jumpCount = 0) => ({ line: 1, count, isJump, jumpCount });
   assert.deepEqual([line(0), line(4), line(976, true, 912)].map(formatCount), ["never", "4", "976 912/64"]);
   assert.deepEqual([line(0), line(1), line(976, true, 912), line(1200, true, 1200)].map(describeCount), ["no test runs it", "run once",
     "run 976 times; it jumped 912 times and continued 64 times", "run 1,200 times; it jumped 1,200 times and continued never"]);

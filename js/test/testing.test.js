@@ -30,9 +30,10 @@ test("tests pass, and their coverage and profile are counted", async () => {
   assert.deepEqual(faults, []);
   assert.deepEqual(outcomes.map(({ failure, cycles }) => [failure, cycles]), [[null, 1621], [null, 538]]);
   assert.equal(formatCoverageSummary(coverage), "20 of 20 instructions were run (100.0 %), 6 of 6 branch directions (100.0 %)");
-  assert.deepEqual(coverage.lines.find(({ line }) => line === 18), { line: 18, count: 4, isJump: true, taken: 1 });
+  assert.deepEqual(coverage.lines.find(({ line }) => line === 18), { line: 18, count: 4, isJump: true, jumpCount: 1 });
   assert.equal(profile.total, 2159);
-  assert.deepEqual(profile.rows.map(({ label, own }) => [label, own]), [["turn", 2084], ["next", 60], ["wait", 8], ["first", 4], ["", 3]]);
+  assert.deepEqual(profile.rows.map(({ label, ownCycles }) => [label, ownCycles]),
+    [["turn", 2084], ["next", 60], ["wait", 8], ["first", 4], ["", 3]]);
   assert.deepEqual(profile.rows[2].calls, { times: 4, withCalls: 2092, longest: 523 });
 });
 
@@ -120,7 +121,7 @@ test("ROM bytes that a test sets are counted only in its own run", async () => {
   const text = "test a\n set rom.0x016 0\n set rom.0x017 0\n run 20\n save s\ntest b\n from s\n run 20\ntest c\n run 20\n";
   const { outcomes, profile } = await runTests(engine, texts(text), always);
   assert.deepEqual(outcomes.map(({ failure }) => failure), [null, null, null]);
-  assert.equal(profile.total, profile.rows.reduce((sum, { own }) => sum + own, 0) + profile.earlierInstructionCycles);
+  assert.equal(profile.total, profile.rows.reduce((sum, { ownCycles: own }) => sum + own, 0) + profile.earlierInstructionCycles);
 });
 
 test("tenths are rounded half to even, as by printf", () => {

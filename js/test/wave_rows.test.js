@@ -80,19 +80,19 @@ function wavesWith(changes, kind = "test", width = 1) {
 
 test("a bit has a pulse width and a period", () => {
   const waves = wavesWith([100, 400, 700]);
-  assert.deepEqual(measureAt(waves, 0, 100), { from: 100, to: 400, isWhole: true, period: 600 });
+  assert.deepEqual(measureAt(waves, 0, 100), { from: 100, to: 400, isComplete: true, period: 600 });
   assert.deepEqual(measureAt(waves, 0, 399), measureAt(waves, 0, 100));
-  assert.deepEqual(measureAt(waves, 0, 50), { from: 0, to: 100, isWhole: false, period: 0 });
-  assert.deepEqual(measureAt(waves, 0, 500), { from: 400, to: 700, isWhole: true, period: 0 });
-  assert.deepEqual(measureAt(waves, 0, 900), { from: 700, to: 1000, isWhole: false, period: 0 });
-  assert.deepEqual(measureAt(wavesWith([]), 0, 5), { from: 0, to: 1000, isWhole: false, period: 0 });
+  assert.deepEqual(measureAt(waves, 0, 50), { from: 0, to: 100, isComplete: false, period: 0 });
+  assert.deepEqual(measureAt(waves, 0, 500), { from: 400, to: 700, isComplete: true, period: 0 });
+  assert.deepEqual(measureAt(waves, 0, 900), { from: 700, to: 1000, isComplete: false, period: 0 });
+  assert.deepEqual(measureAt(wavesWith([]), 0, 5), { from: 0, to: 1000, isComplete: false, period: 0 });
   assert.equal(describeMeasurement("0", measureAt(waves, 0, 100)), "0 for 300 cycles, 3.240 ms; period 600 cycles, 6.480 ms, 154.3 Hz");
   assert.equal(describeMeasurement("1", measureAt(waves, 0, 0)), "1 for at least 100 cycles, 1.080 ms");
-  assert.match(describeMeasurement("1", { from: 0, to: 1, isWhole: true, period: 2 }), /, 46\.30 kHz$/);
+  assert.match(describeMeasurement("1", { from: 0, to: 1, isComplete: true, period: 2 }), /, 46\.30 kHz$/);
 });
 
 test("a number has no period", () => {
-  assert.deepEqual(measureAt(wavesWith([100, 400, 700], "value", 4), 0, 100), { from: 100, to: 400, isWhole: true, period: 0 });
+  assert.deepEqual(measureAt(wavesWith([100, 400, 700], "value", 4), 0, 100), { from: 100, to: 400, isComplete: true, period: 0 });
 });
 
 test("a saved picture has all rows with their names, and escapes markup", () => {

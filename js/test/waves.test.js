@@ -98,8 +98,8 @@ test("recordable lines are found by words", () => {
   assert.deepEqual(named("minus"), ["lamp.minus"]);
   assert.deepEqual(named("over.fl"), ["lamp2"]);
   assert.deepEqual(named("p2"), ["p2"]);
-  assert.match(searchLines(offered, "", new Set()).more, /^160 nibbles of RAM are not listed: find one, as in: ram 0 0x12/);
-  assert.equal(searchLines(offered, " rubbish ", new Set()).more, "Nothing here is called rubbish.");
+  assert.match(searchLines(offered, "", new Set()).note, /^160 nibbles of RAM are not listed: find one, as in: ram 0 0x12/);
+  assert.equal(searchLines(offered, " rubbish ", new Set()).note, "Nothing here is called rubbish.");
   assert.deepEqual(chosenValueNames(offered, new Set(["r5", "lamp2", "st.1.3.0", "gone"])), ["r5", "st.1.3.0"]);
 });
 
@@ -261,7 +261,7 @@ test("the instruction at a moment is found in both of its cycles", () => {
     text: "stop: NOP\n  JUN go ; on", lines: new Uint16Array(4096).fill(2, 0x00c, 0x00e), labels: [{ address: 0x00b, name: "stop" }],
   });
   for (const moment of [2, 3]) {
-    const { address, listed, line, source, isEnd } = waves.instructionAt(moment);
+    const { address, listingLine: listed, line, source, isEnd } = waves.instructionAt(moment);
     assert.deepEqual([address, listed, line, source, isEnd], [0x00c, "00C 40 0A JUN 0x00A", 2, "JUN go ; on", false]);
   }
   assert.deepEqual([waves.instructionAt(0).line, waves.instructionAt(5).isEnd], [0, true]);

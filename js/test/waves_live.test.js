@@ -19,8 +19,8 @@ const wholeText = (waves) => [...vcdParts(waves, waves.lines.map((_, line) => li
 function record(calls, texts, { most = 1000000, behind = 0, trigger = "", stopsTime = false } = {}) {
   const { recorded, error: fault } = calls.recordLive(texts, { trigger, cyclesAfterTrigger: behind, stopsMachine: stopsTime });
   assert.equal(fault, "");
-  const live = new LiveWaves(recorded, { most, behind, trigger, stopsTime });
-  return { live, did: (shown) => live.take(shown.waves) };
+  const live = new LiveWaves(recorded, { maxCycles: most, cyclesAfterTrigger: behind, trigger, stopsTime });
+  return { live, did: (shown) => live.append(shown.waves) };
 }
 
 test("a live recording of frames, keys, lines and steps equals a recording of the past", async () => {
@@ -40,8 +40,8 @@ test("a live recording of frames, keys, lines and steps equals a recording of th
   assert.equal(wholeText(live.waves), wholeText(whole));
   assert.deepEqual([...live.waves.listing].sort(), [...whole.listing].sort());
   assert.ok(live.waves.changesOf(numberOf(live.waves, "key.1")).length === 2);
-  live.take(calls.endRecording());
-  assert.match(live.words, /^Recorded .* Stopped by you\.$/);
+  live.append(calls.endRecording());
+  assert.match(live.statusText, /^Recorded .* Stopped by you\.$/);
   assert.equal(calls.advance(100).waves, null);
 });
 
@@ -102,7 +102,7 @@ for (const [trigger, recorded, wanted] of TRIGGERS) {
     assert.deepEqual(recorded(waves, triggered), wanted);
     assert.equal(waves.cycles, triggered + 1000);
     assert.equal(waves.from, Math.max(0, triggered - 2000));
-    assert.match(live.words, /The trigger was at cycle/);
+    assert.match(live.statusText, /The trigger was at cycle/);
   });
 }
 
@@ -139,7 +139,7 @@ test("the reason for the end of a recording is reported", async () => {
     did(calls.advance(100));
     did(await act(calls));
     assert.equal((await calls.serve("step\n")).waves, null);
-    return live.words.replace(/^Recorded [^.]*\.\d+ m?s\. /, "");
+    return live.statusText.replace(/^Recorded [^.]*\.\d+ m?s\. /, "");
   };
   assert.equal(await ends((calls) => calls.goBack({ kind: "instruction" })), "It ended when the session went back or forward.");
   const board = "wire\n[[rom]]\nchip = 0\nport = \"0000\"\n.\n";

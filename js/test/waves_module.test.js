@@ -147,9 +147,9 @@ test("a recording in pieces gives the same VCD file, also for some lines, ports 
       for await (const waves of recordPieces(calls.bench.engine, state, { lines: wanted.lines, program, cycles: 50001 }, async () => {})) {
         if (!text) {
           text = new VcdText(waves, wanted.chosen);
-          parts.push(text.head());
+          parts.push(text.formatHead());
         }
-        parts = [...parts, ...text.changes()];
+        parts = [...parts, ...text.formatChanges()];
         assert.ok(waves.length <= 20000);
       }
       assert.equal([...parts, text.end()].join(""), [...vcdParts(whole, some)].join(""));

@@ -2,11 +2,11 @@
 
 /**
  * The help of a command: its name and abbreviations, its form, its effect, and details ("" if there are none).
- * @typedef {{ words: string, use: string, does: string, more: string }} CommandWords
+ * @typedef {{ names: string, usage: string, effect: string, details: string }} CommandWords
  */
 
-/** @type {(names: string, use: string, does: string, more?: string) => CommandWords} */
-const command = (names, use, does, more = "") => ({ words: names, use, does, more: more.replace(/\s+/g, " ").trim() });
+/** @type {(names: string, usage: string, effect: string, details?: string) => CommandWords} */
+const command = (names, usage, effect, details = "") => ({ names, usage, effect, details: details.replace(/\s+/g, " ").trim() });
 
 export const COMMAND_WORDS = [
   command("break b br", "break [PLACE] [from N] [if CONDITION] [log \"NOTE\"]", "sets a breakpoint, before the instruction at PLACE", `

@@ -89,14 +89,14 @@ export function describePropertyResult(property, report) {
 
 /**
  * Returns the program's coverage: the coverage of its instructions and of its branch directions, each with a text, and the lines that never
- * ran (`left`).
+ * ran (`unexecutedLines`).
  * @param {Report} report
  */
 export function coverageOf({ covered, instructions }) {
-  const { run, all, ways, allWays, left } = new Coverage(covered).summary(instructions);
+  const { run, all, ways, allWays, unexecutedLines } = new Coverage(covered).summarise(instructions);
   return {
     instructions: { part: run, whole: all, words: `${run} of ${all} instructions were run` },
     ways: { part: ways, whole: allWays, words: `${ways} of ${allWays} branch directions` },
-    left,
+    unexecutedLines,
   };
 }

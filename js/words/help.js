@@ -110,32 +110,32 @@ down:   RDR             ; wait until one is down
 `;
 export const STEP_LAMP = {
   title: "A lamp",
-  words: ["A board is wired for you: a processor, one ROM, one RAM chip with four lamps at its port, and two keys.",
+  paragraphs: ["A board is wired for you: a processor, one ROM, one RAM chip with four lamps at its port, and two keys.",
     "Type this program into Source, or click Insert. Then click Assemble and run.",
     "Goal: the first lamp is on."],
 };
 export const STEP_COUNT = {
   title: "A count",
-  words: ["Four lamps show a number from 0 to 15. This program counts, and waits in between.",
+  paragraphs: ["Four lamps show a number from 0 to 15. This program counts, and waits in between.",
     "Try slow motion, too: the list of speeds is next to Reset.",
     "Goal: the lamps have shown four different numbers."],
 };
 export const STEP_KEY = {
   title: "A key",
-  words: ["The keys are a matrix: a bit of a shift register (a 4003) drives their row, and the ROM's port reads their columns.",
+  paragraphs: ["The keys are a matrix: a bit of a shift register (a 4003) drives their row, and the ROM's port reads their columns.",
     "Assemble and run it, then hold a key.",
     "Goal: a lamp is on while a key is down."],
 };
 export const STEP_BREAKPOINT = {
   title: "A breakpoint",
-  words: ["The program pauses before a line with a breakpoint. Click next to the line show: in Source, or on the line in Disassembly.",
+  paragraphs: ["The program pauses before a line with a breakpoint. Click next to the line show: in Source, or on the line in Disassembly.",
     "Then press Continue.",
     "Step into (F11) runs one more instruction. A second click removes the breakpoint.",
     "Goal: the program pauses at a breakpoint."],
 };
 export const STEP_WATCH = {
   title: "A watch",
-  words: ["This program keeps its count in RAM. Remove the breakpoint, assemble and run it.",
+  paragraphs: ["This program keeps its count in RAM. Remove the breakpoint, assemble and run it.",
     "Click the first nibble of RAM: the program pauses when it changes. Then press Continue, and a key.",
     "Goal: the program pauses after that nibble has changed."],
 };

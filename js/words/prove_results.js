@@ -32,9 +32,9 @@ export function markOf({ isGoal, verdict }) {
  * @param {PropertyVerdict} judged
  */
 export function describeVerdict({ isGoal, verdict }) {
-  if (verdict.kind === "open") return verdict.words;
+  if (verdict.kind === "open") return verdict.reason;
   if (verdict.kind === "proved") return say.forAllInputs(formatStateCount(verdict), verdict.leftOut);
-  const { steps, cycles } = verdict.found;
+  const { steps, cycles } = verdict.counterexample;
   return say.foundBy(formatSteps(steps), formatNumber(cycles), isGoal);
 }
 
@@ -69,7 +69,7 @@ export function finalSummary(judged, isStopped) {
  * Returns the text about the progress of the proof.
  * @param {Progress} progress
  */
-export function progressSummary({ judged, count, states }) {
+export function progressSummary({ verdicts: judged, count, states }) {
   const which = say.propertyProgress(Math.min(judged.length + 1, count), count);
   return states > 0 ? say.statesSoFar(which, formatNumber(states)) : which;
 }

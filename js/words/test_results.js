@@ -59,7 +59,8 @@ export function testDuration({ cycles }) {
  */
 export function coverageMessage({ coverage }) {
   if (!coverage || coverage.instructions === 0) return "";
-  const ways = coverage.lines.filter(({ isJump, count, taken }) => isJump && count > 0 && (taken === 0 || taken === count)).length;
+  const ways = coverage.lines.filter(({ isJump, count, jumpCount }) => (
+    isJump && count > 0 && (jumpCount === 0 || jumpCount === count))).length;
   const oneWay = ways === 0 ? "" : ` ${formatQuantity(ways, "jump")} always went one way.`;
   return `${formatCoverageSummary(coverage)}.${oneWay} Counts are in the margin.`;
 }

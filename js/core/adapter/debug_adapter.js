@@ -2,7 +2,7 @@
 // back, and shows the machine state. The page uses the same debugger (debug/debug_session.js).
 //
 //     const adapter = new DebugAdapter(new AdapterConnection(write), engine, data, host);     // session_launch.js describes the host
-//     connection.take(bytes);                                            // whenever bytes from the client arrive
+//     connection.receive(bytes);                                         // whenever bytes from the client arrive
 //     await adapter.leave();                                             // after the connection has ended
 
 import { Face } from "../board/face.js";

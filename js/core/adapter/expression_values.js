@@ -111,7 +111,7 @@ export function expressionHover(text, context) {
     const programName = session.map.names.get(name);
     return programName && { ...programName, description: session.map.meaningOf(name) };
   };
-  const describeInstruction = (/** @type {string} */ word) => (instructions.get(word) || { does: "" }).does;
+  const describeInstruction = (/** @type {string} */ word) => (instructions.get(word) || { effect: "" }).effect;
   const pieces = valuesAt(trimmed, 0, new MachineState(session.debugger.session.takeSnapshot()), { nameOf, describeInstruction });
   return pieces.length > 0 ? joinPieces(pieces) : describeInstruction(trimmed.toUpperCase()) || evaluateExpression(trimmed, context);
 }

@@ -139,7 +139,7 @@ export function keyValue(name, { face }, dependencies) {
     const knownNames = [...listKeyInputs(face), ...(face.test ? [createTestInput(face)] : [])].map((input) => input.name);
     return fail(say.noKeyOfPanel(name, knownNames.join(" ")));
   }
-  const [word, ...numbers] = key.down.split(" ");
+  const [word, ...numbers] = key.downLine.split(" ");
   if (word === "test") return bitValue(`key ${name}`, dependencies.addPlace("test"), (answer) => Number(answer === numbers[0]));
   const item = numbers.join(".");
   return bitValue(`key ${name}`, dependencies.addPlace("keys"), (answer) => Number(answer.split(",").includes(item)));

@@ -168,7 +168,7 @@ export class WaveBuilder {
     this.takeState(state);
     if (this.hasCounter) answers.takeTrace();
     for (const group of this.groups) this.takeRow(group, answers.takeTrace().row, 0);
-    for (const track of this.tracks) track.take();
+    for (const track of this.tracks) track.takeData();
   }
 
   /**
@@ -281,7 +281,8 @@ export class WaveBuilder {
     const { from, elapsed, isStuck, isSecondCycle } = this;
     this.from = elapsed;
     this.isSecondCycle = false;
-    const tracks = this.tracks.map((track) => track.take());
-    return { from, cycles: elapsed, isStuck, isOwed: isSecondCycle, tracks, moments: this.moments.take(), counters: this.counters.take() };
+    const tracks = this.tracks.map((track) => track.takeData());
+    const [moments, counters] = [this.moments.takeAll(), this.counters.takeAll()];
+    return { from, cycles: elapsed, isStuck, isOwed: isSecondCycle, tracks, moments, counters };
   }
 }

@@ -22,21 +22,22 @@ import { noKey } from "../../words/testing.js";
  * @typedef {import("./properties.js").Guard} Guard
  * @typedef {import("./properties.js").Property} Property
  * @typedef {import("./subject.js").Subject} Subject
- * @typedef {{ line: number, column: number, words: string }} Fault `column` counts from 0; -1 if unknown
+ * An error in a properties text. `line` counts from 1. `column` counts from 0, -1 if unknown. `words` is the message.
+ * @typedef {{ line: number, column: number, words: string }} Fault
  *
  * A campaign: the parsed contents of a properties text. Times are in cycles.
  * - `maxKeysDown`: the maximum number of keys that are down at the same time; `canReset`: true if the search can cut the power;
  * - `minWait`, `maxWait`: the range of waits between two changes;
  * - `maxHoldTime`, `minReleaseTime`: the maximum time for which an input stays down, and the minimum time for which it stays up;
- * - `begin`: the time at which the check of the properties starts;
- * - `command`: the external command of the model ("" for none); `down`, `up`: the times for which each key in a sequence for the model is
- *   pressed and then released;
- * - `notes`: the `trace` places whose values distinguish states;
- * - `from`: the start state, null for power-on; `before`: the test lines that lead to the start state; `calls`: the minimum and maximum
- *   number of calls that have not returned in the start state.
+ * - `checkStart`: the time at which the check of the properties starts;
+ * - `command`: the external command of the model ("" for none); `downTime`, `upTime`: the times for which each key in a sequence for the
+ *   model is pressed and then released;
+ * - `notedPlaces`: the `trace` places whose values distinguish states;
+ * - `from`: the start state, null for power-on; `leadingLines`: the test lines that lead to the start state; `calls`: the minimum and the
+ *   maximum number of calls that have not returned in the start state.
  * @typedef {{ inputs: Input[], maxKeysDown: number, canReset: boolean, minWait: number, maxWait: number, maxHoldTime: number,
- *   minReleaseTime: number, begin: number, down: number, up: number, notes: string[], properties: Property[], command: string,
- *   from: StartState | null, before: string[], calls: { least: number, most: number } }} Campaign
+ *   minReleaseTime: number, checkStart: number, downTime: number, upTime: number, notedPlaces: string[], properties: Property[],
+ *   command: string, from: StartState | null, leadingLines: string[], calls: { min: number, max: number } }} Campaign
  *
  * The start state of a search: its name, the test file that saves it ("" for the tests that belong to the program), and the number of the
  * `from` line.
@@ -48,9 +49,9 @@ import { noKey } from "../../words/testing.js";
  * @param {string} originalLine
  * @param {number} column
  */
-function columnInLine(originalLine, column) {
+function findOriginalColumn(originalLine, column) {
   let at = originalLine.length - originalLine.trimStart().length;
-  for (let left = column; left > 0 && at < originalLine.length - 1; left--) {
+  for (let remaining = column; remaining > 0 && at < originalLine.length - 1; remaining--) {
     at += 1;
     while (/\s/.test(originalLine[at]) && /\s/.test(originalLine[at - 1]) && at < originalLine.length - 1) at += 1;
   }
@@ -64,7 +65,7 @@ const DEFAULT_MAX_KEYS_DOWN = 2;
 /** The default waits, 1 and 20 ms, in cycles. */
 const DEFAULT_WAITS = { minWait: cyclesFromMilliseconds(1), maxWait: cyclesFromMilliseconds(20) };
 /** The default times for which each key in a sequence for a model is pressed and then released, in cycles. */
-const DEFAULT_PACE = { down: TOOL_KEY_DOWN_CYCLES, up: TOOL_KEY_UP_CYCLES };
+const DEFAULT_PACE = { downTime: TOOL_KEY_DOWN_CYCLES, upTime: TOOL_KEY_UP_CYCLES };
 
 class PropertiesReader {
   /** @param {Subject} subject */
@@ -76,16 +77,16 @@ class PropertiesReader {
     /** @type {Property[]} */
     this.properties = [];
     /** @type {string[]} */
-    this.notes = [];
+    this.notedPlaces = [];
     this.maxKeysDown = DEFAULT_MAX_KEYS_DOWN;
     this.canReset = false;
     this.minWait = DEFAULT_WAITS.minWait;
     this.maxWait = DEFAULT_WAITS.maxWait;
-    this.down = DEFAULT_PACE.down;
-    this.up = DEFAULT_PACE.up;
+    this.downTime = DEFAULT_PACE.downTime;
+    this.upTime = DEFAULT_PACE.upTime;
     this.maxHoldTime = Infinity;
     this.minReleaseTime = 0;
-    this.begin = 0;
+    this.checkStart = 0;
     this.command = "";
     /** @type {{ state: string, file: string } | null} */
     this.from = null;
@@ -128,8 +129,8 @@ class PropertiesReader {
    */
   parseLabel(word) {
     const name = word.replace(/^@/, "");
-    const found = this.names.map.names.get(name);
-    return word.startsWith("@") && found && found.isLabel ? found.value
+    const definition = this.names.map.names.get(name);
+    return word.startsWith("@") && definition && definition.isLabel ? definition.value
       : fail(word.startsWith("@") ? noLabel(name) : say.labelSyntax(word));
   }
 
@@ -139,8 +140,9 @@ class PropertiesReader {
    */
   findInput(name) {
     const { face } = this.names;
-    const found = [...listKeyInputs(face), createTestInput(face)].find((each) => each.name === name && (each.isKey || face.test));
-    if (found) return found;
+    const inputs = [...listKeyInputs(face), createTestInput(face)];
+    const input = inputs.find((candidate) => candidate.name === name && (candidate.isKey || face.test));
+    if (input) return input;
     const inputNames = listInputNames(face);
     return fail(noKey(name, inputNames.join(" ")));
   }
@@ -168,10 +170,10 @@ class PropertiesReader {
  */
 function parseTwoTimes(words, syntax) {
   const first = parseDuration(words, 0);
-  const rest = words.slice(first.wordCount).filter((word, index) => index > 0 || word !== "to");
-  const second = parseExactDuration(rest);
-  if (first.cycles === 0 || second === 0) fail(syntax);
-  return [first.cycles, second];
+  const timeWords = words.slice(first.wordCount).filter((word, index) => index > 0 || word !== "to");
+  const secondCycles = parseExactDuration(timeWords);
+  if (first.cycles === 0 || secondCycles === 0) fail(syntax);
+  return [first.cycles, secondCycles];
 }
 
 
@@ -222,16 +224,16 @@ const SETTING_PARSERS = {
   begin: (reader, words) => {
     const syntax = say.BEGIN_SYNTAX;
     if (words[0] !== "after") fail(syntax);
-    reader.begin = reader.parseTime(words.slice(1).join(" "), syntax);
+    reader.checkStart = reader.parseTime(words.slice(1).join(" "), syntax);
   },
   pace: (reader, words) => {
     const syntax = say.PACE_SYNTAX;
-    [reader.down, reader.up] = parseTwoTimes(words, syntax);
+    [reader.downTime, reader.upTime] = parseTwoTimes(words, syntax);
   },
   note: (reader, words) => {
     if (words.length === 0) fail(say.NOTE_SYNTAX);
-    for (const word of words) reader.notes.push(...findNotePlaces(reader, word));
-    if (reader.notes.length > MAX_NOTES) fail(say.tooManyNotes(MAX_NOTES));
+    for (const word of words) reader.notedPlaces.push(...findNotePlaces(reader, word));
+    if (reader.notedPlaces.length > MAX_NOTES) fail(say.tooManyNotes(MAX_NOTES));
   },
 };
 
@@ -277,9 +279,9 @@ const PROPERTY_PARSERS = {
   },
   after: (reader, rest, text) => {
     const syntax = say.AFTER_SYNTAX;
-    const found = /^press (\S+) within (.*)$/.exec(rest);
-    if (!found) fail(syntax);
-    const [, key, requirement] = /** @type {RegExpExecArray} */ (found);
+    const match = /^press (\S+) within (.*)$/.exec(rest);
+    if (!match) fail(syntax);
+    const [, key, requirement] = /** @type {RegExpExecArray} */ (match);
     const words = requirement.split(" ");
     const { cycles, wordCount: count } = parseDuration(words, 0);
     if (cycles === 0 || words.length === count) fail(syntax);
@@ -294,7 +296,7 @@ const PROPERTY_PARSERS = {
   reach: (reader, rest, text) => {
     const line = /^line (\d+)$/.exec(rest);
     if (!line && !/^@\S+$/.test(rest)) return reachProperty(text, reader.parseViolation(rest));
-    const instruction = line && reader.instructions.find((each) => each.line === Number(line[1]));
+    const instruction = line && reader.instructions.find((candidate) => candidate.line === Number(line[1]));
     if (line && !instruction) fail(say.noInstructionIn(line[1]));
     const address = instruction ? instruction.address : reader.parseLabel(rest);
     return reader.whileCondition === "" ? reachAddressProperty(text, address)
@@ -356,13 +358,13 @@ function parseGuardedLine(reader, text, firstGuard) {
   const guards = [];
   let unguardedText = "";
   let count = 0;
-  for (let next = firstGuard; next; next = splitGuard(unguardedText)) {
+  for (let currentGuard = firstGuard; currentGuard; currentGuard = splitGuard(unguardedText)) {
     reader.searchStart = text.length - (unguardedText || text).length;
-    ({ rest: unguardedText } = next);
+    ({ rest: unguardedText } = currentGuard);
     count += 1;
     if (count > MAX_GUARDS) fail(say.tooManyGuards(MAX_GUARDS));
-    const [, condition] = /^while (.+)$/.exec(next.guard) || [];
-    if (condition === undefined) guards.push(parseGuard(reader, next.guard));
+    const [, condition] = /^while (.+)$/.exec(currentGuard.guard) || [];
+    if (condition === undefined) guards.push(parseGuard(reader, currentGuard.guard));
     else reader.whileCondition = `${reader.whileCondition && `${reader.whileCondition} and `}(${reader.parseCondition(condition).text})`;
   }
   if (unguardedText === "") return firstGuard ? fail(say.GUARD_SYNTAX) : null;
@@ -407,7 +409,7 @@ function parseLine(reader, text) {
 function parseUnguardedLine(reader, text) {
   const onlyAfterParts = ONLY_AFTER_LINE.exec(text);
   if (onlyAfterParts) {
-    const keys = onlyAfterParts[2].split(/ *, */).map((each) => (/^press (\S+)$/.exec(each)
+    const keys = onlyAfterParts[2].split(/ *, */).map((pressText) => (/^press (\S+)$/.exec(pressText)
       || fail(say.ONLY_AFTER_SYNTAX))[1]);
     return onlyAfterProperty(text, reader.parseCondition(onlyAfterParts[1]), keys.map((key) => reader.findInput(key).name));
   }
@@ -442,7 +444,7 @@ function addDefaults(reader, text) {
     for (const input of listKeyInputs(face)) reader.addInput(input);
     if (face.test) reader.addInput(createTestInput(face));
   }
-  if (reader.notes.length === 0) reader.notes.push("lamps");
+  if (reader.notedPlaces.length === 0) reader.notedPlaces.push("lamps");
   return reader.inputs.length > 0 || reader.canReset;
 }
 
@@ -466,10 +468,10 @@ export function readCampaign(text, subject, needsInputs = true) {
       const property = parseLine(reader, line);
       if (reader.from && fromLine === 0) fromLine = index + 1;
       if (property) reader.properties.push({ ...property, line: index + 1 });
-    } catch (fault) {
-      if (!(fault instanceof ConditionError)) throw fault;
-      const column = fault.column < 0 ? -1 : columnInLine(originalLine, fault.column);
-      faults.push({ line: index + 1, column, words: column < 0 ? fault.message : errorInColumn(fault.message, column) });
+    } catch (error) {
+      if (!(error instanceof ConditionError)) throw error;
+      const column = error.column < 0 ? -1 : findOriginalColumn(originalLine, error.column);
+      faults.push({ line: index + 1, column, words: column < 0 ? error.message : errorInColumn(error.message, column) });
     }
   });
   const last = Math.max(1, text.trimEnd().split("\n").length);
@@ -480,9 +482,10 @@ export function readCampaign(text, subject, needsInputs = true) {
     const { line } = reader.properties.find(({ form }) => form === "model") || { line: 1 };
     faults.push({ line, column: -1, words: say.MODEL_NEEDS_KEYS });
   }
-  const { inputs, maxKeysDown, canReset, minWait, maxWait, maxHoldTime, minReleaseTime, begin, down, up, notes, command } = reader;
-  const campaign = { inputs, maxKeysDown, canReset, minWait, maxWait, maxHoldTime, minReleaseTime, begin, down, up, notes, command,
-    from: reader.from && { ...reader.from, line: fromLine }, before: [], calls: { least: 0, most: 0 },
+  const { inputs, maxKeysDown, canReset, minWait, maxWait, maxHoldTime, minReleaseTime } = reader;
+  const { checkStart, downTime, upTime, notedPlaces, command } = reader;
+  const campaign = { inputs, maxKeysDown, canReset, minWait, maxWait, maxHoldTime, minReleaseTime, checkStart, downTime, upTime,
+    notedPlaces, command, from: reader.from && { ...reader.from, line: fromLine }, leadingLines: [], calls: { min: 0, max: 0 },
     properties: [...reader.properties, ...standardProperties()] };
   return { campaign, faults };
 }

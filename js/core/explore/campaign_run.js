@@ -1,6 +1,6 @@
 // Runs a campaign: searches for counterexamples, minimises and confirms them, and creates the report.
 
-import { omittedGuards } from "../prove/question.js";
+import { nameOmittedGuards } from "../prove/question.js";
 import { formatTest, formatViolationLines } from "./counterexample_test.js";
 import { Model } from "./model.js";
 import { InitialProof } from "./initial_proof.js";
@@ -19,9 +19,9 @@ import { createRandom } from "./walks.js";
  * is a goal, pass.
  * @typedef {(test: string, isGoal: boolean) => boolean | Promise<boolean>} ConfirmTest
  *
- * A confirmed counterexample: the index of its property, its test (in `found`), and its steps (in `violation`). `violation` is null if the
- * property is a model.
- * @typedef {{ property: number, found: Counterexample, violation: Violation | null }} ConfirmedViolation
+ * A confirmed counterexample: the index of its property, its test (in `counterexample`), and its steps (in `violation`). `violation` is
+ * null if the property is a model.
+ * @typedef {{ property: number, counterexample: Counterexample, violation: Violation | null }} ConfirmedViolation
  */
 
 /** The initial proof gets at most 1 / PROOF_SHARE of the search time. */
@@ -29,17 +29,17 @@ const PROOF_SHARE = 10;
 /** The number of counterexamples with failed confirmation after which the search no longer checks a property. */
 const MAX_UNCONFIRMED = 3;
 /**
- * The maximum number of cycles to run while a counterexample is minimised: `second` cycles per second of search time, but at least `least`
- * and at most `most`.
+ * The maximum number of cycles to run while a counterexample is minimised: `perSecond` cycles for each second of search time, but at least
+ * `min` and at most `max`.
  */
-const MINIMISING_CYCLES = { second: 2e6, least: 10e6, most: 60e6 };
+const MINIMISING_CYCLES = { perSecond: 2e6, min: 10e6, max: 60e6 };
 
 /**
  * Returns the maximum number of cycles to run while a counterexample is minimised.
  * @param {number} seconds the search time
  */
 export function minimisingCycleLimit(seconds) {
-  return Math.max(MINIMISING_CYCLES.least, Math.min(MINIMISING_CYCLES.most, seconds * MINIMISING_CYCLES.second));
+  return Math.max(MINIMISING_CYCLES.min, Math.min(MINIMISING_CYCLES.max, seconds * MINIMISING_CYCLES.perSecond));
 }
 
 /**
@@ -113,9 +113,9 @@ export class CampaignRun {
     if (!difference) return null;
     const test = model.formatTest(this.campaign.properties[this.modelIndex].text, difference);
     if (!(await this.confirm(test, false))) return this.recordUnconfirmed(this.modelIndex, test);
-    const found = { test, steps: 2 * difference.keys.length, cycles: difference.cycles, seed: this.seed };
-    this.recordCounterexample(this.modelIndex, found);
-    return { property: this.modelIndex, found, violation: null };
+    const counterexample = { test, steps: 2 * difference.keys.length, cycles: difference.cycles, seed: this.seed };
+    this.recordCounterexample(this.modelIndex, counterexample);
+    return { property: this.modelIndex, counterexample, violation: null };
   }
 
   /**
@@ -127,12 +127,12 @@ export class CampaignRun {
   async runFor(milliseconds) {
     const startTime = performance.now();
     if (this.model && this.isModelOpen && (this.timeSpent.model <= this.timeSpent.search || this.search.openProperties.length === 0)) {
-      const found = await this.askModel(this.model);
+      const confirmedViolation = await this.askModel(this.model);
       this.timeSpent.model += performance.now() - startTime;
-      return found;
+      return confirmedViolation;
     }
     if (this.proof.canContinue) {
-      for (const at of this.proof.ask()) this.search.closeProperty(at);
+      for (const at of this.proof.askNextQuestion()) this.search.closeProperty(at);
       this.timeSpent.proof += performance.now() - startTime;
       return null;
     }
@@ -153,16 +153,16 @@ export class CampaignRun {
     const { isGoal } = campaign.properties[minimised.property];
     const test = formatTest(subject, start.file, campaign, minimised);
     if (!(await this.confirm(test, isGoal))) return this.recordUnconfirmed(minimised.property, test);
-    const found = { test, steps: minimised.steps.length, cycles: minimised.time, seed: this.seed };
-    this.recordCounterexample(minimised.property, found);
-    return { property: minimised.property, found, violation: minimised };
+    const counterexample = { test, steps: minimised.steps.length, cycles: minimised.time, seed: this.seed };
+    this.recordCounterexample(minimised.property, counterexample);
+    return { property: minimised.property, counterexample, violation: minimised };
   }
 
   /**
    * Returns the session file at the end of a counterexample.
    * @param {Violation} violation
    */
-  sessionAtViolation(violation) {
+  createSessionFile(violation) {
     const { campaign, subject: { engine }, search: { start } } = this;
     const file = start.file.slice();
     engine.serve(file, formatViolationLines(campaign, violation), file);
@@ -206,7 +206,7 @@ export class CampaignRun {
         text: property.text, line: property.line, isGoal: property.isGoal, isSkipped: property.form === "model" && this.model === null,
         applied: search.appliedProperties.has(at) || property.isGoal,
         chains: this.model && at === this.modelIndex ? this.model.sequenceCount : 0,
-        states: proof.states[at], leftOut: omittedGuards(property), found: this.counterexamples[at],
+        states: proof.states[at], leftOut: nameOmittedGuards(property), found: this.counterexamples[at],
       })),
     };
   }

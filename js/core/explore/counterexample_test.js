@@ -21,7 +21,7 @@ import * as say from "../../words/explore.js";
  * @param {Violation} violation
  */
 export function formatViolationLines(campaign, { steps, time }) {
-  const lastChangeTime = steps.reduce((sum, { wait }) => sum + wait, campaign.begin);
+  const lastChangeTime = steps.reduce((sum, { wait }) => sum + wait, campaign.checkStart);
   return walkLines(campaign, steps) + runLines(time - lastChangeTime);
 }
 
@@ -44,10 +44,10 @@ class TestWriter {
     this.steps = steps;
     this.time = time;
     /** The time of the last change in cycles. */
-    this.lastChangeTime = steps.reduce((sum, { wait }) => sum + wait, campaign.begin);
+    this.lastChangeTime = steps.reduce((sum, { wait }) => sum + wait, campaign.checkStart);
     /** @type {string[]} */
-    this.lines = [`test ${this.property.text}`, ...campaign.before];
-    this.pendingWait = campaign.begin;
+    this.lines = [`test ${this.property.text}`, ...campaign.leadingLines];
+    this.pendingWait = campaign.checkStart;
   }
 
   /** Writes a `run` line for the waits that are not written yet. */
@@ -61,8 +61,8 @@ class TestWriter {
       this.pendingWait += wait;
       if (kind === "none") continue;
       this.writePendingWait();
-      const { downWords, upWords } = this.campaign.inputs[input] || { downWords: "reset", upWords: "" };
-      this.lines.push(`  ${kind === "up" ? upWords : downWords}`);
+      const { downTestLine, upTestLine } = this.campaign.inputs[input] || { downTestLine: "reset", upTestLine: "" };
+      this.lines.push(`  ${kind === "up" ? upTestLine : downTestLine}`);
     }
   }
 
@@ -85,39 +85,39 @@ class TestWriter {
    * Returns the text of the property's condition, or of its negation.
    * @param {boolean} holds false for the negation
    */
-  conditionText(holds) {
+  formatCondition(holds) {
     const { condition, address } = this.property;
     if (condition) return holds ? condition.text : condition.negation;
-    return holds ? this.counterCondition(address) : `not ${this.counterCondition(address)}`;
+    return holds ? this.formatCounterCondition(address) : `not ${this.formatCounterCondition(address)}`;
   }
 
   /**
    * Writes an `expect` line for a condition at the time of the violation.
-   * @param {string} words
+   * @param {string} condition
    */
-  writeExpect(words) {
+  writeExpect(condition) {
     this.writeRunUntil(this.time);
-    this.lines.push(`  expect ${words}`);
+    this.lines.push(`  expect ${condition}`);
   }
 
   /**
    * Returns the text of the condition that the program counter is at an address. Uses the label if the address has one.
    * @param {number} address
    */
-  counterCondition(address) {
+  formatCounterCondition(address) {
     const [label] = this.subject.names.map.labelsAt(address);
     return label ? `@${label}` : `pc 0x${hex(address, 3)}`;
   }
 
   /**
    * Writes an `until` line, which requires that a condition becomes true before the time of the violation.
-   * @param {string} words the condition
+   * @param {string} condition the condition
    * @param {number} since the time at which the wait for the condition starts, in cycles
    */
-  writeUntil(words, since) {
+  writeUntil(condition, since) {
     const from = Math.max(since, this.lastChangeTime);
     this.writeRunUntil(from);
-    this.lines.push(`  until ${words} within ${Math.max(1, this.time - from)}`);
+    this.lines.push(`  until ${condition} within ${Math.max(1, this.time - from)}`);
   }
 }
 
@@ -126,24 +126,24 @@ class TestWriter {
  * @type {Record<Property["form"], (writer: TestWriter) => void>}
  */
 const FINAL_LINES = {
-  never: (writer) => writer.writeExpect(writer.conditionText(false)),
-  always: (writer) => writer.writeExpect(writer.conditionText(true)),
-  at: (writer) => writer.writeExpect(writer.conditionText(true)),
-  "only after": (writer) => writer.writeExpect(writer.conditionText(false)),
-  "never for": (writer) => writer.writeUntil(writer.conditionText(false), writer.time - writer.property.limit),
-  every: (writer) => writer.writeUntil(writer.counterCondition(writer.property.address), writer.time - writer.property.limit),
-  within: (writer) => writer.writeUntil(writer.counterCondition(writer.property.address), writer.time - writer.property.limit),
-  "after press": (writer) => writer.writeUntil(writer.conditionText(true), writer.time - writer.property.limit),
-  once: (writer) => writer.writeExpect(`not ${writer.counterCondition(writer.property.address)}`),
-  reach: (writer) => writer.writeExpect(writer.conditionText(true)),
-  "reach at": (writer) => writer.writeExpect(writer.counterCondition(writer.property.address)),
+  never: (writer) => writer.writeExpect(writer.formatCondition(false)),
+  always: (writer) => writer.writeExpect(writer.formatCondition(true)),
+  at: (writer) => writer.writeExpect(writer.formatCondition(true)),
+  "only after": (writer) => writer.writeExpect(writer.formatCondition(false)),
+  "never for": (writer) => writer.writeUntil(writer.formatCondition(false), writer.time - writer.property.limit),
+  every: (writer) => writer.writeUntil(writer.formatCounterCondition(writer.property.address), writer.time - writer.property.limit),
+  within: (writer) => writer.writeUntil(writer.formatCounterCondition(writer.property.address), writer.time - writer.property.limit),
+  "after press": (writer) => writer.writeUntil(writer.formatCondition(true), writer.time - writer.property.limit),
+  once: (writer) => writer.writeExpect(`not ${writer.formatCounterCondition(writer.property.address)}`),
+  reach: (writer) => writer.writeExpect(writer.formatCondition(true)),
+  "reach at": (writer) => writer.writeExpect(writer.formatCounterCondition(writer.property.address)),
   model: () => undefined,
   code: (writer) => {
     writer.writeRunUntil(writer.time + 1);
   },
-  calls: (writer) => writer.writeExpect(`not ${writer.counterCondition(writer.counterAtViolation)}`),
-  returns: (writer) => writer.writeExpect(`not ${writer.counterCondition(writer.counterAtViolation)}`),
-  mistake: (writer) => writer.writeExpect(`not ${writer.counterCondition(writer.counterAtViolation)}`),
+  calls: (writer) => writer.writeExpect(`not ${writer.formatCounterCondition(writer.counterAtViolation)}`),
+  returns: (writer) => writer.writeExpect(`not ${writer.formatCounterCondition(writer.counterAtViolation)}`),
+  mistake: (writer) => writer.writeExpect(`not ${writer.formatCounterCondition(writer.counterAtViolation)}`),
 };
 
 /** @type {Partial<Record<Property["form"], string>>} the comments below the name of a test, by property form */

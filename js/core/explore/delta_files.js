@@ -1,4 +1,4 @@
-// Stores session files compactly: for each file, only the 32-bit words that differ from those of the first file. Most words are the same.
+// Stores session files compactly: for each file, only the 32-bit words that differ from those of the first file. Most words do not differ.
 
 /**
  * A stored file: the indices and the values of the words that differ from those of the first file.
@@ -35,7 +35,7 @@ export class DeltaFiles {
    * Returns the bytes of a stored file. The next call of this method overwrites the returned array.
    * @param {FileDelta} delta
    */
-  file({ indexes, words }) {
+  decode({ indexes, words }) {
     const { scratch } = this;
     scratch.set(this.first);
     indexes.forEach((index, at) => {

@@ -20,8 +20,8 @@ export class Explorer extends TaskWorker {
   }
 
   /**
-   * Searches until the time is over, all properties are decided, or the user stops the search. Resolves to the result of the task, which
-   * says how the search ended.
+   * Searches until the time limit is reached, all properties are decided, or the user stops the search. Resolves to the result of the task,
+   * which says how the search ended.
    * @param {ExploredTexts} texts
    * @param {RunOptions} options
    * @param {AbortSignal} signal

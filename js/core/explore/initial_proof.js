@@ -1,9 +1,9 @@
 // Asks the prover before the search starts, because a property that is proved for all inputs needs no search. The prover gets a part of the
 // search time. Each round asks about all properties that are not proved yet, with twice the previous bound on the number of states.
 
-import { allMistakes } from "../prove/mistakes.js";
+import { listMistakes } from "../prove/mistakes.js";
 import {
-  createQuestion, boundsUpTo, jointQuestion, mistakeQuestion, needsSeparateQuestion, questionText, readAnswer,
+  createQuestion, listBounds, combineQuestions, mistakeQuestion, needsSeparateQuestion, questionText, readAnswer,
 } from "../prove/question.js";
 
 /**
@@ -42,7 +42,7 @@ export class InitialProof {
      * @type {PropertyQuestion[]}
      */
     this.questions = combinableQuestions.length > 1 ? [joinQuestions(combinableQuestions), ...separateQuestions] : separateQuestions;
-    this.bounds = boundsUpTo(MAX_BOUND, FIRST_BOUND);
+    this.bounds = listBounds(MAX_BOUND, FIRST_BOUND);
     /** The number of questions at the start of the list that this round has already asked without a final answer. */
     this.askedCount = 0;
     /** The duration of the last question in milliseconds. */
@@ -55,7 +55,7 @@ export class InitialProof {
   }
 
   /** Asks the next question. Returns the indices of the properties that the answer proves. */
-  ask() {
+  askNextQuestion() {
     const { properties, question } = this.questions[this.askedCount];
     const startTime = performance.now();
     const answer = this.askProver(question);
@@ -75,7 +75,7 @@ export class InitialProof {
    */
   askProver(question) {
     const { engine, texts } = this.subject;
-    const limits = { most: this.bounds[0], pause: PAUSE_CYCLES };
+    const limits = { maxStates: this.bounds[0], pause: PAUSE_CYCLES };
     const answer = engine.prove ? readAnswer(engine.prove(questionText(texts, question, limits))) : null;
     return answer || { kind: /** @type {const} */ ("lost") };
   }
@@ -87,7 +87,7 @@ export class InitialProof {
    */
   closeProved(properties, states) {
     for (const at of properties) this.states[at] = states;
-    this.questions = this.questions.filter((each) => each.properties.some((at) => this.states[at] === 0));
+    this.questions = this.questions.filter((propertyQuestion) => propertyQuestion.properties.some((at) => this.states[at] === 0));
   }
 
   /** Starts the next round with a larger bound, and doubles the expected duration of a question. */
@@ -106,9 +106,9 @@ export class InitialProof {
  * @returns {PropertyQuestion[]}
  */
 function createQuestions(subject, campaign) {
-  const words = new Map(allMistakes().map(({ property: { form }, word }) => [form, word]));
+  const mistakeWords = new Map(listMistakes().map(({ property: { form }, word }) => [form, word]));
   return campaign.properties.flatMap((property, at) => {
-    const mistake = words.get(property.form);
+    const mistake = mistakeWords.get(property.form);
     const question = mistake ? mistakeQuestion([mistake]) : createQuestion(property, campaign, subject).question;
     return question ? [{ properties: [at], question }] : [];
   });
@@ -121,6 +121,6 @@ function createQuestions(subject, campaign) {
  */
 function joinQuestions(questions) {
   return {
-    properties: questions.flatMap(({ properties }) => properties), question: jointQuestion(questions.map(({ question }) => question)),
+    properties: questions.flatMap(({ properties }) => properties), question: combineQuestions(questions.map(({ question }) => question)),
   };
 }

@@ -2,7 +2,7 @@
 
 import { MAX_RUN_CYCLES } from "../engine/key_queue.js";
 import { Watcher } from "./walk_watcher.js";
-import { downInputsAfter, initialDownInputs, areStepsAllowed, longestWaitAfter } from "./walks.js";
+import { updateDownInputs, initialDownInputs, areStepsAllowed, findLongestWaitAfter } from "./walks.js";
 
 /**
  * @typedef {import("./campaign.js").Campaign} Campaign
@@ -60,13 +60,13 @@ export class Minimiser {
   async tryWalk(steps) {
     if (this.cyclesLeft <= 0 || !areStepsAllowed(this.campaign, steps)) return false;
     await this.yieldToMessages();
-    const wait = Math.min(this.campaign.maxWait, longestWaitAfter(this.campaign, steps));
+    const wait = Math.min(this.campaign.maxWait, findLongestWaitAfter(this.campaign, steps));
     const finalWait = wait > 0 ? [{ wait, kind: /** @type {const} */ ("none"), input: -1 }] : [];
     this.cyclesLeft -= [...steps, ...finalWait].reduce((sum, step) => sum + step.wait + STEP_COST, 0);
-    const { broken } = this.watcher.watch(this.start, [...steps, ...finalWait], [0]);
-    if (!broken) return false;
-    this.steps = steps.slice(0, broken.step);
-    this.time = broken.time;
+    const { violation } = this.watcher.watch(this.start, [...steps, ...finalWait], [0]);
+    if (!violation) return false;
+    this.steps = steps.slice(0, violation.step);
+    this.time = violation.time;
     return true;
   }
 
@@ -89,7 +89,7 @@ export class Minimiser {
    */
   async tryWithout(isRemoved) {
     if (await this.tryWalk(this.steps.filter((_, index) => !isRemoved(index)))) return true;
-    const stepsWithout = this.stepsWithout(isRemoved);
+    const stepsWithout = this.listStepsWithout(isRemoved);
     return stepsWithout !== null && (await this.tryWalk(stepsWithout));
   }
 
@@ -98,9 +98,9 @@ export class Minimiser {
    * too long.
    * @param {(index: number) => boolean} isRemoved
    */
-  stepsWithout(isRemoved) {
+  listStepsWithout(isRemoved) {
     const { campaign } = this;
-    let down = initialDownInputs(campaign);
+    let downInputs = initialDownInputs(campaign);
     let waited = 0;
     /** @type {WalkStep[]} */
     const remainingSteps = [];
@@ -108,9 +108,9 @@ export class Minimiser {
       waited += step.wait;
       if (isRemoved(at)) continue;
       // While no input is down, a wait can exceed the maximum of the campaign, but must fit into one run.
-      if (waited > (down.length > 0 ? campaign.maxWait : MAX_RUN_CYCLES)) return null;
+      if (waited > (downInputs.length > 0 ? campaign.maxWait : MAX_RUN_CYCLES)) return null;
       remainingSteps.push({ ...step, wait: waited });
-      down = downInputsAfter(down, step);
+      downInputs = updateDownInputs(downInputs, step);
       waited = 0;
     }
     return remainingSteps;
@@ -133,10 +133,10 @@ export class Minimiser {
    */
   async removeStart() {
     const { campaign, steps } = this;
-    let down = initialDownInputs(campaign);
+    let downInputs = initialDownInputs(campaign);
     const idleSteps = steps.flatMap((step, at) => {
-      const isIdle = down.length === 0 && at > 0;
-      down = downInputsAfter(down, step);
+      const isIdle = downInputs.length === 0 && at > 0;
+      downInputs = updateDownInputs(downInputs, step);
       return isIdle ? [at] : [];
     });
     for (const at of idleSteps.reverse()) {

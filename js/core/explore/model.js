@@ -13,8 +13,8 @@ import { runLines } from "../engine/key_queue.js";
  * @typedef {import("./walks.js").Random} Random
  * @typedef {import("./walk_watcher.js").WalkStart} WalkStart
  *
- * The output of the command: the expected text after each key sequence (`shown`), or an error message.
- * @typedef {{ shown: string[], fault: string }} ModelOutput
+ * The output of the command: the expected text after each key sequence (`expectedTexts`), or an error message.
+ * @typedef {{ expectedTexts: string[], fault: string }} ModelOutput
  * @typedef {(keySequences: string[]) => ModelOutput | Promise<ModelOutput>} ModelCommand
  *
  * A key sequence after which the display differs from the expected text. `keys` are the indices of the pressed inputs. `lampsOn` are the
@@ -66,13 +66,13 @@ export class Model {
    */
   async findDifference(keySequences) {
     const names = keySequences.map((keys) => keys.map((at) => this.campaign.inputs[at].name).join(" "));
-    const { shown: expectedTexts, fault } = await this.modelCommand(names);
+    const { expectedTexts, fault } = await this.modelCommand(names);
     this.fault = fault;
     for (const [at, keys] of keySequences.entries()) {
       if (fault !== "") return null;
       const expectedText = expectedTexts[at].trim();
-      const cycles = keys.length * (this.campaign.down + this.campaign.up);
-      const { number, fullText, lampsOn } = this.displayAfter(keys);
+      const cycles = keys.length * (this.campaign.downTime + this.campaign.upTime);
+      const { number, fullText, lampsOn } = this.readDisplayAfter(keys);
       if (expectedText !== "" && fullText !== expectedText) {
         return { keys, expectedText, lampsOn: number === expectedText ? lampsOn : [], cycles };
       }
@@ -85,12 +85,12 @@ export class Model {
    * display` prints them (`fullText`), and the names of all lamps that are on except the minus lamp.
    * @param {number[]} keys
    */
-  displayAfter(keys) {
-    const { down, up } = this.campaign;
+  readDisplayAfter(keys) {
+    const { downTime, upTime } = this.campaign;
     const { face } = this.subject.names;
     const lines = keys.map((input) => (
-      `${changeLine(this.campaign, { wait: 0, kind: "down", input })}${runLines(down)}`
-      + `${changeLine(this.campaign, { wait: 0, kind: "up", input })}${runLines(up)}`)).join("");
+      `${changeLine(this.campaign, { wait: 0, kind: "down", input })}${runLines(downTime)}`
+      + `${changeLine(this.campaign, { wait: 0, kind: "up", input })}${runLines(upTime)}`)).join("");
     const { answers } = this.subject.engine.ask(this.start.file, `${lines}lamps\n`);
     const marks = readItems(answers[answers.length - 1]).join("");
     const lamps = [...face.lamps].map(([lamp, { text }]) => ({ lamp, text }));
@@ -120,8 +120,8 @@ export class Model {
    * @param {Difference} difference
    */
   formatTest(name, { keys, expectedText, lampsOn }) {
-    const { down, up, begin, inputs, before } = this.campaign;
-    const lines = [`test ${name}`, ...before, ...(begin > 0 ? [`  run ${begin}`] : []), `  pace ${down} ${up}`,
+    const { downTime, upTime, checkStart, inputs, leadingLines } = this.campaign;
+    const lines = [`test ${name}`, ...leadingLines, ...(checkStart > 0 ? [`  run ${checkStart}`] : []), `  pace ${downTime} ${upTime}`,
       `  keys ${keys.map((at) => inputs[at].name).join(" ")}`, `  expect display ${expectedText}`,
       ...lampsOn.map((lamp) => `  expect lamp ${lamp} off`)];
     return `${lines.join("\n")}\n`;

@@ -19,7 +19,7 @@ export class PlaceQueries {
    * Returns the `trace` lines that query the places for the next cycles.
    * @param {number} cycles
    */
-  lines(cycles) {
+  formatLines(cycles) {
     return this.groups.map((group) => `trace ${cycles} ${group.join(" ")}\n`).join("");
   }
 
@@ -27,7 +27,7 @@ export class PlaceQueries {
    * Returns the indices of some places in the list of all places.
    * @param {string[]} places
    */
-  indexes(places) {
+  findIndexes(places) {
     return places.map((place) => this.names.indexOf(place));
   }
 }
@@ -47,11 +47,11 @@ const NO_GUARDS = [];
 export class Conditions {
   /**
    * @param {Property} property
-   * @param {{ indexes: (places: string[]) => number[] }} places
+   * @param {{ findIndexes: (places: string[]) => number[] }} places
    */
   constructor(property, places) {
     const [ownCondition, ...guards] = listConditions(property).map((condition) => (
-      { condition, indexes: condition ? places.indexes(condition.places) : [] }));
+      { condition, indexes: condition ? places.findIndexes(condition.places) : [] }));
     this.ownCondition = ownCondition;
     this.guardConditions = guards;
   }
@@ -88,7 +88,7 @@ export class PlaceValues extends ForecastAnswers {
    * Returns the current values of all places, separated by blanks, and ignores later changes.
    * @param {PlaceQueries} places
    */
-  row(places) {
+  takeRow(places) {
     let row = "";
     for (let group = 0; group < places.groups.length; group++) row += this.takeTrace().row;
     return row.slice(1);
@@ -100,7 +100,7 @@ export class PlaceValues extends ForecastAnswers {
    * @param {PlaceQueries} places
    * @returns {{ values: string[], changes: Change[] }}
    */
-  changes(places) {
+  takeChanges(places) {
     /** @type {string[]} */
     let values = [];
     /** @type {Change[][]} */
@@ -116,7 +116,7 @@ export class PlaceValues extends ForecastAnswers {
   }
 
   /** Consumes and parses the answer to `count`; returns an empty list if the bench rejected the query. */
-  counts() {
+  takeCountsIfAny() {
     if (!parseRefusal(this.answers[this.nextIndex])) return this.takeCounts();
     this.skip(1);
     return [];

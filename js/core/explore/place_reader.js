@@ -31,7 +31,7 @@ const REGISTERS_PER_CHIP = 4;
  * @param {number} bank
  */
 function countChips({ banks }, bank) {
-  return (banks.find((each) => each.bank === bank) || { chips: 0 }).chips;
+  return (banks.find((candidate) => candidate.bank === bank) || { chips: 0 }).chips;
 }
 
 /**
@@ -39,7 +39,7 @@ function countChips({ banks }, bank) {
  * @param {string} name
  * @returns {AnswerPosition | null}
  */
-function registerPosition(name) {
+function findRegister(name) {
   const found = REGISTER_POSITIONS.get(name);
   if (found) return { query: "regs", line: 0, precedingWord: "", start: found[0], length: found[1] };
   const register = /^r(\d+)$/.exec(name);
@@ -52,15 +52,15 @@ function registerPosition(name) {
  * @param {Board} board
  * @returns {AnswerPosition | null}
  */
-function memoryPosition(name, board) {
+function findMemory(name, board) {
   const [word, ...parts] = name.split(".");
   if (word !== "ram" && word !== "st") return null;
-  const [bank, at, statusIndex] = parts.map(parseNumber);
-  const register = word === "ram" ? at >> 4 : at;
+  const [bank, address, statusIndex] = parts.map(parseNumber);
+  const register = word === "ram" ? address >> 4 : address;
   if ((register >> 2) >= countChips(board, bank)) return null;
   const line = 1 + (register >> 2) * LINES_PER_CHIP + (register % REGISTERS_PER_CHIP);
   // `0.0.1 HHHHHHHHHHHHHHHH HHHH`
-  const start = word === "ram" ? 6 + (at % 16) : 23 + statusIndex;
+  const start = word === "ram" ? 6 + (address % 16) : 23 + statusIndex;
   return { query: `ram ${bank}`, line, precedingWord: "", start, length: 1 };
 }
 
@@ -71,12 +71,12 @@ function memoryPosition(name, board) {
  * @param {Board} board
  * @returns {AnswerPosition | null}
  */
-function portPosition(name, board) {
+function findPort(name, board) {
   const match = /^ram(\d)\.(\d)$/.exec(name);
   if (!match || Number(match[2]) >= countChips(board, Number(match[1]))) return null;
   // `rams 0.0.H,0.1.H,1.0.H`
-  const before = board.banks.filter(({ bank }) => bank < Number(match[1])).reduce((sum, { chips }) => sum + chips, 0);
-  return { query: "state", line: 0, precedingWord: " rams ", start: 6 * (before + Number(match[2])) + 4, length: 1 };
+  const earlierChips = board.banks.filter(({ bank }) => bank < Number(match[1])).reduce((sum, { chips }) => sum + chips, 0);
+  return { query: "state", line: 0, precedingWord: " rams ", start: 6 * (earlierChips + Number(match[2])) + 4, length: 1 };
 }
 
 /**
@@ -86,7 +86,7 @@ function portPosition(name, board) {
  */
 function findPosition(name, board) {
   if (name === "lamps") return { query: "lamps", line: 0, precedingWord: "", start: 6, length: 0 };
-  return registerPosition(name) || memoryPosition(name, board) || portPosition(name, board);
+  return findRegister(name) || findMemory(name, board) || findPort(name, board);
 }
 
 export class PlaceReader {
@@ -95,16 +95,16 @@ export class PlaceReader {
    * @param {Board} board
    */
   constructor(names, board) {
-    const all = [...new Set(names)];
-    const positions = all.map((name) => findPosition(name, board));
+    const allNames = [...new Set(names)];
+    const positions = allNames.map((name) => findPosition(name, board));
     /** The places that only `trace` reports. */
-    this.remainingPlaces = new PlaceQueries(all.filter((_, at) => !positions[at]));
-    this.positions = positions.flatMap((each) => each || []);
+    this.remainingPlaces = new PlaceQueries(allNames.filter((_, at) => !positions[at]));
+    this.positions = positions.flatMap((position) => position || []);
     /** All places, in the order of the values. */
-    this.names = [...all.filter((_, at) => positions[at]), ...this.remainingPlaces.names];
+    this.names = [...allNames.filter((_, at) => positions[at]), ...this.remainingPlaces.names];
     this.queries = [...new Set(this.positions.map(({ query }) => query))];
     /** The query lines. */
-    this.lines = this.queries.map((query) => `${query}\n`).join("") + this.remainingPlaces.lines(1);
+    this.lines = this.queries.map((query) => `${query}\n`).join("") + this.remainingPlaces.formatLines(1);
     const counts = this.queries.map((query) => (
       query.startsWith("ram ") ? 1 + LINES_PER_CHIP * countChips(board, Number(query.slice(4))) : 1));
     /** For each position, the index of its line in the answers to all queries. */
@@ -117,7 +117,7 @@ export class PlaceReader {
    * Returns the indices of some places in the list of all places.
    * @param {string[]} places
    */
-  indexes(places) {
+  findIndexes(places) {
     return places.map((place) => this.names.indexOf(place));
   }
 
@@ -125,18 +125,18 @@ export class PlaceReader {
    * Returns the values of all places, separated by blanks, from the answers to the query lines.
    * @param {PlaceValues} values
    */
-  row(values) {
+  takeRow(values) {
     const { positions, answerIndexes, remainingPlaces: tracedPlaces } = this;
     const first = values.nextIndex;
     let row = "";
-    for (let each = 0; each < positions.length; each++) {
-      const { precedingWord, start, length } = positions[each];
-      const answer = values.answers[first + answerIndexes[each]];
-      const begin = precedingWord === "" ? start : answer.indexOf(precedingWord) + precedingWord.length + start;
-      row += `${each === 0 ? "" : " "}${length === 0 ? answer.slice(begin) : answer.substr(begin, length)}`;
+    for (let index = 0; index < positions.length; index++) {
+      const { precedingWord, start, length } = positions[index];
+      const answer = values.answers[first + answerIndexes[index]];
+      const valueStart = precedingWord === "" ? start : answer.indexOf(precedingWord) + precedingWord.length + start;
+      row += `${index === 0 ? "" : " "}${length === 0 ? answer.slice(valueStart) : answer.substr(valueStart, length)}`;
     }
     values.skip(this.answerCount);
     if (tracedPlaces.names.length === 0) return row;
-    return row === "" ? values.row(tracedPlaces) : `${row} ${values.row(tracedPlaces)}`;
+    return row === "" ? values.takeRow(tracedPlaces) : `${row} ${values.takeRow(tracedPlaces)}`;
   }
 }

@@ -17,12 +17,12 @@ import * as say from "../../words/explore.js";
  * @typedef {"values" | "label" | "down" | "reset" | "end" | "call" | "return"} Event
  *
  * The circumstances of an event. Times are in cycles since power-on.
- * - `time`: the time of the event; `changed`: for `values`, the end of the first cycle of the instruction that changed the values;
+ * - `time`: the time of the event; `changeTime`: for `values`, the end of the first cycle of the instruction that changed the values;
  * - `address`: for `label`, the address that the program counter reaches;
  * - `holds`: true if the property's condition is true; `areOpen`: for each guard, true if its condition is true;
- * - `input`: for `down`, the name of the input that goes down; `isDown`: the number of inputs that are down.
- * @typedef {{ time: number, changed: number, address: number, holds: boolean, areOpen: boolean[], input: string,
- *   isDown: number }} Moment
+ * - `input`: for `down`, the name of the input that goes down; `downCount`: the number of inputs that are down.
+ * @typedef {{ time: number, changeTime: number, address: number, holds: boolean, areOpen: boolean[], input: string,
+ *   downCount: number }} Moment
  *
  * A guard of a property. The property is checked only:
  * - `press`: for `limit` cycles after a press of the key, or without a limit if `limit` is 0;
@@ -34,11 +34,11 @@ import * as say from "../../words/explore.js";
  * - `form`: the form of its line; `text`, `line`: its text and line number; `address`: the address of its label, -1 for none;
  * - `start`: for `within`, the address at which the time measurement starts; `limit`: the time limit in cycles; `keys`: the keys in its
  *   text;
- * - `from`: returns the initial memory; `update`: updates the memory after an event, and returns the time of the violation or -1;
+ * - `createMemory`: returns the initial memory; `update`: updates the memory after an event, and returns the time of the violation or -1;
  * - `newStateKey`: returns the part of the memory that distinguishes states, as text;
  * - `hasApplied`: returns whether an event in the walk was relevant to the property, such as a press of its key.
  * @typedef {{ form: Form, text: string, line: number, condition: Condition | null, address: number, start: number, limit: number,
- *   isGoal: boolean, keys: string[], guards: Guard[], from: (time: number, isDown: number) => number[],
+ *   isGoal: boolean, keys: string[], guards: Guard[], createMemory: (time: number, downCount: number) => number[],
  *   update: (memory: number[], event: Event, moment: Moment) => number, newStateKey: (memory: number[]) => string,
  *   hasApplied: (memory: number[]) => boolean }} Property
  * @typedef {"never" | "always" | "never for" | "at" | "only after" | "every" | "within" | "after press" | "once" | "reach" | "reach at"
@@ -52,7 +52,7 @@ const MAX_OPEN_CALLS = 3;
 
 /** @type {Omit<Property, "form" | "text">} the default values of properties */
 const DEFAULT_PROPERTY = {
-  line: 0, condition: null, address: UNSET, start: UNSET, limit: 0, isGoal: false, keys: [], guards: [], from: () => [],
+  line: 0, condition: null, address: UNSET, start: UNSET, limit: 0, isGoal: false, keys: [], guards: [], createMemory: () => [],
   update: () => UNSET, newStateKey: () => "", hasApplied: () => true,
 };
 
@@ -108,13 +108,13 @@ export function alwaysProperty(text, condition) {
  */
 export function neverForProperty(text, condition, limit) {
   return {
-    ...DEFAULT_PROPERTY, form: "never for", text, condition, limit, from: () => [UNSET],
-    update: (memory, event, { time, changed, holds }) => {
+    ...DEFAULT_PROPERTY, form: "never for", text, condition, limit, createMemory: () => [UNSET],
+    update: (memory, event, { time, changeTime, holds }) => {
       const [since] = memory;
-      const lastTrue = event === "values" && !holds ? changed - 1 : time;
+      const lastTrue = event === "values" && !holds ? changeTime - 1 : time;
       if (event === "reset") memory[0] = UNSET;
       else if (since !== UNSET && lastTrue - since >= limit) return since + limit;
-      else if (event === "values" && (since === UNSET) === holds) memory[0] = holds ? changed : UNSET;
+      else if (event === "values" && (since === UNSET) === holds) memory[0] = holds ? changeTime : UNSET;
       return UNSET;
     },
   };
@@ -129,7 +129,7 @@ export function neverForProperty(text, condition, limit) {
  */
 export function atProperty(text, condition, address) {
   return {
-    ...DEFAULT_PROPERTY, form: "at", text, condition, address, from: () => [0], hasApplied: ([wasReached]) => wasReached > 0,
+    ...DEFAULT_PROPERTY, form: "at", text, condition, address, createMemory: () => [0], hasApplied: ([wasReached]) => wasReached > 0,
     update: (memory, event, { time, holds }) => {
       if (event !== "label") return UNSET;
       memory[0] = 1;
@@ -148,7 +148,7 @@ export function atProperty(text, condition, address) {
  */
 export function onlyAfterProperty(text, condition, keys) {
   return {
-    ...DEFAULT_PROPERTY, form: "only after", text, ...conditionOrAddress(condition), keys, from: () => [0, 0, 0],
+    ...DEFAULT_PROPERTY, form: "only after", text, ...conditionOrAddress(condition), keys, createMemory: () => [0, 0, 0],
     hasApplied: ([, , wasTrue]) => wasTrue > 0,
     newStateKey: ([pressCount]) => `${pressCount}`,
     update: (memory, event, moment) => {
@@ -175,7 +175,7 @@ export function onlyAfterProperty(text, condition, keys) {
  */
 export function everyProperty(text, address, limit) {
   return {
-    ...DEFAULT_PROPERTY, form: "every", text, address, limit, from: (time) => [time],
+    ...DEFAULT_PROPERTY, form: "every", text, address, limit, createMemory: (time) => [time],
     update: (memory, event, { time }) => {
       if (event !== "reset" && time - memory[0] > limit) return memory[0] + limit;
       if (event === "label" || event === "reset") [memory[0]] = [time];
@@ -195,15 +195,15 @@ export function everyProperty(text, address, limit) {
  */
 export function withinProperty(text, start, address, limit) {
   return {
-    ...DEFAULT_PROPERTY, form: "within", text, start, address, limit, from: () => [UNSET, 0],
+    ...DEFAULT_PROPERTY, form: "within", text, start, address, limit, createMemory: () => [UNSET, 0],
     hasApplied: ([, wasAwaited]) => wasAwaited > 0,
-    update: (memory, event, { time, address: reached }) => {
+    update: (memory, event, { time, address: reachedAddress }) => {
       const [since] = memory;
       if (event === "reset") memory[0] = UNSET;
       else if (since !== UNSET && time - since > limit) return since + limit;
       if (event !== "label") return UNSET;
-      if (reached === address) memory[0] = UNSET;
-      if (reached === start) {
+      if (reachedAddress === address) memory[0] = UNSET;
+      if (reachedAddress === start) {
         memory[1] = 1;
         if (memory[0] === UNSET) [memory[0]] = [time];
       }
@@ -216,7 +216,7 @@ export function withinProperty(text, start, address, limit) {
  * Returns the addresses of the labels in a property.
  * @param {Property} property
  */
-export const listAddresses = ({ address, start }) => [address, start].filter((each) => each >= 0);
+export const listAddresses = ({ address, start }) => [address, start].filter((candidate) => candidate >= 0);
 
 /**
  * Creates the property that a condition becomes true within `limit` cycles after a key press. Memory: the time of the press, -1 if the
@@ -229,7 +229,7 @@ export const listAddresses = ({ address, start }) => [address, start].filter((ea
  */
 export function afterPressProperty(text, key, condition, limit) {
   return {
-    ...DEFAULT_PROPERTY, form: "after press", text, ...conditionOrAddress(condition), limit, keys: [key], from: () => [UNSET, 0, 0],
+    ...DEFAULT_PROPERTY, form: "after press", text, ...conditionOrAddress(condition), limit, keys: [key], createMemory: () => [UNSET, 0, 0],
     hasApplied: ([, wasAwaited]) => wasAwaited > 0,
     update: (memory, event, moment) => {
       const [since] = memory;
@@ -255,9 +255,10 @@ export function afterPressProperty(text, key, condition, limit) {
  */
 export function oncePerPressProperty(text, address) {
   return {
-    ...DEFAULT_PROPERTY, form: "once", text, address, from: (_, isDown) => [isDown, 0], hasApplied: ([, wasReached]) => wasReached > 0,
-    update: (memory, event, { time, isDown }) => {
-      if (event === "reset") memory[0] = isDown;
+    ...DEFAULT_PROPERTY, form: "once", text, address, createMemory: (_, downCount) => [downCount, 0],
+    hasApplied: ([, wasReached]) => wasReached > 0,
+    update: (memory, event, { time, downCount }) => {
+      if (event === "reset") memory[0] = downCount;
       else if (event === "down") memory[0] += 1;
       else if (event === "label") {
         memory[1] = 1;
@@ -317,7 +318,7 @@ function updateGuard({ kind, key }, since, event, { time, input }, holds) {
  * @param {Guard} guard
  * @param {number} since the memory of the guard
  */
-function lastOpenCycle({ kind, limit }, since) {
+function findLastOpenCycle({ kind, limit }, since) {
   if (since === UNSET) return UNSET;
   return kind === "press" && limit > 0 ? since + limit : Infinity;
 }
@@ -348,21 +349,22 @@ function notifyGuarded({ form, update, keys }, memory, event, moment, isOpen) {
 export function guardedProperty(text, property, guards) {
   const ownStart = guards.length + 1;
   return {
-    ...property, text, guards, from: (time, isDown) => [...guards.map(() => UNSET), 0, ...property.from(time, isDown)],
+    ...property, text, guards,
+    createMemory: (time, downCount) => [...guards.map(() => UNSET), 0, ...property.createMemory(time, downCount)],
     newStateKey: (memory) => (
       guards.map((_, index) => (memory[index] === UNSET ? "-" : "+")).join("") + property.newStateKey(memory.slice(ownStart))),
     hasApplied: (memory) => memory[ownStart - 1] > 0 && property.hasApplied(memory.slice(ownStart)),
     update: (memory, event, moment) => {
       const ownMemory = memory.slice(ownStart);
-      const lastOpen = Math.min(...guards.map((guard, index) => lastOpenCycle(guard, memory[index])));
+      const lastOpen = Math.min(...guards.map((guard, index) => findLastOpenCycle(guard, memory[index])));
       // When a guard closes, the condition no longer counts as true.
       const hasClosed = property.form === "never for" && lastOpen < moment.time && lastOpen !== UNSET;
-      const closing = { ...moment, time: lastOpen + 1, changed: lastOpen + 1, holds: false };
-      let violationTime = hasClosed ? property.update(ownMemory, "values", closing) : UNSET;
+      const closingMoment = { ...moment, time: lastOpen + 1, changeTime: lastOpen + 1, holds: false };
+      let violationTime = hasClosed ? property.update(ownMemory, "values", closingMoment) : UNSET;
       guards.forEach((guard, index) => {
         memory[index] = updateGuard(guard, memory[index], event, moment, moment.areOpen[index] === true);
       });
-      const isOpen = guards.every((guard, index) => memory[index] !== UNSET && moment.time <= lastOpenCycle(guard, memory[index]));
+      const isOpen = guards.every((guard, index) => memory[index] !== UNSET && moment.time <= findLastOpenCycle(guard, memory[index]));
       if (isOpen) memory[ownStart - 1] = 1;
       if (violationTime === UNSET) violationTime = notifyGuarded(property, ownMemory, event, moment, isOpen);
       memory.splice(ownStart, ownMemory.length, ...ownMemory);
@@ -399,14 +401,14 @@ export function standardProperties() {
   return [
     { ...DEFAULT_PROPERTY, form: "code", text: say.NO_OTHER_CODE },
     {
-      ...DEFAULT_PROPERTY, form: "calls", text: say.NO_FOURTH_CALL, from: () => [0],
+      ...DEFAULT_PROPERTY, form: "calls", text: say.NO_FOURTH_CALL, createMemory: () => [0],
       update: (memory, event, { time }) => {
         countCalls(memory, event);
         return memory[0] > MAX_OPEN_CALLS ? time : UNSET;
       },
     },
     {
-      ...DEFAULT_PROPERTY, form: "returns", text: say.NO_LONE_RETURN, from: () => [0],
+      ...DEFAULT_PROPERTY, form: "returns", text: say.NO_LONE_RETURN, createMemory: () => [0],
       update: (memory, event, { time }) => {
         countCalls(memory, event);
         // The property `calls` reports a fourth call. The return from that call does not count as a return without a call.

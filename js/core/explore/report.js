@@ -55,8 +55,8 @@ function pickShorter(first, second) {
  * @returns {Report | null}
  */
 export function joinReports(reports) {
-  const [first, ...others] = reports;
-  if (others.some(({ sums }) => sums !== first.sums)) return null;
+  const [first, ...otherReports] = reports;
+  if (otherReports.some(({ sums }) => sums !== first.sums)) return null;
   const coverage = new Coverage();
   for (const { covered } of reports) coverage.join(new Coverage(covered));
   /** @type {(read: (report: Report) => number) => number} */
@@ -128,18 +128,18 @@ const MAX_LISTED_LINES = 40;
 
 /** @param {number[]} lines */
 function formatLineNumbers(lines) {
-  const more = lines.length - MAX_LISTED_LINES;
-  return `${say.lineList(lines.length, lines.slice(0, MAX_LISTED_LINES).join(" "))}${more > 0 ? moreItems(more) : ""}`;
+  const hiddenCount = lines.length - MAX_LISTED_LINES;
+  return `${say.lineList(lines.length, lines.slice(0, MAX_LISTED_LINES).join(" "))}${hiddenCount > 0 ? moreItems(hiddenCount) : ""}`;
 }
 
 /**
  * Returns the lines of the report that say which code was executed.
  * @param {Report} report
  */
-export function coverageLines({ covered, instructions }) {
-  const { run, all, ways, allWays, left, oneWay } = new Coverage(covered).summary(instructions);
+export function formatCoverage({ covered, instructions }) {
+  const { run, all, ways, allWays, unexecutedLines, oneWay } = new Coverage(covered).summarise(instructions);
   const lines = [say.covered(say.partOfTotal(run, all), say.partOfTotal(ways, allWays))];
-  if (left.length > 0) lines.push(say.neverRun(formatLineNumbers(left)));
+  if (unexecutedLines.length > 0) lines.push(say.neverRun(formatLineNumbers(unexecutedLines)));
   if (oneWay.length > 0) lines.push(say.alwaysOneWay(formatLineNumbers(oneWay)));
   return lines;
 }
@@ -157,7 +157,7 @@ export function formatTap(report) {
     if (property.isSkipped) lines.push(`# ${say.notRun(propertyLocation(property, report), property.text)}`);
   }
   const rate = seconds > 0 ? say.stepsPerSecond(formatNumber(steps / seconds)) : "";
-  lines.push(...coverageLines(report).map((line) => `# ${line}`));
+  lines.push(...formatCoverage(report).map((line) => `# ${line}`));
   lines.push(say.statistics(seeds, formatNumber(steps), seconds.toFixed(1), rate, formatNumber(states), isStopped));
   return `${lines.join("\n")}\n`;
 }
@@ -168,7 +168,9 @@ export function formatTap(report) {
  */
 export function formatReportTests(report) {
   const { names: { board, program } } = report;
-  const found = report.properties.filter((property) => property.found);
+  const propertiesWithTest = report.properties.filter((property) => property.found);
   const head = say.foundByTool(board, program);
-  return head + found.map((property) => `\n# ${propertyLocation(property, report)}\n${property.found ? property.found.test : ""}`).join("");
+  const tests = propertiesWithTest.map((property) => (
+    `\n# ${propertyLocation(property, report)}\n${property.found ? property.found.test : ""}`));
+  return head + tests.join("");
 }

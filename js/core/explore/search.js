@@ -1,5 +1,5 @@
 // Searches for violations by random walks that start at stored states. For most walks, the search only reads a snapshot after each change.
-// If a walk shows something new, the search repeats the walk to count its instructions (walk_counter.js). The search watches a walk
+// If a walk reaches a new state, the search repeats the walk to count its instructions (walk_counter.js). The search watches a walk
 // instruction by instruction (walk_watcher.js) if the walk executes code for the first time, if a property needs more data, or if a
 // property seems violated. It also watches a sample of the other walks.
 
@@ -9,8 +9,8 @@ import { DeltaFiles } from "./delta_files.js";
 import { PlaceReader } from "./place_reader.js";
 import { Conditions, PlaceValues, listConditions } from "./place_queries.js";
 import { listAddresses } from "./properties.js";
-import { chooseStep, downInputsAfter, initialDownInputs, changeLine, walkLines, createRandom } from "./walks.js";
-import { nextAges, initialAges, randomBelow } from "./walks.js";
+import { chooseStep, updateDownInputs, initialDownInputs, changeLine, walkLines, createRandom } from "./walks.js";
+import { updateAges, createInitialAges, randomBelow } from "./walks.js";
 import { Watcher } from "./walk_watcher.js";
 import { MAX_ENABLED_BREAKPOINTS } from "../debug/breakpoints.js";
 import { MAX_RUN_CYCLES, runLines } from "../engine/key_queue.js";
@@ -23,9 +23,9 @@ import { MAX_RUN_CYCLES, runLines } from "../engine/key_queue.js";
  * @typedef {import("./delta_files.js").FileDelta} FileDelta
  *
  * A stored state: its session file (`delta`), its time in cycles, the steps from its parent, and how many walks have started at it
- * (`resumeCount`). `down` are the inputs that are down, `ages` are the cycles since the last change of each input, and `memories` are the
- * memories of the properties. `depth` is the number of steps from the start state.
- * @typedef {{ delta: FileDelta, time: number, down: number[], ages: number[], memories: number[][], parent: State | null,
+ * (`resumeCount`). `downInputs` are the inputs that are down, `ages` are the cycles since the last change of each input, and `memories` are
+ * the memories of the properties. `depth` is the number of steps from the start state.
+ * @typedef {{ delta: FileDelta, time: number, downInputs: number[], ages: number[], memories: number[][], parent: State | null,
  *   steps: WalkStep[], depth: number, resumeCount: number }} State
  *
  * The violation of a property, or the arrival at a goal: the index of the property, the steps from the start state, and the time in cycles.
@@ -33,7 +33,7 @@ import { MAX_RUN_CYCLES, runLines } from "../engine/key_queue.js";
  *
  * A snapshot of the state after a step: the values of the noted places and, for each property, whether its condition is true (`holds`), and
  * which of its guard conditions are true (`areOpen`).
- * @typedef {{ notes: string, holds: boolean[], areOpen: boolean[][] }} Snapshot
+ * @typedef {{ notedValues: string, holds: boolean[], areOpen: boolean[][] }} Snapshot
  */
 
 const MAX_WALK_STEPS = 16;
@@ -41,7 +41,7 @@ const MAX_WALK_STEPS = 16;
 const MAX_DEPTH = 120;
 const MAX_STATES = 20000;
 const MAX_SNAPSHOTS = 200000;
-/** One of WATCH_INTERVAL walks is watched even if the walk shows nothing new. */
+/** One of WATCH_INTERVAL walks is watched even if the walk reaches no new state. */
 const WATCH_INTERVAL = 32;
 /**
  * The number of candidate states that are picked at random for each walk. The walk starts at the candidate at which the fewest walks have
@@ -64,8 +64,8 @@ export class Search {
     this.coverage = new Coverage();
     this.watcher = new Watcher(subject, campaign, this.coverage);
     const conditionPlaces = campaign.properties.flatMap(listConditions).flatMap((condition) => (condition ? condition.places : []));
-    this.places = new PlaceReader([...campaign.notes, ...conditionPlaces], subject.names.board);
-    this.notes = this.places.indexes(campaign.notes);
+    this.places = new PlaceReader([...campaign.notedPlaces, ...conditionPlaces], subject.names.board);
+    this.notedIndexes = this.places.findIndexes(campaign.notedPlaces);
     this.conditions = campaign.properties.map((property) => new Conditions(property, this.places));
     /** @type {number[]} the indices of the properties for which the search still looks for a violation */
     this.openProperties = campaign.properties.flatMap(({ form }, at) => (form === "model" ? [] : [at]));
@@ -80,9 +80,9 @@ export class Search {
     /** The start state. */
     this.start = this.createStart();
     this.files = new DeltaFiles(this.start.file);
-    const { file, time, down, memories } = this.start;
+    const { file, time, downInputs, memories } = this.start;
     /** @type {State[]} */
-    this.states = [{ delta: this.files.encode(file), time, down, ages: initialAges(campaign), memories, parent: null, steps: [],
+    this.states = [{ delta: this.files.encode(file), time, downInputs, ages: createInitialAges(campaign), memories, parent: null, steps: [],
       depth: 0, resumeCount: 0 }];
   }
 
@@ -93,17 +93,17 @@ export class Search {
 
   /** @returns {import("./walk_watcher.js").WalkStart} the start state, at which the check of the properties begins */
   createStart() {
-    const { subject, campaign: { begin, properties } } = this;
+    const { subject, campaign: { checkStart, properties } } = this;
     const file = subject.file.slice();
-    const down = initialDownInputs(this.campaign);
-    const { least, most } = this.campaign.calls;
-    const memories = properties.map(({ from, form }) => (
-      form === "calls" ? [least] : form === "returns" ? [most] : from(begin, down.length)));
-    if (begin > 0) {
-      subject.engine.serve(file, runLines(begin), file);
+    const downInputs = initialDownInputs(this.campaign);
+    const { min, max } = this.campaign.calls;
+    const memories = properties.map(({ createMemory: from, form }) => (
+      form === "calls" ? [min] : form === "returns" ? [max] : from(checkStart, downInputs.length)));
+    if (checkStart > 0) {
+      subject.engine.serve(file, runLines(checkStart), file);
       this.countCalls(memories);
     }
-    return { file, time: begin, down, memories };
+    return { file, time: checkStart, downInputs, memories };
   }
 
   /**
@@ -111,14 +111,16 @@ export class Search {
    * @param {number[][]} memories
    */
   countCalls(memories) {
-    const { watcher, campaign: { begin }, subject: { file } } = this;
+    const { watcher, campaign: { checkStart }, subject: { file } } = this;
     /** @type {WalkStep[]} */
     const steps = [];
-    for (let left = begin; left > 0; left -= MAX_RUN_CYCLES) steps.push({ wait: Math.min(left, MAX_RUN_CYCLES), kind: "none", input: -1 });
+    for (let remaining = checkStart; remaining > 0; remaining -= MAX_RUN_CYCLES) {
+      steps.push({ wait: Math.min(remaining, MAX_RUN_CYCLES), kind: "none", input: -1 });
+    }
     const startMemories = memories.map((memory, at) => (watcher.callProperties.includes(at) ? memory : memory.map(() => 0)));
-    const start = { file, time: 0, down: [], memories: startMemories };
-    const { after } = watcher.watch(start, steps, []);
-    const last = after[after.length - 1];
+    const start = { file, time: 0, downInputs: [], memories: startMemories };
+    const { stepStates } = watcher.watch(start, steps, []);
+    const last = stepStates[stepStates.length - 1];
     for (const at of watcher.callProperties) memories[at] = last ? last.memories[at] : [0];
   }
 
@@ -150,15 +152,15 @@ export class Search {
     const isWatched = isSuspect || this.walks % WATCH_INTERVAL === 1;
     if (newSteps.length === 0 && !isWatched) return null;
     const start = { ...state, file };
-    const { broken, after } = isWatched ? this.watcher.watch(start, steps, this.openProperties)
+    const { violation, stepStates } = isWatched ? this.watcher.watch(start, steps, this.openProperties)
       : this.rerunWalk(start, steps, newSteps, snapshots);
-    if (after.length > 0) this.recordAppliedProperties(after[after.length - 1].memories);
-    after.forEach(({ isNew }, at) => {
+    if (stepStates.length > 0) this.recordAppliedProperties(stepStates[stepStates.length - 1].memories);
+    stepStates.forEach(({ isNew }, at) => {
       if (isNew && !newSteps.includes(at)) newSteps.push(at);
     });
-    this.storeStates(state, file, steps, after, newSteps.filter((at) => at < after.length).sort((one, other) => one - other));
-    if (!broken) return null;
-    return { property: broken.property, steps: [...collectSteps(state), ...steps.slice(0, broken.step)], time: broken.time };
+    this.storeStates(state, file, steps, stepStates, newSteps.filter((at) => at < stepStates.length).sort((one, other) => one - other));
+    if (!violation) return null;
+    return { property: violation.property, steps: [...collectSteps(state), ...steps.slice(0, violation.step)], time: violation.time };
   }
 
   /**
@@ -166,17 +168,17 @@ export class Search {
    * the walk executes no code for the first time. Otherwise, watches the walk.
    * @param {import("./walk_watcher.js").WalkStart} start
    * @param {WalkStep[]} steps
-   * @param {number[]} newSteps the indices of the steps that show something new; this method adds the steps that execute code for the first
-   *   time
+   * @param {number[]} newSteps the indices of the steps after which the state is new; this method adds the steps that execute code for the
+   *   first time
    * @param {Snapshot[]} snapshots
    */
   rerunWalk(start, steps, newSteps, snapshots) {
     const { campaign: { properties }, openProperties, watcher } = this;
     const walkPart = steps.slice(0, Math.max(...newSteps) + 1);
     if (isCountingSufficient(properties, openProperties, newSteps.map((at) => snapshots[at].holds))) {
-      const after = countWalk(this, start, walkPart);
-      const newCodeSteps = [...after.keys()].filter((at) => after[at].isNew);
-      if (newCodeSteps.length === 0) return { broken: null, after };
+      const stepStates = countWalk(this, start, walkPart);
+      const newCodeSteps = [...stepStates.keys()].filter((at) => stepStates[at].isNew);
+      if (newCodeSteps.length === 0) return { violation: null, stepStates };
       for (const at of newCodeSteps) if (!newSteps.includes(at)) newSteps.push(at);
     }
     return watcher.watch(start, walkPart, openProperties);
@@ -187,7 +189,7 @@ export class Search {
    * @param {State} state
    */
   restoreFile(state) {
-    return this.files.file(state.delta);
+    return this.files.decode(state.delta);
   }
 
   /**
@@ -221,12 +223,12 @@ export class Search {
    */
   chooseSteps(state) {
     const steps = [];
-    let currentDown = state.down;
+    let currentDown = state.downInputs;
     let { ages } = state;
-    for (let left = 1 + randomBelow(this.random, MAX_WALK_STEPS); left > 0; left--) {
+    for (let remaining = 1 + randomBelow(this.random, MAX_WALK_STEPS); remaining > 0; remaining--) {
       const step = chooseStep(this.campaign, currentDown, ages, this.random);
-      ages = nextAges(ages, step);
-      currentDown = downInputsAfter(currentDown, step);
+      ages = updateAges(ages, step);
+      currentDown = updateDownInputs(currentDown, step);
       steps.push(step);
     }
     return steps;
@@ -249,8 +251,8 @@ export class Search {
   }
 
   /**
-   * Runs a walk and reads a snapshot after each change. Returns the snapshots, the indices of the steps after which something is new, and
-   * whether a property seems violated.
+   * Runs a walk and reads a snapshot after each change. Returns the snapshots; the indices of the steps that reach a new state or execute
+   * code for the first time; and whether a property seems violated.
    * @param {Uint8Array} file
    * @param {State} state
    * @param {WalkStep[]} steps
@@ -270,10 +272,10 @@ export class Search {
     const snapshots = [];
     const estimatedState = new EstimatedState(this, state);
     for (const [at, step] of steps.entries()) {
-      const instructionCounts = counts ? values.counts() : [];
+      const instructionCounts = counts ? values.takeCountsIfAny() : [];
       if (values.takeRun().end !== "end") return { newSteps, isSuspect: true, snapshots };
       if (step.kind !== "none") values.skip(1);
-      const snapshot = this.snapshotForRow(places.row(values));
+      const snapshot = this.getSnapshot(places.takeRow(values));
       snapshots.push(snapshot);
       if (estimatedState.canBeViolated(step, snapshot, instructionCounts)) return { newSteps, isSuspect: true, snapshots };
       if (this.coverage.add(instructionCounts)) newSteps.push(at);
@@ -287,14 +289,14 @@ export class Search {
    * @param {string} row the values of all places, separated by blanks
    * @returns {Snapshot}
    */
-  snapshotForRow(row) {
-    const known = this.snapshots.get(row);
-    if (known) return known;
+  getSnapshot(row) {
+    const knownSnapshot = this.snapshots.get(row);
+    if (knownSnapshot) return knownSnapshot;
     const values = row.split(" ");
     const snapshot = {
-      notes: this.notes.map((at) => values[at]).join(" "),
-      holds: this.conditions.map((each) => each.holds(values)),
-      areOpen: this.conditions.map((each) => each.areOpen(values)),
+      notedValues: this.notedIndexes.map((at) => values[at]).join(" "),
+      holds: this.conditions.map((condition) => condition.holds(values)),
+      areOpen: this.conditions.map((condition) => condition.areOpen(values)),
     };
     if (this.snapshots.size >= MAX_SNAPSHOTS) this.snapshots.clear();
     this.snapshots.set(row, snapshot);
@@ -306,8 +308,8 @@ export class Search {
    * @param {Snapshot} snapshot
    * @param {string} memoryKey the parts of the property memories that distinguish states
    */
-  recordIfNew({ notes }, memoryKey) {
-    const key = `${notes}${memoryKey}`;
+  recordIfNew({ notedValues }, memoryKey) {
+    const key = `${notedValues}${memoryKey}`;
     if (this.seenKeys.has(key)) return false;
     this.seenKeys.add(key);
     return true;
@@ -318,18 +320,18 @@ export class Search {
    * @param {State} state the state at which the walk started
    * @param {Uint8Array} file the session file of that state; changed
    * @param {WalkStep[]} steps
-   * @param {import("./walk_watcher.js").StepState[]} after the state after each step
+   * @param {import("./walk_watcher.js").StepState[]} stepStates the state after each step
    * @param {number[]} newSteps the indices of the steps after which to store the state
    */
-  storeStates(state, file, steps, after, newSteps) {
+  storeStates(state, file, steps, stepStates, newSteps) {
     let [from, parent] = [0, state];
     for (const at of newSteps) {
       if (this.states.length >= MAX_STATES || state.depth + at >= MAX_DEPTH) return;
       const walkPart = steps.slice(from, at + 1);
       this.subject.engine.serve(file, walkLines(this.campaign, walkPart), file);
-      const { time, down, memories } = after[at];
-      const ages = walkPart.reduce(nextAges, parent.ages);
-      parent = { delta: this.files.encode(file), time, down, ages, memories, parent, steps: walkPart,
+      const { time, downInputs, memories } = stepStates[at];
+      const ages = walkPart.reduce(updateAges, parent.ages);
+      parent = { delta: this.files.encode(file), time, downInputs, ages, memories, parent, steps: walkPart,
         depth: state.depth + at + 1, resumeCount: 0 };
       this.states.push(parent);
       from = at + 1;
@@ -353,10 +355,10 @@ function collectSteps(state) {
   /** @type {WalkStep[][]} */
   const parts = [];
   /** @type {State | null} */
-  let each = state;
-  while (each) {
-    parts.unshift(each.steps);
-    each = each.parent;
+  let ancestor = state;
+  while (ancestor) {
+    parts.unshift(ancestor.steps);
+    ancestor = ancestor.parent;
   }
   return parts.flat();
 }
@@ -381,10 +383,10 @@ class EstimatedState {
    * @param {Search} search
    * @param {State} state
    */
-  constructor({ campaign, openProperties }, { memories, time, down }) {
+  constructor({ campaign, openProperties }, { memories, time, downInputs }) {
     this.campaign = campaign;
     this.time = time;
-    this.down = down;
+    this.downInputs = downInputs;
     this.conditionProperties = openProperties.filter((at) => campaign.properties[at].address < 0 && campaign.properties[at].condition);
     this.labelProperties = openProperties.filter((at) => campaign.properties[at].address >= 0);
     this.memories = memories.map((memory) => [...memory]);
@@ -398,10 +400,10 @@ class EstimatedState {
    */
   canBeViolated(step, { holds, areOpen }, instructionCounts) {
     const { campaign: { properties, inputs }, conditionProperties, memories } = this;
-    this.down = downInputsAfter(this.down, step);
+    this.downInputs = updateDownInputs(this.downInputs, step);
     const input = step.kind === "down" ? inputs[step.input].name : "";
     const time = this.time + step.wait;
-    const moment = { time, changed: time, address: -1, holds: false, areOpen: NO_GUARDS, input, isDown: this.down.length };
+    const moment = { time, changeTime: time, address: -1, holds: false, areOpen: NO_GUARDS, input, downCount: this.downInputs.length };
     const countAt = (/** @type {number} */ label) => (
       (instructionCounts.find(({ address }) => address === label) || { startCount: 0 }).startCount);
     const isAtLabel = this.labelProperties.some((at) => (

@@ -49,12 +49,12 @@ export class Coverage {
   }
 
   /**
-   * Returns the number of executed instructions (`run`) of all instructions (`all`), and the number of executed branch directions (`ways`)
-   * of all branch directions (`allWays`). `left` are the lines that were not executed, and `oneWay` the lines whose branch always went in
-   * the same direction.
+   * Returns the numbers of executed instructions (`run`) and of all instructions (`all`), and the numbers of executed branch directions
+   * (`ways`) and of all branch directions (`allWays`). `unexecutedLines` are the lines that were not executed. `oneWay` are the lines whose
+   * branch always went in the same direction.
    * @param {Instruction[]} instructions
    */
-  summary(instructions) {
+  summarise(instructions) {
     const unexecutedLines = instructions.filter(({ address }) => !(this.flags[address] & STARTED)).map(({ line }) => line);
     const forks = instructions.filter(({ isBranch }) => isBranch);
     const oneWay = forks.filter(({ address }) => (this.flags[address] & STARTED) && (this.flags[address] & (JUMPED | CONTINUED)) !== 6)
@@ -62,6 +62,6 @@ export class Coverage {
     const ways = forks.reduce((sum, { address }) => sum + Number((this.flags[address] & JUMPED) > 0)
       + Number((this.flags[address] & CONTINUED) > 0), 0);
     const run = instructions.length - unexecutedLines.length;
-    return { run, all: instructions.length, ways, allWays: 2 * forks.length, left: unexecutedLines, oneWay };
+    return { run, all: instructions.length, ways, allWays: 2 * forks.length, unexecutedLines, oneWay };
   }
 }

@@ -5,9 +5,9 @@ import { keyLine, pinKey } from "../board/key_place.js";
 /**
  * @typedef {import("../board/key_place.js").Key} Key
  *
- * An input, which is either down or up. `down` and `up` are the bench lines that change its position; `downWords` and `upWords` are the
- * test lines for the same changes. `isDown` is its position at power-on.
- * @typedef {{ name: string, key: Key, isKey: boolean, down: string, up: string, downWords: string, upWords: string,
+ * An input, which is either down or up. `downLine` and `upLine` are the bench lines that change its position; `downTestLine`
+ * and `upTestLine` are the test lines for the same changes. `isDown` is its position at power-on.
+ * @typedef {{ name: string, key: Key, isKey: boolean, downLine: string, upLine: string, downTestLine: string, upTestLine: string,
  *   isDown: boolean }} Input
  *
  * @typedef {import("../board/face.js").Face} Face
@@ -17,12 +17,12 @@ import { keyLine, pinKey } from "../board/key_place.js";
  * Creates an input that is up at power-on.
  * @param {string} name
  * @param {Key} key
- * @param {[string, string]} words the test lines that change the input to down and to up
+ * @param {[string, string]} testLines the test lines that change the input to down and to up
  * @returns {Input}
  */
-export function createInput(name, key, [downWords, upWords]) {
-  return { name, key, isKey: key.kind === "matrix", down: keyLine("press", key), up: keyLine("release", key), downWords, upWords,
-    isDown: false };
+export function createInput(name, key, [downTestLine, upTestLine]) {
+  return { name, key, isKey: key.kind === "matrix", downLine: keyLine("press", key), upLine: keyLine("release", key), downTestLine,
+    upTestLine, isDown: false };
 }
 
 /**
@@ -42,8 +42,9 @@ export function listKeyInputs(face) {
  */
 export function createTestInput({ test }) {
   const level = test ? test.level : 0;
-  const [downWords, upWords] = test ? [`press ${test.name}`, `release ${test.name}`] : [`set test ${level}`, `set test ${1 - level}`];
-  return { ...createInput(test ? test.name : "test", pinKey(level), [downWords, upWords]), isDown: level === 1 };
+  /** @type {[string, string]} */
+  const testLines = test ? [`press ${test.name}`, `release ${test.name}`] : [`set test ${level}`, `set test ${1 - level}`];
+  return { ...createInput(test ? test.name : "test", pinKey(level), testLines), isDown: level === 1 };
 }
 
 /**

@@ -37,19 +37,20 @@ const SLICE_MS = 50;
  * @param {Engine} engine
  * @param {ExploredTexts} texts
  * @param {boolean} [needsInputs] true if missing inputs are an error
- * @returns {{ read: (SearchSetup & { prepared: PreparedTests }) | null, faults: TextFault[] }}
+ * @returns {{ parsedTexts: (SearchSetup & { prepared: PreparedTests }) | null, faults: TextFault[] }}
  */
 export function parseSearchTexts(engine, { boardText, programText, testText, propertiesText }, needsInputs = true) {
   const { prepared, faults } = prepareTests(engine, { boardText, programText });
-  if (!prepared) return { read: null, faults };
+  if (!prepared) return { parsedTexts: null, faults };
   const subject = createSubject(engine, boardText, programText);
   const { campaign, faults: errors } = readCampaign(propertiesText, subject, needsInputs);
   const { from } = campaign;
   if (from) {
-    const { words } = findLeadingTests(prepared.names, testText, from.state);
-    if (words) errors.push({ line: from.line, column: -1, words });
+    const { message } = findLeadingTests(prepared.names, testText, from.state);
+    if (message) errors.push({ line: from.line, column: -1, words: message });
   }
-  return errors.length === 0 ? { read: { subject, campaign, prepared }, faults: [] } : { read: null, faults: propertyFaults(errors) };
+  if (errors.length > 0) return { parsedTexts: null, faults: toPropertyFaults(errors) };
+  return { parsedTexts: { subject, campaign, prepared }, faults: [] };
 }
 
 /**
@@ -57,7 +58,7 @@ export function parseSearchTexts(engine, { boardText, programText, testText, pro
  * @param {{ line: number, words: string }[]} faults
  * @returns {TextFault[]}
  */
-function propertyFaults(faults) {
+function toPropertyFaults(faults) {
   return faults.map(({ line, words }) => ({ text: "properties", number: 0, line, words }));
 }
 
@@ -69,11 +70,12 @@ function propertyFaults(faults) {
  * @returns {Promise<{ searchSetup: SearchSetup | null, faults: TextFault[] }>}
  */
 export async function prepareSearch(engine, texts) {
-  const { read, faults } = parseSearchTexts(engine, texts);
-  if (!read) return { searchSetup: null, faults };
-  const { searchSetup, words } = await startCampaign(read, read.prepared, texts.testText);
+  const { parsedTexts, faults } = parseSearchTexts(engine, texts);
+  if (!parsedTexts) return { searchSetup: null, faults };
+  const { searchSetup, message } = await startCampaign(parsedTexts, parsedTexts.prepared, texts.testText);
   const { from } = searchSetup.campaign;
-  return words && from ? { searchSetup: null, faults: propertyFaults([{ line: from.line, words }]) } : { searchSetup, faults: [] };
+  if (message && from) return { searchSetup: null, faults: toPropertyFaults([{ line: from.line, words: message }]) };
+  return { searchSetup, faults: [] };
 }
 
 export class SlicedSearch {
@@ -89,7 +91,7 @@ export class SlicedSearch {
     const confirm = (/** @type {string} */ test, /** @type {boolean} */ isGoal) => (
       isConfirmed(engine, texts, test, isGoal, yieldToMessages));
     const [cycleLimit, proofTime] = [minimisingCycleLimit(seconds), initialProofTime(seconds)];
-    this.run = new CampaignRun(subject, campaign, seed, confirm, cycleLimit, null, yieldToMessages, proofTime);
+    this.campaignRun = new CampaignRun(subject, campaign, seed, confirm, cycleLimit, null, yieldToMessages, proofTime);
   }
 
   /**
@@ -98,21 +100,21 @@ export class SlicedSearch {
    * @returns {Promise<Progress>}
    */
   async runFor(milliseconds) {
-    const { run } = this;
+    const { campaignRun } = this;
     const end = performance.now() + milliseconds;
     /** @type {Progress["found"]} */
-    const found = [];
-    while (found.length === 0 && !run.isDone && performance.now() < end) {
-      const counterexample = await run.runFor(SLICE_MS);
+    const counterexamples = [];
+    while (counterexamples.length === 0 && !campaignRun.isDone && performance.now() < end) {
+      const counterexample = await campaignRun.runFor(SLICE_MS);
       if (counterexample && counterexample.violation) {
-        found.push({ property: counterexample.property, file: run.sessionAtViolation(counterexample.violation) });
+        counterexamples.push({ property: counterexample.property, file: campaignRun.createSessionFile(counterexample.violation) });
       }
     }
-    return { report: this.report(), found, isDone: run.isDone };
+    return { report: this.report(), found: counterexamples, isDone: campaignRun.isDone };
   }
 
   report() {
-    const { search, proof, model } = this.run.timeSpent;
-    return this.run.report({ names: say.NAMES, sums: "", seconds: (search + proof + model) / 1000, isStopped: false });
+    const { search, proof, model } = this.campaignRun.timeSpent;
+    return this.campaignRun.report({ names: say.NAMES, sums: "", seconds: (search + proof + model) / 1000, isStopped: false });
   }
 }

@@ -38,23 +38,23 @@ function savesState({ steps }, state) {
 }
 
 /**
- * Returns the tests that lead to a saved state, in order. If there are none, `words` is the error message; otherwise it is "".
+ * Returns the tests that lead to a saved state, in order. If there are none, `message` is the error message; otherwise it is "".
  * @param {PreparedTests["names"]} names
  * @param {string} testText
  * @param {string} state
- * @returns {{ tests: Test[], words: string }}
+ * @returns {{ tests: Test[], message: string }}
  */
 export function findLeadingTests(names, testText, state) {
   const { tests, faults } = readTests(testText, names);
-  if (testText.trim() === "") return { tests: [], words: say.noTests(state) };
-  if (faults.length > 0) return { tests: [], words: say.testsFault(faults[0].line, faults[0].words) };
+  if (testText.trim() === "") return { tests: [], message: say.noTests(state) };
+  if (faults.length > 0) return { tests: [], message: say.testsFault(faults[0].line, faults[0].words) };
   const savingTest = tests.find((test) => savesState(test, state));
   if (!savingTest) {
     const stateNames = tests.flatMap(({ steps }) => steps.flatMap(({ action }) => (action.kind === "save" ? [action.state] : [])));
-    return { tests: [], words: say.noSuchState(state, stateNames.join(" ")) };
+    return { tests: [], message: say.noSuchState(state, stateNames.join(" ")) };
   }
   const earlierTests = savingTest.from === "" ? [] : findLeadingTests(names, testText, savingTest.from).tests;
-  return { tests: [...earlierTests, savingTest], words: "" };
+  return { tests: [...earlierTests, savingTest], message: "" };
 }
 
 /**
@@ -89,7 +89,7 @@ function formatLines(tests) {
 function countOpenCalls(tests, recorder) {
   const isReset = tests.some(({ steps }) => expandSteps(steps).some(({ action }) => action.kind === "reset"));
   const { length } = recorder.openCalls;
-  return isReset ? { least: 0, most: MAX_CALL_DEPTH } : { least: length, most: length };
+  return isReset ? { min: 0, max: MAX_CALL_DEPTH } : { min: length, max: length };
 }
 
 /**
@@ -104,18 +104,18 @@ function updateInput(input, state) {
 }
 
 /**
- * Resolves to the campaign and its subject at the start state. If the tests do not reach this state, `words` is the error message.
+ * Resolves to the campaign and its subject at the start state. If the tests do not reach this state, `message` is the error message.
  * @param {SearchSetup} searchSetup
  * @param {PreparedTests} prepared
  * @param {string} testText
- * @returns {Promise<{ searchSetup: SearchSetup, words: string }>}
+ * @returns {Promise<{ searchSetup: SearchSetup, message: string }>}
  */
 export async function startCampaign(searchSetup, prepared, testText) {
   const { subject, campaign } = searchSetup;
-  if (!campaign.from) return { searchSetup, words: "" };
+  if (!campaign.from) return { searchSetup, message: "" };
   const { state } = campaign.from;
-  const { tests, words } = findLeadingTests(prepared.names, testText, state);
-  if (words) return { searchSetup, words };
+  const { tests, message } = findLeadingTests(prepared.names, testText, state);
+  if (message) return { searchSetup, message };
   const recorder = new OpenCallRecorder(prepared.codes);
   const run = new TestRun(subject.engine, prepared, recorder, async () => {});
   let failureMessage = "";
@@ -125,10 +125,10 @@ export async function startCampaign(searchSetup, prepared, testText) {
     if (failure && failureMessage === "") failureMessage = say.testFails(failure.line, failure.text, failure.words);
   }
   const savedState = run.states.get(state);
-  if (!savedState) return { searchSetup, words: failureMessage };
+  if (!savedState) return { searchSetup, message: failureMessage };
   const { file } = savedState;
   const [stateAnswer] = subject.engine.ask(file, "state\n").answers;
   const inputs = campaign.inputs.map((input) => updateInput(input, stateAnswer));
-  const start = { inputs, before: formatLines(leadingTests), calls: countOpenCalls(leadingTests, recorder) };
-  return { searchSetup: { subject: { ...subject, file }, campaign: { ...campaign, ...start } }, words: "" };
+  const start = { inputs, leadingLines: formatLines(leadingTests), calls: countOpenCalls(leadingTests, recorder) };
+  return { searchSetup: { subject: { ...subject, file }, campaign: { ...campaign, ...start } }, message: "" };
 }

@@ -3,7 +3,7 @@
 
 import { isCall, isReturn } from "../engine/rom_codes.js";
 import { PlaceValues } from "./place_queries.js";
-import { downInputsAfter, changeLine } from "./walks.js";
+import { updateDownInputs, changeLine } from "./walks.js";
 
 /**
  * @typedef {import("./properties.js").Property} Property
@@ -27,7 +27,7 @@ const COUNTABLE_FORMS = new Set(["code", "never", "always", "never for", "reach"
 export function isCountingSufficient(properties, openProperties, holds) {
   return openProperties.every((at) => {
     const { form, guards } = properties[at];
-    return COUNTABLE_FORMS.has(form) && guards.length === 0 && !(form === "never for" && holds.some((each) => each[at]));
+    return COUNTABLE_FORMS.has(form) && guards.length === 0 && !(form === "never for" && holds.some((stepHolds) => stepHolds[at]));
   });
 }
 
@@ -53,9 +53,9 @@ function updateMemory({ form }, memory, { kind }, openedCalls) {
 export function countWalk({ subject: { engine, codes }, campaign, coverage }, start, steps) {
   const lines = steps.map((step) => `count ${step.wait}\nrun ${step.wait}\n${changeLine(campaign, step)}`).join("");
   const values = new PlaceValues(engine.ask(start.file, lines).answers);
-  let { time, down, memories } = start;
+  let { time, downInputs, memories } = start;
   return steps.map((step) => {
-    const counts = values.counts();
+    const counts = values.takeCountsIfAny();
     values.skip(step.kind === "none" ? 1 : 2);
     let openedCalls = 0;
     for (const { address, startCount: begun } of counts) {
@@ -63,8 +63,8 @@ export function countWalk({ subject: { engine, codes }, campaign, coverage }, st
       else if (isReturn(codes[address])) openedCalls -= begun;
     }
     time += step.wait;
-    down = downInputsAfter(down, step);
+    downInputs = updateDownInputs(downInputs, step);
     memories = memories.map((memory, at) => updateMemory(campaign.properties[at], memory, step, openedCalls));
-    return { time, down, memories, isNew: coverage.add(counts) };
+    return { time, downInputs, memories, isNew: coverage.add(counts) };
   });
 }

@@ -5,7 +5,7 @@ import { instructionCycles, isCall, isReturn } from "../engine/rom_codes.js";
 import { parseTraceLine } from "../engine/forecast_answers.js";
 import { Conditions, PlaceQueries, PlaceValues, listConditions } from "./place_queries.js";
 import { listAddresses } from "./properties.js";
-import { downInputsAfter, changeLine } from "./walks.js";
+import { updateDownInputs, changeLine } from "./walks.js";
 
 /**
  * @typedef {import("./campaign.js").Campaign} Campaign
@@ -18,14 +18,14 @@ import { downInputsAfter, changeLine } from "./walks.js";
  *
  * The start of a walk: the session file, the cycles since power-on, the indices of the inputs that are down, and the memory of each
  * property.
- * @typedef {{ file: Uint8Array, time: number, down: number[], memories: number[][] }} WalkStart
+ * @typedef {{ file: Uint8Array, time: number, downInputs: number[], memories: number[][] }} WalkStart
  *
  * The violation of a property, or the arrival at a goal: the index of the property, the time, and the number of complete steps before it.
  * @typedef {{ property: number, time: number, step: number }} WalkViolation
  *
  * The state after a step: the time, the inputs that are down, and the memory of each property. `isNew` is true if the step executed code
  * for the first time.
- * @typedef {{ time: number, down: number[], memories: number[][], isNew: boolean }} StepState
+ * @typedef {{ time: number, downInputs: number[], memories: number[][], isNew: boolean }} StepState
  *
  * The bench's answers for one step: the values of all places before the step, their changes, the instruction counts, and the answer to the
  * run. `list` contains all executed instructions; it is null if they were not queried.
@@ -58,7 +58,7 @@ export class Watcher {
    * @param {WalkStart} start
    * @param {WalkStep[]} steps
    * @param {number[]} openProperties the indices of the properties that are not decided yet
-   * @returns {{ broken: WalkViolation | null, after: StepState[] }}
+   * @returns {{ violation: WalkViolation | null, stepStates: StepState[] }}
    */
   watch(start, steps, openProperties) {
     this.openLabels = new Set(openProperties.flatMap((at) => listAddresses(this.campaign.properties[at])));
@@ -68,13 +68,13 @@ export class Watcher {
     /** @type {StepState[]} */
     const stepStates = [];
     for (const [at, step] of steps.entries()) {
-      const broken = walk.notifyStepEvents(reports[at], step);
+      const violation = walk.notifyStepEvents(reports[at], step);
       const isNew = this.coverage !== null && this.coverage.add(reports[at].counts);
-      if (broken) return { broken: { ...broken, step: at }, after: stepStates };
+      if (violation) return { violation: { ...violation, step: at }, stepStates };
       if (!/ end$/.test(reports[at].runAnswer)) break;
-      stepStates.push({ time: walk.time, down: walk.down, memories: memories.map((memory) => [...memory]), isNew });
+      stepStates.push({ time: walk.time, downInputs: walk.downInputs, memories: memories.map((memory) => [...memory]), isNew });
     }
-    return { broken: null, after: stepStates };
+    return { violation: null, stepStates };
   }
 
   /**
@@ -82,14 +82,15 @@ export class Watcher {
    * @param {WalkStart} start
    * @param {WalkStep} step
    * @param {number[]} openProperties the indices of the properties that are not decided yet
-   * @returns {{ broken: WalkViolation | null, after: StepState[] }}
+   * @returns {{ violation: WalkViolation | null, stepStates: StepState[] }}
    */
   watchChange(start, step, openProperties) {
     const memories = start.memories.map((memory) => [...memory]);
     const walk = new Walk(this, memories, openProperties, start);
-    walk.values = new PlaceValues(this.subject.engine.ask(start.file, this.places.lines(1)).answers).changes(this.places).values;
+    walk.values = new PlaceValues(this.subject.engine.ask(start.file, this.places.formatLines(1)).answers).takeChanges(this.places).values;
     walk.notifyInputChange(step);
-    return { broken: walk.broken && { ...walk.broken, step: 0 }, after: [{ time: walk.time, down: walk.down, memories, isNew: false }] };
+    const violation = walk.firstViolation && { ...walk.firstViolation, step: 0 };
+    return { violation, stepStates: [{ time: walk.time, downInputs: walk.downInputs, memories, isNew: false }] };
   }
 
   /**
@@ -103,19 +104,19 @@ export class Watcher {
     const { campaign, places, subject: { engine } } = this;
     const lines = steps.map((step) => {
       const countLine = this.asksCounts ? `count ${step.wait}\n` : "";
-      return `${places.lines(step.wait)}${countLine}run ${step.wait}\n${changeLine(campaign, step)}`;
+      return `${places.formatLines(step.wait)}${countLine}run ${step.wait}\n${changeLine(campaign, step)}`;
     }).join("");
     const placeValues = new PlaceValues(engine.ask(file, lines).answers);
     /** @type {StepReport[]} */
     const stepReports = [];
     for (const step of steps) {
-      const { values, changes } = placeValues.changes(places);
-      const counts = this.asksCounts ? placeValues.counts() : [];
+      const { values, changes } = placeValues.takeChanges(places);
+      const counts = this.asksCounts ? placeValues.takeCountsIfAny() : [];
       stepReports.push({ values, changes, counts, runAnswer: placeValues.take(), list: null });
       if (step.kind !== "none") placeValues.skip(1);
     }
     const asksCalls = this.callProperties.some((at) => openProperties.includes(at));
-    this.addInstructionLists(file, steps, stepReports, stepReports.map((each) => this.needsInstructionList(each, asksCalls)));
+    this.addInstructionLists(file, steps, stepReports, stepReports.map((report) => this.needsInstructionList(report, asksCalls)));
     return stepReports;
   }
 
@@ -164,26 +165,26 @@ class Walk {
    * @param {number[]} openProperties
    * @param {WalkStart} start
    */
-  constructor(watcher, memories, openProperties, { time, down }) {
+  constructor(watcher, memories, openProperties, { time, downInputs }) {
     this.watcher = watcher;
     this.memories = memories;
     this.openProperties = openProperties;
     this.time = time;
-    this.down = down;
+    this.downInputs = downInputs;
     /** @type {string[]} */
     this.values = [];
     /** @type {{ property: number, time: number } | null} */
-    this.broken = null;
+    this.firstViolation = null;
   }
 
   /**
    * Reports an event to the properties, and records the first violation.
    * @param {Event} event
    * @param {number} time
-   * @param {{ address?: number, input?: string, changed?: number }} more the address of a label, the input that goes down, or the time of a
-   *   change of values
+   * @param {{ address?: number, input?: string, changeTime?: number }} details the address of a label, the input that goes down, or the
+   *   time of a change of values
    */
-  notify(event, time, { address = -1, input = "", changed = time } = {}) {
+  notify(event, time, { address = -1, input = "", changeTime = time } = {}) {
     const { watcher: { campaign: { properties }, conditions, callProperties }, values } = this;
     const isCallEvent = event === "call" || event === "return";
     for (const at of isCallEvent ? callProperties : this.openProperties) {
@@ -192,10 +193,10 @@ class Walk {
       const needsConditions = event === "values" || event === "label";
       const holds = needsConditions && conditions[at].holds(values);
       const areOpen = needsConditions || event === "down" ? conditions[at].areOpen(values) : NO_GUARDS;
-      const moment = { time, changed, address, holds, areOpen, input, isDown: this.down.length };
+      const moment = { time, changeTime, address, holds, areOpen, input, downCount: this.downInputs.length };
       const violationTime = update(this.memories[at], event, moment);
-      const isFirst = violationTime >= 0 && (!this.broken || violationTime < this.broken.time);
-      if (isFirst && this.openProperties.includes(at)) this.broken = { property: at, time: violationTime };
+      const isFirst = violationTime >= 0 && (!this.firstViolation || violationTime < this.firstViolation.time);
+      if (isFirst && this.openProperties.includes(at)) this.firstViolation = { property: at, time: violationTime };
     }
   }
 
@@ -214,8 +215,8 @@ class Walk {
     this.time = startTime + end;
     this.notify("end", this.time);
     this.notifyInvalidOpcode(report);
-    if (!this.broken) this.notifyInputChange(step);
-    return this.broken;
+    if (!this.firstViolation) this.notifyInputChange(step);
+    return this.firstViolation;
   }
 
   /**
@@ -227,11 +228,11 @@ class Walk {
    */
   notifyChange({ cycles, address, from, values }, startTime, end, notifiesCalls) {
     const { codes } = this.watcher.subject;
-    if (this.broken) return;
+    if (this.firstViolation) return;
     this.values = from === 0 && values.length === this.values.length ? values
       : [...this.values.slice(0, from), ...values, ...this.values.slice(from + values.length)];
     const time = startTime + Math.min(end, cycles + instructionCycles(codes[address]));
-    this.notify("values", time, { changed: startTime + Math.min(end, cycles + 1) });
+    this.notify("values", time, { changeTime: startTime + Math.min(end, cycles + 1) });
     if (notifiesCalls) this.notifyCall(address, time);
   }
 
@@ -257,7 +258,7 @@ class Walk {
     const { openLabels: labels, subject: { codes } } = this.watcher;
     let changeIndex = 0;
     for (const { cycles, address } of list || []) {
-      if (this.broken) return;
+      if (this.firstViolation) return;
       if (labels.has(address)) this.notify("label", startTime + cycles, { address });
       for (; changeIndex < changes.length && changes[changeIndex].cycles <= cycles; changeIndex++) {
         this.notifyChange(changes[changeIndex], startTime, end, false);
@@ -272,9 +273,9 @@ class Walk {
    * @param {StepReport} report
    */
   notifyInvalidOpcode({ runAnswer }) {
-    if (this.broken || !/ code$/.test(runAnswer)) return;
+    if (this.firstViolation || !/ code$/.test(runAnswer)) return;
     const codeProperty = this.watcher.campaign.properties.findIndex(({ form }) => form === "code");
-    if (this.openProperties.includes(codeProperty)) this.broken = { property: codeProperty, time: this.time };
+    if (this.openProperties.includes(codeProperty)) this.firstViolation = { property: codeProperty, time: this.time };
   }
 
   /**
@@ -283,7 +284,7 @@ class Walk {
    */
   notifyInputChange(step) {
     const { campaign: { inputs } } = this.watcher;
-    this.down = downInputsAfter(this.down, step);
+    this.downInputs = updateDownInputs(this.downInputs, step);
     if (step.kind === "down") this.notify("down", this.time, { input: inputs[step.input].name });
     if (step.kind === "reset") {
       this.notify("reset", this.time);
@@ -294,4 +295,4 @@ class Walk {
 
 /** @type {boolean[]} the values of the guard conditions of a property without guards */
 const NO_GUARDS = [];
-const EMPTY_MOMENT = { time: 0, changed: 0, address: -1, holds: false, areOpen: NO_GUARDS, input: "", isDown: 0 };
+const EMPTY_MOMENT = { time: 0, changeTime: 0, address: -1, holds: false, areOpen: NO_GUARDS, input: "", downCount: 0 };

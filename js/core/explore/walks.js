@@ -61,43 +61,44 @@ function chooseWait({ minWait, maxWait }, random) {
 /**
  * Returns a random step. If an input would exceed the maximum hold time, the step releases it.
  * @param {Campaign} campaign
- * @param {number[]} down the indices of the inputs that are down
+ * @param {number[]} downInputs the indices of the inputs that are down
  * @param {number[]} ages the cycles since the last change of each input
  * @param {Random} random
  * @returns {WalkStep}
  */
-export function chooseStep(campaign, down, ages, random) {
+export function chooseStep(campaign, downInputs, ages, random) {
   const wait = chooseWait(campaign, random);
-  if (campaign.maxHoldTime === Infinity || down.length === 0) return chooseChange(campaign, down, ages, wait, random);
-  const timesLeft = down.map((at) => campaign.maxHoldTime - ages[at]);
+  if (campaign.maxHoldTime === Infinity || downInputs.length === 0) return chooseChange(campaign, downInputs, ages, wait, random);
+  const timesLeft = downInputs.map((at) => campaign.maxHoldTime - ages[at]);
   const nextToRelease = timesLeft.indexOf(Math.min(...timesLeft));
   // A random change is allowed if there is still enough time afterwards to release all inputs one after another.
-  if (timesLeft[nextToRelease] >= wait + campaign.minWait * down.length) return chooseChange(campaign, down, ages, wait, random);
+  const releaseDuration = campaign.minWait * downInputs.length;
+  if (timesLeft[nextToRelease] >= wait + releaseDuration) return chooseChange(campaign, downInputs, ages, wait, random);
   // Inputs that must go up at the same time go up one after another, one cycle apart.
   const releaseTimes = [...timesLeft].sort((one, other) => one - other).map((cycles, turn) => cycles - turn);
-  return { wait: Math.max(1, Math.min(wait, ...releaseTimes)), kind: "up", input: down[nextToRelease] };
+  return { wait: Math.max(1, Math.min(wait, ...releaseTimes)), kind: "up", input: downInputs[nextToRelease] };
 }
 
 /**
  * Returns a step with a random change after a given wait.
  * @param {Campaign} campaign
- * @param {number[]} down the indices of the inputs that are down
+ * @param {number[]} downInputs the indices of the inputs that are down
  * @param {number[]} ages the cycles since the last change of each input
  * @param {number} wait
  * @param {Random} random
  * @returns {WalkStep}
  */
-function chooseChange(campaign, down, ages, wait, random) {
+function chooseChange(campaign, downInputs, ages, wait, random) {
   const { inputs, maxKeysDown, canReset, minReleaseTime } = campaign;
   if (canReset && random() < RESET_SHARE) return { wait, kind: "reset", input: -1 };
   if (inputs.length === 0) return { wait, kind: "none", input: -1 };
-  const isFull = down.reduce((sum, at) => sum + Number(inputs[at].isKey), 0) >= maxKeysDown;
-  if (down.length > 0 && random() < 0.5) return { wait, kind: "up", input: down[randomBelow(random, down.length)] };
+  const isFull = downInputs.reduce((sum, at) => sum + Number(inputs[at].isKey), 0) >= maxKeysDown;
+  if (downInputs.length > 0 && random() < 0.5) return { wait, kind: "up", input: downInputs[randomBelow(random, downInputs.length)] };
   const isBlocked = (/** @type {boolean} */ isKey, /** @type {number} */ at) => (
-    down.includes(at) || (isKey && isFull) || ages[at] + wait < minReleaseTime);
+    downInputs.includes(at) || (isKey && isFull) || ages[at] + wait < minReleaseTime);
   const freeInputs = inputs.flatMap(({ isKey }, at) => (isBlocked(isKey, at) ? [] : [at]));
-  if (freeInputs.length === 0 && down.length === 0) return { wait, kind: "none", input: -1 };
-  if (freeInputs.length === 0) return { wait, kind: "up", input: down[randomBelow(random, down.length)] };
+  if (freeInputs.length === 0 && downInputs.length === 0) return { wait, kind: "none", input: -1 };
+  if (freeInputs.length === 0) return { wait, kind: "up", input: downInputs[randomBelow(random, downInputs.length)] };
   return { wait, kind: "down", input: freeInputs[randomBelow(random, freeInputs.length)] };
 }
 
@@ -105,7 +106,7 @@ function chooseChange(campaign, down, ages, wait, random) {
  * Returns the age of each input at power-on, which is the number of cycles since its last change: 0 if the input is down, else Infinity.
  * @param {Campaign} campaign
  */
-export function initialAges({ inputs }) {
+export function createInitialAges({ inputs }) {
   return inputs.map(({ isDown }) => (isDown ? 0 : Infinity));
 }
 
@@ -114,18 +115,18 @@ export function initialAges({ inputs }) {
  * @param {number[]} ages
  * @param {WalkStep} step
  */
-export function nextAges(ages, { wait, input }) {
+export function updateAges(ages, { wait, input }) {
   return ages.map((cycles, at) => (at === input ? 0 : cycles + wait));
 }
 
 /**
  * Returns the inputs that are down after a step.
- * @param {number[]} down
+ * @param {number[]} downInputs
  * @param {WalkStep} step
  */
-export function downInputsAfter(down, { kind, input }) {
-  if (kind === "down") return [...down, input];
-  return kind === "up" ? down.filter((at) => at !== input) : down;
+export function updateDownInputs(downInputs, { kind, input }) {
+  if (kind === "down") return [...downInputs, input];
+  return kind === "up" ? downInputs.filter((at) => at !== input) : downInputs;
 }
 
 /**
@@ -135,15 +136,15 @@ export function downInputsAfter(down, { kind, input }) {
  * @param {WalkStep[]} steps
  */
 export function areStepsAllowed(campaign, steps) {
-  let down = initialDownInputs(campaign);
-  let ages = initialAges(campaign);
+  let downInputs = initialDownInputs(campaign);
+  let ages = createInitialAges(campaign);
   for (const step of steps) {
-    if (step.kind === "down" && (down.includes(step.input) || ages[step.input] + step.wait < campaign.minReleaseTime)) return false;
-    if (step.kind === "up" && !down.includes(step.input)) return false;
-    if (step.wait > longestAllowedWait(campaign, down, ages)) return false;
-    ages = nextAges(ages, step);
-    down = downInputsAfter(down, step);
-    if (down.filter((at) => campaign.inputs[at].isKey).length > campaign.maxKeysDown) return false;
+    if (step.kind === "down" && (downInputs.includes(step.input) || ages[step.input] + step.wait < campaign.minReleaseTime)) return false;
+    if (step.kind === "up" && !downInputs.includes(step.input)) return false;
+    if (step.wait > findLongestWait(campaign, downInputs, ages)) return false;
+    ages = updateAges(ages, step);
+    downInputs = updateDownInputs(downInputs, step);
+    if (downInputs.filter((at) => campaign.inputs[at].isKey).length > campaign.maxKeysDown) return false;
   }
   return true;
 }
@@ -151,11 +152,11 @@ export function areStepsAllowed(campaign, steps) {
 /**
  * Returns the longest wait after which no input exceeds the maximum hold time; Infinity if no input is down.
  * @param {Campaign} campaign
- * @param {number[]} down
+ * @param {number[]} downInputs
  * @param {number[]} ages
  */
-function longestAllowedWait({ maxHoldTime }, down, ages) {
-  return Math.min(...down.map((at) => maxHoldTime - ages[at]));
+function findLongestWait({ maxHoldTime }, downInputs, ages) {
+  return Math.min(...downInputs.map((at) => maxHoldTime - ages[at]));
 }
 
 /**
@@ -163,9 +164,9 @@ function longestAllowedWait({ maxHoldTime }, down, ages) {
  * @param {Campaign} campaign
  * @param {WalkStep[]} steps
  */
-export function longestWaitAfter(campaign, steps) {
-  const down = steps.reduce(downInputsAfter, initialDownInputs(campaign));
-  return longestAllowedWait(campaign, down, steps.reduce(nextAges, initialAges(campaign)));
+export function findLongestWaitAfter(campaign, steps) {
+  const downInputs = steps.reduce(updateDownInputs, initialDownInputs(campaign));
+  return findLongestWait(campaign, downInputs, steps.reduce(updateAges, createInitialAges(campaign)));
 }
 
 /**
@@ -175,7 +176,7 @@ export function longestWaitAfter(campaign, steps) {
  */
 export function changeLine({ inputs }, { kind, input }) {
   if (kind === "none") return "";
-  return kind === "reset" ? "reset\n" : `${kind === "down" ? inputs[input].down : inputs[input].up}\n`;
+  return kind === "reset" ? "reset\n" : `${kind === "down" ? inputs[input].downLine : inputs[input].upLine}\n`;
 }
 
 /**

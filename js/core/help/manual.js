@@ -10,9 +10,9 @@ import * as say from "../../words/help.js";
  * A piece of the text in a table cell.
  * @typedef {{ text: string, isCode: boolean }} Piece
  *
- * The manual's description of an instruction. `form` is the mnemonic with operands. `code` is the opcode. `words` is the number of bytes.
- * `does` describes the effect.
- * @typedef {{ form: string, code: string, words: string, cycles: string, does: string }} Instruction
+ * The manual's description of an instruction. `form` is the mnemonic with operands. `code` is the opcode. `byteCount` is the number of
+ * bytes. `effect` describes the effect.
+ * @typedef {{ form: string, code: string, byteCount: string, cycles: string, effect: string }} Instruction
  */
 
 /** The titles of the manual's sections about instructions, and about the cells of the machine (registers, RAM, ports ..). */
@@ -44,7 +44,7 @@ export function cellText(cell) {
  * @param {string} title
  */
 export function sectionRows(manual, title) {
-  const section = manual.find((each) => each.title === title);
+  const section = manual.find((candidate) => candidate.title === title);
   return section ? section.tables.flatMap(({ rows }) => rows) : [];
 }
 
@@ -72,13 +72,15 @@ export function searchManual(manual, query) {
  * @returns {Map<string, Instruction>}
  */
 export function readInstructions(manual) {
-  const found = new Map();
+  const instructions = new Map();
   for (const row of sectionRows(manual, INSTRUCTIONS)) {
     // A table without columns for words and cycles describes instructions with one word and one cycle.
-    const [forms, code, words, cycles, does] = row.length === 3 ? [row[0], row[1], "1", "1", row[2]] : row;
-    for (const [, form] of forms.matchAll(/`([^`]+)`/g)) found.set(form.split(" ")[0], { form, code, words, cycles, does: cellText(does) });
+    const [forms, code, byteCount, cycles, effect] = row.length === 3 ? [row[0], row[1], "1", "1", row[2]] : row;
+    for (const [, form] of forms.matchAll(/`([^`]+)`/g)) {
+      instructions.set(form.split(" ")[0], { form, code, byteCount, cycles, effect: cellText(effect) });
+    }
   }
-  return found;
+  return instructions;
 }
 
 /**
@@ -94,34 +96,34 @@ export function readConditions(manual) {
 /**
  * Returns the forms of bench lines, with descriptions of their effects.
  * @param {ManualSection[]} manual
- * @returns {{ form: string, does: string }[]}
+ * @returns {{ form: string, effect: string }[]}
  */
 export function readLineForms(manual) {
-  return BENCH_LINE_SECTIONS.flatMap((title) => sectionRows(manual, title)).flatMap(([forms, does]) => (
-    [...forms.matchAll(/`([^`]+)`/g)].map(([, form]) => ({ form, does: cellText(does) }))));
+  return BENCH_LINE_SECTIONS.flatMap((title) => sectionRows(manual, title)).flatMap(([forms, effect]) => (
+    [...forms.matchAll(/`([^`]+)`/g)].map(([, form]) => ({ form, effect: cellText(effect) }))));
 }
 
 /**
  * Returns the bench lines that match a typed text. If a blank follows the first word, returns the lines with this first word. Otherwise,
  * returns the lines that start with the typed text.
- * @param {{ form: string, does: string }[]} lines
- * @param {string} typed
+ * @param {{ form: string, effect: string }[]} lines
+ * @param {string} typedText
  */
-export function matchLines(lines, typed) {
-  const word = typed.trimStart().split(/\s/)[0];
+export function matchLines(lines, typedText) {
+  const word = typedText.trimStart().split(/\s/)[0];
   if (word === "") return [];
-  const isWhole = /\s/.test(typed.trimStart());
-  return lines.filter(({ form }) => (isWhole ? form.split(" ")[0] === word : form.startsWith(word)));
+  const isWordComplete = /\s/.test(typedText.trimStart());
+  return lines.filter(({ form }) => (isWordComplete ? form.split(" ")[0] === word : form.startsWith(word)));
 }
 
 /**
  * Returns the description of a cell of the machine; "" for none. If a name with a number, such as `R5` or `bank 0`, has no description,
  * returns the description of the name without the number.
- * @param {Map<string, string>} words the descriptions, by cell name
+ * @param {Map<string, string>} descriptions the descriptions, by cell name
  * @param {string} name
  */
-export function describeCell(words, name) {
-  return words.get(name) || words.get(name.replace(/ ?\d+$/, "")) || "";
+export function describeCell(descriptions, name) {
+  return descriptions.get(name) || descriptions.get(name.replace(/ ?\d+$/, "")) || "";
 }
 
 /**
@@ -129,10 +131,10 @@ export function describeCell(words, name) {
  * @param {ManualSection[]} manual
  * @returns {Map<string, string>}
  */
-export function cellWords(manual) {
-  const found = new Map();
-  for (const [names, words] of sectionRows(manual, CELLS)) {
-    for (const [, name] of names.matchAll(/`([^`]+)`/g)) found.set(name, cellText(words));
+export function readCellDescriptions(manual) {
+  const descriptions = new Map();
+  for (const [names, description] of sectionRows(manual, CELLS)) {
+    for (const [, name] of names.matchAll(/`([^`]+)`/g)) descriptions.set(name, cellText(description));
   }
-  return found;
+  return descriptions;
 }

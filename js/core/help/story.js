@@ -33,9 +33,9 @@ const LINK_PATTERN = /\[([^\]]+)\]\(([^()]+)\)/g;
  * @returns {StoryAction | null}
  */
 function parseAction(words) {
-  const found = ACTION_PATTERN.exec(words);
-  if (!found) return null;
-  const [, simpleName, name, argument = ""] = found;
+  const match = ACTION_PATTERN.exec(words);
+  if (!match) return null;
+  const [, simpleName, name, argument = ""] = match;
   if (name === "show" && !TEXTS.includes(argument) && !PANELS.includes(argument)) return null;
   return { name: /** @type {ActionName} */ (simpleName || name), argument };
 }
@@ -49,11 +49,11 @@ function splitParagraph(text) {
   /** @type {ParagraphPiece[]} */
   const parts = [];
   let end = 0;
-  for (const found of text.matchAll(LINK_PATTERN)) {
-    const [whole, words, action] = found;
-    const act = parseAction(action);
-    parts.push(text.slice(end, found.index), act ? { words, act } : words);
-    end = (found.index || 0) + whole.length;
+  for (const match of text.matchAll(LINK_PATTERN)) {
+    const [whole, linkText, actionText] = match;
+    const storyAction = parseAction(actionText);
+    parts.push(text.slice(end, match.index), storyAction ? { linkText, action: storyAction } : linkText);
+    end = (match.index || 0) + whole.length;
   }
   return [...parts, text.slice(end)].filter((part) => part !== "");
 }
@@ -64,8 +64,8 @@ function splitParagraph(text) {
  * @returns {TourStep}
  */
 function parseStep(text) {
-  const [title, ...paragraphs] = text.trim().split(/\n[ \t]*\n/).map((each) => each.replace(/\s+/g, " ").trim());
-  return { title, words: paragraphs.map(splitParagraph), program: "", isDone: () => false };
+  const [title, ...paragraphs] = text.trim().split(/\n[ \t]*\n/).map((paragraph) => paragraph.replace(/\s+/g, " ").trim());
+  return { title, paragraphs: paragraphs.map(splitParagraph), program: "", isDone: () => false };
 }
 
 /**

@@ -34,12 +34,12 @@ import * as say from "../../words/help.js";
  * Calls a function with the address of a label. Resolves to an error message, "" for none.
  * @param {string} label
  * @param {ActionCalls} calls
- * @param {(address: number) => unknown} act
+ * @param {(address: number) => unknown} callback
  */
-async function callWithAddress(label, calls, act) {
+async function callWithAddress(label, calls, callback) {
   const address = calls.addressOf(label);
   if (address === undefined) return say.noLabel(label);
-  await act(address);
+  await callback(address);
   return "";
 }
 
@@ -47,12 +47,12 @@ async function callWithAddress(label, calls, act) {
  * Calls a function with the key that has a legend. Returns an error message, "" for none.
  * @param {string} legend
  * @param {ActionCalls} calls
- * @param {(key: BoardKey) => unknown} act
+ * @param {(key: BoardKey) => unknown} callback
  */
-function callWithKey(legend, calls, act) {
-  const key = calls.keys().find((each) => each.legend === legend);
+function callWithKey(legend, calls, callback) {
+  const key = calls.keys().find((candidate) => candidate.legend === legend);
   if (!key) return say.noKey(legend);
-  act(key);
+  callback(key);
   return "";
 }
 
@@ -75,16 +75,16 @@ const ACTIONS = {
 
 /**
  * Calls a function whose action needs no check. Resolves to "", because there is no error message.
- * @param {() => unknown} act
+ * @param {() => unknown} callback
  */
-async function perform(act) {
-  await act();
+async function perform(callback) {
+  await callback();
   return "";
 }
 
 /**
  * Runs the action of a link. Resolves to an error message, "" for none.
- * @param {StoryAction} act
+ * @param {StoryAction} action
  * @param {ActionCalls} calls
  */
 export function runAction({ name, argument }, calls) {

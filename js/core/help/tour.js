@@ -12,14 +12,14 @@ import * as say from "../../words/help.js";
  * @typedef {{ lamps: string, patterns: number, keysDown: number, end: string }} TourState
  *
  * A piece of a paragraph: a text, or a link with an action. Only stories have links.
- * @typedef {string | { words: string, act: import("./story.js").StoryAction }} ParagraphPiece
+ * @typedef {string | { linkText: string, action: import("./story.js").StoryAction }} ParagraphPiece
  *
  * The control that a step highlights: the assemble button, a key of the board, the margin of the source, or a RAM nibble.
  * @typedef {"send" | "key" | "margin" | "ram"} Target
  *
  * A step: its title, its paragraphs, the program to type ("" for no change), the highlighted control, and a function that returns whether
  * the step is done.
- * @typedef {{ title: string, words: (string | ParagraphPiece[])[], program: string, target?: Target,
+ * @typedef {{ title: string, paragraphs: (string | ParagraphPiece[])[], program: string, target?: Target,
  *   isDone: (state: TourState) => boolean }} TourStep
  */
 
@@ -79,7 +79,7 @@ export class TourProgress {
   /** @param {TourStep[]} steps */
   constructor(steps = TOUR) {
     this.steps = steps;
-    this.at = 0;
+    this.stepIndex = 0;
     /** @type {TourState} */
     this.state = { lamps: "", patterns: 0, keysDown: 0, end: "" };
     /** @type {Set<string>} the different lamp patterns in this step */
@@ -92,14 +92,14 @@ export class TourProgress {
    * @param {number} at the index of the step
    */
   begin(at) {
-    this.at = at;
+    this.stepIndex = at;
     this.state = { lamps: "", patterns: 0, keysDown: 0, end: "" };
     this.patterns.clear();
     this.isDone = false;
   }
 
   get step() {
-    return this.steps[this.at];
+    return this.steps[this.stepIndex];
   }
 
   /**

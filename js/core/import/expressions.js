@@ -73,11 +73,11 @@ class Evaluation {
   }
 
   /**
-   * Records an error, unless there was one before.
-   * @param {string} words
+   * Records an error, unless an earlier error is recorded.
+   * @param {string} message
    */
-  fail(words) {
-    if (this.fault === "") this.fault = words;
+  fail(message) {
+    if (this.fault === "") this.fault = message;
   }
 
   /** Skips blanks. */
@@ -153,8 +153,8 @@ class Evaluation {
     const character = this.match(CHARACTER);
     if (character) return this.parseCharacter(character[0]);
     for (const { pattern, base } of NUMBER_PATTERNS) {
-      const found = this.match(pattern);
-      if (found) return this.parseNumber(found, base);
+      const match = this.match(pattern);
+      if (match) return this.parseNumber(match, base);
     }
     if (nextCharacter === "$" || nextCharacter === "*") {
       this.at += 1;

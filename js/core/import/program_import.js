@@ -97,9 +97,9 @@ class ProgramImport {
   attemptLine(line, convert, fallback) {
     try {
       return convert();
-    } catch (thrown) {
-      if (!(thrown instanceof LineError)) throw thrown;
-      this.faults.push({ line, words: thrown.message });
+    } catch (error) {
+      if (!(error instanceof LineError)) throw error;
+      this.faults.push({ line, words: error.message });
       return fallback;
     }
   }
@@ -165,7 +165,7 @@ class ProgramImport {
         this.values.set(name, value);
         hasChanged = true;
       }
-      at = this.addressAfter(line, at);
+      at = this.findAddressAfter(line, at);
     }
     return hasChanged;
   }
@@ -175,7 +175,7 @@ class ProgramImport {
    * @param {SourceLine} line
    * @param {number} at the address of the line
    */
-  addressAfter({ word, operand }, at) {
+  findAddressAfter({ word, operand }, at) {
     if (word === "ORG" || word === "ALIGN" || RESERVE_DIRECTIVES.has(word)) {
       const { value, isKnown } = this.evaluateText(operand, at);
       if (!isKnown) return at;
@@ -199,9 +199,9 @@ class ProgramImport {
     this.originalTexts = [];
     let output = "";
     try {
-      output = this.statementLine(line);
+      output = this.formatStatementLine(line);
     } finally {
-      this.address = this.addressAfter(line, this.address);
+      this.address = this.findAddressAfter(line, this.address);
     }
     const originalTexts = this.originalTexts.join(", ");
     const note = originalTexts === "" ? comment : ` ${originalTexts}${comment && ` ;${comment}`}`;
@@ -213,9 +213,9 @@ class ProgramImport {
    * Returns the output line without its comment.
    * @param {SourceLine} line
    */
-  statementLine({ label, word, operand }) {
+  formatStatementLine({ label, word, operand }) {
     const name = this.names.get(upperCase(label)) || "";
-    if (word === "EQU") return `${name} = ${this.operandText(operand, { to: LAST_ADDRESS, isNumber: true })}`;
+    if (word === "EQU") return `${name} = ${this.convertExpression(operand, { to: LAST_ADDRESS, isNumber: true })}`;
     const statement = this.convertStatement(word, operand);
     const mark = name === "" ? "" : `${name}:`;
     return statement === "" ? mark : padToColumn(mark, COLUMNS.statement) + statement;
@@ -234,7 +234,7 @@ class ProgramImport {
     if (INSTRUCTIONS_OF_4040.has(word)) throw new LineError(say.instructionOf4040(word));
     if (word === PROGRAM_RAM_MNEMONIC) throw new LineError(say.NO_PROGRAM_RAM);
     if (UNSUPPORTED_DIRECTIVES.has(word)) throw new LineError(say.notSupported(word));
-    if (word === "ORG") return `ORG ${this.operandText(operand, { to: LAST_ADDRESS, isNumber: true })}`;
+    if (word === "ORG") return `ORG ${this.convertExpression(operand, { to: LAST_ADDRESS, isNumber: true })}`;
     if (word === "ALIGN" || RESERVE_DIRECTIVES.has(word)) return this.convertReservation(word, operand);
     if (BYTE_DIRECTIVES.has(word)) return `DB ${this.convertBytes(operand)}`;
     const kinds = OPERAND_KINDS.get(word);
@@ -248,9 +248,9 @@ class ProgramImport {
    * @param {string} operand
    */
   convertReservation(word, operand) {
-    this.operandText(operand, { to: LAST_ADDRESS + 1, isNumber: true });
+    this.convertExpression(operand, { to: LAST_ADDRESS + 1, isNumber: true });
     this.originalTexts = [`${word} ${operand}`];
-    const nextAddress = this.addressAfter({ text: "", label: "", word, operand, comment: "", isLong: false }, this.address);
+    const nextAddress = this.findAddressAfter({ text: "", label: "", word, operand, comment: "", isLong: false }, this.address);
     if (nextAddress > LAST_ADDRESS) throw new LineError(say.PAST_LAST);
     return `ORG 0x${hex(nextAddress, 3)}`;
   }
@@ -264,7 +264,7 @@ class ProgramImport {
     if (parts.length === 0) throw new LineError(say.NO_VALUES);
     return parts.flatMap((part) => {
       const characters = quotedCharacters(part);
-      if (characters === null) return [this.operandText(part, { to: BYTE - 1, modulus: BYTE })];
+      if (characters === null) return [this.convertExpression(part, { to: BYTE - 1, modulus: BYTE })];
       if (!isAscii(characters)) throw new LineError(say.noCharacter(part));
       return [...characters].map((character) => `0x${hex(character.charCodeAt(0), 2)}`);
     }).join(", ");
@@ -296,9 +296,9 @@ class ProgramImport {
       case "register": return this.convertRegister(text);
       case "pair": return this.convertPair(text);
       case "condition": return this.convertCondition(text);
-      case "digit": return this.operandText(text, { to: NIBBLE - 1, modulus: NIBBLE });
-      case "byte": return this.operandText(text, { to: BYTE - 1, modulus: BYTE });
-      default: return this.operandText(text, { to: LAST_ADDRESS });
+      case "digit": return this.convertExpression(text, { to: NIBBLE - 1, modulus: NIBBLE });
+      case "byte": return this.convertExpression(text, { to: BYTE - 1, modulus: BYTE });
+      default: return this.convertExpression(text, { to: LAST_ADDRESS });
     }
   }
 
@@ -308,7 +308,7 @@ class ProgramImport {
    * @param {string} text
    * @param {OperandRules} rules
    */
-  operandText(text, { from = 0, to, modulus = 0, isNumber = false }) {
+  convertExpression(text, { from = 0, to, modulus = 0, isNumber = false }) {
     const { value, isKnown, fault } = this.evaluateText(text, this.address);
     if (fault) throw new LineError(fault);
     if (!isKnown) throw new LineError(say.dependsOnItself(text));
@@ -329,7 +329,7 @@ class ProgramImport {
     const word = upperCase(text);
     if (/^R([0-9]|1[0-5])$/.test(word) && !this.definingLines.has(word)) return word;
     // A name can be defined as a register, as in `COUNT EQU R5`.
-    return `R${this.operandText(text, { to: NIBBLE - 1, isNumber: true })}`;
+    return `R${this.convertExpression(text, { to: NIBBLE - 1, isNumber: true })}`;
   }
 
   /**
@@ -355,11 +355,11 @@ class ProgramImport {
    */
   convertCondition(text) {
     const word = upperCase(text);
-    if (this.definingLines.has(word)) return this.operandText(text, { to: NIBBLE - 1 });
+    if (this.definingLines.has(word)) return this.convertExpression(text, { to: NIBBLE - 1 });
     const knownNumber = CONDITIONS.get(word);
     if (knownNumber !== undefined) return String(knownNumber);
     if (word === "NC" && !this.isForAsAssembler) throw new LineError(say.NC_IS_AMBIGUOUS);
-    if (!/^N?[ZCT]+$/.test(word)) return this.operandText(text, { to: NIBBLE - 1 });
+    if (!/^N?[ZCT]+$/.test(word)) return this.convertExpression(text, { to: NIBBLE - 1 });
     const letters = new Set(word.replace(/^N/, ""));
     return String([...letters].reduce((sum, letter) => sum + CONDITION_BITS[letter], word.startsWith("N") ? INVERTING_BIT : 0));
   }

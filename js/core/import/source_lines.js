@@ -93,10 +93,10 @@ function commentAt(line) {
  */
 function splitComment(text) {
   if (/^[*/]/.test(text)) return { code: "", comment: text.slice(1) };
-  const begin = text.slice(0, MAX_CODE_LENGTH + 1);
-  const commentStart = commentAt(begin);
-  const code = commentStart < 0 ? begin : begin.slice(0, commentStart);
-  const isComplete = commentStart >= 0 || begin.length <= MAX_CODE_LENGTH;
+  const lineStart = text.slice(0, MAX_CODE_LENGTH + 1);
+  const commentStart = commentAt(lineStart);
+  const code = commentStart < 0 ? lineStart : lineStart.slice(0, commentStart);
+  const isComplete = commentStart >= 0 || lineStart.length <= MAX_CODE_LENGTH;
   return { code: isComplete ? code.replace(/[ \t]+$/, "") : code, comment: commentStart < 0 ? "" : text.slice(commentStart + 1) };
 }
 

@@ -4,7 +4,7 @@ import * as say from "../../words/machine.js";
 
 /**
  * @typedef {import("../debug/breakpoints.js").Breakpoint} Breakpoint
- * @typedef {{ mark: string, words: string }} BreakpointMark
+ * @typedef {{ mark: string, description: string }} BreakpointMark
  */
 
 /** The marks of breakpoints that stop every time, depend on a condition or a hit count, write a log text, or never stop. */
@@ -39,11 +39,11 @@ export function describeBreakpoint(breakpoint) {
  */
 export function breakpointMark(breakpoint, fault) {
   const description = describeBreakpoint(breakpoint);
-  if (fault) return { mark: ALWAYS_STOPS_MARK, words: say.stopsAlwaysByError(description, fault) };
-  if (!breakpoint.isOn) return { mark: NEVER_STOPS_MARK, words: say.breakpointIsOff(description) };
-  if (breakpoint.address < 0) return { mark: NEVER_STOPS_MARK, words: say.stopsLater(description) };
-  if (breakpoint.note.trim()) return { mark: LOG_MARK, words: description };
-  return { mark: breakpoint.condition.trim() || breakpoint.from > 1 ? CONDITION_MARK : ALWAYS_STOPS_MARK, words: description };
+  if (fault) return { mark: ALWAYS_STOPS_MARK, description: say.stopsAlwaysByError(description, fault) };
+  if (!breakpoint.isOn) return { mark: NEVER_STOPS_MARK, description: say.breakpointIsOff(description) };
+  if (breakpoint.address < 0) return { mark: NEVER_STOPS_MARK, description: say.stopsLater(description) };
+  if (breakpoint.note.trim()) return { mark: LOG_MARK, description };
+  return { mark: breakpoint.condition.trim() || breakpoint.from > 1 ? CONDITION_MARK : ALWAYS_STOPS_MARK, description };
 }
 
 /**
@@ -56,10 +56,10 @@ export function breakpointMarks(breakpoints, faults) {
   const lines = new Map();
   /** @type {Map<number, BreakpointMark>} */
   const addresses = new Map();
-  for (const each of breakpoints) {
-    const mark = breakpointMark(each, faults.get(each.id) || "");
-    if (each.line > 0) lines.set(each.line, mark);
-    if (each.address >= 0) addresses.set(each.address, mark);
+  for (const breakpoint of breakpoints) {
+    const mark = breakpointMark(breakpoint, faults.get(breakpoint.id) || "");
+    if (breakpoint.line > 0) lines.set(breakpoint.line, mark);
+    if (breakpoint.address >= 0) addresses.set(breakpoint.address, mark);
   }
   return { lines, addresses };
 }

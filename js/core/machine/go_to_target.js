@@ -7,8 +7,8 @@ import * as say from "../../words/machine.js";
 /**
  * @typedef {import("./source_map.js").SourceMap} SourceMap
  *
- * The target address (`address`), or an error message (`words`; "" for none).
- * @typedef {{ address: number, words: string }} GoToTarget
+ * The target address (`address`), or an error message (`message`; "" for none).
+ * @typedef {{ address: number, message: string }} GoToTarget
  */
 
 /** Matches an address as in listings: three hexadecimal digits without a prefix. */
@@ -21,8 +21,8 @@ const NAME_PLUS_OFFSET = /^([a-z_]\w*)\s*\+\s*(0x[0-9a-f]+|\d+)$/i;
  * @param {string} message
  * @returns {GoToTarget}
  */
-function targetError(message) {
-  return { address: 0, words: message };
+function createTargetError(message) {
+  return { address: 0, message };
 }
 
 /**
@@ -35,11 +35,11 @@ export function parseGoal(text, map) {
   const word = text.trim();
   const [, name = word, offset = "0"] = NAME_PLUS_OFFSET.exec(word) || [];
   const value = map ? map.findValueIgnoringCase(name) : undefined;
-  if (value !== undefined && value + parseNumber(offset) <= LAST_ADDRESS) return { address: value + parseNumber(offset), words: "" };
+  if (value !== undefined && value + parseNumber(offset) <= LAST_ADDRESS) return { address: value + parseNumber(offset), message: "" };
   const address = LISTING_ADDRESS.test(word) ? parseInt(word, 16) : parseNumber(word);
-  if (address <= LAST_ADDRESS) return { address, words: "" };
-  if (!Number.isNaN(parseNumber(word))) return targetError(say.beyondLast(word));
-  if (word === "") return targetError(say.nothingToGoTo(say.ADDRESS_FORMS));
-  if (map) return targetError(say.noNameOrAddress(word, say.ADDRESS_FORMS));
-  return targetError(say.notAnAddress(word, say.ADDRESS_FORMS));
+  if (address <= LAST_ADDRESS) return { address, message: "" };
+  if (!Number.isNaN(parseNumber(word))) return createTargetError(say.beyondLast(word));
+  if (word === "") return createTargetError(say.nothingToGoTo(say.ADDRESS_FORMS));
+  if (map) return createTargetError(say.noNameOrAddress(word, say.ADDRESS_FORMS));
+  return createTargetError(say.notAnAddress(word, say.ADDRESS_FORMS));
 }

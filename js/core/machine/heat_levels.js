@@ -44,12 +44,16 @@ export function heatLevels({ cycles, cells }, kind) {
 }
 
 /**
- * The changes of RAM nibbles in the last cycles, collected while the session runs. `at` is the cycle count at the last change of a nibble.
+ * The changes of RAM nibbles in the last cycles, collected while the session runs. `changeCycle` is the cycle count at the last change of a
+ * nibble.
  */
 export class RecentHeat {
   constructor() {
     this.totalCycles = 0;
-    /** @type {{ from: number, cells: Map<string, HeatCell & { at: number }> }[]} the intervals, each with the cycle count at its start */
+    /**
+     * The intervals, each with the cycle count at its start.
+     * @type {{ from: number, cells: Map<string, HeatCell & { changeCycle: number }> }[]}
+     */
     this.intervals = [];
   }
 
@@ -70,25 +74,26 @@ export class RecentHeat {
     if (this.intervals.length === 0 || this.totalCycles - this.intervals[this.intervals.length - 1].from > storedCycles / MAX_INTERVALS) {
       this.intervals.push({ from, cells: new Map() });
     }
-    addChanges(this.intervals[this.intervals.length - 1].cells, cells.map((cell) => ({ ...cell, at: this.totalCycles - cell.cyclesAgo })));
+    const newChanges = cells.map((cell) => ({ ...cell, changeCycle: this.totalCycles - cell.cyclesAgo }));
+    addChanges(this.intervals[this.intervals.length - 1].cells, newChanges);
     while (this.intervals.length > 1 && this.intervals[1].from <= this.totalCycles - storedCycles) this.intervals.shift();
   }
 
   /** @returns {Heat} the changes in the stored cycles */
   get heat() {
-    /** @type {Map<string, HeatCell & { at: number }>} */
+    /** @type {Map<string, HeatCell & { changeCycle: number }>} */
     const changes = new Map();
     for (const { cells } of this.intervals) addChanges(changes, [...cells.values()]);
     const from = this.intervals.length > 0 ? this.intervals[0].from : this.totalCycles;
-    const heatCells = [...changes.values()].map(({ at, ...cell }) => ({ ...cell, cyclesAgo: this.totalCycles - at }));
+    const heatCells = [...changes.values()].map(({ changeCycle, ...cell }) => ({ ...cell, cyclesAgo: this.totalCycles - changeCycle }));
     return { cycles: this.totalCycles - from, cells: heatCells };
   }
 }
 
 /**
  * Adds newer changes to a map of changes by nibble.
- * @param {Map<string, HeatCell & { at: number }>} changes
- * @param {(HeatCell & { at: number })[]} newChanges
+ * @param {Map<string, HeatCell & { changeCycle: number }>} changes
+ * @param {(HeatCell & { changeCycle: number })[]} newChanges
  */
 function addChanges(changes, newChanges) {
   for (const cell of newChanges) changes.set(cell.place, { ...cell, count: cell.count + (changes.get(cell.place) || { count: 0 }).count });

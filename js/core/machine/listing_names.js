@@ -7,10 +7,11 @@ import { lineReference } from "../../words/stops.js";
  * @typedef {import("../bench/answers.js").ListingLine} ListingLine
  * @typedef {import("./source_map.js").SourceMap} SourceMap
  *
- * The fields of a listing line. `first`: its address as text; `second`: the address of its second byte ("" for none); `bytes`: the address
- * and the bytes as in the bench's answer; `labels`: the labels at its address; `source`: its source line ("" for none).
- * @typedef {{ address: number, first: string, second: string, bytes: string, labels: string, instruction: string, source: string }}
- *   NamedLine
+ * The fields of a listing line. `firstAddress`: its address as text; `secondAddress`: the address of its second byte ("" for none).
+ * `bytes`: the address and the bytes as in the bench's answer; `labels`: the labels at its address; `source`: its source line ("" for
+ * none).
+ * @typedef {{ address: number, firstAddress: string, secondAddress: string, bytes: string, labels: string, instruction: string,
+ *   source: string }} NamedLine
  */
 
 /** Matches an instruction whose last operand is an address. */
@@ -29,8 +30,8 @@ const COLON_LENGTH = 1;
  */
 export function addLineNames({ address, line }, map) {
   const [bytes, instruction] = [line.slice(0, BYTES_END), line.slice(INSTRUCTION_COLUMN)];
-  const second = bytes.slice(SECOND_BYTE_COLUMN).trim() === "" ? "" : hex(address + 1, 3);
-  const fields = { address, first: hex(address, 3), second, bytes, labels: "", instruction, source: "" };
+  const secondAddress = bytes.slice(SECOND_BYTE_COLUMN).trim() === "" ? "" : hex(address + 1, 3);
+  const fields = { address, firstAddress: hex(address, 3), secondAddress, bytes, labels: "", instruction, source: "" };
   if (!map) return fields;
   fields.labels = map.labelsAt(address).map((label) => `${label}:`).join(" ");
   const number = map.lineOf(address);
@@ -48,12 +49,12 @@ export function addLineNames({ address, line }, map) {
  * @param {SourceMap} map
  */
 function replaceTarget(instruction, source, map) {
-  const found = TARGET_INSTRUCTION.exec(instruction);
-  if (!found) return instruction;
-  const labels = map.labelsAt(parseInt(found[2], 16));
+  const match = TARGET_INSTRUCTION.exec(instruction);
+  if (!match) return instruction;
+  const labels = map.labelsAt(parseInt(match[2], 16));
   if (labels.length === 0) return instruction;
   const sourceWords = source.split(/[^A-Za-z0-9_]+/);
-  const label = labels.find((each) => sourceWords.includes(each)) || labels[0];
+  const label = labels.find((candidate) => sourceWords.includes(candidate)) || labels[0];
   return instruction.replace(/0x[0-9A-F]{3}$/, label);
 }
 

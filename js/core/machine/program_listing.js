@@ -22,7 +22,7 @@ const formatRow = (beforeSource, source) => `${beforeSource.padEnd(SOURCE_COLUMN
  * @param {number[]} bytes
  * @param {string} source
  */
-function byteRows(address, bytes, source) {
+function formatByteRows(address, bytes, source) {
   return indices(Math.ceil(bytes.length / BYTES_IN_ROW)).map((row) => {
     const rowBytes = bytes.slice(BYTES_IN_ROW * row, BYTES_IN_ROW * (row + 1)).map((byte) => ` ${hex(byte, 2)}`);
     return formatRow(`${hex(address + BYTES_IN_ROW * row, 3)}${rowBytes.join("")}`, row === 0 ? source : "");
@@ -36,7 +36,7 @@ function byteRows(address, bytes, source) {
  * @param {number} address
  * @param {SourceMap} map
  */
-function textBeforeLine(line, address, map) {
+function formatTextBefore(line, address, map) {
   const code = line.replace(/;.*/, "").replace(/[ \t]/g, "");
   if (LABEL_LINE.test(code)) return hex(address, 3);
   const [, name = ""] = NAME_DEFINITION.exec(code) || [];
@@ -49,12 +49,12 @@ function textBeforeLine(line, address, map) {
  * @param {SourceMap} map
  * @param {Int16Array} bytes the bytes, by address
  */
-function sourceRows(text, map, bytes) {
+function formatSourceRows(text, map, bytes) {
   return text.replace(/\n$/, "").split("\n").flatMap((line, at) => {
     const source = line.replace(/\t/g, TAB);
     const address = map.addressOf(at + 1);
-    if (address === undefined) return [formatRow(textBeforeLine(line, map.addresses[at + 1], map), source)];
-    return byteRows(address, [...bytes.subarray(address, address + map.sizes[at + 1])], source);
+    if (address === undefined) return [formatRow(formatTextBefore(line, map.addresses[at + 1], map), source)];
+    return formatByteRows(address, [...bytes.subarray(address, address + map.sizes[at + 1])], source);
   });
 }
 
@@ -77,5 +77,5 @@ export function programNames(map, onlyLabels) {
  */
 export function programListing(text, map, bytes) {
   const names = programNames(map, false).map(({ name, value }) => formatRow(name, value));
-  return [...sourceRows(text, map, bytes), ...(names.length > 0 ? ["", ...names] : [])];
+  return [...formatSourceRows(text, map, bytes), ...(names.length > 0 ? ["", ...names] : [])];
 }

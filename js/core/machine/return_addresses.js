@@ -8,8 +8,9 @@ import { lineReference } from "../../words/stops.js";
 /**
  * @typedef {import("./source_map.js").SourceMap} SourceMap
  *
- * A description of an address: `words` is its name and line, `title` is its source line. `isLive` is false for a stale entry of the stack.
- * @typedef {{ isLive: boolean, words: string, title: string }} AddressNote
+ * A description of an address: `description` contains its name and line; `title` is its source line. `isLive` is false for a stale entry of
+ * the stack.
+ * @typedef {{ isLive: boolean, description: string, title: string }} AddressNote
  */
 
 const JMS_BYTES = 2;
@@ -47,8 +48,8 @@ export function findLiveReturns(addresses, bytes, map) {
  */
 export function describeCounter(address, map) {
   const line = map ? map.lineOf(address) : 0;
-  if (!map || line === 0) return { isLive: true, words: "", title: "" };
-  return { isLive: true, words: joinWords([map.nameOf(address), lineReference(line)]), title: map.sources[line - 1].trim() };
+  if (!map || line === 0) return { isLive: true, description: "", title: "" };
+  return { isLive: true, description: joinWords([map.nameOf(address), lineReference(line)]), title: map.sources[line - 1].trim() };
 }
 
 /**
@@ -59,16 +60,16 @@ export function describeCounter(address, map) {
  * @returns {AddressNote}
  */
 export function describeReturn(address, isLive, map) {
-  if (!isLive) return { isLive, words: say.STALE_RETURN, title: say.NO_CALL_WAITS };
+  if (!isLive) return { isLive, description: say.STALE_RETURN, title: say.NO_CALL_WAITS };
   const line = map ? map.lineOf(callAddress(address)) : 0;
-  if (!map || line === 0) return { isLive, words: "", title: "" };
-  return { isLive, words: joinWords([map.nameOf(address), say.callInLine(line)]), title: map.sources[line - 1].trim() };
+  if (!map || line === 0) return { isLive, description: "", title: "" };
+  return { isLive, description: joinWords([map.nameOf(address), say.callInLine(line)]), title: map.sources[line - 1].trim() };
 }
 
 /**
  * Joins the texts that are not empty with commas.
- * @param {string[]} words
+ * @param {string[]} texts
  */
-function joinWords(words) {
-  return words.filter((word) => word !== "").join(", ");
+function joinWords(texts) {
+  return texts.filter((word) => word !== "").join(", ");
 }

@@ -8,14 +8,14 @@ import { inSource, notInSource } from "../../words/machine.js";
 /**
  * Returns an address with its name and source line.
  * @param {SourceMap} map
- * @param {{ lines: string[], before: number }} source the source lines, and the number of lines before them in the file
+ * @param {{ lines: string[], linesBefore: number }} source the source lines, and the number of lines before them in the file
  * @param {number} address
  */
-export function formatSourceLocation(map, { lines, before }, address) {
+export function formatSourceLocation(map, { lines, linesBefore }, address) {
   const line = map.lineOf(address);
   const digits = hex(address, 3);
   if (line === 0) return notInSource(digits);
   const name = map.nameOf(address);
   const code = lines[line - 1].replace(/;.*/, "").replace(/[ \t]+/g, " ").trim();
-  return inSource(name === "" ? digits : `${digits} (${name})`, line + before, code);
+  return inSource(name === "" ? digits : `${digits} (${name})`, line + linesBefore, code);
 }

@@ -158,8 +158,8 @@ export class SourceMap {
    * @returns {number | undefined}
    */
   findValue(name) {
-    const found = this.names.get(name);
-    return found && found.value;
+    const definition = this.names.get(name);
+    return definition && definition.value;
   }
 
   /**
@@ -168,8 +168,8 @@ export class SourceMap {
    * @returns {number | undefined}
    */
   findValueIgnoringCase(word) {
-    const exact = this.findValue(word);
-    if (exact !== undefined) return exact;
+    const exactValue = this.findValue(word);
+    if (exactValue !== undefined) return exactValue;
     const matches = [...this.names.keys()].filter((name) => name.toLowerCase() === word.toLowerCase());
     return matches.length === 1 ? this.findValue(matches[0]) : undefined;
   }

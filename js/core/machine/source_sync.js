@@ -20,8 +20,8 @@ import * as say from "../../words/machine.js";
  * @property {() => string} text Returns the source as sent to the bench.
  * @property {(text: string) => Promise<ProgramCheck>} check Compares a source with ROM. Resolves to the `map` answer or the error in the
  *   source, and the first difference from ROM.
- * @property {(map: SourceMap | null, words: string) => void} changed Called with the result of a check if it differs from the result of the
- *   previous check. If the source is not the program in ROM, `map` is null and `words` is the reason.
+ * @property {(map: SourceMap | null, mismatch: string) => void} changed Called with the result of a check if it differs from the result of
+ *   the previous check. If the source is not the program in ROM, `map` is null and `mismatch` is the reason.
  * @property {(number: number) => string} describeRefusal Returns the message for an error number of the bench.
  */
 
@@ -29,7 +29,7 @@ import * as say from "../../words/machine.js";
 const NO_EDITOR = { showNext: () => {}, showAddresses: () => {}, reveal: () => {} };
 
 /** @param {number} address */
-function hexAddress(address) {
+function formatAddress(address) {
   return `0x${hex(address, 3)}`;
 }
 
@@ -41,7 +41,7 @@ export class SourceSync {
     /** @type {SourceMap | null} the source map of the program in ROM; null if the source is another program */
     this.map = null;
     /** The reason why the source is not the program in ROM, or "". */
-    this.words = "";
+    this.mismatch = "";
     /** @type {ProgramCheck | null} the result of the last check */
     this.lastResult = null;
     /** The text of the last check. */
@@ -56,7 +56,7 @@ export class SourceSync {
   /** Clears all results because the editor shows another text. */
   forget() {
     this.map = null;
-    this.words = "";
+    this.mismatch = "";
     this.lastResult = null;
     this.text = "";
     this.nextLine = 0;
@@ -68,8 +68,8 @@ export class SourceSync {
     this.lastCheck += 1;
     const { lastCheck: check } = this;
     const text = this.calls.text();
-    const checked = await this.calls.check(text);
-    if (check === this.lastCheck) this.take(text, checked);
+    const result = await this.calls.check(text);
+    if (check === this.lastCheck) this.handleResult(text, result);
   }
 
   /**
@@ -77,16 +77,16 @@ export class SourceSync {
    * @param {string} text the source that was checked
    * @param {ProgramCheck} result
    */
-  take(text, result) {
+  handleResult(text, result) {
     const isUnchanged = text === this.text && JSON.stringify(result) === JSON.stringify(this.lastResult);
     if (isUnchanged) return;
     this.text = text;
     this.lastResult = result;
     const map = new SourceMap(result.map, text);
-    this.words = this.mismatchReason(result, map);
-    this.map = this.words === "" && map.count > 0 ? map : null;
-    this.editor.showAddresses(lineAddresses(map));
-    this.calls.changed(this.map, this.words);
+    this.mismatch = this.findMismatch(result, map);
+    this.map = this.mismatch === "" && map.count > 0 ? map : null;
+    this.editor.showAddresses(listLineAddresses(map));
+    this.calls.changed(this.map, this.mismatch);
   }
 
   /**
@@ -94,7 +94,7 @@ export class SourceSync {
    * @param {ProgramCheck} result
    * @param {SourceMap} map
    */
-  mismatchReason({ refusal, difference }, map) {
+  findMismatch({ refusal, difference }, map) {
     if (refusal) {
       const lineText = refusal.line > 0 ? say.inSourceLine(refusal.line) : "";
       const errorText = refusal.number > 0 ? `no ${refusal.number}: ${this.calls.describeRefusal(refusal.number)}` : say.DOT_ENDS;
@@ -102,8 +102,8 @@ export class SourceSync {
     }
     if (!difference) return "";
     const line = map.lineOf(difference.address);
-    if (!difference.hasRom) return say.noRomAt(hexAddress(difference.address), line);
-    return say.differsAt(hexAddress(difference.address), line);
+    if (!difference.hasRom) return say.noRomAt(formatAddress(difference.address), line);
+    return say.differsAt(formatAddress(difference.address), line);
   }
 
   /**
@@ -152,6 +152,6 @@ export class SourceSync {
  * Returns the addresses of all lines, "" for a line without bytes.
  * @param {SourceMap} map
  */
-function lineAddresses(map) {
+function listLineAddresses(map) {
   return map.sizes.slice(1).map((size, at) => (size > 0 ? hex(map.addresses[at + 1], 3) : ""));
 }

@@ -43,7 +43,7 @@ class LampRows {
     }
     this.addGrid(face.grid.filter(({ lamp }) => lamp < count));
     for (const lamp of lampsOutsideGroups(face, count)) {
-      if (this.names[lamp] !== "") this.rows.push([this.namedCell(lamp, this.cellWidth(lamp))]);
+      if (this.names[lamp] !== "") this.rows.push([this.makeNamedCell(lamp, this.findCellWidth(lamp))]);
     }
   }
 
@@ -51,7 +51,7 @@ class LampRows {
    * Returns the width that a cell needs for the name of its lamp; 0 if the lamp has no name.
    * @param {number} lamp
    */
-  cellWidth(lamp) {
+  findCellWidth(lamp) {
     return this.names[lamp] === "" ? 0 : this.names[lamp].length + NAME_PADDING;
   }
 
@@ -73,7 +73,7 @@ class LampRows {
    * @param {number} lamp
    * @param {number} width
    */
-  namedCell(lamp, width) {
+  makeNamedCell(lamp, width) {
     return this.makeCell(lampAt(lamp), lamp, width, this.names[lamp]);
   }
 
@@ -99,9 +99,9 @@ class LampRows {
    * Adds the three rows of a die: two, three and two pips.
    * @param {LampCell[]} pips the seven cells of the pips
    */
-  addDie([first, second, ...others]) {
-    const space = gapCell(DIE_WIDTH);
-    this.rows.push([first, space, second], others.slice(0, 3), [others[3], space, others[4]]);
+  addDie([first, second, ...otherPips]) {
+    const space = makeGapCell(DIE_WIDTH);
+    this.rows.push([first, space, second], otherPips.slice(0, 3), [otherPips[3], space, otherPips[4]]);
   }
 
   /**
@@ -111,11 +111,14 @@ class LampRows {
   addGrid(grid) {
     if (grid.length === 0) return;
     const columns = indices(Math.max(...grid.map(({ column }) => column)) + 1);
-    const widths = columns.map((at) => Math.max(2, ...grid.filter(({ column }) => column === at).map(({ lamp }) => this.cellWidth(lamp))));
-    for (const row of indices(Math.max(...grid.map((each) => each.row)) + 1)) {
+    const widths = columns.map((at) => {
+      const lampsInColumn = grid.filter(({ column }) => column === at);
+      return Math.max(2, ...lampsInColumn.map(({ lamp }) => this.findCellWidth(lamp)));
+    });
+    for (const row of indices(Math.max(...grid.map((cell) => cell.row)) + 1)) {
       this.rows.push(columns.map((column) => {
-        const found = grid.find((each) => each.row === row && each.column === column);
-        return found ? this.namedCell(found.lamp, widths[column]) : gapCell(widths[column]);
+        const gridLamp = grid.find((cell) => cell.row === row && cell.column === column);
+        return gridLamp ? this.makeNamedCell(gridLamp.lamp, widths[column]) : makeGapCell(widths[column]);
       }));
     }
     this.rows.push([]);
@@ -127,7 +130,7 @@ class LampRows {
  * @param {number} width
  * @returns {LampCell}
  */
-function gapCell(width) {
+function makeGapCell(width) {
   return { reader: null, width, name: "", colour: "" };
 }
 

@@ -13,13 +13,13 @@ const hasSegment = (pattern, letter) => ((pattern >> "abcdefg".indexOf(letter)) 
  * Returns the five rows of a large character.
  * @param {string} character a digit, another display character, or a dot
  */
-function characterRows(character) {
+function formatCharacter(character) {
   if (character === ".") return [...Array(LARGE_ROWS - 1).fill("  "), "# "];
   const pattern = digitPattern(character);
-  const horizontalRow = (/** @type {string} */ letter) => (hasSegment(pattern, letter) ? " ###  " : BLANK.repeat(6));
-  const verticalRow = (/** @type {string} */ letters) => (
+  const formatHorizontal = (/** @type {string} */ letter) => (hasSegment(pattern, letter) ? " ###  " : BLANK.repeat(6));
+  const formatVertical = (/** @type {string} */ letters) => (
     `${[...letters].map((letter) => (hasSegment(pattern, letter) ? "#" : BLANK)).join("   ")} `);
-  return [horizontalRow("a"), verticalRow("fb"), horizontalRow("g"), verticalRow("ec"), horizontalRow("d")];
+  return [formatHorizontal("a"), formatVertical("fb"), formatHorizontal("g"), formatVertical("ec"), formatHorizontal("d")];
 }
 
 /**
@@ -27,6 +27,6 @@ function characterRows(character) {
  * @param {string} number the number as text
  */
 export function largeDigitRows(number) {
-  const characters = [...number].map(characterRows);
+  const characters = [...number].map(formatCharacter);
   return Array.from({ length: LARGE_ROWS }, (_, at) => characters.map((rows) => rows[at]).join(""));
 }

@@ -46,7 +46,8 @@ export class PanelSnapshot {
     this.keysDown = new PressedKeys();
     /** One character for each lamp: `*` if the lamp is on at the time of the snapshot, otherwise `.`. */
     this.marks = "";
-    /** @type {Brightness | null} the perceived brightness of the lamps; null while time is paused */
+    /** @type {Brightness | null} the perceived brightness of the lamps; null while time is paused, if the board has no lamps, and if the
+     *   last query asked only for the state */
     this.brightness = null;
     /** @type {string[]} the breakpoint addresses as three hexadecimal digits */
     this.breakpoints = [];
@@ -83,7 +84,7 @@ export class PanelSnapshot {
    * Returns the RAM chips that fit into a number of screen rows, starting at the chip to which the user has scrolled.
    * @param {number} rows
    */
-  shownChips(rows) {
+  listVisibleChips(rows) {
     const { firstChip } = this.panel;
     return this.chips.slice(firstChip, firstChip + Math.floor(rows / CHIP_ROWS));
   }
@@ -93,7 +94,7 @@ export class PanelSnapshot {
    * @param {number} rows the number of rows for RAM and listing; 0 to query only the state
    */
   async refresh(rows) {
-    const banks = new Set(this.shownChips(rows).map(({ bank }) => bank));
+    const banks = new Set(this.listVisibleChips(rows).map(({ bank }) => bank));
     const showsBrightness = rows > 0 && !this.panel.isPaused && this.panel.subject.board.lamps.length > 0;
     const questions = `${joinLines(["state", ...[...banks].map((bank) => `ram ${bank}`)])}${showsBrightness ? LAMPS_FORECAST_QUERY : ""}`;
     const answers = matchAnswers(readInputs(questions), await this.panel.ask(questions));
@@ -149,7 +150,7 @@ export class PanelSnapshot {
    * Returns the brightness level of a lamp: the perceived level if time is running, otherwise the level at the time of the snapshot.
    * @param {LampReader} lamp
    */
-  lampLevel(lamp) {
+  findLampLevel(lamp) {
     if (this.brightness) return brightnessLevel(lamp.duty(this.brightness));
     return lamp.isLit(this.marks) ? FULL_LEVEL : 0;
   }

@@ -41,7 +41,7 @@ const MAX_LARGE_CHARACTERS = 18;
 const LARGE_WIDTH = 58;
 
 /** @type {(text: string) => Piece} creates a piece that shows no lamp */
-const plainPiece = (text) => ({ text, colour: "", level: 0 });
+const makePlainPiece = (text) => ({ text, colour: "", level: 0 });
 
 /**
  * Cuts or pads a row of pieces to a width in characters.
@@ -55,7 +55,7 @@ function fitToWidth(pieces, width) {
     remaining -= [...text].length;
     return { ...piece, text };
   });
-  return remaining > 0 ? [...cutPieces, plainPiece(" ".repeat(remaining))] : cutPieces;
+  return remaining > 0 ? [...cutPieces, makePlainPiece(" ".repeat(remaining))] : cutPieces;
 }
 
 /**
@@ -70,7 +70,7 @@ export function fitsPanel({ rows, columns }) {
  * Returns the number of rows in the middle part (RAM, front panel and listing).
  * @param {ScreenSize} size
  */
-export function middleRows({ rows }) {
+export function countMiddleRows({ rows }) {
   return rows - FIXED_ROWS;
 }
 
@@ -84,7 +84,7 @@ export class Screen {
     this.name = escapeControls(panel.subject.name);
     this.test = face.test;
     this.lampRows = buildLampRows(face, board.lamps.length);
-    this.labels = panel.keys.map(keyLabel);
+    this.labels = panel.keys.map(formatKeyLabel);
     this.keyWidth = Math.max(MIN_KEY_WIDTH, ...this.labels.map((label) => [...label].length + 2));
   }
 
@@ -93,46 +93,47 @@ export class Screen {
    * @param {ScreenSize} size
    * @returns {ScreenRow[]}
    */
-  rows(size) {
+  buildRows(size) {
     const { panel } = this;
-    const hasMore = panel.snapshot.chips.length > panel.snapshot.shownChips(middleRows(size)).length;
-    const [titleRow, ...otherTopRows] = this.topRows();
+    const hasMore = panel.snapshot.chips.length > panel.snapshot.listVisibleChips(countMiddleRows(size)).length;
+    const [titleRow, ...otherTopRows] = this.buildTopRows();
     const helpRow = say.keyLine(this.test ? testName(this.test) : say.TEST_PIN, hasMore);
-    const front = this.frontRows(middleRows(size));
-    const middle = indices(middleRows(size)).map((at) => [
-      ...fitToWidth([plainPiece(this.ramText(at))], RAM_WIDTH), plainPiece(" "), ...front[at], plainPiece(" "),
-      plainPiece(this.listingText(at)),
+    const front = this.buildFrontRows(countMiddleRows(size));
+    const middle = indices(countMiddleRows(size)).map((at) => [
+      ...fitToWidth([makePlainPiece(this.formatRam(at))], RAM_WIDTH), makePlainPiece(" "), ...front[at], makePlainPiece(" "),
+      makePlainPiece(this.formatListing(at)),
     ]);
     return [
-      { pieces: [plainPiece(titleRow)], isInverse: true },
-      ...otherTopRows.map((text) => ({ pieces: [plainPiece(text)], isInverse: false })),
+      { pieces: [makePlainPiece(titleRow)], isInverse: true },
+      ...otherTopRows.map((text) => ({ pieces: [makePlainPiece(text)], isInverse: false })),
       ...middle.map((pieces) => ({ pieces, isInverse: false })),
-      { pieces: [plainPiece(escapeControls(panel.message))], isInverse: false },
-      { pieces: [plainPiece(helpRow)], isInverse: true },
+      { pieces: [makePlainPiece(escapeControls(panel.message))], isInverse: false },
+      { pieces: [makePlainPiece(helpRow)], isInverse: true },
     ].map((row) => ({ ...row, pieces: fitToWidth(row.pieces, size.columns) }));
   }
 
   // --- the top rows ---
 
   /** Returns the rows above RAM, the front panel and the listing, as texts. */
-  topRows() {
+  buildTopRows() {
     const { panel, title, name } = this;
     const state = panel.isPaused ? say.paused(panel.pauseReason) : say.RUNNING;
-    return [say.headLine(title, name, panel.snapshot.commands, state), ...this.displayRows(), ...this.registerRows(), this.sourceText()];
+    const titleRow = say.headLine(title, name, panel.snapshot.commands, state);
+    return [titleRow, ...this.buildDisplayRows(), ...this.buildRegisterRows(), this.formatSourceLine()];
   }
 
   /** Returns the rows that show the display in large digits; empty rows if the board has no display. */
-  displayRows() {
+  buildDisplayRows() {
     const { snapshot } = this.panel;
     if (!snapshot.hasDisplay) return Array(LARGE_ROWS).fill("");
     const { display } = snapshot;
     const [number] = display.split(" ");
-    const [first, ...others] = largeDigitRows(number.slice(0, MAX_LARGE_CHARACTERS));
-    return [`${first.padEnd(LARGE_WIDTH)} ${say.display(escapeControls(display))}`, ...others];
+    const [first, ...otherRows] = largeDigitRows(number.slice(0, MAX_LARGE_CHARACTERS));
+    return [`${first.padEnd(LARGE_WIDTH)} ${say.display(escapeControls(display))}`, ...otherRows];
   }
 
   /** Returns the three rows with the lamps, the registers, and the register pairs. */
-  registerRows() {
+  buildRegisterRows() {
     const { snapshot, subject: { source } } = this.panel;
     if (!snapshot.registers) return ["", "", ""];
     const { accumulator, carry, counter, owed, bank, test, registers, returns } = snapshot.registers;
@@ -142,7 +143,7 @@ export class Screen {
     return [
       say.lamps(snapshot.marks || "-"),
       `acc ${accumulator}  cy ${carry}  pc ${counter}  owed ${owed}  dcl ${bank}  test ${test}  ret ${returns.join(" ")}`,
-      `${pairs}  ${isNamed ? say.returnTo(this.addressName(returnAddress)) : ""}`,
+      `${pairs}  ${isNamed ? say.returnTo(this.findAddressName(returnAddress)) : ""}`,
     ];
   }
 
@@ -150,18 +151,19 @@ export class Screen {
    * Returns the name of an address from the source; without a name, the hexadecimal digits of the address.
    * @param {number} address
    */
-  addressName(address) {
+  findAddressName(address) {
     const { source } = this.panel.subject;
     return (source && source.map.nameOf(address)) || hex(address, 3);
   }
 
   /** Returns the text of the source line at the program counter; "" if the source is unknown. */
-  sourceText() {
+  formatSourceLine() {
     const { subject: { source }, snapshot: { counter } } = this.panel;
     if (!source) return "";
     const line = source.map.lineOf(counter);
     if (line === 0) return notInSource(hex(counter, 3));
-    return say.sourceHere(this.addressName(counter), line + source.before, escapeControls(expandTabs(source.lines[line - 1]).trimStart()));
+    const sourceLine = escapeControls(expandTabs(source.lines[line - 1]).trimStart());
+    return say.sourceHere(this.findAddressName(counter), line + source.linesBefore, sourceLine);
   }
 
   // --- RAM, front panel and listing ---
@@ -170,7 +172,7 @@ export class Screen {
    * Returns the RAM text in a row: a RAM register, or the port of a chip; "" if there is no chip.
    * @param {number} row the index of the row below the top rows
    */
-  ramText(row) {
+  formatRam(row) {
     const { snapshot } = this.panel;
     const chip = snapshot.chips[this.panel.firstChip + Math.floor(row / CHIP_ROWS)];
     const rowInChip = row % CHIP_ROWS;
@@ -188,11 +190,11 @@ export class Screen {
    * the address, the text is the source line without its comment.
    * @param {number} row the index of the row below the top rows
    */
-  listingText(row) {
+  formatListing(row) {
     const { snapshot, subject: { source } } = this.panel;
-    const listed = snapshot.listing[row];
-    if (!listed) return "";
-    const { address, line } = listed;
+    const listingLine = snapshot.listing[row];
+    if (!listingLine) return "";
+    const { address, line } = listingLine;
     const digits = hex(address, 3);
     const marks = `${address === snapshot.counter ? ">" : " "}${snapshot.breakpoints.includes(digits) ? "*" : " "}`;
     if (!source || !source.map.beginsInstruction(address)) return marks + line;
@@ -203,37 +205,37 @@ export class Screen {
    * Returns the rows of the front panel: the keys, the button or switch at the TEST pin, the lamps, and the printout.
    * @param {number} count the number of rows
    */
-  frontRows(count) {
-    const keys = this.keyRows();
+  buildFrontRows(count) {
+    const keys = this.buildKeyRows();
     const lamps = this.lampRows.map((cells) => cells.map((cell) => {
-      const level = cell.reader ? this.panel.snapshot.lampLevel(cell.reader) : 0;
+      const level = cell.reader ? this.panel.snapshot.findLampLevel(cell.reader) : 0;
       return { text: escapeControls(formatCell(cell, level)), colour: level > 0 ? cell.colour : "", level };
     }));
     const rows = [...keys, ...(keys.length > 0 ? [[]] : []), ...lamps];
-    const printout = this.printoutRows(count - rows.length);
-    const shown = indices(count).map((at) => rows[at] || []);
-    shown.splice(count - printout.length, printout.length, ...printout.map((text) => [plainPiece(text)]));
-    return shown.map((pieces) => fitToWidth(pieces, FRONT_PANEL_WIDTH));
+    const printout = this.buildPrintoutRows(count - rows.length);
+    const visibleRows = indices(count).map((at) => rows[at] || []);
+    visibleRows.splice(count - printout.length, printout.length, ...printout.map((text) => [makePlainPiece(text)]));
+    return visibleRows.map((pieces) => fitToWidth(pieces, FRONT_PANEL_WIDTH));
   }
 
   /** @returns {Piece[][]} the rows with the keys, and with the button or switch at the TEST pin; pressed keys are in brackets */
-  keyRows() {
+  buildKeyRows() {
     const { panel: { subject: { board }, keys, snapshot }, test } = this;
-    const rows = indices(board.rows).map((row) => [plainPiece(indices(board.columns).map((column) => {
+    const rows = indices(board.rows).map((row) => [makePlainPiece(indices(board.columns).map((column) => {
       const keyIndex = row * board.columns + column;
       const label = this.labels[keyIndex];
       return (snapshot.isDown(keys[keyIndex].key) ? `[${label || "_"}]` : ` ${label} `).padEnd(this.keyWidth);
     }).join(""))]);
     if (!test) return rows;
     const label = escapeControls(say.testKey(testName(test)));
-    return [...rows, [plainPiece(Number(snapshot.test) === test.level ? `[${label}]` : ` ${label} `)]];
+    return [...rows, [makePlainPiece(Number(snapshot.test) === test.level ? `[${label}]` : ` ${label} `)]];
   }
 
   /**
    * Returns the rows with the last lines of the printout, at least MIN_PRINTOUT_ROWS rows. Returns no rows if the board has no printer.
    * @param {number} freeRows the number of rows that the keys and lamps leave free
    */
-  printoutRows(freeRows) {
+  buildPrintoutRows(freeRows) {
     const { printerCodes, printout, subject: { face } } = this.panel;
     if (!printerCodes || !face.printer) return [];
     const lines = printoutLines(printout, face.printer.words).map(escapeControls);
@@ -257,7 +259,7 @@ function testName({ name }) {
  * the character.
  * @param {BoardKey} key
  */
-function keyLabel({ legend, letter, isNamed }) {
+function formatKeyLabel({ legend, letter, isNamed }) {
   if (!isNamed) return letter;
   return escapeControls(legend === letter || letter === "" ? legend : `${legend}:${letter}`);
 }

@@ -26,11 +26,11 @@ import * as say from "../../words/panel.js";
  * @typedef {import("../machine/source_map.js").SourceMap} SourceMap
  * @typedef {import("./terminal_keys.js").TypedKey} TypedKey
  *
- * A function that sends lines to the session and resolves to the answers. Throws if the session has ended.
+ * A function that sends lines to the session and resolves to the answers. Rejects if the session has ended.
  * @typedef {(lines: string) => Promise<string[]>} Ask
  *
- * The source of the program in ROM: its source map, its lines, and the number of lines before these lines in the file (`before`).
- * @typedef {{ map: SourceMap, lines: string[], before: number }} PanelSource
+ * The source of the program in ROM: its source map, its lines, and the number of lines before these lines in the file (`linesBefore`).
+ * @typedef {{ map: SourceMap, lines: string[], linesBefore: number }} PanelSource
  *
  * The session that the panel controls: its name, its board and front panel, and the source of its program (null if unknown).
  * `describeRefusal` returns the message for an error number of the bench. `isPaused` is true if time is paused at the start. `note` is the
@@ -114,7 +114,7 @@ export class Panel {
   }
 
   /**
-   * Lets time run again.
+   * Resumes time.
    * @param {number} now the current time in milliseconds
    */
   resume(now) {
@@ -160,7 +160,7 @@ export class Panel {
   async changeKey(change) {
     const { word, key } = change;
     await this.sendCommand(keyLine(word, key));
-    this.heldKeys = this.heldKeys.filter((each) => !isSameKey(each, key));
+    this.heldKeys = this.heldKeys.filter((heldKey) => !isSameKey(heldKey, key));
     if (word === "press") this.heldKeys.push(key);
   }
 

@@ -17,13 +17,13 @@ import * as say from "../../words/server.js";
 export class ProjectError extends Error {
   /**
    * @param {string} file
-   * @param {string} words
+   * @param {string} reason
    * @param {number} line 0 if the error is not in a line
    */
-  constructor(file, words, line = 0) {
-    super(line > 0 ? `${file}: line ${line}: ${words}` : `${file}: ${words}`);
+  constructor(file, reason, line = 0) {
+    super(line > 0 ? `${file}: line ${line}: ${reason}` : `${file}: ${reason}`);
     this.file = file;
-    this.words = words;
+    this.reason = reason;
     this.line = line;
   }
 }
@@ -32,7 +32,7 @@ export class ProjectError extends Error {
  * Checks the bytes of a project file before they are decoded as text. Returns an error message, "" for none.
  * @param {Uint8Array} bytes
  */
-function bytesError(bytes) {
+function findBytesError(bytes) {
   if (bytes.length === 0) return say.PROJECT_FILE_IS_EMPTY;
   const { length } = bytes;
   if (length > MAX_PROJECT_TOML_BYTES) return say.tooLong(length, MAX_PROJECT_TOML_BYTES);
@@ -57,7 +57,7 @@ function listPaths({ board, program, tests, properties, speed }) {
  * @returns {ProjectFolder}
  */
 export function readProject(bytes, checkFile, file = PROJECT_FILE) {
-  const message = bytesError(bytes);
+  const message = findBytesError(bytes);
   if (message) throw new ProjectError(file, message);
   const { names, faults } = readProjectToml(new TextDecoder().decode(bytes));
   if (!names) throw new ProjectError(file, faults[0].words, faults[0].line);

@@ -36,11 +36,11 @@ const REQUIRED_KEYS = ["board", "program"];
 /**
  * Returns an error in a range of the project file.
  * @param {{ line: number, from: number, to: number }} range
- * @param {string} words
+ * @param {string} message
  * @returns {Fault}
  */
-function errorAt({ line, from, to }, words) {
-  return { number: 0, line, from, to, words };
+function errorAt({ line, from, to }, message) {
+  return { number: 0, line, from, to, words: message };
 }
 
 /**
@@ -48,7 +48,7 @@ function errorAt({ line, from, to }, words) {
  * @param {string} key
  * @param {string} path
  */
-function pathError(key, path) {
+function findPathError(key, path) {
   if (path === "") return say.emptyPath(key, KEY_TEXTS.get(key));
   // eslint-disable-next-line no-control-regex
   if (/[\u0000-\u001f\u007f]/.test(path)) return say.pathHasControlCharacter(key);
@@ -63,17 +63,17 @@ function pathError(key, path) {
  * @param {Key} key
  * @returns {Fault[]}
  */
-function keyErrors({ name, line, from, to, value }) {
+function findKeyErrors({ name, line, from, to, value }) {
   const description = KEY_TEXTS.get(name);
   if (!description) return [errorAt({ line, from, to }, say.noKey(name))];
   const { inner } = value;
   const values = LIST_KEYS.includes(name) && Array.isArray(inner) ? inner : [value];
   if (LIST_KEYS.includes(name) !== Array.isArray(inner)) return [errorAt(value, description)];
-  return values.flatMap((each) => {
-    if (typeof each.inner !== "string") return [errorAt(each, description)];
-    if (name === "speed") return SPEEDS.some(({ id }) => id === each.inner) ? [] : [errorAt(each, description)];
-    const message = pathError(name, each.inner);
-    return message ? [errorAt(each, message)] : [];
+  return values.flatMap((element) => {
+    if (typeof element.inner !== "string") return [errorAt(element, description)];
+    if (name === "speed") return SPEEDS.some(({ id }) => id === element.inner) ? [] : [errorAt(element, description)];
+    const message = findPathError(name, element.inner);
+    return message ? [errorAt(element, message)] : [];
   });
 }
 
@@ -82,7 +82,7 @@ function keyErrors({ name, line, from, to, value }) {
  * @param {Key[]} keys
  * @returns {Fault[]}
  */
-function duplicateErrors(keys) {
+function findDuplicateKeys(keys) {
   /** @type {Map<string, number>} */
   const lines = new Map();
   return keys.flatMap((key) => {
@@ -98,8 +98,8 @@ function duplicateErrors(keys) {
  * @param {string} name
  * @returns {NamedFile[]}
  */
-function filesForKey(keys, name) {
-  const key = keys.find((each) => each.name === name);
+function listFilesForKey(keys, name) {
+  const key = keys.find((candidate) => candidate.name === name);
   if (!key) return [];
   const values = Array.isArray(key.value.inner) ? key.value.inner : [key.value];
   return values.map(({ inner, line, from, to }) => ({ path: String(inner), key: name, line, from, to }));
@@ -111,21 +111,21 @@ function filesForKey(keys, name) {
  * @returns {{ names: ProjectNames | null, faults: Fault[] }}
  */
 export function readProjectToml(text) {
-  const { entries, others, keys, faults } = readBoardText(text.replace(/^\uFEFF/, ""));
-  // `others` lacks the keys whose value is an empty list, because the board reader omits them.
+  const { entries, plainKeys, keys, faults } = readBoardText(text.replace(/^\uFEFF/, ""));
+  // `plainKeys` lacks the keys whose value is an empty list, because the board reader omits them.
   const emptyLists = keys.filter(({ value: { inner } }) => Array.isArray(inner) && inner.length === 0);
   const errors = [
     ...faults.map((fault) => ({ ...fault, number: 0 })),
     ...entries.map((entry) => errorAt(entry, say.NO_TABLES)),
-    ...[...others, ...emptyLists].flatMap(keyErrors),
-    ...duplicateErrors(keys),
+    ...[...plainKeys, ...emptyLists].flatMap(findKeyErrors),
+    ...findDuplicateKeys(keys),
   ];
   if (errors.length === 0) {
     const missingKeys = REQUIRED_KEYS.filter((name) => !keys.some((key) => key.name === name));
     errors.push(...missingKeys.map((name) => errorAt({ line: 1, from: 0, to: 0 }, say.keyMissing(name, KEY_TEXTS.get(name)))));
   }
   if (errors.length > 0) return { names: null, faults: errors.sort((one, other) => one.line - other.line) };
-  const [[board], [program], tests, properties] = ["board", "program", ...LIST_KEYS].map((name) => filesForKey(keys, name));
+  const [[board], [program], tests, properties] = ["board", "program", ...LIST_KEYS].map((name) => listFilesForKey(keys, name));
   const speed = keys.find(({ name }) => name === "speed");
   return { names: { board, program, tests, properties, speed: speed ? String(speed.value.inner) : "" }, faults: [] };
 }

@@ -17,11 +17,11 @@ export class RejectedCommand extends Error {}
 
 /**
  * Throws the error that rejects a command.
- * @param {string} words the error message
+ * @param {string} message the error message
  * @returns {never}
  */
-export function rejectCommand(words) {
-  throw new RejectedCommand(words);
+export function rejectCommand(message) {
+  throw new RejectedCommand(message);
 }
 
 /**
@@ -30,10 +30,10 @@ export function rejectCommand(words) {
  * @param {DebugSession} session
  */
 export function parseAddress(text, { map }) {
-  const [, word, more = "0"] = /^[@*]?\s*([A-Za-z0-9_]+)\s*(?:\+\s*(\w+))?$/.exec(text) || [];
+  const [, word, offsetText = "0"] = /^[@*]?\s*([A-Za-z0-9_]+)\s*(?:\+\s*(\w+))?$/.exec(text) || [];
   if (word === undefined) return undefined;
-  const begin = /^0x/i.test(word) ? parseNumber(word) : map.findValueIgnoringCase(word);
-  const address = begin === undefined ? NaN : begin + parseNumber(more);
+  const base = /^0x/i.test(word) ? parseNumber(word) : map.findValueIgnoringCase(word);
+  const address = base === undefined ? NaN : base + parseNumber(offsetText);
   return Number.isNaN(address) ? undefined : address;
 }
 
@@ -44,15 +44,15 @@ export function parseAddress(text, { map }) {
  * @returns {ProgramLocation}
  */
 export function findInstruction(text, session) {
-  const words = text.trim().replace(/^[^\s:]*\.[A-Za-z0-9]+:/, "");
-  if (words === "") return { line: session.line, address: session.address };
-  if (/^\d+$/.test(words)) {
-    const { line, address } = instructionForLine(Number(words), session.map);
-    if (address < 0) rejectCommand(say.noInstructionIn(words));
+  const locationText = text.trim().replace(/^[^\s:]*\.[A-Za-z0-9]+:/, "");
+  if (locationText === "") return { line: session.line, address: session.address };
+  if (/^\d+$/.test(locationText)) {
+    const { line, address } = instructionForLine(Number(locationText), session.map);
+    if (address < 0) rejectCommand(say.noInstructionIn(locationText));
     return { line, address };
   }
-  const address = parseAddress(words, session);
-  if (address === undefined) rejectCommand(say.notInProgram(words, say.FORMS_IN_PROGRAM));
+  const address = parseAddress(locationText, session);
+  if (address === undefined) rejectCommand(say.notInProgram(locationText, say.FORMS_IN_PROGRAM));
   if (address > LAST_ADDRESS) rejectCommand(ADDRESS_RANGE);
   return { line: instructionAtAddress(address, session.map).line, address };
 }

@@ -2,7 +2,7 @@
 // help, completes lines, and explains why the bench rejects a line.
 //
 //     const prompt = new SessionPrompt(calls);
-//     await prompt.take("press 3 9"); prompt.label; prompt.isEnded; await prompt.complete("pr");
+//     await prompt.enterLine("press 3 9"); prompt.label; prompt.isEnded; await prompt.complete("pr");
 
 import { readBoard, parseRefusal } from "../bench/answers.js";
 import { findLineError } from "../bench/line_forms.js";
@@ -25,8 +25,8 @@ import * as say from "../../words/session_prompt.js";
  * @typedef {{ line: number, words: string }} TextError
  *
  * A text whose last line (a dot) has not been entered yet: the command that starts the text, such as `wire`, and the lines after this
- * command. `at` is the line number of the command in a `source` file, 0 for a typed command.
- * @typedef {{ word: TextWord, lines: string[], at: number }} UnfinishedText
+ * command. `commandLine` is the line number of the command in a `source` file, 0 for a typed command.
+ * @typedef {{ word: TextWord, lines: string[], commandLine: number }} UnfinishedText
  */
 
 /**
@@ -38,7 +38,7 @@ import * as say from "../../words/session_prompt.js";
  * @property {(words: string) => void} print Prints a message on standard output.
  * @property {(words: string) => void} complain Prints a message on standard error.
  * @property {(name: string) => string} read Returns the text of a file; throws an error with the reason if it cannot be read.
- * @property {(begin: string) => string[]} files Returns the file names that start with a prefix.
+ * @property {(prefix: string) => string[]} files Returns the file names that start with a prefix.
  * @property {(word: TextWord, text: string, board: string) => Promise<TextError[]>} errorsOf Resolves to all errors in a rejected text. For
  *   a program, `board` is the board text.
  * @property {(number: number) => string} wordsOf Returns the message for an error number of the bench.
@@ -96,13 +96,13 @@ export class SessionPrompt {
    * Executes a line. If the line is rejected, prints the reason and resolves to false.
    * @param {string} input the line, with or without a carriage return
    */
-  async take(input) {
+  async enterLine(input) {
     const line = stripCarriageReturn(input);
     try {
       return await (this.openText ? this.addTextLine(line, this.openText) : this.handleLine(line));
-    } catch (thrown) {
-      if (!(thrown instanceof RejectedLine)) throw thrown;
-      this.sources.complain(thrown.message);
+    } catch (error) {
+      if (!(error instanceof RejectedLine)) throw error;
+      this.sources.complain(error.message);
       return false;
     }
   }
@@ -118,10 +118,10 @@ export class SessionPrompt {
       return true;
     }
     this.openText = null;
-    const { word, lines, at } = openText;
-    const text = lines.map((each) => `${each}\n`).join("");
+    const { word, lines, commandLine } = openText;
+    const text = lines.map((textLine) => `${textLine}\n`).join("");
     const { file } = this.sources;
-    const place = file ? { name: file.name, before: at } : { name: "", before: 0 };
+    const place = file ? { name: file.name, linesBefore: commandLine } : { name: "", linesBefore: 0 };
     return this.serveText(word, text, text, place);
   }
 
@@ -137,11 +137,11 @@ export class SessionPrompt {
       this.isEnded = true;
       return true;
     }
-    if (word === "help") return this.help(argumentText);
-    if (word === "source") return this.source(argumentText);
+    if (word === "help") return this.printHelp(argumentText);
+    if (word === "source") return this.serveSourceFile(argumentText);
     if (opensText(line)) {
       const { file } = this.sources;
-      this.openText = { word: /** @type {TextWord} */ (word), lines: [], at: file ? file.at : 0 };
+      this.openText = { word: /** @type {TextWord} */ (word), lines: [], commandLine: file ? file.lineNumber : 0 };
       return true;
     }
     if (FILE_WORDS.includes(word)) return this.serveFile(/** @type {TextWord} */ (word), argumentText);
@@ -170,8 +170,8 @@ export class SessionPrompt {
     const text = this.read(name);
     const mark = COMMENT_MARKS[word];
     const textFaults = findLineFaults(text, mark);
-    if (textFaults.length > 0) return this.reportTextErrors(textFaults, text, { name, before: 0 });
-    return this.serveText(word, sentText(text, mark), text, { name, before: 0 });
+    if (textFaults.length > 0) return this.reportTextErrors(textFaults, text, { name, linesBefore: 0 });
+    return this.serveText(word, sentText(text, mark), text, { name, linesBefore: 0 });
   }
 
   /**
@@ -179,7 +179,7 @@ export class SessionPrompt {
    * @param {TextWord} word the command for the text
    * @param {string} sentLines the text as sent to the bench
    * @param {string} text the text with its comments
-   * @param {{ name: string, before: number }} place the file name ("" for none), and the number of lines before the text
+   * @param {{ name: string, linesBefore: number }} place the file name ("" for none), and the number of lines before the text
    */
   async serveText(word, sentLines, text, place) {
     const board = word === "asm" ? await this.readBoardText() : "";
@@ -210,13 +210,13 @@ export class SessionPrompt {
    * Prints errors, each with its source line. Returns false.
    * @param {TextError[]} errors
    * @param {string} text
-   * @param {{ name: string, before: number }} place
+   * @param {{ name: string, linesBefore: number }} place
    */
-  reportTextErrors(errors, text, { name, before }) {
+  reportTextErrors(errors, text, { name, linesBefore }) {
     const lines = text.split("\n");
     this.calls.complain(errors.flatMap(({ line, words }) => {
-      const shown = line > 0 ? [`    ${(lines[line - 1] || "").slice(0, MAX_SHOWN_CHARACTERS)}`] : [];
-      return [say.errorInText(name, line > 0 ? line + before : 0, words), ...shown];
+      const sourceText = line > 0 ? [`    ${(lines[line - 1] || "").slice(0, MAX_SHOWN_CHARACTERS)}`] : [];
+      return [say.errorInText(name, line > 0 ? line + linesBefore : 0, words), ...sourceText];
     }).join("\n"));
     return false;
   }
@@ -236,8 +236,8 @@ export class SessionPrompt {
   read(name) {
     try {
       return this.calls.read(name);
-    } catch (thrown) {
-      throw new RejectedLine(thrown instanceof Error ? thrown.message : String(thrown));
+    } catch (error) {
+      throw new RejectedLine(error instanceof Error ? error.message : String(error));
     }
   }
 
@@ -245,11 +245,11 @@ export class SessionPrompt {
    * Executes the lines of a file. Throws RejectedLine if the file cannot be executed.
    * @param {string} name
    */
-  async source(name) {
+  async serveSourceFile(name) {
     try {
       return await this.sources.serve(name);
-    } catch (thrown) {
-      throw new RejectedLine(thrown instanceof Error ? thrown.message : String(thrown));
+    } catch (error) {
+      throw new RejectedLine(error instanceof Error ? error.message : String(error));
     }
   }
 
@@ -261,16 +261,16 @@ export class SessionPrompt {
    * @param {Refusal} refusal
    */
   async explainRefusal(line, { number }) {
-    const fault = findLineError(line);
-    if (fault && fault.number === number) return fault.message;
-    const [word, ...words] = line.trim().split(/[ \t]+/);
+    const lineError = findLineError(line);
+    if (lineError && lineError.number === number) return lineError.message;
+    const [word, ...argumentWords] = line.trim().split(/[ \t]+/);
     if (number === NO_KEY_ERROR) {
       const { rows, columns } = readBoard(await this.calls.ask("board"));
-      return rows === 0 ? NO_KEYS : say.noKey(words.join(" "), rows - 1, columns - 1);
+      return rows === 0 ? NO_KEYS : say.noKey(argumentWords.join(" "), rows - 1, columns - 1);
     }
-    if (number === NO_ROM_ERROR) return say.noRomAt(words[0]);
-    if (number === NO_RAM_ERROR) return noRamAt(word === "poke" ? words[0] : words.join(" "));
-    return number === NO_RUN_ERROR ? say.invalidRunLength(words[0]) : this.calls.wordsOf(number);
+    if (number === NO_ROM_ERROR) return say.noRomAt(argumentWords[0]);
+    if (number === NO_RAM_ERROR) return noRamAt(word === "poke" ? argumentWords[0] : argumentWords.join(" "));
+    return number === NO_RUN_ERROR ? say.invalidRunLength(argumentWords[0]) : this.calls.wordsOf(number);
   }
 
   // --- help ---
@@ -279,7 +279,7 @@ export class SessionPrompt {
    * Prints the description of a topic, or the list of all lines. Throws RejectedLine if the topic is unknown.
    * @param {string} topic the first word of a line, `places` for the names in `poke` lines, or an error number; "" for all lines
    */
-  help(topic) {
+  printHelp(topic) {
     const [word = ""] = topic.split(/[ \t]+/);
     const helpText = word === "" ? listAllLines() : this.describeTopic(word);
     if (helpText === "") throw new RejectedLine(noLine(word, []));
@@ -296,8 +296,8 @@ export class SessionPrompt {
     const manual = this.calls.manual();
     const places = sectionRows(manual, say.PLACES_TITLE).map((row) => `  ${row.map(cellText).join(", ").replace(", ", ": ")}`);
     if (word === "places") return places.join("\n");
-    const promptLines = say.PROMPT_LINES.filter(([form]) => form.split(/[ ,]+/).includes(word)).map(([form, does]) => `${form}: ${does}`);
-    const lines = matchLines(readLineForms(manual), `${word} `).map(({ form, does }) => `${form}: ${does}`);
+    const promptLines = say.PROMPT_LINES.filter(([form]) => form.split(/[ ,]+/).includes(word)).map(([form, effect]) => `${form}: ${effect}`);
+    const lines = matchLines(readLineForms(manual), `${word} `).map(({ form, effect }) => `${form}: ${effect}`);
     return [...lines, ...(word === "poke" ? places : []), ...promptLines].join("\n");
   }
 
@@ -317,6 +317,7 @@ export class SessionPrompt {
 /** Returns the list of all lines that the user can type, with descriptions. */
 function listAllLines() {
   const groups = [...LINES_BY_GROUPS, { title: say.PROMPT_LINES_TITLE, lines: say.PROMPT_LINES }];
-  const shown = groups.map(({ title, lines }) => `${title}\n${lines.map(([form, does]) => `  ${form.padEnd(24)} ${does}`).join("\n")}`);
-  return [...shown, say.PROMPT_KEYS].join("\n");
+  const groupTexts = groups.map(({ title, lines }) => (
+    `${title}\n${lines.map(([form, effect]) => `  ${form.padEnd(24)} ${effect}`).join("\n")}`));
+  return [...groupTexts, say.PROMPT_KEYS].join("\n");
 }

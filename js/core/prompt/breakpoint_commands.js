@@ -1,7 +1,7 @@
 // The prompt commands for breakpoints and watches.
 
 import { watchedPlaces } from "../bench/answers.js";
-import { addressText, breakpointLines } from "./state_text.js";
+import { formatAddress, formatBreakpointList } from "./state_text.js";
 import { findInstruction, rejectCommand } from "./argument_parsers.js";
 import * as say from "../../words/prompt.js";
 
@@ -77,16 +77,16 @@ export class BreakpointCommands {
     if (previous) this.list.remove(previous.id);
     const newBreakpoint = this.list.add({ line, address, from: Math.max(1, Number(from)), condition, note });
     const { errors: faults } = await session.applyBreakpoints();
-    const fault = faults.find(([id]) => id === newBreakpoint.id);
-    if (fault) {
+    const breakpointError = faults.find(([id]) => id === newBreakpoint.id);
+    if (breakpointError) {
       this.list.remove(newBreakpoint.id);
       if (previous) this.list.add(previous);
       await this.applyBreakpoints();
-      rejectCommand(fault[1]);
+      rejectCommand(breakpointError[1]);
     }
     await machine.saveAndReport();
     const { address: placedAddress } = this.list.get(newBreakpoint.id) || newBreakpoint;
-    calls.print(say.breakpointAt(newBreakpoint.id, addressText(session, placedAddress)));
+    calls.print(say.breakpointAt(newBreakpoint.id, formatAddress(session, placedAddress)));
     this.lastBreakpointNumber = newBreakpoint.id;
     return newBreakpoint.id;
   }
@@ -100,11 +100,11 @@ export class BreakpointCommands {
     const { session, machine } = this.prompt;
     const previous = this.list.get(id);
     this.list.change(id, changes);
-    const fault = (await session.applyBreakpoints()).errors.find(([other]) => other === id);
-    if (fault && previous) {
+    const breakpointError = (await session.applyBreakpoints()).errors.find(([other]) => other === id);
+    if (breakpointError && previous) {
       this.list.change(id, previous);
       await this.applyBreakpoints();
-      rejectCommand(fault[1]);
+      rejectCommand(breakpointError[1]);
     }
     await machine.saveAndReport();
   }
@@ -181,6 +181,6 @@ export class BreakpointCommands {
 
   /** The text of `info breakpoints`. */
   get breakpointsText() {
-    return breakpointLines(this.prompt.session, (id) => this.prompt.stops.describeActions(id));
+    return formatBreakpointList(this.prompt.session, (id) => this.prompt.stops.describeActions(id));
   }
 }

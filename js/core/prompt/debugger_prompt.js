@@ -1,9 +1,8 @@
 // The prompt of the debugger: each line is a command. The prompt uses the same debugger as the page (js/core/debug). It debugs a session in
 // memory, and saves the session to its file at each stop. Callbacks print output and errors.
 //
-//     const prompt = new Prompt(launchResult, readPageData, { print, complain, pause, source, isInteractive });
-//                                                                                        (see adapter/session_launch.js)
-//     await prompt.begin(); await prompt.take("break show"); prompt.isEnded; prompt.complete("br")
+//     const prompt = new Prompt(launchResult, { refusals, manual }, calls);         adapter/session_launch.js creates the launch result
+//     await prompt.begin(); await prompt.enterLine("break show"); prompt.isEnded; prompt.complete("br")
 
 import { KEYWORDS } from "../conditions/parser.js";
 import { PLACE_WORDS, parsePlace } from "../conditions/places.js";
@@ -18,7 +17,7 @@ import { ChangeCommands } from "./change_commands.js";
 import { COMMANDS, findCommand } from "./prompt_commands.js";
 import { PromptKeys } from "./prompt_keys.js";
 import { INFO_WORDS, InspectCommands } from "./inspect_commands.js";
-import { nextInstruction } from "./state_text.js";
+import { formatNextInstruction } from "./state_text.js";
 import { MoveCommands } from "./move_commands.js";
 import { SourceCommand } from "./source_command.js";
 import { StopCommands } from "./stop_commands.js";
@@ -43,7 +42,7 @@ import { stoppedAt } from "../../words/stops.js";
  * @property {() => string | null} source Returns the current text of the program file; null if the program has no file.
  * @property {(name: string) => string} read Returns the text of a file; throws an error with the reason if it cannot be read.
  * @property {(name: string, text: string) => void} write Writes a text to a file; throws an error with the reason if it cannot be written.
- * @property {(begin: string) => string[]} files Returns the file names that start with a prefix.
+ * @property {(prefix: string) => string[]} files Returns the file names that start with a prefix.
  * @property {boolean} isInteractive True if a user at a terminal can interrupt an endless run.
  * @property {{ toggle: () => string, turn: (isOn: boolean) => string } | null} view Shows or hides the view (view.js); null without a
  *   terminal. Each function returns an error message, or "".
@@ -122,7 +121,7 @@ export class Prompt {
       stopped: (lastStop) => {
         this.lastStop = lastStop;
       },
-      output: (words, category) => this.output(words, category),
+      output: (text, category) => this.output(text, category),
       pause: () => this.yieldToOtherTasks(),
       stateChanged: () => {},
     });
@@ -149,13 +148,13 @@ export class Prompt {
 
   /**
    * Prints the output of the machine. Prints errors on standard error.
-   * @param {string} words
+   * @param {string} text
    * @param {"console" | "stdout" | "stderr"} category
    */
-  output(words, category) {
-    if (category === "stderr") this.sources.complain(words.trimEnd());
+  output(text, category) {
+    if (category === "stderr") this.sources.complain(text.trimEnd());
     // This method ignores the message about a move that did nothing, because `makeMove` reports the same message.
-    else if (!words.startsWith(say.NOTHING_DONE)) this.calls.print(words.trimEnd());
+    else if (!text.startsWith(say.NOTHING_DONE)) this.calls.print(text.trimEnd());
   }
 
   // --- lines ---
@@ -165,7 +164,7 @@ export class Prompt {
    * false.
    * @param {string} text
    */
-  async take(text) {
+  async enterLine(text) {
     const line = text.trim() || (this.calls.isInteractive && !this.stops.unfinishedCommands ? this.repeatedLine : "");
     this.startCycles = this.session.debugger.session.count.total;
     this.isInterrupted = false;
@@ -187,8 +186,8 @@ export class Prompt {
       if (this.stops.unfinishedCommands) this.stops.addLine(line);
       else if (line !== "" && !line.startsWith("#")) await this.runCommand(line);
       return true;
-    } catch (thrown) {
-      if (!(thrown instanceof ReportedError)) this.sources.complain(thrown instanceof Error ? thrown.message : String(thrown));
+    } catch (error) {
+      if (!(error instanceof ReportedError)) this.sources.complain(error instanceof Error ? error.message : String(error));
       return false;
     }
   }
@@ -207,9 +206,9 @@ export class Prompt {
    * @param {string} line
    */
   async runCommand(line) {
-    const [, word, rest] = /** @type {string[]} */ (COMMAND.exec(line));
-    const { command, words } = findCommand(word);
-    await this.handlers[command ? command.name : rejectCommand(words)](rest.trim());
+    const [, word, argumentText] = /** @type {string[]} */ (COMMAND.exec(line));
+    const { command, message } = findCommand(word);
+    await this.handlers[command ? command.name : rejectCommand(message)](argumentText.trim());
   }
 
   /**
@@ -240,9 +239,9 @@ export class Prompt {
     await this.machine.move;
     const message = this.lastStop.message.replace(say.PAGE_REMEMBERS, say.SESSION_REMEMBERS);
     if (message.startsWith(say.NOTHING_DONE)) rejectCommand(message);
-    const reached = await this.stops.commandsAtStop();
-    this.stopActions = { ...reached, hasMoved: true };
-    return reached.words ? `${message} ${reached.words}` : message;
+    const nextActions = await this.stops.finishStop();
+    this.stopActions = { ...nextActions, hasMoved: true };
+    return nextActions.words ? `${message} ${nextActions.words}` : message;
   }
 
   /**
@@ -256,13 +255,13 @@ export class Prompt {
 
   /**
    * Shows a stop: its reason, the next instruction, and the expressions of `display`.
-   * @param {string} words the stop reason
+   * @param {string} reason the stop reason
    */
-  showStop(words) {
+  showStop(reason) {
     this.inspectCommands.lastListedLine = 0;
     if (this.stopActions.isSilent) return;
-    if (words) this.calls.print(words);
-    this.calls.print(nextInstruction(this.session));
+    if (reason) this.calls.print(reason);
+    this.calls.print(formatNextInstruction(this.session));
     this.inspectCommands.showDisplays();
   }
 
@@ -314,7 +313,7 @@ export class Prompt {
     if (file) return [this.calls.files(file[1]), file[1]];
     const [word] = /** @type {string[]} */ (/[\w@.+~*/-]*$/.exec(line));
     const candidates = this.listArguments(name);
-    return [candidates.filter((each) => each.toLowerCase().startsWith(word.toLowerCase())), word];
+    return [candidates.filter((candidate) => candidate.toLowerCase().startsWith(word.toLowerCase())), word];
   }
 
   /**

@@ -52,12 +52,12 @@ export class InspectCommands {
       undisplay: (argumentText) => this.removeDisplays(argumentText),
       x: (argumentText) => this.printMemory(argumentText),
       list: (argumentText) => this.listSource(argumentText),
-      info: (argumentText) => calls.print(this.infoText(argumentText)),
+      info: (argumentText) => calls.print(this.formatInfo(argumentText)),
       view: (argumentText) => this.switchView(argumentText),
-      backtrace: () => calls.print(stateText.frameLines(session)),
+      backtrace: () => calls.print(stateText.formatFrames(session)),
       frame: () => calls.print(this.frameText),
       help: (argumentText) => {
-        if (argumentText !== "" && !findCommand(argumentText).command) rejectCommand(findCommand(argumentText).words);
+        if (argumentText !== "" && !findCommand(argumentText).command) rejectCommand(findCommand(argumentText).message);
         calls.print(commandHelp(argumentText));
       },
       quit: () => {
@@ -96,18 +96,18 @@ export class InspectCommands {
   evaluateOrExplain(expression) {
     try {
       return this.evaluate(expression);
-    } catch (thrown) {
-      return thrown instanceof Error ? thrown.message : String(thrown);
+    } catch (error) {
+      return error instanceof Error ? error.message : String(error);
     }
   }
 
   /**
    * Prints the expressions that `display` has added, with their values.
-   * @param {number} [from] the index of the first expression to print
+   * @param {number} [startIndex] the index of the first expression to print
    */
-  showDisplays(from = 0) {
-    this.displays.slice(from).forEach((expression, at) => {
-      this.prompt.calls.print(`${from + at + 1}: ${expression} = ${this.evaluateOrExplain(expression)}`);
+  showDisplays(startIndex = 0) {
+    this.displays.slice(startIndex).forEach((expression, at) => {
+      this.prompt.calls.print(`${startIndex + at + 1}: ${expression} = ${this.evaluateOrExplain(expression)}`);
     });
   }
 
@@ -128,7 +128,7 @@ export class InspectCommands {
    */
   removeDisplays(argumentText) {
     const ids = argumentText.split(/\s+/).filter(Boolean).map(Number);
-    const hasInvalidNumber = ids.some((each) => !(each >= 1 && each <= this.displays.length));
+    const hasInvalidNumber = ids.some((id) => !(id >= 1 && id <= this.displays.length));
     if (hasInvalidNumber) rejectCommand(say.NO_DISPLAY);
     this.displays = argumentText === "" ? [] : this.displays.filter((_, at) => !ids.includes(at + 1));
   }
@@ -143,11 +143,11 @@ export class InspectCommands {
     const countShown = parseCountArgument(count, MAX_EXAMINED_COUNT);
     if (/^ram[. ]/i.test(place)) {
       const { name } = parsePlace(place) || { name: place };
-      return calls.print(stateText.nibbleLine(session, name, countShown));
+      return calls.print(stateText.formatNibbles(session, name, countShown));
     }
     const address = place === "" ? session.address : parseAddress(place, session);
     if (address === undefined || address > LAST_ADDRESS) return rejectCommand(say.noPlaceOfMemory(place));
-    return calls.print(stateText.codeLines(session, address, countShown));
+    return calls.print(stateText.formatCode(session, address, countShown));
   }
 
   /**
@@ -157,21 +157,21 @@ export class InspectCommands {
   listSource(argumentText) {
     const { calls, session } = this.prompt;
     const count = stateText.countSourceLines(session);
-    let from = this.lastListedLine + 1;
+    let firstLine = this.lastListedLine + 1;
     if (argumentText !== "" || this.lastListedLine === 0) {
       const line = /^\d+$/.test(argumentText) ? Number(argumentText) : findInstruction(argumentText, session).line;
       if (line === 0) rejectCommand(say.NO_LINE_THERE);
-      from = Math.max(1, line - LIST_LENGTH / 2);
+      firstLine = Math.max(1, line - LIST_LENGTH / 2);
     }
-    if (from > count) rejectCommand(say.sourceHas(count));
-    calls.print(stateText.sourceLines(session, from, from + LIST_LENGTH - 1));
-    this.lastListedLine = Math.min(count, from + LIST_LENGTH - 1);
+    if (firstLine > count) rejectCommand(say.sourceHas(count));
+    calls.print(stateText.formatSourceLines(session, firstLine, firstLine + LIST_LENGTH - 1));
+    this.lastListedLine = Math.min(count, firstLine + LIST_LENGTH - 1);
   }
 
   /** The text of `frame`: the innermost frame and the next instruction. */
   get frameText() {
     const { session } = this.prompt;
-    return `${stateText.frameLines(session).split("\n")[0]}\n${stateText.nextInstruction(session)}`;
+    return `${stateText.formatFrames(session).split("\n")[0]}\n${stateText.formatNextInstruction(session)}`;
   }
 
   /**
@@ -181,23 +181,23 @@ export class InspectCommands {
   get infoTexts() {
     const { session, keys, launchResult, breakpoints, lastStop } = this.prompt;
     return {
-      registers: () => stateText.registerLines(session),
-      ram: () => stateText.ramLines(session),
-      ports: () => stateText.portLines(session),
-      keys: () => keys.infoText(),
+      registers: () => stateText.formatRegisters(session),
+      ram: () => stateText.formatRam(session),
+      ports: () => stateText.formatPorts(session),
+      keys: () => keys.formatInfo(),
       breakpoints: () => breakpoints.breakpointsText,
       watches: () => breakpoints.watchesText,
       display: () => this.displays.map((expression, at) => `${at + 1}: ${expression}`).join("\n") || say.NOTHING_DISPLAYED,
-      names: () => stateText.nameLines(session),
+      names: () => stateText.formatNames(session),
       source: () => say.linesOf(launchResult.program || DISASSEMBLED_FROM_ROM, stateText.countSourceLines(session)),
       session: () => (launchResult.writer ? say.SESSION_FILE : say.IN_MEMORY),
-      line: (place) => stateText.lineText(session, findInstruction(place, session)),
+      line: (place) => stateText.formatLineInfo(session, findInstruction(place, session)),
       symbol: (place) => {
         const address = parseAddress(place || rejectCommand(say.SYMBOL_SYNTAX), session);
-        return address === undefined ? rejectCommand(say.noPlaceOfMemory(place)) : stateText.addressText(session, address);
+        return address === undefined ? rejectCommand(say.noPlaceOfMemory(place)) : stateText.formatAddress(session, address);
       },
       frame: () => this.frameText,
-      stack: () => stateText.frameLines(session),
+      stack: () => stateText.formatFrames(session),
       program: () => lastStop.message || stoppedAt(session.counterText),
       locals: () => say.NO_LOCALS,
     };
@@ -207,7 +207,7 @@ export class InspectCommands {
    * Returns the text of an `info` command; fails if the word is unknown or not unique.
    * @param {string} argumentText a word of INFO_WORDS, a unique prefix or a name that gdb accepts; `line` and `symbol` take an argument
    */
-  infoText(argumentText) {
+  formatInfo(argumentText) {
     const [, word = "", argument = ""] = /^(\S*)\s*(.*)$/.exec(argumentText) || [];
     const matchingKinds = INFO_WORDS.filter((kind) => word !== "" && kind.startsWith(word));
     const [onlyKind] = matchingKinds.length === 1 ? matchingKinds : [""];

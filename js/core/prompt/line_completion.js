@@ -13,7 +13,7 @@ import { indices } from "../bench/numbers.js";
 /**
  * The callbacks of completion.
  * @typedef {object} CompletionCalls
- * @property {(begin: string) => string[]} files Returns the file names that start with a prefix.
+ * @property {(prefix: string) => string[]} files Returns the file names that start with a prefix.
  * @property {(line: string) => Promise<string[]>} ask Resolves to the bench's answers to a line. Does not print them.
  */
 
@@ -24,22 +24,22 @@ export const FILE_WORDS = ["wire", "asm", "map", "wiring", "errors", "source"];
 /** The additional topics of `help`. */
 const HELP_WORDS = ["places"];
 
-/** @type {(words: string[], begin: string) => string[]} returns the words that start with a prefix */
-const filterByPrefix = (words, begin) => words.filter((word) => word.startsWith(begin));
+/** @type {(words: string[], prefix: string) => string[]} returns the words that start with a prefix */
+const filterByPrefix = (words, prefix) => words.filter((word) => word.startsWith(prefix));
 /** @type {(count: number) => string[]} returns the numbers from 0 to `count` - 1 as words */
-const numberWords = (count) => indices(count).map(String);
+const listNumbers = (count) => indices(count).map(String);
 
 /**
  * A function that resolves to the candidate words for the argument at an index.
- * @typedef {(at: number, ask: (line: string) => Promise<string[]>) => Promise<string[]>} ArgumentWords
+ * @typedef {(argumentIndex: number, ask: (line: string) => Promise<string[]>) => Promise<string[]>} ArgumentWords
  */
 
 /** @type {(words: string[]) => ArgumentWords} proposes words only for the first argument */
-const wordsForFirstArgument = (words) => async (at) => (at === 0 ? words : []);
+const proposeFirstArgument = (words) => async (argumentIndex) => (argumentIndex === 0 ? words : []);
 /** @type {ArgumentWords} proposes row numbers for the first argument, and column numbers for the second */
-const completeKeys = async (at, ask) => {
+const completeKeys = async (argumentIndex, ask) => {
   const { rows, columns } = readBoard(await ask("board"));
-  return at > 1 ? [] : numberWords(at === 0 ? rows : columns);
+  return argumentIndex > 1 ? [] : listNumbers(argumentIndex === 0 ? rows : columns);
 };
 
 /**
@@ -47,15 +47,16 @@ const completeKeys = async (at, ask) => {
  * @type {Record<string, ArgumentWords>}
  */
 const ARGUMENT_COMPLETIONS = {
-  help: wordsForFirstArgument([...ANSWER_FORMATS.keys(), ...PROMPT_WORDS, ...HELP_WORDS]),
-  poke: wordsForFirstArgument(POKE_NAMES),
-  trace: async (at) => (at > 0 ? TRACE_NAMES : []),
-  test: wordsForFirstArgument(["0", "1"]),
+  help: proposeFirstArgument([...ANSWER_FORMATS.keys(), ...PROMPT_WORDS, ...HELP_WORDS]),
+  poke: proposeFirstArgument(POKE_NAMES),
+  trace: async (argumentIndex) => (argumentIndex > 0 ? TRACE_NAMES : []),
+  test: proposeFirstArgument(["0", "1"]),
   press: completeKeys,
   release: completeKeys,
-  ram: async (at, ask) => (at > 0 ? [] : readBoard(await ask("board")).banks.map(({ bank }) => String(bank))),
-  unbreak: async (at, ask) => (at > 0 ? [] : readItems((await ask("breaks"))[0]).map((word) => `0x${word}`)),
-  unwatch: async (at, ask) => (at > 0 ? [] : readItems((await ask("watches"))[0]).map((word) => word.replace(".", " 0x"))),
+  ram: async (argumentIndex, ask) => (argumentIndex > 0 ? [] : readBoard(await ask("board")).banks.map(({ bank }) => String(bank))),
+  unbreak: async (argumentIndex, ask) => (argumentIndex > 0 ? [] : readItems((await ask("breaks"))[0]).map((word) => `0x${word}`)),
+  unwatch: async (argumentIndex, ask) => (
+    argumentIndex > 0 ? [] : readItems((await ask("watches"))[0]).map((word) => word.replace(".", " 0x"))),
 };
 
 /**
@@ -67,12 +68,12 @@ const ARGUMENT_COMPLETIONS = {
 export async function completeLine(line, calls) {
   const [, first] = /^[ \t]*(\S*)$/.exec(line) || [];
   if (first !== undefined) return [filterByPrefix([...ANSWER_FORMATS.keys(), ...PROMPT_WORDS], first).map((word) => `${word} `), first];
-  const [, word, rest] = /** @type {RegExpExecArray} */ (/^[ \t]*(\S+)[ \t]+(.*)$/.exec(line));
-  if (FILE_WORDS.includes(word)) return [calls.files(rest), rest];
+  const [, word, unfinishedName] = /** @type {RegExpExecArray} */ (/^[ \t]*(\S+)[ \t]+(.*)$/.exec(line));
+  if (FILE_WORDS.includes(word)) return [calls.files(unfinishedName), unfinishedName];
   const words = line.trimStart().split(/[ \t]+/);
-  const begin = /** @type {string} */ (words.pop());
+  const unfinishedWord = /** @type {string} */ (words.pop());
   const findArgumentWords = ARGUMENT_COMPLETIONS[word];
   const isKnown = ANSWER_FORMATS.has(word) || word === "help";
-  const found = isKnown && findArgumentWords ? await findArgumentWords(words.length - 1, calls.ask) : [];
-  return [filterByPrefix(found, begin), begin];
+  const candidates = isKnown && findArgumentWords ? await findArgumentWords(words.length - 1, calls.ask) : [];
+  return [filterByPrefix(candidates, unfinishedWord), unfinishedWord];
 }

@@ -2,7 +2,7 @@
 // stopped.
 
 import { parseGoal } from "../debug/condition_search.js";
-import { openCallCount } from "./state_text.js";
+import { countOpenCalls } from "./state_text.js";
 import { runKeyPress, stepBackOver } from "./prompt_moves.js";
 import { parseCountArgument, parseCycles, findInstruction, parseConditionText, rejectCommand } from "./argument_parsers.js";
 import * as say from "../../words/prompt.js";
@@ -31,7 +31,7 @@ export class MoveCommands {
   get handlers() {
     const { machine } = this.prompt;
     /** @type {(goal: BackGoal) => CommandHandler} */
-    const backCommand = (goal) => (argumentText) => this.repeatMove(argumentText, () => machine.goBack(goal));
+    const createBackCommand = (goal) => (argumentText) => this.repeatMove(argumentText, () => machine.goBack(goal));
     return {
       "next": (argumentText) => this.repeatMove(argumentText, () => machine.go({ kind: "over" })),
       "step": (argumentText) => {
@@ -52,7 +52,7 @@ export class MoveCommands {
         const runCycles = () => this.prompt.session.runCycles(cycles, (_, tally) => machine.finishPiece(tally));
         return this.moveAndShow(() => machine.beginMove(runCycles, () => true));
       },
-      "reverse-step": backCommand({ kind: "instruction" }),
+      "reverse-step": createBackCommand({ kind: "instruction" }),
       "reverse-next": (argumentText) => this.repeatMove(argumentText, () => machine.beginMove(async () => (
         machine.toRunResult(await stepBackOver(this.prompt.session, () => machine.finishPiece()), "goal")), () => false)),
       "reverse-continue": (argumentText) => {
@@ -86,7 +86,7 @@ export class MoveCommands {
   async repeatMove(argumentText, startMove) {
     const { prompt } = this;
     let stopText = "";
-    for (let left = parseCountArgument(argumentText, MAX_STEPS); left > 0; left--) {
+    for (let remaining = parseCountArgument(argumentText, MAX_STEPS); remaining > 0; remaining--) {
       stopText = await prompt.makeMove(startMove);
       if (prompt.lastStop.reason !== "step" || prompt.machine.mustPause) break;
     }
@@ -99,7 +99,7 @@ export class MoveCommands {
    */
   finishSubroutine(argumentText) {
     if (argumentText !== "") rejectCommand(say.FINISH_SYNTAX);
-    if (openCallCount(this.prompt.session) === 0) rejectCommand(NO_CALL_WAITS);
+    if (countOpenCalls(this.prompt.session) === 0) rejectCommand(NO_CALL_WAITS);
     return this.moveAndShow(() => this.prompt.machine.go({ kind: "out" }));
   }
 
@@ -132,8 +132,8 @@ export class MoveCommands {
         return stop;
       }, () => true));
       if (stopReason === "passed") continue;
-      const left = keys.slice(at + 1).map(({ name }) => name).join(" ");
-      prompt.showStop(left === "" ? stopText : say.notPressed(stopText, left));
+      const remainingKeys = keys.slice(at + 1).map(({ name }) => name).join(" ");
+      prompt.showStop(remainingKeys === "" ? stopText : say.notPressed(stopText, remainingKeys));
       return;
     }
     prompt.showStop(stoppedAt(session.counterText));

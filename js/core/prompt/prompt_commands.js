@@ -4,28 +4,28 @@ import { COMMAND_WORDS } from "../../words/debug_commands.js";
 import * as say from "../../words/prompt.js";
 
 /**
- * The help texts for a command: its name, its abbreviations (`short`), its usage (`use`), its effect (`does`), and further help (`more`).
- * @typedef {{ name: string, short: string[], use: string, does: string, more: string }} CommandText
+ * The help texts for a command: its name, its abbreviations, its usage, its effect, and further help (`details`, "" for none).
+ * @typedef {{ name: string, abbreviations: string[], usage: string, effect: string, details: string }} CommandText
  */
 
 /** @type {CommandText[]} the help texts of all commands */
-export const COMMANDS = COMMAND_WORDS.map(({ words, use, does, more }) => {
-  const [name, ...short] = words.split(" ");
-  return { name, short, use, does, more };
+export const COMMANDS = COMMAND_WORDS.map(({ names, usage, effect, details }) => {
+  const [name, ...abbreviations] = names.split(" ");
+  return { name, abbreviations, usage, effect, details };
 });
 
 /**
  * Finds a command by its name, an abbreviation or a unique prefix. If none matches, returns an error message.
  * @param {string} word
- * @returns {{ command: CommandText | null, words: string }}
+ * @returns {{ command: CommandText | null, message: string }}
  */
 export function findCommand(word) {
-  const exact = COMMANDS.find(({ name, short }) => name === word || short.includes(word));
-  if (exact) return { command: exact, words: "" };
+  const exactMatch = COMMANDS.find(({ name, abbreviations }) => name === word || abbreviations.includes(word));
+  if (exactMatch) return { command: exactMatch, message: "" };
   const matching = COMMANDS.filter(({ name }) => name.startsWith(word));
-  if (matching.length === 1) return { command: matching[0], words: "" };
-  if (matching.length === 0) return { command: null, words: say.noCommand(word) };
-  return { command: null, words: say.ambiguousCommand(word, matching.map(({ name }) => name).join(", ")) };
+  if (matching.length === 1) return { command: matching[0], message: "" };
+  if (matching.length === 0) return { command: null, message: say.noCommand(word) };
+  return { command: null, message: say.ambiguousCommand(word, matching.map(({ name }) => name).join(", ")) };
 }
 
 /**
@@ -33,9 +33,10 @@ export function findCommand(word) {
  * @param {string} word the command; "" for the list
  */
 export function commandHelp(word) {
-  if (word === "") return COMMANDS.map(({ use, does }) => `${use.padEnd(25)} ${does}`).join("\n");
-  const { command, words } = findCommand(word);
-  if (!command) return words;
-  const { short, use, does, more } = command;
-  return `${use}: ${does}.${more ? ` ${more}` : ""}${short.length > 0 ? say.otherNames(short.join(", ")) : ""}`;
+  if (word === "") return COMMANDS.map(({ usage, effect }) => `${usage.padEnd(25)} ${effect}`).join("\n");
+  const { command, message } = findCommand(word);
+  if (!command) return message;
+  const { abbreviations, usage, effect, details } = command;
+  const otherNames = abbreviations.length > 0 ? say.otherNames(abbreviations.join(", ")) : "";
+  return `${usage}: ${effect}.${details ? ` ${details}` : ""}${otherNames}`;
 }

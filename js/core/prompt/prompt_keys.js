@@ -3,7 +3,7 @@
 import { readBoard } from "../bench/answers.js";
 import { matrixKey, formatKey } from "../board/key_place.js";
 import { listNamedKeys, createKey } from "../testing/test_text.js";
-import { pressedKeys } from "./state_text.js";
+import { listPressedKeys } from "./state_text.js";
 import { rejectCommand } from "./argument_parsers.js";
 import * as say from "../../words/prompt.js";
 
@@ -35,11 +35,11 @@ export class PromptKeys {
   }
 
   /** Returns the text of `info keys`. */
-  infoText() {
-    const down = pressedKeys(this.session);
+  formatInfo() {
+    const keysDown = listPressedKeys(this.session);
     const { names } = this;
     if (names.length === 0) return say.NO_KEYS;
-    return `${names.join(" ")}\n${down.length > 0 ? say.keysDown(down.join(" ")) : say.NO_KEY_IS_DOWN}`;
+    return `${names.join(" ")}\n${keysDown.length > 0 ? say.keysDown(keysDown.join(" ")) : say.NO_KEY_IS_DOWN}`;
   }
 
   /**
@@ -48,8 +48,8 @@ export class PromptKeys {
    * @returns {NamedKey | null}
    */
   findKey(word) {
-    const named = this.namedKeys.get(word);
-    if (named) return named;
+    const namedKey = this.namedKeys.get(word);
+    if (namedKey) return namedKey;
     const [, row, column] = /^(\d+)\.(\d+)$/.exec(word) || [];
     const { rows, columns } = readBoard(this.session.debugger.session.statusQueries.board);
     if (row === undefined || Number(row) >= rows || Number(column) >= columns) return null;

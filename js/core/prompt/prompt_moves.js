@@ -13,7 +13,7 @@ import * as say from "../../words/prompt.js";
  * Returns the first byte of the next instruction.
  * @param {DebugSession} session
  */
-function nextOpcode(session) {
+function readNextOpcode(session) {
   return parseInt(session.debugger.session.ask(`list ${session.address} 1\n`)[0].slice(4, 6), 16);
 }
 
@@ -25,12 +25,12 @@ function nextOpcode(session) {
  */
 export async function stepBackOver(session, shouldContinue) {
   let result = await session.goBack({ kind: "instruction" }, shouldContinue);
-  let depth = result.isDone && isReturn(nextOpcode(session)) ? 1 : 0;
+  let depth = result.isDone && isReturn(readNextOpcode(session)) ? 1 : 0;
   while (depth > 0) {
     result = await session.goBack({ kind: "change", place: "ret" }, shouldContinue);
     const message = say.backInSubroutine(session.counterText);
     if (!result.isDone) return { ...result, words: message, isDone: true };
-    const code = nextOpcode(session);
+    const code = readNextOpcode(session);
     depth += Number(isReturn(code)) - Number(isCall(code));
   }
   return { ...result, message: result.isDone ? say.backAt(session.counterText) : result.message };

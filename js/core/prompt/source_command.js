@@ -4,9 +4,9 @@
 import * as say from "../../words/session_prompt.js";
 
 /**
- * The prompt that executes the lines. `isEnded` is true after `quit`. `take` executes a line, and resolves to false if the line is
- * rejected. `drop` discards an unfinished text or command list, and returns a message about it; "" if there is none.
- * @typedef {{ isEnded: boolean, take: (line: string) => Promise<boolean>, drop: () => string }} LineServer
+ * The prompt that executes the lines. `isEnded` is true after `quit`. `enterLine` executes a line, and resolves to false if the line
+ * is rejected. `drop` discards an unfinished text or command list, and returns a message about it; "" if there is none.
+ * @typedef {{ isEnded: boolean, enterLine: (line: string) => Promise<boolean>, drop: () => string }} LineServer
  */
 
 /** The maximum nesting depth of `source` lines. */
@@ -21,7 +21,7 @@ export class SourceCommand {
   constructor(server, calls) {
     this.server = server;
     this.calls = calls;
-    /** @type {{ name: string, at: number }[]} the nested files with their current line numbers, innermost last */
+    /** @type {{ name: string, lineNumber: number }[]} the nested files with their current line numbers, innermost last */
     this.files = [];
   }
 
@@ -32,10 +32,10 @@ export class SourceCommand {
 
   /**
    * Reports an error. For an error in a file, adds the file and the line.
-   * @param {string} words
+   * @param {string} message
    */
-  complain(words) {
-    this.calls.complain(this.file ? say.errorInFile(this.file.name, this.file.at, words) : words);
+  complain(message) {
+    this.calls.complain(this.file ? say.errorInFile(this.file.name, this.file.lineNumber, message) : message);
   }
 
   /**
@@ -47,17 +47,17 @@ export class SourceCommand {
     if (name === "") throw new Error(say.SOURCE_SYNTAX);
     if (this.files.length === MAX_NESTING) throw new Error(say.sourcesTooDeep(MAX_NESTING));
     const lines = this.calls.read(name).replace(/\n$/, "").split("\n");
-    const file = { name, at: 0 };
+    const file = { name, lineNumber: 0 };
     this.files.push(file);
     let isDone = true;
     for (const line of lines) {
-      file.at += 1;
-      isDone = await this.server.take(line);
+      file.lineNumber += 1;
+      isDone = await this.server.enterLine(line);
       if (!isDone || this.server.isEnded) break;
     }
-    const dropped = this.server.drop();
+    const dropMessage = this.server.drop();
     this.files.pop();
-    if (isDone && dropped !== "" && !this.server.isEnded) throw new Error(say.endsTooSoon(name, dropped));
+    if (isDone && dropMessage !== "" && !this.server.isEnded) throw new Error(say.endsTooSoon(name, dropMessage));
     return isDone;
   }
 }

@@ -25,11 +25,11 @@ function readState(session) {
  * @param {DebugSession} session
  * @param {number} line
  */
-export function sourceLine(session, line) {
+export function formatSourceLine(session, line) {
   const { map, breakpoints } = session;
   const address = map.addressOf(line);
   const pointer = line === session.line ? ">" : " ";
-  const mark = breakpoints.all.some((each) => each.line === line && each.isOn) ? "*" : " ";
+  const mark = breakpoints.all.some((breakpoint) => breakpoint.line === line && breakpoint.isOn) ? "*" : " ";
   const addressColumn = address === undefined ? "   " : hex(address, 3);
   const text = expandTabs((session.program.split("\n")[line - 1] || "").replace(/\r$/, ""));
   return `${pointer}${mark}${String(line).padStart(4)}  ${addressColumn}  ${text}`.trimEnd();
@@ -46,21 +46,21 @@ export function countSourceLines({ program }) {
 /**
  * Returns the text of a range of source lines; fails if the first line is after the end of the source.
  * @param {DebugSession} session
- * @param {number} from the first line
- * @param {number} to the last line, inclusive
+ * @param {number} firstLine the first line
+ * @param {number} lastLine the last line, inclusive
  */
-export function sourceLines(session, from, to) {
-  const last = Math.min(to, countSourceLines(session));
-  if (from > last) rejectCommand(say.sourceHas(countSourceLines(session)));
-  return indices(last - from + 1).map((at) => sourceLine(session, from + at)).join("\n");
+export function formatSourceLines(session, firstLine, lastLine) {
+  const last = Math.min(lastLine, countSourceLines(session));
+  if (firstLine > last) rejectCommand(say.sourceHas(countSourceLines(session)));
+  return indices(last - firstLine + 1).map((at) => formatSourceLine(session, firstLine + at)).join("\n");
 }
 
 /**
  * Returns the source line of the next instruction. Without a source line, returns the disassembled instruction.
  * @param {DebugSession} session
  */
-export function nextInstruction(session) {
-  return session.line > 0 ? sourceLine(session, session.line) : codeLines(session, session.address, 1);
+export function formatNextInstruction(session) {
+  return session.line > 0 ? formatSourceLine(session, session.line) : formatCode(session, session.address, 1);
 }
 
 /**
@@ -69,7 +69,7 @@ export function nextInstruction(session) {
  * @param {number} address
  * @param {number} count the number of instructions
  */
-export function codeLines(session, address, count) {
+export function formatCode(session, address, count) {
   const rows = listInstructionRows(session, address, 0, count).filter(({ bytes }) => bytes !== "");
   return rows.map((row) => {
     const label = row.name ? `${row.name}: ` : "";
@@ -82,7 +82,7 @@ export function codeLines(session, address, count) {
  * Returns the text of `info registers`.
  * @param {DebugSession} session
  */
-export function registerLines(session) {
+export function formatRegisters(session) {
   const { registers } = readState(session);
   const pairs = indices(8).map((at) => `P${at} ${registers.registers[2 * at]}${registers.registers[2 * at + 1]}`).join("  ");
   const { accumulator, carry, bank, test, owed } = registers;
@@ -94,7 +94,7 @@ export function registerLines(session) {
  * Returns the text of `info ram`: all RAM registers with their status nibbles, and the output ports.
  * @param {DebugSession} session
  */
-export function ramLines(session) {
+export function formatRam(session) {
   const { ram } = readState(session);
   const lines = [...ram].flatMap(([bank, { registers, ports }]) => [
     ...[...registers].map(([name, { characters, status }]) => {
@@ -110,7 +110,7 @@ export function ramLines(session) {
  * Returns the text of `info ports`: the SRC bytes, the ROM ports, the chains with their bits in groups of ten, and the pressed keys.
  * @param {DebugSession} session
  */
-export function portLines(session) {
+export function formatPorts(session) {
   const { sources, roms, chains, keys } = readState(session).ports;
   return [
     `src ${sources.join(" ")}`,
@@ -124,7 +124,7 @@ export function portLines(session) {
  * Returns the pressed keys as `row.column`.
  * @param {DebugSession} session
  */
-export function pressedKeys(session) {
+export function listPressedKeys(session) {
   return readState(session).ports.keys;
 }
 
@@ -132,7 +132,7 @@ export function pressedKeys(session) {
  * Returns the number of calls that have not returned yet.
  * @param {DebugSession} session
  */
-export function openCallCount(session) {
+export function countOpenCalls(session) {
   return readStackFrames(session).length - 1;
 }
 
@@ -141,7 +141,7 @@ export function openCallCount(session) {
  * @param {DebugSession} session
  * @param {number} address
  */
-export function addressText(session, address) {
+export function formatAddress(session, address) {
   return addressWithName(hex(address, 3), session.map);
 }
 
@@ -150,7 +150,7 @@ export function addressText(session, address) {
  * @param {DebugSession} session
  * @param {{ line: number, address: number }} place the location of the instruction
  */
-export function lineText(session, { line, address }) {
+export function formatLineInfo(session, { line, address }) {
   const [{ bytes = "" } = {}] = listInstructionRows(session, address, 0, 1);
   const last = address + Math.max(1, bytes.split(" ").filter(Boolean).length) - 1;
   return say.lineLocation(line, hex(address, 3), session.map.nameOf(address) || "", last > address ? hex(last, 3) : "");
@@ -160,7 +160,7 @@ export function lineText(session, { line, address }) {
  * Returns the text of `backtrace`, newest frame first.
  * @param {DebugSession} session
  */
-export function frameLines(session) {
+export function formatFrames(session) {
   return readStackFrames(session).map(({ address, line, name }, at) => (
     `#${at}  ${hex(address, 3)}  ${name}${line > 0 ? `, line ${line}` : ""}${at > 0 ? say.THE_CALL : ""}`)).join("\n");
 }
@@ -169,7 +169,7 @@ export function frameLines(session) {
  * Returns the text of `info names`.
  * @param {DebugSession} session
  */
-export function nameLines({ map }) {
+export function formatNames({ map }) {
   const names = [...map.names.values()];
   if (names.length === 0) return say.NO_NAMES;
   return names.map(({ name, value, isLabel }) => (
@@ -181,7 +181,7 @@ export function nameLines({ map }) {
  * @param {DebugSession} session
  * @param {(id: number) => string} extraText returns the additional text for a breakpoint
  */
-export function breakpointLines({ breakpoints }, extraText) {
+export function formatBreakpointList({ breakpoints }, extraText) {
   const { all, savedBreakpoints } = breakpoints;
   if (all.length === 0) return say.NO_BREAKPOINTS;
   const lines = formatBreakpoints(savedBreakpoints);
@@ -195,9 +195,9 @@ export function breakpointLines({ breakpoints }, extraText) {
  * @param {string} text the first nibble, such as `ram.0.0x10`
  * @param {number} count the maximum number of nibbles
  */
-export function nibbleLine(session, text, count) {
-  const [, bank, at] = /^ram\.([0-7])\.(\w+)$/i.exec(text) || [];
-  const first = parseNumber(at || "");
+export function formatNibbles(session, text, count) {
+  const [, bank, address] = /^ram\.([0-7])\.(\w+)$/i.exec(text) || [];
+  const first = parseNumber(address || "");
   if (bank === undefined || !(first <= 255)) rejectCommand(say.noPlaceOfRam(text));
   const state = readState(session);
   const values = indices(Math.min(count, 256 - first)).map((offset) => state.character(Number(bank), first + offset));

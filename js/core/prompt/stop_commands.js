@@ -27,7 +27,7 @@ export const COMMANDS_END = "end";
 const SILENT_COMMAND = "silent";
 
 /** @type {(command: string) => string} returns the line that applies a command to the breakpoint that was set last */
-const forLastBreakpoint = (command) => `${command} ${LAST_BREAKPOINT}`;
+const addLastBreakpoint = (command) => `${command} ${LAST_BREAKPOINT}`;
 
 export class StopCommands {
   /** @param {Prompt} prompt */
@@ -81,12 +81,12 @@ export class StopCommands {
    * Returns the breakpoint whose number is the first word, and the text after the number; fails if the breakpoint does not exist.
    * @param {string} argumentText
    * @param {string} form the usage of the command, for messages
-   * @returns {{ breakpoint: Breakpoint, more: string }}
+   * @returns {{ breakpoint: Breakpoint, remainingText: string }}
    */
   parseBreakpoint(argumentText, form) {
-    const [, word = "", more = ""] = /^(\S*)\s*(.*)$/.exec(argumentText) || [];
+    const [, word = "", remainingText = ""] = /^(\S*)\s*(.*)$/.exec(argumentText) || [];
     const [id] = this.prompt.breakpoints.parseNumbers(word || rejectCommand(form));
-    return { breakpoint: /** @type {Breakpoint} */ (this.list.get(id)), more };
+    return { breakpoint: /** @type {Breakpoint} */ (this.list.get(id)), remainingText };
   }
 
   /**
@@ -94,9 +94,9 @@ export class StopCommands {
    * @param {string} argumentText the breakpoint number, and the condition if there is one
    */
   async setCondition(argumentText) {
-    const { breakpoint: { id }, more } = this.parseBreakpoint(argumentText, say.CONDITION_SYNTAX);
-    await this.prompt.breakpoints.change(id, { condition: more.replace(/^if\s+/, "") });
-    if (more === "") this.prompt.calls.print(say.stopsAlways(id));
+    const { breakpoint: { id }, remainingText } = this.parseBreakpoint(argumentText, say.CONDITION_SYNTAX);
+    await this.prompt.breakpoints.change(id, { condition: remainingText.replace(/^if\s+/, "") });
+    if (remainingText === "") this.prompt.calls.print(say.stopsAlways(id));
   }
 
   /**
@@ -104,9 +104,9 @@ export class StopCommands {
    * @param {string} argumentText the breakpoint number, and the number of hits to ignore
    */
   async ignoreHits(argumentText) {
-    const { breakpoint: { id, hits }, more } = this.parseBreakpoint(argumentText, say.IGNORE_SYNTAX);
-    const count = /^\d{1,9}$/.test(more) ? Number(more) : -1;
-    if (count < 0) rejectCommand(say.hitCountRange(MAX_IGNORED_HITS.toLocaleString("en"), more || say.NOTHING));
+    const { breakpoint: { id, hits }, remainingText } = this.parseBreakpoint(argumentText, say.IGNORE_SYNTAX);
+    const count = /^\d{1,9}$/.test(remainingText) ? Number(remainingText) : -1;
+    if (count < 0) rejectCommand(say.hitCountRange(MAX_IGNORED_HITS.toLocaleString("en"), remainingText || say.NOTHING));
     await this.prompt.breakpoints.change(id, { from: count === 0 ? 1 : hits + count + 1 });
     this.prompt.calls.print(say.breakpointWillIgnore(id, count));
   }
@@ -118,8 +118,8 @@ export class StopCommands {
    * @param {string} argumentText the breakpoint number; "" for the breakpoint that was set last
    */
   beginCommands(argumentText) {
-    const { breakpoint: { id }, more } = this.parseBreakpoint(argumentText || LAST_BREAKPOINT, say.COMMANDS_SYNTAX);
-    if (more !== "") rejectCommand(say.COMMANDS_SYNTAX);
+    const { breakpoint: { id }, remainingText } = this.parseBreakpoint(argumentText || LAST_BREAKPOINT, say.COMMANDS_SYNTAX);
+    if (remainingText !== "") rejectCommand(say.COMMANDS_SYNTAX);
     this.unfinishedCommands = { id, lines: [] };
   }
 
@@ -150,7 +150,7 @@ export class StopCommands {
    * Deletes a temporary breakpoint.
    * @returns {Promise<{ commands: string[], isSilent: boolean, words: string }>}
    */
-  async commandsAtStop() {
+  async finishStop() {
     const { lastStop: { reason, id }, session, breakpoints } = this.prompt;
     const breakpoint = reason === "breakpoint" ? this.list.get(id) || this.list.findByAddress(session.address) : undefined;
     const { isTemporary, commands } = breakpoint ? this.getActions(breakpoint.id) : NO_ACTIONS;
@@ -179,7 +179,7 @@ export class StopCommands {
     const [, word = "", name = ""] = /^(\S*)\s*(.*)$/.exec(argumentText) || [];
     if (!/^b(r(e(akpoints?)?)?)?$/.test(word) || name === "") rejectCommand(say.SAVE_SYNTAX);
     const watches = this.prompt.breakpoints.watchedPlaces.map((place) => `watch ${place}`);
-    const lines = [...this.list.all.flatMap((each) => this.formatBreakpoint(each)), ...watches];
+    const lines = [...this.list.all.flatMap((breakpoint) => this.formatBreakpoint(breakpoint)), ...watches];
     this.prompt.calls.write(name, `${[say.SAVED_HEAD, ...lines].join("\n")}\n`);
     this.prompt.calls.print(say.savedIn(name, this.list.all.length));
   }
@@ -190,12 +190,12 @@ export class StopCommands {
    */
   formatBreakpoint({ id, line, address, isOn, from, hits, condition, note }) {
     const { isTemporary, commands } = this.getActions(id);
-    const left = from - hits;
+    const remainingHits = from - hits;
     const place = line > 0 ? String(line) : `0x${hex(address, 3)}`;
-    const words = [isTemporary ? "tbreak" : "break", place, ...(left > 1 ? [`from ${left}`] : [])];
+    const words = [isTemporary ? "tbreak" : "break", place, ...(remainingHits > 1 ? [`from ${remainingHits}`] : [])];
     return [
-      `${words.join(" ")}${say.ifCondition(condition)}${say.logNote(note)}`, ...(isOn ? [] : [forLastBreakpoint("disable")]),
-      ...(commands.length > 0 ? [forLastBreakpoint("commands"), ...commands.map((each) => `  ${each}`), COMMANDS_END] : []),
+      `${words.join(" ")}${say.ifCondition(condition)}${say.logNote(note)}`, ...(isOn ? [] : [addLastBreakpoint("disable")]),
+      ...(commands.length > 0 ? [addLastBreakpoint("commands"), ...commands.map((command) => `  ${command}`), COMMANDS_END] : []),
     ];
   }
 }

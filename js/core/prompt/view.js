@@ -8,7 +8,7 @@ import { indices } from "../bench/numbers.js";
 import { MachineState } from "../debug/machine_state.js";
 import { escapeControls } from "../text/control_escapes.js";
 import { formatCycles } from "../time/cycles.js";
-import { codeLines, countSourceLines, pressedKeys, sourceLine } from "./state_text.js";
+import { formatCode, countSourceLines, listPressedKeys, formatSourceLine } from "./state_text.js";
 import * as say from "../../words/prompt.js";
 
 /**
@@ -53,8 +53,8 @@ export function viewSize(rows, columns) {
  * @param {number} length
  */
 function cutText(text, length) {
-  const shown = [...escapeControls(text).replace(/[\t\n]/g, " ")];
-  return shown.length > length ? `${shown.slice(0, length - 2).join("")}..` : shown.join("");
+  const characters = [...escapeControls(text).replace(/[\t\n]/g, " ")];
+  return characters.length > length ? `${characters.slice(0, length - 2).join("")}..` : characters.join("");
 }
 
 export class View {
@@ -77,16 +77,16 @@ export class View {
   lines({ rows, columns }, { head, nextInstruction, changedValue }) {
     this.readRegisters();
     const isWide = columns >= WIDE_COLUMNS;
-    const registers = isWide ? this.registerLinesBeside(changedValue) : this.registerLinesBelow(columns, changedValue);
-    const below = [...(isWide ? [] : registers), ...this.boardLines(columns)];
+    const registers = isWide ? this.formatRegistersBeside(changedValue) : this.formatRegistersBelow(columns, changedValue);
+    const below = [...(isWide ? [] : registers), ...this.formatBoardLines(columns)];
     const height = Math.max(1, rows - 2 - below.length);
     const width = isWide ? columns - SIDE_COLUMNS : columns;
-    const bodyLines = this.sourceLines(height).map((line, at) => {
+    const bodyLines = this.listSourceLines(height).map((line, at) => {
       const text = cutText(line, width);
       const shownText = line.startsWith(">") ? nextInstruction(text) : text;
       return isWide && registers[at] ? `${shownText}${" ".repeat(width - text.length)}  ${registers[at]}` : shownText;
     });
-    return [head(this.headLine(columns)), ...bodyLines, ...below, "-".repeat(columns)].slice(0, rows);
+    return [head(this.formatHeadLine(columns)), ...bodyLines, ...below, "-".repeat(columns)].slice(0, rows);
   }
 
   /** Reads the registers. If the cycle count has changed since the last call, first stores their last values as `previousValues`. */
@@ -95,10 +95,10 @@ export class View {
     const { total } = session.debugger.session.count;
     const { registers, ports } = new MachineState(session.debugger.session.takeSnapshot());
     const { accumulator, carry, bank, test } = registers;
-    const now = new Map([["acc", accumulator], ["cy", carry], ["test", test], ["dcl", bank], ["SRC", ports.sources[0]]]);
-    for (const at of indices(8)) now.set(`P${at}`, `${registers.registers[2 * at]}${registers.registers[2 * at + 1]}`);
-    if (total !== this.valuesCycleCount) this.previousValues = this.currentValues.size > 0 ? this.currentValues : now;
-    this.currentValues = now;
+    const newValues = new Map([["acc", accumulator], ["cy", carry], ["test", test], ["dcl", bank], ["SRC", ports.sources[0]]]);
+    for (const at of indices(8)) newValues.set(`P${at}`, `${registers.registers[2 * at]}${registers.registers[2 * at + 1]}`);
+    if (total !== this.valuesCycleCount) this.previousValues = this.currentValues.size > 0 ? this.currentValues : newValues;
+    this.currentValues = newValues;
     this.valuesCycleCount = total;
   }
 
@@ -106,7 +106,7 @@ export class View {
    * Returns the first line: the program name, the program counter and the simulated time.
    * @param {number} columns
    */
-  headLine(columns) {
+  formatHeadLine(columns) {
     const { session, launchResult } = this.prompt;
     const name = launchResult.program.split("/").pop() || "ROM";
     return cutText(`${name}  ${session.counterText}  ${formatCycles(session.debugger.session.count.total)}`, columns).padEnd(columns);
@@ -116,12 +116,12 @@ export class View {
    * Returns the source lines, or the disassembled instructions, near the next instruction.
    * @param {number} height the number of lines
    */
-  sourceLines(height) {
+  listSourceLines(height) {
     const { session } = this.prompt;
-    if (session.line === 0) return codeLines(session, session.address, height).split("\n");
+    if (session.line === 0) return formatCode(session, session.address, height).split("\n");
     const count = countSourceLines(session);
     const first = Math.max(1, Math.min(session.line - Math.floor(height / 2), count - height + 1));
-    return indices(height).map((at) => (first + at <= count ? sourceLine(session, first + at) : "~"));
+    return indices(height).map((at) => (first + at <= count ? formatSourceLine(session, first + at) : "~"));
   }
 
   /**
@@ -130,7 +130,7 @@ export class View {
    * @param {Highlight} highlight
    * @returns {string}
    */
-  valueText(name, highlight) {
+  formatValue(name, highlight) {
     const value = this.currentValues.get(name) || "";
     const text = `${name} ${value}`;
     return this.previousValues.get(name) === value ? text : highlight(text);
@@ -140,9 +140,9 @@ export class View {
    * Returns the lines with the registers beside the source.
    * @param {Highlight} highlight
    */
-  registerLinesBeside(highlight) {
+  formatRegistersBeside(highlight) {
     const { session } = this.prompt;
-    const formatValue = (/** @type {string} */ name) => this.valueText(name, highlight);
+    const formatValue = (/** @type {string} */ name) => this.formatValue(name, highlight);
     const calls = session.registers.returns.join(" ");
     return [
       `${formatValue("acc")}   ${formatValue("cy")}   ${formatValue("test")}`,
@@ -157,8 +157,8 @@ export class View {
    * @param {number} columns
    * @param {Highlight} highlight
    */
-  registerLinesBelow(columns, highlight) {
-    const formatValues = (/** @type {string[]} */ names) => names.map((name) => this.valueText(name, highlight)).join(" ");
+  formatRegistersBelow(columns, highlight) {
+    const formatValues = (/** @type {string[]} */ names) => names.map((name) => this.formatValue(name, highlight)).join(" ");
     const pairs = indices(8).map((at) => `P${at}`);
     const line = ["acc", "cy", "test", "dcl", "SRC"];
     if (columns >= 60) return [formatValues(line), formatValues(pairs)];
@@ -169,12 +169,12 @@ export class View {
    * Returns the lines with the lamps, the pressed keys and the expressions of `display`.
    * @param {number} columns
    */
-  boardLines(columns) {
+  formatBoardLines(columns) {
     const { machine, session, inspectCommands } = this.prompt;
-    const keys = pressedKeys(session).join(" ");
-    const shown = machine.frontPanelText.currentText();
+    const keys = listPressedKeys(session).join(" ");
+    const panelText = machine.frontPanelText.currentText();
     const displays = inspectCommands.displays.slice(0, MAX_DISPLAYS)
       .map((expression) => `${expression} = ${inspectCommands.evaluateOrExplain(expression)}`);
-    return [shown, keys && say.keysDown(keys), ...displays].filter(Boolean).map((line) => cutText(line, columns));
+    return [panelText, keys && say.keysDown(keys), ...displays].filter(Boolean).map((line) => cutText(line, columns));
   }
 }

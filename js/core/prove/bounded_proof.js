@@ -2,13 +2,13 @@
 // number of states, so that the page can show progress. Confirms a counterexample by running its test. The page's worker uses this module.
 //
 //     const { proving, faults } = beginProving(engine, texts, 1000000, { seen: async (states) => {}, yieldToMessages: async () => {} });
-//     for (let judged = await proving.next(); judged; judged = await proving.next()) ..
+//     for (let judged = await proving.judgeNext(); judged; judged = await proving.judgeNext()) ..
 
 import { parseSearchTexts } from "../explore/sliced_search.js";
 import { formatNumber } from "../explore/report.js";
 import { isConfirmed } from "../testing/confirmation.js";
 import { PropertyJudge } from "./property_judge.js";
-import { MAX_SETS, boundsUpTo, questionText, readAnswer } from "./question.js";
+import { MAX_SETS, listBounds, questionText, readAnswer } from "./question.js";
 import * as say from "../../words/prove.js";
 
 /**
@@ -57,9 +57,9 @@ class ProverQueries {
     this.searchedStates = 0;
     /** @type {Answer} */
     let answer = { kind: "more" };
-    for (const bound of boundsUpTo(this.maxStates)) {
+    for (const bound of listBounds(this.maxStates)) {
       await this.calls.seen(this.searchedStates);
-      answer = this.askWithin(question, { most: bound });
+      answer = this.askWithin(question, { maxStates: bound });
       if (answer.kind !== "more") break;
       this.searchedStates = bound;
     }
@@ -72,7 +72,7 @@ class ProverQueries {
    */
   async askBySets(question) {
     await this.calls.seen(0);
-    return this.askWithin(question, { most: 0, sets: MAX_SETS });
+    return this.askWithin(question, { maxStates: 0, sets: MAX_SETS });
   }
 
   /**
@@ -107,10 +107,10 @@ class ProverQueries {
  * @returns {{ proving: PropertyJudge | null, faults: TextFault[] }}
  */
 export function beginProving(engine, texts, maxStates, calls) {
-  const { read, faults } = parseSearchTexts(engine, texts, false);
-  if (!read) return { proving: null, faults };
+  const { parsedTexts, faults } = parseSearchTexts(engine, texts, false);
+  if (!parsedTexts) return { proving: null, faults };
   const queries = new ProverQueries(engine, texts, maxStates, calls);
-  const proving = new PropertyJudge(read.subject, read.campaign, {
+  const proving = new PropertyJudge(parsedTexts.subject, parsedTexts.campaign, {
     ask: (question) => queries.ask(question),
     askBySets: (question) => queries.askBySets(question),
     confirms: async ({ isTest, text }, isGoal) => !isTest || isConfirmed(engine, texts, text, isGoal, calls.yieldToMessages),

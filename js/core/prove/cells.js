@@ -27,10 +27,10 @@ const NIBBLES = 16;
 
 /** @type {(list: string, index: number, low: number, high: number, part?: string) => Comparison} returns the line that compares a cell with
  *    a range; `part` is `whole` or the bit, such as `line0` */
-const rangeComparison = (list, index, low, high, part = "whole") => ["in", list, index, part, low, high].join(" ");
+const formatComparison = (list, index, low, high, part = "whole") => ["in", list, index, part, low, high].join(" ");
 
 /** A conjunction that is never true. */
-export const IMPOSSIBLE_COMPARISONS = [rangeComparison("register", 0, 1, 0)];
+export const IMPOSSIBLE_COMPARISONS = [formatComparison("register", 0, 1, 0)];
 
 /**
  * Creates the field for all bits of a cell.
@@ -41,8 +41,8 @@ export const IMPOSSIBLE_COMPARISONS = [rangeComparison("register", 0, 1, 0)];
  * @param {number} [digits] the number of hexadecimal digits that `trace` shows
  * @returns {Field}
  */
-function cellField(name, list, index, count, digits = 1) {
-  return { name, count, texts: (number) => [hex(number, digits)], between: (low, high) => [[rangeComparison(list, index, low, high)]] };
+function createCellField(name, list, index, count, digits = 1) {
+  return { name, count, texts: (number) => [hex(number, digits)], between: (low, high) => [[formatComparison(list, index, low, high)]] };
 }
 
 /**
@@ -53,23 +53,25 @@ function cellField(name, list, index, count, digits = 1) {
  * @param {string} [part] the bit, such as `line0`; `whole` for a cell with one bit
  * @returns {Field}
  */
-function bitField(name, list, index, part = "whole") {
-  return { name, count: 2, texts: (number) => [String(number)], between: (low, high) => [[rangeComparison(list, index, low, high, part)]] };
+function createBitField(name, list, index, part = "whole") {
+  return {
+    name, count: 2, texts: (number) => [String(number)], between: (low, high) => [[formatComparison(list, index, low, high, part)]],
+  };
 }
 
 /**
  * Creates the field for the program counter, which consists of two cells.
  * @returns {Field}
  */
-function counterField() {
+function createCounterField() {
   return {
     name: "pc", count: ADDRESS_COUNT, texts: (number) => [hex(number, 3)],
     between: (low, high) => indices(NIBBLES).flatMap((page) => {
       const [first, last] = [Math.max(low, page * PAGE_BYTES), Math.min(high, page * PAGE_BYTES + PAGE_BYTES - 1)];
       if (first > last) return [];
       const { page: pageCell, word: wordCell } = COUNTER_CELLS;
-      const isInPage = rangeComparison("counter", pageCell, page, page);
-      return [[isInPage, rangeComparison("counter", wordCell, first % PAGE_BYTES, last % PAGE_BYTES)]];
+      const isInPage = formatComparison("counter", pageCell, page, page);
+      return [[isInPage, formatComparison("counter", wordCell, first % PAGE_BYTES, last % PAGE_BYTES)]];
     }),
   };
 }
@@ -80,13 +82,13 @@ function counterField() {
  * @param {Board["roms"][number]} rom
  * @returns {Field}
  */
-function romField(name, { chip, port }) {
+function createRomField(name, { chip, port }) {
   const inputs = [...port].reduce((sum, mark, at) => sum + (mark === "i" ? 2 ** (3 - at) : 0), 0);
-  const shown = indices(NIBBLES).filter((levels) => (levels & ~inputs) === 0);
+  const possibleLevels = indices(NIBBLES).filter((levels) => (levels & ~inputs) === 0);
   return {
     name, count: NIBBLES,
-    texts: (number) => ((number & inputs) === 0 ? shown.map((levels) => hex(number | levels, 1)) : []),
-    between: (low, high) => [[rangeComparison("romport", Number(chip), low, high)]],
+    texts: (number) => ((number & inputs) === 0 ? possibleLevels.map((levels) => hex(number | levels, 1)) : []),
+    between: (low, high) => [[formatComparison("romport", Number(chip), low, high)]],
   };
 }
 
@@ -95,15 +97,15 @@ function romField(name, { chip, port }) {
  * @param {string} place
  * @returns {Field | null}
  */
-function registerField(place) {
+function findRegisterField(place) {
   const [, register] = /^r(\d+)$/.exec(place) || [];
-  if (register) return cellField(place, "register", Number(register), NIBBLES);
+  if (register) return createCellField(place, "register", Number(register), NIBBLES);
   switch (place) {
-    case "acc": return cellField(place, "counter", COUNTER_CELLS.acc, NIBBLES);
-    case "cy": return cellField(place, "counter", COUNTER_CELLS.cy, 2);
-    case "dcl": return cellField(place, "counter", COUNTER_CELLS.dcl, 8);
-    case "src": return cellField(place, "counter", COUNTER_CELLS.src, PAGE_BYTES, 2);
-    case "pc": return counterField();
+    case "acc": return createCellField(place, "counter", COUNTER_CELLS.acc, NIBBLES);
+    case "cy": return createCellField(place, "counter", COUNTER_CELLS.cy, 2);
+    case "dcl": return createCellField(place, "counter", COUNTER_CELLS.dcl, 8);
+    case "src": return createCellField(place, "counter", COUNTER_CELLS.src, PAGE_BYTES, 2);
+    case "pc": return createCounterField();
     default: return null;
   }
 }
@@ -113,11 +115,11 @@ function registerField(place) {
  * @param {string} place
  * @returns {Field | null}
  */
-function memoryField(place) {
+function findMemoryField(place) {
   const [, bank, byte] = /^ram\.(\d)\.0x(\w\w)$/.exec(place) || [];
-  if (bank) return cellField(place, "character", Number(bank) * PAGE_BYTES + parseInt(byte, 16), NIBBLES);
+  if (bank) return createCellField(place, "character", Number(bank) * PAGE_BYTES + parseInt(byte, 16), NIBBLES);
   const [, statusBank, high, status] = /^st\.(\d)\.(\d+)\.(\d)$/.exec(place) || [];
-  return statusBank ? cellField(place, "status", (Number(statusBank) * NIBBLES + Number(high)) * 4 + Number(status), NIBBLES) : null;
+  return statusBank ? createCellField(place, "status", (Number(statusBank) * NIBBLES + Number(high)) * 4 + Number(status), NIBBLES) : null;
 }
 
 /**
@@ -129,14 +131,14 @@ function memoryField(place) {
 export function outputLineField(line, { roms }) {
   const [, rom, romLine] = /^rom(\d+)\.(\d)$/.exec(line) || [];
   if (rom) {
-    const found = roms.find(({ chip }) => Number(chip) === Number(rom));
-    const isInput = found !== undefined && found.port[3 - Number(romLine)] === "i";
-    return isInput ? null : bitField(line, "romport", Number(rom), `line${romLine}`);
+    const romWithLine = roms.find(({ chip }) => Number(chip) === Number(rom));
+    const isInput = romWithLine !== undefined && romWithLine.port[3 - Number(romLine)] === "i";
+    return isInput ? null : createBitField(line, "romport", Number(rom), `line${romLine}`);
   }
   const [, bank, chip, ramLine] = /^ram(\d)\.(\d)\.(\d)$/.exec(line) || [];
-  if (bank) return bitField(line, "ramport", Number(bank) * 4 + Number(chip), `line${ramLine}`);
+  if (bank) return createBitField(line, "ramport", Number(bank) * 4 + Number(chip), `line${ramLine}`);
   const [, chain, bit] = /^chain(\d)\.(\d+)$/.exec(line) || [];
-  return chain ? bitField(line, `chain${chain}`, Number(bit)) : null;
+  return chain ? createBitField(line, `chain${chain}`, Number(bit)) : null;
 }
 
 /**
@@ -147,17 +149,17 @@ export function outputLineField(line, { roms }) {
  * @returns {Field | null}
  */
 export function findField(place, board) {
-  const simple = registerField(place) || memoryField(place) || outputLineField(place, board);
+  const simple = findRegisterField(place) || findMemoryField(place) || outputLineField(place, board);
   if (simple) return simple;
   const [, chip] = /^rom(\d+)$/.exec(place) || [];
-  const rom = chip && board.roms.find((each) => Number(each.chip) === Number(chip));
-  if (rom) return romField(place, rom);
+  const rom = chip && board.roms.find((candidate) => Number(candidate.chip) === Number(chip));
+  if (rom) return createRomField(place, rom);
   const [, bank, ram] = /^ram(\d)\.(\d)$/.exec(place) || [];
-  return bank ? cellField(place, "ramport", Number(bank) * 4 + Number(ram), NIBBLES) : null;
+  return bank ? createCellField(place, "ramport", Number(bank) * 4 + Number(ram), NIBBLES) : null;
 }
 
 /** The field that is 1 if the second cycle of an instruction is pending. */
-export const SECOND_CYCLE_FIELD = bitField("owed", "counter", COUNTER_CELLS.owed);
+export const SECOND_CYCLE_FIELD = createBitField("owed", "counter", COUNTER_CELLS.owed);
 
 /**
  * Returns the conjunction that is true if the program counter is at an address and no second cycle is pending.
@@ -165,6 +167,6 @@ export const SECOND_CYCLE_FIELD = bitField("owed", "counter", COUNTER_CELLS.owed
  * @returns {Comparisons}
  */
 export function addressComparisons(address) {
-  const [counter] = counterField().between(address, address);
+  const [counter] = createCounterField().between(address, address);
   return [...SECOND_CYCLE_FIELD.between(0, 0)[0], ...counter];
 }

@@ -94,7 +94,7 @@ class Evaluation {
       const text = this.readField(outputLineField(lines[index], this.board), lines[index]);
       return marks[Number(text)];
     };
-    const eachMark = function* each() {
+    const eachMark = function* readMarks() {
       for (const at of lines.keys()) yield readMark(at);
     };
     return new Proxy({}, {
@@ -135,9 +135,9 @@ class Evaluation {
   evaluate() {
     try {
       return this.evaluateOnce();
-    } catch (thrown) {
-      if (!(thrown instanceof UndecidedField)) throw thrown;
-      return this.evaluateForEachValue(thrown.field);
+    } catch (error) {
+      if (!(error instanceof UndecidedField)) throw error;
+      return this.evaluateForEachValue(error.field);
     }
   }
 
@@ -151,11 +151,11 @@ class Evaluation {
     const ranges = [];
     for (const number of indices(field.count)) {
       const texts = field.texts(number);
-      const [result, ...others] = texts.map((text) => {
+      const [result, ...otherResults] = texts.map((text) => {
         this.fieldTexts.set(field.name, text);
         return this.evaluate();
       });
-      if (others.some((other) => !areSameResults(result, other))) throw new UnsupportedQuestion(say.dependsOnInput(field.name));
+      if (otherResults.some((other) => !areSameResults(result, other))) throw new UnsupportedQuestion(say.dependsOnInput(field.name));
       const last = ranges[ranges.length - 1];
       if (result === undefined) continue;
       if (last && last.high === number - 1 && areSameResults(last.result, result)) last.high = number;
@@ -178,7 +178,8 @@ function toComparisonLists(result, wantedResult) {
   const lists = result.ranges.flatMap(({ low, high, result: nextResult }) => {
     const nextLists = toComparisonLists(nextResult, wantedResult);
     if (nextLists.length === 0) return [];
-    return field.between(low, high).flatMap((fieldComparisons) => nextLists.map((others) => [...fieldComparisons, ...others]));
+    return field.between(low, high).flatMap((fieldComparisons) => (
+      nextLists.map((nextComparisons) => [...fieldComparisons, ...nextComparisons])));
   });
   if (lists.length > MAX_COMPARISON_LISTS) throw new UnsupportedQuestion(say.READS_TOO_MUCH);
   return lists;

@@ -8,7 +8,7 @@ import { listAddresses } from "../explore/properties.js";
 import { Minimiser } from "../explore/minimiser.js";
 import { Watcher } from "../explore/walk_watcher.js";
 import { initialDownInputs, areStepsAllowed, walkLines } from "../explore/walks.js";
-import { cyclesToMistake } from "./mistakes.js";
+import { countCyclesToMistake } from "./mistakes.js";
 import { listInputs, replayValues } from "./input_replay.js";
 
 /**
@@ -19,9 +19,9 @@ import { listInputs, replayValues } from "./input_replay.js";
  * @typedef {import("../explore/walks.js").WalkStep} WalkStep
  *
  * A counterexample. `steps`: the number of changes of inputs. `cycles`: the time of the violation. `isAllowed`: true if the properties text
- * allows these changes. `text`: a test, or bench lines if a pressed key has no name (`isTest` is then false). `before`: the bench lines up
- * to the instruction that violates the property.
- * @typedef {{ steps: number, cycles: number, isAllowed: boolean, isTest: boolean, text: string, before: string }} Counterexample
+ * allows these changes. `text`: a test, or bench lines if a pressed key has no name (`isTest` is then false). `linesBefore`: the bench
+ * lines up to the instruction that violates the property.
+ * @typedef {{ steps: number, cycles: number, isAllowed: boolean, isTest: boolean, text: string, linesBefore: string }} Counterexample
  */
 
 /** The maximum number of cycles that the bench may run to minimise a counterexample. */
@@ -43,7 +43,7 @@ const FORMS_WITH_MEMORY = new Set(["calls", "returns", "never for", "every", "wi
 function createFreeCampaign(campaign, property, inputs) {
   return {
     ...campaign, inputs, properties: [campaign.properties[property]], maxKeysDown: Infinity, maxHoldTime: Infinity, minReleaseTime: 0,
-    begin: 0, minWait: 1, maxWait: MAX_RUN_CYCLES, from: null, before: [],
+    checkStart: 0, minWait: 1, maxWait: MAX_RUN_CYCLES, from: null, leadingLines: [],
   };
 }
 
@@ -81,7 +81,7 @@ function splitLongWait(step) {
  */
 function splitCycles(cycles) {
   const waits = [];
-  for (let left = cycles; left > 0; left -= MAX_RUN_CYCLES) waits.push(Math.min(left, MAX_RUN_CYCLES));
+  for (let remaining = cycles; remaining > 0; remaining -= MAX_RUN_CYCLES) waits.push(Math.min(remaining, MAX_RUN_CYCLES));
   return waits;
 }
 
@@ -90,7 +90,7 @@ function splitCycles(cycles) {
  * @param {WalkStep[]} steps
  * @param {number} time the time, in cycles from the start of the walk
  */
-function stepsBefore(steps, time) {
+function listStepsBefore(steps, time) {
   let end = 0;
   return steps.filter(({ wait }) => {
     end += wait;
@@ -113,7 +113,7 @@ class Replay {
     this.freeCampaign = createFreeCampaign(campaign, property, listInputs(subject));
     this.initialDown = initialDownInputs(this.freeCampaign);
     const [{ form, guards }] = this.freeCampaign.properties;
-    /** True if the property excludes a common mistake that watching a walk cannot detect; `cyclesToMistake` detects such a mistake. */
+    /** True if the property excludes a common mistake that watching a walk cannot detect; `countCyclesToMistake` detects it. */
     this.excludesMistake = form === "mistake";
     this.needsFullWalk = FORMS_WITH_MEMORY.has(form) || guards.length > 0;
   }
@@ -125,7 +125,7 @@ class Replay {
    */
   createStart(file) {
     const { initialDown } = this;
-    return { file, time: 0, down: initialDown, memories: [this.freeCampaign.properties[0].from(0, initialDown.length)] };
+    return { file, time: 0, downInputs: initialDown, memories: [this.freeCampaign.properties[0].createMemory(0, initialDown.length)] };
   }
 
   /**
@@ -137,15 +137,16 @@ class Replay {
     const { subject, freeCampaign, needsFullWalk } = this;
     const { steps, time, file, remainingCycles } = replayValues(subject, freeCampaign.inputs, values);
     if (this.excludesMistake) {
-      const cycles = cyclesToMistake(subject, file, this.mistake, remainingCycles);
+      const cycles = countCyclesToMistake(subject, file, this.mistake, remainingCycles);
       return cycles < 0 ? null : { property: 0, steps, time: time + cycles };
     }
     // Add one more cycle, in which the instruction at a label starts.
     const waits = splitCycles(remainingCycles + 1).map((wait) => ({ wait, kind: /** @type {const} */ ("none"), input: -1 }));
-    const broken = needsFullWalk ? this.findViolationTime(subject.file, [...steps.flatMap(splitLongWait), ...waits])
+    const violationTime = needsFullWalk ? this.findViolationTime(subject.file, [...steps.flatMap(splitLongWait), ...waits])
       : this.findViolationTime(file, waits);
-    if (broken < 0) return null;
-    return needsFullWalk ? { property: 0, steps: stepsBefore(steps, broken), time: broken } : { property: 0, steps, time: time + broken };
+    if (violationTime < 0) return null;
+    return needsFullWalk ? { property: 0, steps: listStepsBefore(steps, violationTime), time: violationTime }
+      : { property: 0, steps, time: time + violationTime };
   }
 
   /**
@@ -160,11 +161,12 @@ class Replay {
     let start = this.createStart(startFile.slice());
     for (const step of steps) {
       // A run takes at least one cycle, but several inputs can change in the same cycle.
-      const { broken, after: [after] } = step.wait > 0 ? watcher.watch(start, [step], [0]) : watcher.watchChange(start, step, [0]);
-      if (broken) return broken.time;
-      if (!after) return -1;
+      const { violation, stepStates: [stepState] } = step.wait > 0 ? watcher.watch(start, [step], [0])
+        : watcher.watchChange(start, step, [0]);
+      if (violation) return violation.time;
+      if (!stepState) return -1;
       engine.serve(start.file, walkLines(freeCampaign, [step]), start.file);
-      start = { ...after, file: start.file };
+      start = { ...stepState, file: start.file };
     }
     return -1;
   }
@@ -190,10 +192,11 @@ class Replay {
    */
   isAllowed({ steps, time }) {
     const { allowedCampaign, freeCampaign } = this;
-    const inputIndexes = freeCampaign.inputs.map(({ down }) => allowedCampaign.inputs.findIndex((input) => input.down === down));
+    const inputIndexes = freeCampaign.inputs.map(({ downLine }) => (
+      allowedCampaign.inputs.findIndex((input) => input.downLine === downLine)));
     const allowedSteps = steps.map((step) => ({ ...step, input: step.kind === "none" ? -1 : inputIndexes[step.input] }));
-    const remainingCycles = allowedSteps.reduce((left, { wait }) => left - wait, time);
-    const isChecked = time > allowedCampaign.begin || allowedCampaign.begin === 0;
+    const remainingCycles = allowedSteps.reduce((remaining, { wait }) => remaining - wait, time);
+    const isChecked = time > allowedCampaign.checkStart || allowedCampaign.checkStart === 0;
     return isChecked && allowedSteps.every(({ kind, input }) => kind === "none" || input >= 0)
       && areStepsAllowed(allowedCampaign, [...allowedSteps, { wait: remainingCycles, kind: "none", input: -1 }]);
   }
@@ -205,11 +208,12 @@ class Replay {
    */
   formatCounterexample(violation) {
     const { subject, freeCampaign } = this;
-    const isNamed = (/** @type {number} */ input) => !/^press \d+ \d+$/.test(freeCampaign.inputs[input].downWords);
+    const isNamed = (/** @type {number} */ input) => !/^press \d+ \d+$/.test(freeCampaign.inputs[input].downTestLine);
     const isTest = violation.steps.every(({ kind, input }) => kind === "none" || isNamed(input));
     const text = isTest ? formatTest(subject, subject.file, freeCampaign, violation) : formatViolationLines(freeCampaign, violation);
     const steps = violation.steps.filter(({ kind }) => kind !== "none").length;
-    return { steps, cycles: violation.time, isAllowed: this.isAllowed(violation), isTest, text, before: this.linesBefore(violation) };
+    const linesBefore = this.formatLinesBefore(violation);
+    return { steps, cycles: violation.time, isAllowed: this.isAllowed(violation), isTest, text, linesBefore };
   }
 
   /**
@@ -217,13 +221,14 @@ class Replay {
    * instruction, the lines end before its second cycle.
    * @param {Violation} violation
    */
-  linesBefore(violation) {
+  formatLinesBefore(violation) {
     const { subject: { engine, file }, freeCampaign } = this;
-    const changed = violation.steps.reduce((sum, { wait }) => sum + wait, 0);
-    const linesTo = (/** @type {number} */ time) => formatViolationLines(freeCampaign, { ...violation, time: Math.max(changed, time) });
-    const { answers } = engine.ask(file, `${linesTo(violation.time - 1)}regs\n`);
+    const lastChangeTime = violation.steps.reduce((sum, { wait }) => sum + wait, 0);
+    const formatLinesTo = (/** @type {number} */ time) => (
+      formatViolationLines(freeCampaign, { ...violation, time: Math.max(lastChangeTime, time) }));
+    const { answers } = engine.ask(file, `${formatLinesTo(violation.time - 1)}regs\n`);
     const { owed } = readCounter(answers[answers.length - 1]);
-    return linesTo(violation.time - (owed === "1" ? 2 : 1));
+    return formatLinesTo(violation.time - (owed === "1" ? 2 : 1));
   }
 }
 

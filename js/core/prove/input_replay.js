@@ -31,11 +31,11 @@ const readsTest = (code) => (code & 0xF1) === 0x11;
  * @returns {Input[]}
  */
 export function listInputs({ names: { face, board } }) {
-  const namedInputs = new Map(listKeyInputs(face).map((input) => [input.down, input]));
+  const namedInputs = new Map(listKeyInputs(face).map((input) => [input.downLine, input]));
   const keys = indices(board.rows).flatMap((row) => indices(board.columns).map((column) => {
     const key = matrixKey(row, column);
-    const [down, up] = [keyLine("press", key), keyLine("release", key)];
-    return namedInputs.get(down) || createInput(`${row},${column}`, key, [down, up]);
+    const [downLine, upLine] = [keyLine("press", key), keyLine("release", key)];
+    return namedInputs.get(downLine) || createInput(`${row},${column}`, key, [downLine, upLine]);
   }));
   return [...keys, createTestInput(face)];
 }
@@ -75,7 +75,7 @@ class ValueReplay {
   }
 
   /** Returns the opcode of the next instruction if the instruction reads an input and no second cycle is pending; otherwise -1. */
-  nextReadCode() {
+  findNextReadCode() {
     const { counter, owed } = readCounter(this.subject.engine.ask(this.file, "regs\n").answers[0]);
     const code = this.subject.codes[parseInt(counter, 16)];
     return owed === "1" || !this.readsInput(code) ? -1 : code;
@@ -89,7 +89,7 @@ class ValueReplay {
   moveInput(index, isDown) {
     if (this.downInputs[index] === isDown) return;
     this.downInputs[index] = isDown;
-    this.serve(`${isDown ? this.inputs[index].down : this.inputs[index].up}\n`);
+    this.serve(`${isDown ? this.inputs[index].downLine : this.inputs[index].upLine}\n`);
     this.steps.push({ wait: this.cyclesSinceChange, kind: isDown ? "down" : "up", input: index });
     this.cyclesSinceChange = 0;
   }
@@ -135,9 +135,9 @@ class ValueReplay {
 
   /** Runs to the next instruction that reads an input, for at most DEFAULT_PAUSE cycles. Returns false if the program cannot continue. */
   runToRead() {
-    for (let left = DEFAULT_PAUSE; left > 0 && this.nextReadCode() < 0;) {
-      const { cycles, end } = this.run(Math.min(left, this.readAddresses.length <= MAX_ENABLED_BREAKPOINTS ? MAX_RUN_CYCLES : 1));
-      left -= cycles;
+    for (let remaining = DEFAULT_PAUSE; remaining > 0 && this.findNextReadCode() < 0;) {
+      const { cycles, end } = this.run(Math.min(remaining, this.readAddresses.length <= MAX_ENABLED_BREAKPOINTS ? MAX_RUN_CYCLES : 1));
+      remaining -= cycles;
       if (end === "code" || end === "") return false;
     }
     return true;
@@ -148,7 +148,7 @@ class ValueReplay {
    * @param {number} value the value that the program reads in the next cycle; 0 if the cycle does not read an input
    */
   setInputs(value) {
-    const code = this.nextReadCode();
+    const code = this.findNextReadCode();
     if (code === RDR) this.setKeys(value);
     else if (code >= 0) this.setTest(value);
   }

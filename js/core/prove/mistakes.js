@@ -35,9 +35,9 @@ const MAX_CHECKED_CYCLES = 200000;
 const CHUNK_CYCLES = 500;
 
 /** @type {(board: Board, chip: number) => string} returns the port of a ROM as in the board text; "" if the board lacks it */
-const portMarks = ({ roms }, chip) => (roms.find((rom) => Number(rom.chip) === chip) || { port: "" }).port;
+const findPortMarks = ({ roms }, chip) => (roms.find((rom) => Number(rom.chip) === chip) || { port: "" }).port;
 /** @type {(board: Board, address: number) => boolean} returns whether the board lacks the ROM that contains an address */
-const lacksRom = (board, address) => portMarks(board, address >> 8) === "";
+const lacksRom = (board, address) => findPortMarks(board, address >> 8) === "";
 
 /**
  * The functions that check whether the next instruction makes a mistake. The mistakes that are not listed here have property forms
@@ -46,16 +46,16 @@ const lacksRom = (board, address) => portMarks(board, address >> 8) === "";
  */
 const MISTAKE_CHECKS = {
   ram: ({ board, code, dcl, banks }) => {
-    const bank = board.banks.find((each) => Number(each.bank) === dcl);
+    const bank = board.banks.find((candidate) => Number(candidate.bank) === dcl);
     return RAM_OPCODES.has(code) && (banks.get(dcl) || 0) >> 6 >= (bank ? Number(bank.chips) : 0);
   },
   rom: ({ board, address, code, pair }) => {
-    const next = (address + 1) % ADDRESS_COUNT;
-    return lacksRom(board, address) || (hasTwoWords(code) && lacksRom(board, next))
-      || (isFin(code) && lacksRom(board, next - next % PAGE_BYTES + pair));
+    const nextAddress = (address + 1) % ADDRESS_COUNT;
+    return lacksRom(board, address) || (hasTwoWords(code) && lacksRom(board, nextAddress))
+      || (isFin(code) && lacksRom(board, nextAddress - nextAddress % PAGE_BYTES + pair));
   },
-  rdr: ({ board, code, source }) => code === RDR && !portMarks(board, source >> 4).includes("i"),
-  wrr: ({ board, code, source }) => code === WRR && /^i*$/.test(portMarks(board, source >> 4)),
+  rdr: ({ board, code, source }) => code === RDR && !findPortMarks(board, source >> 4).includes("i"),
+  wrr: ({ board, code, source }) => code === WRR && /^i*$/.test(findPortMarks(board, source >> 4)),
 };
 
 /**
@@ -72,8 +72,8 @@ function parseMachineState({ codes, names: { board } }, answer) {
   return {
     board, address, code: codes[address], dcl: Number(bank), pair: parseInt(highDigit + lowDigit, 16), source: parseInt(source, 16),
     isSecondCyclePending: owed === "1",
-    banks: new Map(banks.map((each) => {
-      const [number, byte] = each.split(".");
+    banks: new Map(banks.map((bankText) => {
+      const [number, byte] = bankText.split(".");
       return [Number(number), parseInt(byte, 16)];
     })),
   };
@@ -86,7 +86,7 @@ function parseMachineState({ codes, names: { board } }, answer) {
  * @param {string} word the word for the mistake, such as `ram`
  * @param {number} cycles
  */
-export function cyclesToMistake(subject, file, word, cycles) {
+export function countCyclesToMistake(subject, file, word, cycles) {
   const makesMistake = MISTAKE_CHECKS[/** @type {keyof typeof MISTAKE_CHECKS} */ (word)];
   const workFile = file.slice();
   let checkedCycles = 0;
@@ -109,7 +109,7 @@ const SEARCH_FORMS = { code: "code", call: "calls", return: "returns" };
  * Returns all common mistakes, in the order in which they are reported.
  * @returns {Mistake[]}
  */
-export function allMistakes() {
+export function listMistakes() {
   const standard = standardProperties();
   return Object.entries(say.MISTAKES).map(([word, text]) => {
     const property = standard.find(({ form }) => form === SEARCH_FORMS[/** @type {keyof typeof SEARCH_FORMS} */ (word)]);

@@ -3,8 +3,8 @@
 
 import { formatSteps } from "../explore/report.js";
 import { replayCounterexample } from "./counterexample.js";
-import { allMistakes } from "./mistakes.js";
-import { createQuestion, jointQuestion, omittedGuards, mistakeQuestion, needsCounting, needsSeparateQuestion } from "./question.js";
+import { listMistakes } from "./mistakes.js";
+import { createQuestion, combineQuestions, nameOmittedGuards, mistakeQuestion, needsCounting, needsSeparateQuestion } from "./question.js";
 import * as say from "../../words/prove.js";
 
 /**
@@ -42,14 +42,14 @@ const FINAL_ANSWERS = new Set(["more", "full"]);
  * @param {boolean} bySets
  * @returns {Verdict}
  */
-const createProvedVerdict = (property, states, bySets) => ({ kind: "proved", states, bySets, leftOut: omittedGuards(property) });
+const createProvedVerdict = (property, states, bySets) => ({ kind: "proved", states, bySets, leftOut: nameOmittedGuards(property) });
 
 /**
  * Returns the reason why a property is not decided when the bench does not confirm its counterexample.
  * @param {Property} property
  */
 function explainUnconfirmed(property) {
-  if (property.guards.length > 0) return say.failsWithoutGuards(omittedGuards(property), property.isGoal);
+  if (property.guards.length > 0) return say.failsWithoutGuards(nameOmittedGuards(property), property.isGoal);
   return property.form === "only after" ? say.TRUE_BEFORE_KEYS_ARE_READ : say.NOT_CONFIRMED;
 }
 
@@ -66,7 +66,7 @@ export class PropertyJudge {
     /** @type {{ property: Property, propertyQuestion: PropertyQuestion }[]} the properties of the text, each with its question */
     this.textProperties = campaign.properties.filter(({ line }) => line > 0)
       .map((property) => ({ property, propertyQuestion: createQuestion(property, campaign, subject) }));
-    this.mistakes = allMistakes();
+    this.mistakes = listMistakes();
     /** The number of properties and common mistakes that have a verdict. */
     this.judgedCount = 0;
     /** @type {Answer | null} the answer about all combined questions; null before the prover was asked */
@@ -104,10 +104,10 @@ export class PropertyJudge {
   async judgeNext() {
     const { textProperties, mistakes, judgedCount, total } = this;
     if (judgedCount === total) return null;
-    const judged = judgedCount < textProperties.length ? await this.judgeProperty(textProperties[judgedCount])
+    const judgedProperty = judgedCount < textProperties.length ? await this.judgeProperty(textProperties[judgedCount])
       : await this.judgeMistake(mistakes[judgedCount - textProperties.length]);
     this.judgedCount += 1;
-    return judged;
+    return judgedProperty;
   }
 
   /**
@@ -116,7 +116,7 @@ export class PropertyJudge {
    * @returns {Promise<JudgedProperty>}
    */
   async judgeProperty({ property, propertyQuestion }) {
-    if (!propertyQuestion.question) return { property, verdict: { kind: "open", words: propertyQuestion.words } };
+    if (!propertyQuestion.question) return { property, verdict: { kind: "open", reason: propertyQuestion.reason } };
     return { property, verdict: await this.judge(property, propertyQuestion.question) };
   }
 
@@ -128,7 +128,7 @@ export class PropertyJudge {
    */
   async judgeMistake({ property, word }) {
     const question = mistakeQuestion([word]);
-    const anyMistakeQuestion = mistakeQuestion(this.mistakes.map((each) => each.word));
+    const anyMistakeQuestion = mistakeQuestion(this.mistakes.map((anyMistake) => anyMistake.word));
     if (this.judgedCount === this.textProperties.length) this.noMistakeVerdict = await this.proveBySets(property, anyMistakeQuestion);
     if (this.noMistakeVerdict) return { property, verdict: this.noMistakeVerdict };
     if (!this.anyMistakeAnswer) this.anyMistakeAnswer = await this.calls.ask(anyMistakeQuestion);
@@ -162,9 +162,9 @@ export class PropertyJudge {
 
   /** Decides all properties and common mistakes. Resolves to their verdicts. */
   async judgeAll() {
-    const judged = [];
-    for (let each = await this.judgeNext(); each; each = await this.judgeNext()) judged.push(each);
-    return judged;
+    const judgedProperties = [];
+    for (let next = await this.judgeNext(); next; next = await this.judgeNext()) judgedProperties.push(next);
+    return judgedProperties;
   }
 
   /**
@@ -188,14 +188,14 @@ export class PropertyJudge {
    */
   async createVerdict(property, answer, campaign, mistake) {
     if (answer.kind === "holds") return createProvedVerdict(property, answer.states, false);
-    if (answer.kind !== "fails") return { kind: "open", words: this.calls.reason(answer) };
+    if (answer.kind !== "fails") return { kind: "open", reason: this.calls.reason(answer) };
     const { subject, calls } = this;
-    const found = await replayCounterexample(subject, campaign, campaign.properties.indexOf(property), answer.values, calls.yieldToMessages,
-      mistake);
-    if (!found) return { kind: "open", words: explainUnconfirmed(property) };
-    if (!await calls.confirms(found, property.isGoal)) return { kind: "open", words: say.NOT_CONFIRMED };
-    return found.isAllowed || property.isGoal ? { kind: "found", found }
-      : { kind: "open", words: say.onlyExcludedInputs(formatSteps(found.steps)) };
+    const index = campaign.properties.indexOf(property);
+    const counterexample = await replayCounterexample(subject, campaign, index, answer.values, calls.yieldToMessages, mistake);
+    if (!counterexample) return { kind: "open", reason: explainUnconfirmed(property) };
+    if (!await calls.confirms(counterexample, property.isGoal)) return { kind: "open", reason: say.NOT_CONFIRMED };
+    if (counterexample.isAllowed || property.isGoal) return { kind: "found", counterexample };
+    return { kind: "open", reason: say.onlyExcludedInputs(formatSteps(counterexample.steps)) };
   }
 
   /**
@@ -207,7 +207,7 @@ export class PropertyJudge {
   async askAbout(property, question) {
     if (needsSeparateQuestion(property, question)) return this.calls.ask(question);
     const { jointQuestions } = this;
-    if (!this.jointAnswer) this.jointAnswer = await this.calls.ask(jointQuestion(jointQuestions));
+    if (!this.jointAnswer) this.jointAnswer = await this.calls.ask(combineQuestions(jointQuestions));
     const { jointAnswer } = this;
     const isDecisive = jointAnswer.kind === "holds" || FINAL_ANSWERS.has(jointAnswer.kind) || jointQuestions.length === 1;
     return isDecisive ? jointAnswer : this.calls.ask(question);

@@ -8,9 +8,9 @@ import { TaskWorker } from "../bench/task_worker.js";
  * @typedef {import("../explore/sliced_search.js").ExploredTexts} ExploredTexts
  * @typedef {import("./bounded_proof.js").PropertyVerdict} PropertyVerdict
  *
- * The progress of a proof. `judged`: the verdicts so far; `count`: the number of properties and common mistakes to check; `states`: the
+ * The progress of a proof. `verdicts`: the verdicts so far; `count`: the number of properties and common mistakes to check; `states`: the
  * number of states that the prover has searched for the current question without a result.
- * @typedef {{ judged: PropertyVerdict[], count: number, states: number }} Progress
+ * @typedef {{ verdicts: PropertyVerdict[], count: number, states: number }} Progress
  */
 
 export class Prover extends TaskWorker {
@@ -44,12 +44,12 @@ export class Prover extends TaskWorker {
  */
 async function reportVerdicts(bench, count, report) {
   /** @type {PropertyVerdict[]} */
-  const judged = [];
-  report({ judged, count, states: 0 });
+  const verdicts = [];
+  report({ verdicts, count, states: 0 });
   for (;;) {
-    const next = await bench.call("proveNext", [], { progress: (states) => report({ judged, count, states }) });
-    if (!next) return;
-    judged.push(next);
-    report({ judged, count, states: 0 });
+    const verdict = await bench.call("proveNext", [], { progress: (states) => report({ verdicts, count, states }) });
+    if (!verdict) return;
+    verdicts.push(verdict);
+    report({ verdicts, count, states: 0 });
   }
 }

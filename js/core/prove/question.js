@@ -30,30 +30,30 @@ import * as say from "../../words/prove.js";
  * key up and then down, one key after the other.
  * @typedef {{ opens: Comparisons[], keys: MatrixKey[] }} Presses
  *
- * A question. `nevers`: the condition that must never be true; `mistakes`: the words for the common mistakes that the program must never
+ * A question. `forbidden`: the condition that must never be true; `mistakes`: the words for the common mistakes that the program must never
  * make; `stopwatch` and `presses`: the time limit and the required presses, null for none.
- * @typedef {{ nevers: Comparisons[], mistakes: string[], stopwatch: Stopwatch | null, presses: Presses | null }} Question
+ * @typedef {{ forbidden: Comparisons[], mistakes: string[], stopwatch: Stopwatch | null, presses: Presses | null }} Question
  *
  * The question about a property, or the reason why the prover does not support the property.
- * @typedef {{ question: Question, words: "" } | { question: null, words: string }} PropertyQuestion
+ * @typedef {{ question: Question, reason: "" } | { question: null, reason: string }} PropertyQuestion
  *
  * An answer of the prover that is not an error:
  * - `holds`: no reachable state violates the question; `states` is the number of reachable states;
  * - `fails`: `values` are the input values that the program reads up to a violation;
- * - `more`: there are more states than the limit `most`;
+ * - `more`: there are more states than the limit `maxStates`;
  * - `lost`: the prover gave up the search;
  * - `full`: the memory is full after `states` states (0 if there is not enough memory for the first state).
  * @typedef {{ kind: "more" } | { kind: "lost" } | { kind: "full", states: number }} NoAnswer
  * @typedef {{ kind: "holds", states: number } | { kind: "fails", values: number[] } | NoAnswer} Answer
  *
  * The limits of a question:
- * - `most`: the maximum number of states; `memory`: the maximum memory for them in MB (0 for all memory);
+ * - `maxStates`: the maximum number of states; `memory`: the maximum memory for them in MB (0 for all memory);
  * - `sets`: the maximum number of sets of states; with 0, the prover searches single states;
  * - `pause`: a number of cycles; the prover counts another state when the program has read no input for this long.
  *
- * A search runs at most `most` times `pause` cycles. A proof by sets of states is not a search: the prover computes for each address the
- * values that each register can have.
- * @typedef {{ most: number, memory?: number, sets?: number, pause?: number }} QuestionLimits
+ * A search runs at most `maxStates` times `pause` cycles. A proof by sets of states is not a search: the prover computes for each address
+ * the values that each register can have.
+ * @typedef {{ maxStates: number, memory?: number, sets?: number, pause?: number }} QuestionLimits
  */
 
 /** The default `pause` of a question, in cycles. */
@@ -69,7 +69,7 @@ export const MAX_PRESSES = 100;
 /** The program counter at power-on. */
 const POWER_ON_ADDRESS = 0;
 /** @type {Question} the question that nothing violates; other questions add requirements to it */
-const EMPTY_QUESTION = { nevers: [], mistakes: [], stopwatch: null, presses: null };
+const EMPTY_QUESTION = { forbidden: [], mistakes: [], stopwatch: null, presses: null };
 
 /**
  * Returns increasing limits on the number of states, for repeated tries of a question. Each limit is twice the previous one. The last one
@@ -77,7 +77,7 @@ const EMPTY_QUESTION = { nevers: [], mistakes: [], stopwatch: null, presses: nul
  * @param {number} maxBound
  * @param {number} [firstBound]
  */
-export function boundsUpTo(maxBound, firstBound = FIRST_BOUND) {
+export function listBounds(maxBound, firstBound = FIRST_BOUND) {
   const bounds = [];
   for (let bound = firstBound; bound < maxBound; bound *= 2) bounds.push(bound);
   return [...bounds, maxBound];
@@ -88,7 +88,7 @@ export function boundsUpTo(maxBound, firstBound = FIRST_BOUND) {
  * @param {Comparisons[]} nevers
  * @returns {Question}
  */
-export const neverQuestion = (nevers) => ({ ...EMPTY_QUESTION, nevers });
+export const neverQuestion = (nevers) => ({ ...EMPTY_QUESTION, forbidden: nevers });
 
 /**
  * Creates the question whether the program can make certain common mistakes.
@@ -117,8 +117,9 @@ export const needsSeparateQuestion = ({ isGoal, guards }, question) => isGoal ||
  * @param {Question[]} questions
  * @returns {Question}
  */
-export function jointQuestion(questions) {
-  return { ...EMPTY_QUESTION, nevers: questions.flatMap(({ nevers }) => nevers), mistakes: questions.flatMap(({ mistakes }) => mistakes) };
+export function combineQuestions(questions) {
+  const forbidden = questions.flatMap((question) => question.forbidden);
+  return { ...EMPTY_QUESTION, forbidden, mistakes: questions.flatMap(({ mistakes }) => mistakes) };
 }
 
 /**
@@ -134,7 +135,7 @@ const orImpossibleCondition = (lists) => (lists.length > 0 ? lists : [IMPOSSIBLE
  * @param {number} limit
  * @returns {Question}
  */
-function timeQuestion(begins, ends, limit) {
+function createTimeQuestion(begins, ends, limit) {
   if (limit > MAX_STOPWATCH_CYCLES) throw new UnsupportedQuestion(say.timeTooLong(formatNumber(MAX_STOPWATCH_CYCLES)));
   return { ...EMPTY_QUESTION, stopwatch: { begins: orImpossibleCondition(begins), ends: orImpossibleCondition(ends), within: limit } };
 }
@@ -145,9 +146,9 @@ function timeQuestion(begins, ends, limit) {
  * @param {string} name
  */
 function findMatrixKey(face, name) {
-  const named = listKeyInputs(face).find((input) => input.name === name);
-  if (!named || named.key.kind !== "matrix") throw new UnsupportedQuestion(say.notInKeyMatrix(name));
-  return named.key;
+  const namedInput = listKeyInputs(face).find((input) => input.name === name);
+  if (!namedInput || namedInput.key.kind !== "matrix") throw new UnsupportedQuestion(say.notInKeyMatrix(name));
+  return namedInput.key;
 }
 
 /**
@@ -157,7 +158,7 @@ function findMatrixKey(face, name) {
  * @param {Subject} subject
  * @returns {Question}
  */
-function pressQuestion({ condition, address, keys }, { names: { board, face }, codes }) {
+function createPressQuestion({ condition, address, keys }, { names: { board, face }, codes }) {
   if (keys.length > MAX_PRESSES) throw new UnsupportedQuestion(say.tooManyPresses(MAX_PRESSES));
   // JIN and BBL can jump from the label to itself in one cycle. The prover would not detect that the label is reached again.
   if (!condition && (isJin(codes[address]) || isReturn(codes[address]))) throw new UnsupportedQuestion(say.LABEL_REPEATS);
@@ -170,7 +171,7 @@ function pressQuestion({ condition, address, keys }, { names: { board, face }, c
  * @param {Property} property
  * @param {Board} board
  */
-function neverMetQuestion({ condition, address }, board) {
+function createNeverMetQuestion({ condition, address }, board) {
   return neverQuestion(condition ? listComparisons(condition, true, board) : [addressComparisons(address)]);
 }
 
@@ -180,19 +181,19 @@ function neverMetQuestion({ condition, address }, board) {
  * @type {Record<string, (property: Property & { condition: Condition }, board: Board, subject: Subject) => Question>}
  */
 const QUESTIONS_BY_FORM = {
-  never: neverMetQuestion,
+  never: createNeverMetQuestion,
   always: ({ condition }, board) => neverQuestion(listComparisons(condition, false, board)),
   at: ({ condition, address }, board) => (
     neverQuestion(listComparisons(condition, false, board).map((comparisons) => [...addressComparisons(address), ...comparisons]))),
-  "only after": (property, _board, subject) => pressQuestion(property, subject),
-  reach: neverMetQuestion,
+  "only after": (property, _board, subject) => createPressQuestion(property, subject),
+  reach: createNeverMetQuestion,
   "reach at": ({ address }) => neverQuestion([addressComparisons(address)]),
   "never for": ({ condition, limit }, board) => (
-    timeQuestion(listComparisons(condition, true, board, true), listComparisons(condition, false, board, true), limit)),
+    createTimeQuestion(listComparisons(condition, true, board, true), listComparisons(condition, false, board, true), limit)),
   // The program counter is 000 at power-on, so the stopwatch starts there. If address 000 is reached again, the stopwatch already runs.
   every: ({ address, limit }) => (
-    timeQuestion([addressComparisons(POWER_ON_ADDRESS), addressComparisons(address)], [addressComparisons(address)], limit)),
-  within: ({ start, address, limit }) => timeQuestion([addressComparisons(start)], [addressComparisons(address)], limit),
+    createTimeQuestion([addressComparisons(POWER_ON_ADDRESS), addressComparisons(address)], [addressComparisons(address)], limit)),
+  within: ({ start, address, limit }) => createTimeQuestion([addressComparisons(start)], [addressComparisons(address)], limit),
 };
 
 /**
@@ -204,13 +205,13 @@ const QUESTIONS_BY_FORM = {
  */
 export function createQuestion(property, { from }, subject) {
   const form = QUESTIONS_BY_FORM[property.form];
-  if (!form) return { question: null, words: say.unprovableForm(property.form) };
-  if (from) return { question: null, words: say.STARTS_AFTER_POWER_ON };
+  if (!form) return { question: null, reason: say.unprovableForm(property.form) };
+  if (from) return { question: null, reason: say.STARTS_AFTER_POWER_ON };
   try {
-    return { question: form(/** @type {Property & { condition: Condition }} */ (property), subject.names.board, subject), words: "" };
+    return { question: form(/** @type {Property & { condition: Condition }} */ (property), subject.names.board, subject), reason: "" };
   } catch (thrown) {
     if (!(thrown instanceof UnsupportedQuestion)) throw thrown;
-    return { question: null, words: thrown.message };
+    return { question: null, reason: thrown.message };
   }
 }
 
@@ -218,20 +219,20 @@ export function createQuestion(property, { from }, subject) {
  * Returns the first words of the guards that the question about a property omits, as text; "" if there are none.
  * @param {Property} property
  */
-export const omittedGuards = ({ guards }) => say.guardsNamed(new Set(guards.map(({ kind }) => kind)));
+export const nameOmittedGuards = ({ guards }) => say.guardsNamed(new Set(guards.map(({ kind }) => kind)));
 
 /**
  * Returns the lines for a condition. The lines of each conjunction follow a line that contains only `word`.
  * @param {string} word
  * @param {Comparisons[]} lists
  */
-const conditionLines = (word, lists) => lists.flatMap((all) => [word, ...all]);
+const formatCondition = (word, lists) => lists.flatMap((conjunction) => [word, ...conjunction]);
 
 /**
  * Returns the lines that require the program to read a key up and then down.
  * @param {MatrixKey} key
  */
-const keyPressLines = (key) => ["up", "down"].map((level) => [level, formatKey(key)].join(" "));
+const formatKeyPress = (key) => ["up", "down"].map((level) => [level, formatKey(key)].join(" "));
 
 /**
  * Formats a question for the prover.
@@ -239,16 +240,16 @@ const keyPressLines = (key) => ["up", "down"].map((level) => [level, formatKey(k
  * @param {Question} question
  * @param {QuestionLimits} limits
  */
-export function questionText({ board, program }, { nevers, mistakes, stopwatch, presses }, limits) {
-  const { most: maxStates, memory = 0, sets = 0, pause = DEFAULT_PAUSE } = limits;
+export function questionText({ board, program }, { forbidden: nevers, mistakes, stopwatch, presses }, limits) {
+  const { maxStates, memory = 0, sets = 0, pause = DEFAULT_PAUSE } = limits;
   const optionalLimits = Object.entries({ memory, sets }).filter(([, number]) => number > 0);
   const limitLines = [["most", maxStates], ...optionalLimits, ["pause", pause]].map((words) => words.join(" "));
   const texts = [`wire\n${sentText(board, "#")}.`, `asm\n${sentText(program, ";")}.`];
   const mistakeLines = mistakes.length > 0 ? ["never", ["mistake", ...mistakes].join(" ")] : [];
   const stopwatchLines = stopwatch
-    ? [`within ${stopwatch.within}`, ...conditionLines("begin", stopwatch.begins), ...conditionLines("end", stopwatch.ends)] : [];
-  const pressLines = presses ? [...conditionLines("open", presses.opens), ...presses.keys.flatMap(keyPressLines)] : [];
-  const neverLines = conditionLines("never", nevers);
+    ? [`within ${stopwatch.within}`, ...formatCondition("begin", stopwatch.begins), ...formatCondition("end", stopwatch.ends)] : [];
+  const pressLines = presses ? [...formatCondition("open", presses.opens), ...presses.keys.flatMap(formatKeyPress)] : [];
+  const neverLines = formatCondition("never", nevers);
   return `${[...limitLines, ...texts, ...neverLines, ...mistakeLines, ...stopwatchLines, ...pressLines, "prove"].join("\n")}\n`;
 }
 

@@ -11,7 +11,7 @@ import { isSetting } from "../explore/campaign.js";
  * Returns the lines of a properties text, trimmed and with single blanks, as the parser reads them.
  * @param {string} text
  */
-function normalizedLines(text) {
+function normalizeLines(text) {
   return text.replace(/^\uFEFF/, "").split(/\r?\n/).map((line) => line.trim().replace(/\s+/g, " "));
 }
 
@@ -21,7 +21,7 @@ function normalizedLines(text) {
  * @param {string[]} lines
  * @param {boolean} isProof
  */
-function relevantSettings(lines, isProof) {
+function selectSettings(lines, isProof) {
   return lines.filter((line) => isSetting(line) && (!isProof || line.startsWith("from "))).join("\n");
 }
 
@@ -34,9 +34,9 @@ function relevantSettings(lines, isProof) {
 export function isStillValid({ text, line, verdict }, oldTexts, newTexts) {
   if (oldTexts.boardText !== newTexts.boardText || oldTexts.programText !== newTexts.programText) return false;
   if (oldTexts.propertiesText === newTexts.propertiesText) return true;
-  const [oldLines, lines] = [normalizedLines(oldTexts.propertiesText), normalizedLines(newTexts.propertiesText)];
+  const [oldLines, lines] = [normalizeLines(oldTexts.propertiesText), normalizeLines(newTexts.propertiesText)];
   const isProof = verdict.kind === "proved";
-  return (line === 0 || lines.includes(text)) && relevantSettings(oldLines, isProof) === relevantSettings(lines, isProof);
+  return (line === 0 || lines.includes(text)) && selectSettings(oldLines, isProof) === selectSettings(lines, isProof);
 }
 
 /**
@@ -45,5 +45,5 @@ export function isStillValid({ text, line, verdict }, oldTexts, newTexts) {
  * @param {string} text
  */
 export function findPropertyLine(property, text) {
-  return normalizedLines(text).indexOf(property) + 1;
+  return normalizeLines(text).indexOf(property) + 1;
 }

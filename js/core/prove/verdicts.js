@@ -13,9 +13,9 @@ import * as say from "../../words/prove.js";
  * - `proved`: `states` is the number of states in the proof, or of sets of states if `bySets` is true; `leftOut` names the guards that the
  *   proof omits;
  * - `found`: the prover found a counterexample or, for a goal, a sequence of steps that reaches the goal;
- * - `open`: the property is not decided; `words` is the reason.
+ * - `open`: the property is not decided; `reason` says why.
  * @typedef {{ kind: "proved", states: number, bySets: boolean, leftOut: string }} ProvedVerdict
- * @typedef {ProvedVerdict | { kind: "found", found: Counterexample } | { kind: "open", words: string }} Verdict
+ * @typedef {ProvedVerdict | { kind: "found", counterexample: Counterexample } | { kind: "open", reason: string }} Verdict
  * @typedef {{ property: Property, verdict: Verdict }} JudgedProperty
  */
 
@@ -35,24 +35,25 @@ export function formatStateCount({ states, bySets }) {
   return bySets ? formatQuantity(states, say.SET, say.SETS) : formatQuantity(states, say.STATE);
 }
 
-/** @type {(judged: JudgedProperty) => string} returns the verdict as text, for the end of the TAP line */
+/** @type {(judgedProperty: JudgedProperty) => string} returns the verdict as text, for the end of the TAP line */
 function formatRemark({ property: { isGoal }, verdict }) {
-  if (verdict.kind === "open") return say.notDecided(verdict.words);
+  if (verdict.kind === "open") return say.notDecided(verdict.reason);
   if (verdict.kind === "proved") return (isGoal ? say.neverReached : say.proved)(formatStateCount(verdict), verdict.leftOut);
-  return isGoal ? say.reachedBy(formatSteps(verdict.found.steps)) : say.brokenBy(formatSteps(verdict.found.steps));
+  return isGoal ? say.reachedBy(formatSteps(verdict.counterexample.steps)) : say.brokenBy(formatSteps(verdict.counterexample.steps));
 }
 
 /**
  * Returns the TAP lines for a property.
- * @param {JudgedProperty} judged
+ * @param {JudgedProperty} judgedProperty
  * @param {number} index the number of the property, from 0
  * @param {string} file the name of the properties file
  */
-function formatTapLines(judged, index, file) {
-  const { property, verdict } = judged;
-  const lines = [`${hasExpectedResult(judged) ? "" : "not "}ok ${index + 1} - ${tapDescription(property.text)} # ${formatRemark(judged)}`];
+function formatTapLines(judgedProperty, index, file) {
+  const { property, verdict } = judgedProperty;
+  const status = hasExpectedResult(judgedProperty) ? "ok" : "not ok";
+  const lines = [`${status} ${index + 1} - ${tapDescription(property.text)} # ${formatRemark(judgedProperty)}`];
   if (verdict.kind !== "found") return lines;
-  const { isTest, text, cycles, steps } = verdict.found;
+  const { isTest, text, cycles, steps } = verdict.counterexample;
   lines.push("  ---", `  message: ${yamlString(say.foundBy(formatSteps(steps), formatNumber(cycles), property.isGoal))}`);
   // A common mistake, for which every program is checked, has no line in the properties file.
   if (property.line > 0) lines.push(`  at: ${yamlString(`${file}:${property.line}`)}`);
@@ -68,17 +69,17 @@ export const tapHead = (count) => `${TAP_HEAD}\n1..${count}\n`;
 
 /**
  * Returns the TAP output for a property.
- * @param {JudgedProperty} judged
+ * @param {JudgedProperty} judgedProperty
  * @param {number} index the number of the property, from 0
  * @param {string} file the name of the properties file
  */
-export const formatJudgedTap = (judged, index, file) => `${formatTapLines(judged, index, file).join("\n")}\n`;
+export const formatJudgedTap = (judgedProperty, index, file) => `${formatTapLines(judgedProperty, index, file).join("\n")}\n`;
 
 /**
  * Returns the exit status: 1 if a property can be violated or a goal cannot be reached, otherwise 3 if a verdict is open, otherwise 0.
  * @param {JudgedProperty[]} results
  */
 export function exitStatus(results) {
-  if (results.some((judged) => judged.verdict.kind !== "open" && !hasExpectedResult(judged))) return 1;
+  if (results.some((judgedProperty) => judgedProperty.verdict.kind !== "open" && !hasExpectedResult(judgedProperty))) return 1;
   return results.some(({ verdict }) => verdict.kind === "open") ? 3 : 0;
 }

@@ -34,7 +34,7 @@ export class BoardLanguage {
   constructor(bench, tables, refusalMessage) {
     this.parts = PARTS.board;
     this.tables = tables;
-    this.errorFinder = new TextErrorFinder(bench.queries(), { instructions: new Map(), tables }, refusalMessage);
+    this.errorFinder = new TextErrorFinder(bench.createQueries(), { instructions: new Map(), tables }, refusalMessage);
   }
 
   /**
@@ -43,8 +43,8 @@ export class BoardLanguage {
    * @param {() => boolean} isWanted returns false if the result is no longer needed
    */
   async findErrors({ text }, isWanted) {
-    const found = await this.errorFinder.findInBoard(text, isWanted);
-    return found && { ...found, faults: [...found.faults, ...findFrontPanelErrors(text)] };
+    const errors = await this.errorFinder.findInBoard(text, isWanted);
+    return errors && { ...errors, faults: [...errors.faults, ...findFrontPanelErrors(text)] };
   }
 
   /**
@@ -56,11 +56,13 @@ export class BoardLanguage {
     if (character > commentAt(lines[line], "#")) return null;
     const helpText = helpForBoard(lines, line, character, this.tables);
     const word = wordAt(lines[line], character);
-    if (helpText && word) return { words: helpText, markdown: escapeMarkdown(helpText), range: rangeInLine(line + 1, word.from, word.to) };
+    if (helpText && word) {
+      return { plainText: helpText, markdown: escapeMarkdown(helpText), range: rangeInLine(line + 1, word.from, word.to) };
+    }
     const references = new BoardReferences(text);
     const value = references.valueAt(line + 1, character);
     const hoverText = value ? references.describeValue(value, new Face(text)) : "";
-    return value && hoverText ? { words: hoverText, markdown: escapeMarkdown(hoverText),
+    return value && hoverText ? { plainText: hoverText, markdown: escapeMarkdown(hoverText),
       range: rangeInLine(value.line, value.from, value.to) } : null;
   }
 
@@ -85,10 +87,10 @@ export class BoardLanguage {
   references({ text }, { line, character }, withDefinition) {
     const references = new BoardReferences(text);
     const value = references.valueAt(line + 1, character);
-    const part = (value && references.findPart(value)) || references.partAtLine(line + 1);
+    const part = (value && references.findPart(value)) || references.findPartAtLine(line + 1);
     if (!part) return [];
-    const found = references.values.filter((each) => references.findPart(each) === part);
-    return [...(withDefinition ? [part] : []), ...found].map((each) => rangeInLine(each.line, each.from, each.to));
+    const matchingValues = references.values.filter((candidate) => references.findPart(candidate) === part);
+    return [...(withDefinition ? [part] : []), ...matchingValues].map((target) => rangeInLine(target.line, target.from, target.to));
   }
 
   /**
@@ -109,7 +111,7 @@ export class BoardLanguage {
     const lineStart = lines[line].slice(Math.max(0, character - 9), character);
     if (trigger === " " && !/=[ \t]*$/.test(lineStart)) return { from: character, to: character, list: [] };
     const found = completeBoard(lines, line, character, this.tables);
-    return { ...found, list: found.list.map((each) => ({ ...each, kind: PROPERTY_COMPLETION })) };
+    return { ...found, list: found.list.map((item) => ({ ...item, kind: PROPERTY_COMPLETION })) };
   }
 
   /**
@@ -121,7 +123,7 @@ export class BoardLanguage {
     const face = new Face(text);
     return entries.map((entry) => {
       const faceText = face.lamps.get(lamps.indexOf(entry));
-      const lastLine = entry.keys.reduce((most, { line, value }) => Math.max(most, line, value.line), entry.line);
+      const lastLine = entry.keys.reduce((maxLine, { line, value }) => Math.max(maxLine, line, value.line), entry.line);
       const range = { start: rangeInLine(entry.line, entry.from, 0).start, end: rangeInLine(lastLine, 0, lines[lastLine - 1].length).end };
       const selectionRange = rangeInLine(entry.line, entry.from, entry.to);
       return { name: partName(entry), kind: OBJECT_SYMBOL, detail: faceText ? faceText.text : "", range, selectionRange };
@@ -135,13 +137,13 @@ export class BoardLanguage {
   colours({ lines, text }) {
     const headers = new Set(readBoardText(text).entries.map(({ line }) => line));
     /** @type {ColouredWord[]} */
-    const comments = lines.map((each, line) => ({ line, from: commentAt(each, "#"), to: each.length, type: "comment" }));
-    const words = tomlWords(lines);
-    return [...comments, ...words.flatMap(({ kind, text: word, line, from, to }, at) => {
+    const comments = lines.map((lineText, line) => ({ line, from: commentAt(lineText, "#"), to: lineText.length, type: "comment" }));
+    const tokens = tomlWords(lines);
+    return [...comments, ...tokens.flatMap(({ kind, text: word, line, from, to }, at) => {
       if (kind !== "bare" && kind !== "string") return [];
-      const previousWord = words[at - 1] ? words[at - 1].text : "";
+      const previousWord = tokens[at - 1] ? tokens[at - 1].text : "";
       const isHeader = headers.has(line) && previousWord === "[" && /^\s*\[/.test(lines[line - 1]);
-      const isKey = words[at + 1] && words[at + 1].text === "=" && words[at + 1].kind === "punctuation";
+      const isKey = tokens[at + 1] && tokens[at + 1].text === "=" && tokens[at + 1].kind === "punctuation";
       const valueType = kind === "string" ? "string" : /^[+-]?\d/.test(word) ? "number" : "";
       const type = isHeader ? "class" : isKey ? "property" : valueType;
       return type ? [{ line: line - 1, from, to, type }] : [];

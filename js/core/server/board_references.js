@@ -20,8 +20,8 @@ const NUMBER_KEYS = { rom: "chip", ram: "bank" };
  * @param {Entry} entry
  * @param {string} name
  */
-function keyValue({ keys }, name) {
-  const key = keys.find((each) => each.name === name);
+function getKeyValue({ keys }, name) {
+  const key = keys.find((candidate) => candidate.name === name);
   return key && key.value.inner;
 }
 
@@ -35,7 +35,7 @@ export class BoardReferences {
     /** @type {KeyedValue[]} */
     this.values = entries.flatMap((entry) => entry.keys.flatMap(({ name, value }) => {
       const inner = Array.isArray(value.inner) ? value.inner : [value];
-      return inner.map((each) => ({ ...each, key: name, entry }));
+      return inner.map((element) => ({ ...element, key: name, entry }));
     }));
     /** @type {Map<Entry, number>} the index of each table among tables with the same name */
     this.tableIndexes = new Map();
@@ -46,7 +46,7 @@ export class BoardReferences {
     for (const entry of entries) {
       const { table } = entry;
       const index = counts.get(table) || 0;
-      const chip = `${table} ${keyValue(entry, NUMBER_KEYS[table])}`;
+      const chip = `${table} ${getKeyValue(entry, NUMBER_KEYS[table])}`;
       this.tableIndexes.set(entry, index);
       counts.set(table, index + 1);
       if (!this.chips.has(chip)) this.chips.set(chip, entry);
@@ -70,9 +70,9 @@ export class BoardReferences {
    */
   findPart({ inner, key, entry }) {
     if (entry.table === "[keys]" && key === "chain") return this.chains[Number(inner)] || null;
-    const found = LINE_NAME.exec(String(inner));
-    if (!found || key === "port") return null;
-    const [, kind, number] = found;
+    const match = LINE_NAME.exec(String(inner));
+    if (!match || key === "port") return null;
+    const [, kind, number] = match;
     if (kind === "chain") return this.chains[Number(number)] || null;
     return this.chips.get(`${kind} ${Number(number)}`) || null;
   }
@@ -81,7 +81,7 @@ export class BoardReferences {
    * Returns the table of a chip or chain that contains a line; null if there is none.
    * @param {number} line the line number from 1
    */
-  partAtLine(line) {
+  findPartAtLine(line) {
     const contains = (/** @type {Entry} */ entry) => line >= entry.line && entry.keys.some((key) => line <= key.line);
     return this.entries.filter((entry) => ["rom", "ram", "chain"].includes(entry.table) && contains(entry)).pop() || null;
   }
@@ -92,7 +92,7 @@ export class BoardReferences {
    */
   partName(entry) {
     const kind = entry.table.replace(/[[\]]/g, "");
-    const number = NUMBER_KEYS[kind] && keyValue(entry, NUMBER_KEYS[kind]);
+    const number = NUMBER_KEYS[kind] && getKeyValue(entry, NUMBER_KEYS[kind]);
     if (number !== undefined) return `${kind} ${kind === "ram" ? "bank " : ""}${number}`;
     if (entry.table === "[keys]") return "keys";
     return `${kind} ${this.tableIndexes.get(entry)}`;
@@ -105,9 +105,9 @@ export class BoardReferences {
    * @param {import("../board/face.js").Face} face
    */
   describeValue(value, face) {
-    const found = LINE_NAME.exec(String(value.inner));
-    if (!found || value.key === "port") return "";
-    const [name, kind, first, second, third] = found;
+    const match = LINE_NAME.exec(String(value.inner));
+    if (!match || value.key === "port") return "";
+    const [name, kind, first, second, third] = match;
     const lineText = kind === "rom" ? say.lineOfRom(second, first)
       : kind === "chain" ? say.bitOfChain(second, first)
         : say.lineOfRam(third, second, first);

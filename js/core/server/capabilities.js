@@ -35,7 +35,7 @@ function fieldAt(value, ...path) {
  * @param {any} value
  * @returns {any[]}
  */
-function asList(value) {
+function toList(value) {
   return Array.isArray(value) ? value : [];
 }
 
@@ -46,13 +46,13 @@ function asList(value) {
  */
 export function readClient(params) {
   const capabilities = getField(params, "capabilities");
-  const folders = asList(getField(params, "workspaceFolders")).map((each) => getField(each, "uri"));
+  const folders = toList(getField(params, "workspaceFolders")).map((folder) => getField(folder, "uri"));
   return {
-    showsMarkdown: asList(fieldAt(capabilities, "textDocument", "hover", "contentFormat")).includes("markdown"),
+    showsMarkdown: toList(fieldAt(capabilities, "textDocument", "hover", "contentFormat")).includes("markdown"),
     pullsDiagnostics: fieldAt(capabilities, "textDocument", "diagnostic") !== undefined,
     refreshesDiagnostics: fieldAt(capabilities, "workspace", "diagnostics", "refreshSupport") === true,
-    commands: new Set(asList(fieldAt(capabilities, "experimental", "commands", "commands"))),
-    folders: [...folders, getField(params, "rootUri")].filter((each) => typeof each === "string"),
+    commands: new Set(toList(fieldAt(capabilities, "experimental", "commands", "commands"))),
+    folders: [...folders, getField(params, "rootUri")].filter((folder) => typeof folder === "string"),
   };
 }
 
@@ -61,7 +61,7 @@ export function readClient(params) {
  * @param {Client} client
  * @returns {object}
  */
-export function capabilitiesFor({ pullsDiagnostics }) {
+export function listCapabilities({ pullsDiagnostics }) {
   const diagnostics = { identifier: "mcs4", interFileDependencies: true, workspaceDiagnostics: false };
   return {
     positionEncoding: "utf-16",

@@ -14,6 +14,6 @@ import { RUN_TEST, SHOW_REFERENCES } from "./capabilities.js";
 export function toCodeLens({ range, title, references, test }, uri, commands) {
   if (test !== null) return { range, command: { title, command: RUN_TEST, arguments: [uri, test] } };
   if (!references || references.length === 0 || !commands.has(SHOW_REFERENCES)) return { range, command: { title, command: "" } };
-  const locations = references.map((each) => ({ uri, range: each }));
+  const locations = references.map((referenceRange) => ({ uri, range: referenceRange }));
   return { range, command: { title, command: SHOW_REFERENCES, arguments: [uri, range.start, locations] } };
 }

@@ -56,9 +56,9 @@ export class Connection extends MessageStream {
     this.sentRequests = 0;
   }
 
-  /** @param {string} words */
-  reportStreamError(words) {
-    this.rejectRequest(null, new ProtocolError(INVALID_REQUEST, words));
+  /** @param {string} message */
+  reportStreamError(message) {
+    this.rejectRequest(null, new ProtocolError(INVALID_REQUEST, message));
   }
 
   /** @param {string} text */
@@ -84,7 +84,7 @@ export class Connection extends MessageStream {
    * Returns the error for a request that is not allowed in the current state; null if it is allowed.
    * @param {string} method
    */
-  lifecycleError(method) {
+  findLifecycleError(method) {
     if (this.state === "shut") return new ProtocolError(INVALID_REQUEST, say.EXIT_AFTER_SHUTDOWN);
     if (this.state === "new" && method !== "initialize") return new ProtocolError(NOT_INITIALIZED, say.INITIALIZE_FIRST);
     if (this.state === "open" && method === "initialize") return new ProtocolError(INVALID_REQUEST, say.INITIALIZE_ONCE);
@@ -97,12 +97,12 @@ export class Connection extends MessageStream {
    * @param {any} params
    */
   async serveRequest(id, method, params) {
-    const fault = this.lifecycleError(method);
+    const stateError = this.findLifecycleError(method);
     const handler = Object.prototype.hasOwnProperty.call(this.handlers.requests, method) && this.handlers.requests[method];
-    if (fault || !handler || this.pendingRequests.has(id)) {
+    if (stateError || !handler || this.pendingRequests.has(id)) {
       const notServed = handler ? new ProtocolError(INVALID_REQUEST, say.requestPending(id))
         : new ProtocolError(METHOD_NOT_FOUND, say.noMethod(method));
-      this.rejectRequest(id, fault || notServed);
+      this.rejectRequest(id, stateError || notServed);
       return;
     }
     const pending = { isCancelled: false };
@@ -113,8 +113,8 @@ export class Connection extends MessageStream {
     try {
       const result = await handler(params, pending);
       if (this.removePending(id, pending)) this.send({ id, result: result === undefined ? null : result });
-    } catch (thrown) {
-      if (this.removePending(id, pending)) this.rejectRequest(id, thrown);
+    } catch (error) {
+      if (this.removePending(id, pending)) this.rejectRequest(id, error);
     }
   }
 
@@ -159,17 +159,17 @@ export class Connection extends MessageStream {
     if (this.state !== "open" || !handler) return;
     try {
       await handler(params, UNCANCELLABLE_REQUEST);
-    } catch (thrown) {
-      this.logMessage(`${method}: ${thrown instanceof Error ? thrown.message : String(thrown)}`);
+    } catch (error) {
+      this.logMessage(`${method}: ${error instanceof Error ? error.message : String(error)}`);
     }
   }
 
   /**
    * Writes an error message to the client's log, for an error that does not belong to a request.
-   * @param {string} words
+   * @param {string} message
    */
-  logMessage(words) {
-    this.notify("window/logMessage", { type: ERROR, message: words });
+  logMessage(message) {
+    this.notify("window/logMessage", { type: ERROR, message });
   }
 
   /**
@@ -201,11 +201,11 @@ export class Connection extends MessageStream {
   /**
    * Sends the error response for a request that failed.
    * @param {Id} id
-   * @param {unknown} thrown
+   * @param {unknown} error
    */
-  rejectRequest(id, thrown) {
-    const code = thrown instanceof ProtocolError ? thrown.code : INTERNAL_ERROR;
-    this.send({ id, error: { code, message: thrown instanceof Error ? thrown.message : String(thrown) } });
+  rejectRequest(id, error) {
+    const code = error instanceof ProtocolError ? error.code : INTERNAL_ERROR;
+    this.send({ id, error: { code, message: error instanceof Error ? error.message : String(error) } });
   }
 
   /** @param {object} message */

@@ -40,8 +40,8 @@ export function locateError(lines, { line, column, words: fullMessage }) {
   const message = column < 0 ? fullMessage : fullMessage.replace(errorInColumn("", column), "");
   const text = lines[line - 1] || "";
   const end = text.trimEnd().length;
-  const begin = Math.min(end, text.length - text.trimStart().length);
-  if (column < 0 || column >= end) return { number: 0, line, from: begin, to: end, words: message, isError: true };
+  const textStart = Math.min(end, text.length - text.trimStart().length);
+  if (column < 0 || column >= end) return { number: 0, line, from: textStart, to: end, words: message, isError: true };
   const [word = ""] = /^\S+/.exec(text.slice(column)) || [];
   return { number: 0, line, from: column, to: column + Math.max(1, word.length), words: message, isError: true };
 }
@@ -88,9 +88,9 @@ export class DependentLanguage {
    * @param {DependencyTexts} dependencies
    * @returns {ShownFault | null}
    */
-  dependencyError({ board, program }) {
+  findDependencyError({ board, program }) {
     const missingFile = [board, program].find(({ text }) => text === null);
-    const errorAtStart = (/** @type {string} */ words) => ({ number: 0, line: 1, from: 0, to: 0, words });
+    const errorAtStart = (/** @type {string} */ message) => ({ number: 0, line: 1, from: 0, to: 0, words: message });
     if (missingFile) return errorAtStart(say.dependencyMissing(decodeFileName(missingFile.uri)));
     const { faults } = this.prepareTexts({ boardText: board.text || "", programText: program.text || "" });
     if (faults.length === 0) return null;
@@ -103,7 +103,7 @@ export class DependentLanguage {
    * @param {OpenText} openText
    * @returns {TestNames}
    */
-  names({ uri }) {
+  findNames({ uri }) {
     const { board, program } = this.findDependencies(uri);
     const face = new Face(board.text || "");
     const keys = [...face.keys.values()].map(({ text }) => text).filter((name) => name !== "");
@@ -117,21 +117,21 @@ export class DependentLanguage {
    * @param {import("../text/completion.js").Completion} completion
    */
   addKinds({ from, to, list }) {
-    return { from, to, list: list.map((each) => ({ ...each, kind: each.what ? KEYWORD_COMPLETION : VALUE_COMPLETION })) };
+    return { from, to, list: list.map((item) => ({ ...item, kind: item.what ? KEYWORD_COMPLETION : VALUE_COMPLETION })) };
   }
 
   /**
    * Returns a hover with help for the word at a position; null if there is no help.
-   * @param {string} words the help text, "" for none
+   * @param {string} helpText the help text, "" for none
    * @param {string[]} lines
    * @param {Position} position
    */
-  hoverWithHelp(words, lines, { line, character }) {
-    if (words === "") return null;
-    const before = wordsUpTo(lines[line], character);
-    const word = before[before.length - 1] || "";
+  hoverWithHelp(helpText, lines, { line, character }) {
+    if (helpText === "") return null;
+    const lineWords = wordsUpTo(lines[line], character);
+    const word = lineWords[lineWords.length - 1] || "";
     const from = lines[line].lastIndexOf(word, character);
-    return { words, markdown: escapeMarkdown(words), range: rangeInLine(line + 1, from, from + word.length) };
+    return { plainText: helpText, markdown: escapeMarkdown(helpText), range: rangeInLine(line + 1, from, from + word.length) };
   }
 
   /**
@@ -140,10 +140,10 @@ export class DependentLanguage {
    * @param {Position} position
    */
   labelAt({ uri, lines }, { line, character }) {
-    const words = wordsUpTo(lines[line], character);
-    const name = (words[words.length - 1] || "").replace(/^[(!]*@?|[,)]+$/g, "");
+    const lineWords = wordsUpTo(lines[line], character);
+    const name = (lineWords[lineWords.length - 1] || "").replace(/^[(!]*@?|[,)]+$/g, "");
     const { program } = this.findDependencies(uri);
-    const found = findDefinition((program.text || "").split("\n"), name);
-    return found ? { uri: program.uri, range: rangeInLine(found.line, found.from, found.to) } : null;
+    const label = findDefinition((program.text || "").split("\n"), name);
+    return label ? { uri: program.uri, range: rangeInLine(label.line, label.from, label.to) } : null;
   }
 }

@@ -34,12 +34,12 @@ export function toDiagnostic({ number, line, from, to, words, isError = number >
 /**
  * Returns the diagnostics of a text. If the text has, or can have, more errors, adds a diagnostic with a message about that.
  * @param {ShownFault[]} faults
- * @param {boolean} isWhole false if the text can contain errors that `faults` lacks
+ * @param {boolean} isComplete false if the text can contain errors that `faults` lacks
  * @returns {Diagnostic[]}
  */
-export function toDiagnostics(faults, isWhole) {
+export function toDiagnostics(faults, isComplete) {
   const diagnostics = faults.slice(0, MAX_ERRORS).map(toDiagnostic);
-  const hasMore = faults.length > MAX_ERRORS || (!isWhole && faults.length > 1);
+  const hasMore = faults.length > MAX_ERRORS || (!isComplete && faults.length > 1);
   if (!hasMore) return diagnostics;
   const { range } = diagnostics[diagnostics.length - 1];
   return [...diagnostics, { range, severity: INFORMATION, source: SOURCE, message: say.MAY_BE_MORE }];
@@ -53,10 +53,10 @@ export function toDiagnostics(faults, isWhole) {
  */
 export function lengthError({ lines, length }) {
   if (length <= MAX_STORED_LENGTH) return null;
-  let [line, before] = [0, 0];
-  for (; before + lines[line].length < MAX_STORED_LENGTH; line++) before += lines[line].length + 1;
+  let [line, lengthBefore] = [0, 0];
+  for (; lengthBefore + lines[line].length < MAX_STORED_LENGTH; line++) lengthBefore += lines[line].length + 1;
   const message = say.textTooLong(MAX_STORED_LENGTH.toLocaleString("en"), length.toLocaleString("en"));
-  const from = Math.max(0, MAX_STORED_LENGTH - before - 1);
+  const from = Math.max(0, MAX_STORED_LENGTH - lengthBefore - 1);
   return { number: TEXT_TOO_LONG, line: line + 1, from, to: lines[line].length, words: message };
 }
 
@@ -78,7 +78,7 @@ function touchesRange({ line, from, to }, { start, end }) {
  * @param {Fault[]} faults
  * @param {Range} range
  */
-export function quickFixes(uri, faults, range) {
+export function createQuickFixes(uri, faults, range) {
   return faults.filter((fault) => touchesRange(fault, range)).flatMap((fault) => {
     const texts = fault.quickFixTexts || [];
     return texts.map((newText) => ({

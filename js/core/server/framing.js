@@ -23,8 +23,8 @@ export class StreamError extends Error {}
  * Returns the length of the body in bytes; throws StreamError if the header does not contain exactly one length.
  * @param {string} header
  */
-function contentLength(header) {
-  const sizes = header.split("\r\n").map((line) => CONTENT_LENGTH.exec(line)).filter((each) => each !== null);
+function parseContentLength(header) {
+  const sizes = header.split("\r\n").map((line) => CONTENT_LENGTH.exec(line)).filter((match) => match !== null);
   if (sizes.length !== 1) throw new StreamError(say.HEAD_SYNTAX);
   const size = Number(/** @type {RegExpExecArray} */ (sizes[0])[1]);
   if (size > MAX_SKIPPED) throw new StreamError(say.sizeTooLarge(size, MAX_SKIPPED));
@@ -54,7 +54,7 @@ export class MessageReader {
    * @param {Uint8Array} bytes
    * @returns {Generator<ReceivedMessage, void>}
    */
-  * take(bytes) {
+  * readMessages(bytes) {
     for (let at = 0; at < bytes.length;) {
       if (this.missingBytes < 0) at = this.readHeader(bytes, at);
       const count = Math.min(Math.max(this.missingBytes, 0), bytes.length - at);
@@ -75,7 +75,7 @@ export class MessageReader {
     for (let at = start; at < bytes.length; at++) {
       this.header += String.fromCharCode(bytes[at]);
       if (this.header.endsWith("\r\n\r\n")) {
-        this.size = contentLength(this.header);
+        this.size = parseContentLength(this.header);
         this.missingBytes = this.size;
         this.body = this.size <= MAX_MESSAGE ? new Uint8Array(this.size) : null;
         this.header = "";

@@ -16,7 +16,7 @@ import * as say from "../../words/server.js";
  * @param {SourceMap} map
  * @param {string} word
  */
-function nameHint(map, word) {
+function formatNameHint(map, word) {
   const name = map.names.get(word);
   if (!name) return "";
   return `= ${name.isLabel ? `0x${hex(name.value, 3)}` : name.value}`;
@@ -30,12 +30,12 @@ function nameHint(map, word) {
  * @param {(mnemonic: string) => string} cyclesOf returns the cycles of an instruction, "" for any other word
  * @returns {InlayHint[]}
  */
-function lineHints(text, line, map, cyclesOf) {
+function createLineHints(text, line, map, cyclesOf) {
   const { head, operands, defines } = splitStatement(text);
   if (defines) return [];
   const hintAt = (/** @type {number} */ character, /** @type {string} */ label) => (
     { position: { line, character }, label, paddingLeft: true });
-  const valueHints = operands.map(({ text: word, to }) => hintAt(to, nameHint(map, word))).filter(({ label }) => label !== "");
+  const valueHints = operands.map(({ text: word, to }) => hintAt(to, formatNameHint(map, word))).filter(({ label }) => label !== "");
   const address = map.addressOf(line + 1);
   if (address === undefined || !head) return valueHints;
   const cycles = cyclesOf(head.text.toUpperCase());
@@ -52,5 +52,5 @@ function lineHints(text, line, map, cyclesOf) {
  * @returns {InlayHint[]}
  */
 export function createHints(lines, map, cyclesOf, { start, end }) {
-  return lines.slice(start.line, end.line + 1).flatMap((text, at) => lineHints(text, start.line + at, map, cyclesOf));
+  return lines.slice(start.line, end.line + 1).flatMap((text, at) => createLineHints(text, start.line + at, map, cyclesOf));
 }

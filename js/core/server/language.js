@@ -13,11 +13,11 @@
  * @typedef {import("./lsp_protocol.js").TextEdit} TextEdit
  * @typedef {import("./token_codes.js").ColouredWord} ColouredWord
  *
- * The errors in a text. `isWhole` is false if the text can contain errors that `faults` lacks.
- * @typedef {{ faults: import("./diagnostics.js").ShownFault[], isWhole: boolean }} FoundFaults
+ * The errors in a text. `isComplete` is false if the text can contain errors that `faults` lacks.
+ * @typedef {{ faults: import("./diagnostics.js").ShownFault[], isComplete: boolean }} FoundFaults
  *
- * The help at a position, as plain text (`words`) and in Markdown.
- * @typedef {{ words: string, markdown: string, range?: Range }} Hover
+ * The help at a position, as plain text and in Markdown.
+ * @typedef {{ plainText: string, markdown: string, range?: Range }} Hover
  * @typedef {CompletionItem & { kind: number, documentation?: string }} CompletedWord
  * @typedef {{ name: string, kind: number, detail: string, range: Range, selectionRange: Range }} DocumentSymbol
  * @typedef {{ position: Position, label: string, paddingLeft: boolean }} InlayHint

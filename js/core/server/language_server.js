@@ -8,7 +8,8 @@ import { readClient } from "./capabilities.js";
 import { toDiagnostics, lengthError } from "./diagnostics.js";
 import { getField } from "./framing.js";
 import {
-  NON_BOARD_FILES, findBoard, findDependencies, isBoard, isProgram, isProjectFile, isPropertyFile, isTestFile, findProject, projectInFolder,
+  NON_BOARD_FILES, findBoard, findDependencies, findProject, findProjectInFolder, isBoard, isProgram, isProjectFile, isPropertyFile,
+  isTestFile,
 } from "./text_kinds.js";
 import { OpenText } from "./open_text.js";
 import { ProgramLanguage } from "./program_language.js";
@@ -63,14 +64,14 @@ export class LanguageServer {
     this.runs = new TestRuns(engine, refusalMessage, dependencies, host.pause);
     /** @type {Client} the client; it has no capabilities before `initialize` */
     this.client = readClient({});
-    connection.handlers = { requests: new Requests(this).allHandlers(), notifications: this.notifications() };
+    connection.handlers = { requests: new Requests(this).createHandlers(), notifications: this.createNotificationHandlers() };
   }
 
   /**
    * Returns the handlers of notifications, by method name.
    * @returns {Record<string, RequestHandler>}
    */
-  notifications() {
+  createNotificationHandlers() {
     return {
       "textDocument/didOpen": (params) => this.didOpen(getField(params, "textDocument")),
       "textDocument/didChange": (params) => this.didChange(params),
@@ -86,7 +87,7 @@ export class LanguageServer {
    * @param {any} params
    * @returns {CheckedText}
    */
-  requestedText(params) {
+  getRequestedText(params) {
     const uri = needText(getField(getField(params, "textDocument"), "uri"), "textDocument.uri");
     const text = this.texts.get(uri);
     if (!text) throw new ProtocolError(INVALID_PARAMS, say.notOpen(uri));
@@ -123,8 +124,8 @@ export class LanguageServer {
    * @returns {import("./dependent_language.js").DependencyTexts}
    */
   findDependencies(uri) {
-    const { folder, board, program, tests } = findDependencies(uri, (each, inside) => this.readText(each, inside));
-    const namedText = (/** @type {string} */ each) => ({ uri: each, text: this.readText(each, folder) });
+    const { folder, board, program, tests } = findDependencies(uri, (fileUri, projectFolder) => this.readText(fileUri, projectFolder));
+    const namedText = (/** @type {string} */ fileUri) => ({ uri: fileUri, text: this.readText(fileUri, folder) });
     return { board: namedText(board), program: namedText(program), tests: tests.map(namedText) };
   }
 
@@ -132,21 +133,21 @@ export class LanguageServer {
    * Returns the open texts, the texts of their projects, and the texts of projects in the client's open folders.
    * @returns {OpenText[]}
    */
-  allTexts() {
+  listTexts() {
     const readText = (/** @type {string} */ uri, /** @type {string} */ folder) => this.readText(uri, folder);
-    const found = new Map([...this.texts].map(([uri, { open }]) => [uri, open]));
+    const textsByUri = new Map([...this.texts].map(([uri, { open }]) => [uri, open]));
     const projects = [
-      ...this.client.folders.map((uri) => projectInFolder(`${uri.replace(/\/$/, "")}/`, readText)),
+      ...this.client.folders.map((uri) => findProjectInFolder(`${uri.replace(/\/$/, "")}/`, readText)),
       ...[...this.texts.keys()].map((uri) => findProject(uri, readText)),
     ];
     for (const project of projects) {
       if (!project) continue;
       for (const uri of [project.program, project.board, ...project.tests, ...project.properties]) {
-        const text = found.has(uri) ? null : readText(uri, project.folder);
-        if (text !== null) found.set(uri, new OpenText(uri, "", text, null));
+        const text = textsByUri.has(uri) ? null : readText(uri, project.folder);
+        if (text !== null) textsByUri.set(uri, new OpenText(uri, "", text, null));
       }
     }
-    return [...found.values()];
+    return [...textsByUri.values()];
   }
 
   /** @param {any} document the `textDocument` of the notification */
@@ -154,14 +155,14 @@ export class LanguageServer {
     const uri = needText(getField(document, "uri"), "textDocument.uri");
     const text = needText(getField(document, "text"), "textDocument.text");
     const openText = new OpenText(uri, String(getField(document, "languageId")), text, getField(document, "version"));
-    const checked = { open: openText, faults: [], diagnostics: [], checkedEdits: -1, check: Promise.resolve() };
-    this.texts.set(uri, checked);
-    this.checkWithDependents(checked);
+    const checkedText = { open: openText, faults: [], diagnostics: [], checkedEdits: -1, check: Promise.resolve() };
+    this.texts.set(uri, checkedText);
+    this.checkWithDependents(checkedText);
   }
 
   /** @param {any} params */
   didChange(params) {
-    const text = this.requestedText(params);
+    const text = this.getRequestedText(params);
     const changes = getField(params, "contentChanges");
     if (!Array.isArray(changes)) throw new ProtocolError(INVALID_PARAMS, say.CONTENT_CHANGES_SYNTAX);
     // All changes are validated before the first change is applied.
@@ -176,7 +177,7 @@ export class LanguageServer {
 
   /** @param {any} params */
   didClose(params) {
-    const { open: openText } = this.requestedText(params);
+    const { open: openText } = this.getRequestedText(params);
     this.texts.delete(openText.uri);
     if (!this.client.pullsDiagnostics) this.connection.notify("textDocument/publishDiagnostics", { uri: openText.uri, diagnostics: [] });
     this.checkDependents((uri) => this.affectsErrorsIn(openText.uri, uri));
@@ -187,7 +188,7 @@ export class LanguageServer {
    * @param {string} uri the URI of the program
    */
   findBoard(uri) {
-    return findBoard(uri, (each, folder) => this.readText(each, folder));
+    return findBoard(uri, (fileUri, folder) => this.readText(fileUri, folder));
   }
 
   /**
@@ -214,7 +215,7 @@ export class LanguageServer {
     // A program depends only on its board. If the changed text cannot be a board, the search for the program's board is unnecessary.
     const dependsOnProgram = isTestFile(text.open) || isPropertyFile(text.open);
     if (!dependsOnProgram) return !NON_BOARD_FILES.test(uri) && this.findBoard(other).uri === uri;
-    const { board, program, tests } = findDependencies(other, (each, folder) => this.readText(each, folder));
+    const { board, program, tests } = findDependencies(other, (fileUri, folder) => this.readText(fileUri, folder));
     return [board, program, ...tests].includes(uri);
   }
 
@@ -261,15 +262,15 @@ export class LanguageServer {
     await this.host.pause();
     if (!isWanted()) return;
     try {
-      const found = await this.findErrors(openText, isWanted);
-      if (!found || !isWanted()) return;
-      Object.assign(text, { faults: found.faults, diagnostics: toDiagnostics(found.faults, found.isWhole), checkedEdits: edits });
+      const result = await this.findErrors(openText, isWanted);
+      if (!result || !isWanted()) return;
+      Object.assign(text, { faults: result.faults, diagnostics: toDiagnostics(result.faults, result.isComplete), checkedEdits: edits });
       this.publish(text);
       // The program is assembled now, so that the first hover is fast.
-      if (found.faults.length === 0 && this.findLanguage(openText) === this.program) this.program.assembleProgram(openText);
-    } catch (thrown) {
+      if (result.faults.length === 0 && this.findLanguage(openText) === this.program) this.program.assembleProgram(openText);
+    } catch (error) {
       Object.assign(text, { faults: [], diagnostics: [], checkedEdits: edits });
-      this.connection.logMessage(say.faultsOf(uri, thrown instanceof Error ? thrown.message : String(thrown)));
+      this.connection.logMessage(say.faultsOf(uri, error instanceof Error ? error.message : String(error)));
     }
   }
 
@@ -289,9 +290,9 @@ export class LanguageServer {
   async findErrors(openText, isWanted) {
     const tooLong = lengthError(openText);
     const isKnown = isProgram(openText) || isBoard(openText) || isTestFile(openText) || isPropertyFile(openText);
-    if (tooLong) return { faults: isKnown ? [tooLong] : [], isWhole: true };
+    if (tooLong) return { faults: isKnown ? [tooLong] : [], isComplete: true };
     const language = this.findLanguage(openText);
-    return language ? language.findErrors(openText, isWanted) : { faults: [], isWhole: true };
+    return language ? language.findErrors(openText, isWanted) : { faults: [], isComplete: true };
   }
 
   // --- tests
@@ -303,10 +304,10 @@ export class LanguageServer {
    * @param {import("./connection.js").PendingRequest} pending
    */
   async runTest(uri, name, pending) {
-    const text = this.requestedText({ textDocument: { uri } });
+    const text = this.getRequestedText({ textDocument: { uri } });
     const { edits } = text.open;
-    const { words, hasPassed, failure } = await this.runs.run(text.open, name, pending);
-    this.connection.show(words, !hasPassed);
+    const { message, hasPassed, failure } = await this.runs.run(text.open, name, pending);
+    this.connection.show(message, !hasPassed);
     if (failure && text.open.edits === edits && failure.uri === uri) {
       text.diagnostics = [...text.diagnostics, ...toDiagnostics([failure.fault], true)];
       this.publish(text);

@@ -25,10 +25,10 @@ export const REQUEST_CANCELLED = -32800;
 export class ProtocolError extends Error {
   /**
    * @param {number} code
-   * @param {string} words
+   * @param {string} message
    */
-  constructor(code, words) {
-    super(words);
+  constructor(code, message) {
+    super(message);
     this.code = code;
   }
 }
@@ -62,7 +62,7 @@ export function needText(value, parameterName) {
  */
 export function needPosition(value) {
   const [line, character] = [getField(value, "line"), getField(value, "character")];
-  if (![line, character].every((each) => Number.isSafeInteger(each) && each >= 0)) {
+  if (![line, character].every((number) => Number.isSafeInteger(number) && number >= 0)) {
     throw new ProtocolError(INVALID_PARAMS, say.POSITION_IS);
   }
   return { line, character };

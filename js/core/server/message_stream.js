@@ -16,15 +16,15 @@ export class MessageStream {
    * StreamError.
    * @param {Uint8Array} bytes
    */
-  take(bytes) {
+  receive(bytes) {
     try {
-      for (const received of this.reader.take(bytes)) {
+      for (const received of this.reader.readMessages(bytes)) {
         if ("text" in received) this.serveMessage(received.text);
         else this.reportStreamError(messageTooLong(received.tooLong));
       }
-    } catch (thrown) {
-      if (thrown instanceof StreamError) this.reportStreamError(thrown.message);
-      throw thrown;
+    } catch (error) {
+      if (error instanceof StreamError) this.reportStreamError(error.message);
+      throw error;
     }
   }
 
@@ -54,9 +54,9 @@ export class MessageStream {
 
   /**
    * Sends an error that does not belong to a request. Subclasses override this method.
-   * @param {string} words
+   * @param {string} message
    */
-  reportStreamError(words) {
-    throw new Error(words);
+  reportStreamError(message) {
+    throw new Error(message);
   }
 }

@@ -72,8 +72,8 @@ export class ProgramCalls {
    * @param {number} line the line number from 0
    */
   callers(name, line) {
-    const found = this.findRoutine(name, line);
-    return found ? this.toCalls(this.routines.findCallers(found)) : [];
+    const routine = this.findRoutine(name, line);
+    return routine ? this.toCalls(this.routines.findCallers(routine)) : [];
   }
 
   /**
@@ -82,8 +82,8 @@ export class ProgramCalls {
    * @param {number} line the line number from 0
    */
   callees(name, line) {
-    const found = this.findRoutine(name, line);
-    return found ? this.toCalls(this.routines.findCalledRoutines(found)) : [];
+    const routine = this.findRoutine(name, line);
+    return routine ? this.toCalls(this.routines.findCalledRoutines(routine)) : [];
   }
 
   /**
@@ -92,11 +92,11 @@ export class ProgramCalls {
    * @returns {Lens[]}
    */
   lenses(findUses) {
-    return [...this.routines.countUses()].map(([name, { calls, others }]) => {
+    return [...this.routines.countUses()].map(([name, { calls, otherUses }]) => {
       const line = /** @type {number} */ (this.routines.names.get(name));
       const { label } = this.routines.parts[line - 1];
       const { from, to } = label || { from: 0, to: 0 };
-      return { range: rangeInLine(line, from, to), title: say.usesOf(calls, others), references: findUses(name), test: null };
+      return { range: rangeInLine(line, from, to), title: say.usesOf(calls, otherUses), references: findUses(name), test: null };
     });
   }
 }

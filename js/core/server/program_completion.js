@@ -24,27 +24,27 @@ const VALUE_COMPLETION = 12;
 
 /**
  * Returns the condition numbers that complete the operand of a JCN; an empty list if the operand at the caret is not a condition.
- * @param {string} before the line up to the caret
+ * @param {string} textBefore the line up to the caret
  * @param {CompletionContext} context
  * @returns {CompletedWord[]}
  */
-function matchingConditions(before, { instructions, conditions }) {
-  const { head } = splitStatement(before);
-  const instruction = head && head.to < before.length && instructions.get(head.text.toUpperCase());
-  if (!instruction || parseOperandKinds(instruction.form)[0] !== "c" || before.slice(head.to).includes(",")) return [];
-  const typedText = before.slice(head.to).trimStart();
-  const all = [...conditions].map(([number, what]) => ({ text: String(number), what, kind: VALUE_COMPLETION }));
-  return all.filter(({ text }) => text.startsWith(typedText));
+function findConditions(textBefore, { instructions, conditions }) {
+  const { head } = splitStatement(textBefore);
+  const instruction = head && head.to < textBefore.length && instructions.get(head.text.toUpperCase());
+  if (!instruction || parseOperandKinds(instruction.form)[0] !== "c" || textBefore.slice(head.to).includes(",")) return [];
+  const typedText = textBefore.slice(head.to).trimStart();
+  const allConditions = [...conditions].map(([number, what]) => ({ text: String(number), what, kind: VALUE_COMPLETION }));
+  return allConditions.filter(({ text }) => text.startsWith(typedText));
 }
 
 /**
  * Returns whether the caret is in the operands of a statement. A typed blank triggers completion only in operands, so that the indentation
  * of a line does not trigger completion.
- * @param {string} before the line up to the caret
+ * @param {string} textBefore the line up to the caret
  */
-function isInOperands(before) {
-  const { head, comment } = splitStatement(before);
-  return head !== null && head.to < before.length && comment === before.length;
+function isInOperands(textBefore) {
+  const { head, comment } = splitStatement(textBefore);
+  return head !== null && head.to < textBefore.length && comment === textBefore.length;
 }
 
 /**
@@ -54,13 +54,13 @@ function isInOperands(before) {
  * @param {string} trigger the typed character that triggered the request, "" for none
  * @param {CompletionContext} context
  */
-export function programCompletion(lines, { line, character }, trigger, context) {
-  const before = lines[line].slice(0, character);
-  if (trigger !== "" && !isInOperands(before)) return { from: character, to: character, list: [] };
-  const found = completeProgram(lines, line, character, context.instructions);
+export function createProgramCompletion(lines, { line, character }, trigger, context) {
+  const textBefore = lines[line].slice(0, character);
+  if (trigger !== "" && !isInOperands(textBefore)) return { from: character, to: character, list: [] };
+  const completion = completeProgram(lines, line, character, context.instructions);
   const names = findDefinedNames(lines);
   /** @type {(text: string) => CompletedWord} */
-  const completedWord = (text) => {
+  const createCompletedWord = (text) => {
     const instruction = context.instructions.get(text);
     if (instruction) return { text, what: "", kind: KEYWORD_COMPLETION, documentation: describeInstruction(instruction) };
     if (DIRECTIVES.includes(text)) return { text, what: "", kind: KEYWORD_COMPLETION, documentation: describeDirective(text) };
@@ -68,6 +68,6 @@ export function programCompletion(lines, { line, character }, trigger, context) 
     const isLabel = !splitStatement(lines[(names.get(text) || 1) - 1]).defines;
     return { text, what: context.meaningOf(text), kind: isLabel ? FUNCTION_COMPLETION : CONSTANT_COMPLETION };
   };
-  const completions = found.list.map((each) => ({ ...completedWord(each.text), ...(each.what ? { what: each.what } : {}) }));
-  return { ...found, list: [...matchingConditions(before, context), ...completions] };
+  const completions = completion.list.map((item) => ({ ...createCompletedWord(item.text), ...(item.what ? { what: item.what } : {}) }));
+  return { ...completion, list: [...findConditions(textBefore, context), ...completions] };
 }

@@ -33,9 +33,11 @@ export function findNameComment(lines, name) {
   const line = findDefinedNames(lines).get(name);
   if (line === undefined) return [];
   const { comment, defines } = splitStatement(lines[line - 1]);
-  let begin = line - 1;
-  while (!defines && begin > 0 && line - begin <= MAX_LINES && lines[begin - 1].trimStart().startsWith(";")) begin -= 1;
-  const commentLines = [...lines.slice(begin, line - 1), lines[line - 1].slice(comment)].map((each) => each.trim().replace(/^;+ ?/, ""));
+  let commentStart = line - 1;
+  const isCommentLine = (/** @type {string} */ text) => text.trimStart().startsWith(";");
+  while (!defines && commentStart > 0 && line - commentStart <= MAX_LINES && isCommentLine(lines[commentStart - 1])) commentStart -= 1;
+  const commentLines = [...lines.slice(commentStart, line - 1), lines[line - 1].slice(comment)]
+    .map((commentLine) => commentLine.trim().replace(/^;+ ?/, ""));
   return commentLines[commentLines.length - 1] === "" ? commentLines.slice(0, -1) : commentLines;
 }
 
@@ -51,18 +53,18 @@ function describeCondition(text, word, { instructions, conditions, valueOf }) {
   const operandIndex = operands.findIndex(({ from }) => from === word.from);
   if (!instruction || parseOperandKinds(instruction.form)[operandIndex] !== "c") return "";
   const value = NUMBER.test(word.text) ? Number(word.text) : valueOf(word.text);
-  const words = value === undefined ? undefined : conditions.get(value);
-  return words && value !== undefined ? say.conditionIs(value, words) : "";
+  const meaning = value === undefined ? undefined : conditions.get(value);
+  return meaning && value !== undefined ? say.conditionIs(value, meaning) : "";
 }
 
 /**
  * Returns a Markdown table with the manual's description of an instruction.
  * @param {Instruction} instruction
  */
-function instructionTable(instruction) {
-  const { form, code, words, cycles } = instruction;
+function formatInstructionTable(instruction) {
+  const { form, code, byteCount, cycles } = instruction;
   const effect = escapeMarkdown(describeEffect(instruction));
-  return formatTable(say.HEAD_OF_INSTRUCTIONS, [[formatCode(form), formatCode(code), words, cycles, effect]]);
+  return formatTable(say.HEAD_OF_INSTRUCTIONS, [[formatCode(form), formatCode(code), byteCount, cycles, effect]]);
 }
 
 /**
@@ -72,7 +74,7 @@ function instructionTable(instruction) {
  * @param {HoverContext} context
  * @returns {Hover | null}
  */
-export function programHover(lines, { line, character }, context) {
+export function createProgramHover(lines, { line, character }, context) {
   const text = lines[line];
   if (character > splitStatement(text).comment) return null;
   const helpText = helpForProgram(lines, line, character, context.instructions, context.meaningOf);
@@ -82,10 +84,10 @@ export function programHover(lines, { line, character }, context) {
   const instruction = word && context.instructions.get(word.text.toUpperCase());
   const comment = word && !instruction ? findNameComment(lines, word.text) : [];
   const markdown = [
-    instruction ? instructionTable(instruction) : escapeMarkdown(helpText), escapeMarkdown(condition),
+    instruction ? formatInstructionTable(instruction) : escapeMarkdown(helpText), escapeMarkdown(condition),
     comment.length > 0 ? formatBlock(comment) : "", escapeMarkdown(lineText),
-  ].filter((each) => each !== "").join("\n\n");
+  ].filter((paragraph) => paragraph !== "").join("\n\n");
   const range = word && (helpText !== "" || condition !== "") ? { range: rangeInLine(line + 1, word.from, word.to) } : {};
-  const plainTexts = [helpText, condition, comment.join("\n"), lineText].filter((each) => each !== "");
-  return plainTexts.length === 0 ? null : { words: plainTexts.join("\n\n"), markdown, ...range };
+  const plainTexts = [helpText, condition, comment.join("\n"), lineText].filter((plainText) => plainText !== "");
+  return plainTexts.length === 0 ? null : { plainText: plainTexts.join("\n\n"), markdown, ...range };
 }

@@ -11,8 +11,8 @@ import { findDefinition, findRenamingError, nameAt, findReferences } from "../te
 import { sentText } from "../text/sendable_text.js";
 import { createHints } from "./inlay_hints.js";
 import { ProgramCalls } from "./program_calls.js";
-import { programCompletion } from "./program_completion.js";
-import { programHover } from "./program_hover.js";
+import { createProgramCompletion } from "./program_completion.js";
+import { createProgramHover } from "./program_hover.js";
 import { REQUEST_FAILED, ProtocolError, rangeInLine } from "./lsp_protocol.js";
 import { signatureAt } from "./signature_help.js";
 import * as say from "../../words/server.js";
@@ -40,7 +40,7 @@ const TOKEN_TYPES = { comment: "comment", instruction: "keyword", directive: "ma
  * @param {string[]} lines
  * @returns {Map<string, Range[]>}
  */
-function operandRanges(lines) {
+function findOperandRanges(lines) {
   /** @type {Map<string, Range[]>} */
   const rangesByName = new Map();
   lines.forEach((text, line) => {
@@ -91,9 +91,9 @@ export class ProgramLanguage {
     };
     const errorFinder = new TextErrorFinder({
       findBoardError: async () => null,
-      findLineErrors: (sent) => queryBench(() => this.bench.errors(sent)),
-      findRefusal: (sent) => queryBench(() => this.bench.programRefusal(sent)),
-      readMap: (sent) => queryBench(() => this.bench.read(sent).map),
+      findLineErrors: (sentProgram) => queryBench(() => this.bench.findLineErrors(sentProgram)),
+      findRefusal: (sentProgram) => queryBench(() => this.bench.findProgramRefusal(sentProgram)),
+      readMap: (sentProgram) => queryBench(() => this.bench.read(sentProgram).map),
       readRomNumbers: () => queryBench(() => this.bench.boardSession.roms),
     }, { instructions: this.instructions, tables: new Map() }, this.refusalMessage);
     return errorFinder.findInProgram(text, isWanted);
@@ -105,9 +105,9 @@ export class ProgramLanguage {
    */
   assembleProgram({ text }) {
     if (this.lastAssembled && this.lastAssembled.text === text) return this.lastAssembled.program;
-    const sent = sentText(text, ";");
-    const answers = this.bench.map(sent);
-    const program = answers ? { map: new SourceMap(answers, sent), bytes: () => this.bench.read(sent).bytes } : null;
+    const sentProgram = sentText(text, ";");
+    const answers = this.bench.readMap(sentProgram);
+    const program = answers ? { map: new SourceMap(answers, sentProgram), bytes: () => this.bench.read(sentProgram).bytes } : null;
     this.lastAssembled = { text, program };
     return program;
   }
@@ -119,7 +119,7 @@ export class ProgramLanguage {
   hover(openText, position) {
     const { lines } = openText;
     const program = this.assembleProgram(openText);
-    return programHover(lines, position, {
+    return createProgramHover(lines, position, {
       instructions: this.instructions,
       conditions: this.conditions,
       meaningOf: (name) => (program ? program.map.meaningOf(name) : ""),
@@ -150,8 +150,8 @@ export class ProgramLanguage {
    */
   definition({ lines }, { line, character }) {
     const name = nameAt(lines, line, character);
-    const found = name === "" ? null : findDefinition(lines, name);
-    return found ? rangeInLine(found.line, found.from, found.to) : null;
+    const nameDefinition = name === "" ? null : findDefinition(lines, name);
+    return nameDefinition ? rangeInLine(nameDefinition.line, nameDefinition.from, nameDefinition.to) : null;
   }
 
   /**
@@ -161,8 +161,9 @@ export class ProgramLanguage {
    */
   references({ lines }, { line, character }, withDefinition) {
     const name = nameAt(lines, line, character);
-    const found = name === "" ? [] : findReferences(lines, name);
-    return found.filter(({ isDefinition }) => withDefinition || !isDefinition).map(({ line: at, from, to }) => rangeInLine(at, from, to));
+    const nameReferences = name === "" ? [] : findReferences(lines, name);
+    return nameReferences.filter(({ isDefinition }) => withDefinition || !isDefinition)
+      .map((reference) => rangeInLine(reference.line, reference.from, reference.to));
   }
 
   /**
@@ -184,8 +185,8 @@ export class ProgramLanguage {
   rename({ lines }, { line, character }, newName) {
     const name = nameAt(lines, line, character);
     if (name === "") throw new ProtocolError(REQUEST_FAILED, say.NO_NAME_HERE);
-    const fault = findRenamingError(lines, name, newName, this.isInstruction);
-    if (fault !== "") throw new ProtocolError(REQUEST_FAILED, fault);
+    const renamingError = findRenamingError(lines, name, newName, this.isInstruction);
+    if (renamingError !== "") throw new ProtocolError(REQUEST_FAILED, renamingError);
     return findReferences(lines, name).map(({ line: at, from, to }) => ({ range: rangeInLine(at, from, to), newText: newName }));
   }
 
@@ -196,7 +197,7 @@ export class ProgramLanguage {
    */
   completion(openText, position, trigger) {
     const program = this.assembleProgram(openText);
-    return programCompletion(openText.lines, position, trigger, {
+    return createProgramCompletion(openText.lines, position, trigger, {
       instructions: this.instructions, conditions: this.conditions, meaningOf: (name) => (program ? program.map.meaningOf(name) : ""),
     });
   }
@@ -211,8 +212,8 @@ export class ProgramLanguage {
     const names = [...findDefinedNames(lines)].map(([name, line]) => ({ name, line, ...splitStatement(lines[line - 1]) }));
     const labels = names.filter(({ defines }) => !defines);
     return names.map(({ name, line, label, defines }) => {
-      const next = labels.find((each) => each.line > line);
-      const lastLine = defines ? line : (next ? next.line : lines.length + 1) - 1;
+      const nextLabel = labels.find((candidate) => candidate.line > line);
+      const lastLine = defines ? line : (nextLabel ? nextLabel.line : lines.length + 1) - 1;
       const { from, to } = label || { from: 0, to: 0 };
       return {
         name,
@@ -245,8 +246,8 @@ export class ProgramLanguage {
    */
   format({ lines }, { start, end }, layout) {
     const newLines = formatProgramLines(lines, this.isMnemonicOrDirective, layout);
-    const fault = findLengthError(newLines);
-    if (fault !== "") throw new ProtocolError(REQUEST_FAILED, fault);
+    const lengthError = findLengthError(newLines);
+    if (lengthError !== "") throw new ProtocolError(REQUEST_FAILED, lengthError);
     return findLineChanges(lines, newLines).filter(({ line }) => start.line <= line && line <= end.line)
       .map(({ line, from, to, text }) => ({ range: rangeInLine(line + 1, from, to), newText: text }));
   }
@@ -288,7 +289,7 @@ export class ProgramLanguage {
    * Returns the call hierarchy of a program.
    * @param {OpenText} openText
    */
-  calls(openText) {
+  createCallHierarchy(openText) {
     const program = this.assembleProgram(openText);
     return new ProgramCalls(openText.lines, program && program.map);
   }
@@ -298,7 +299,7 @@ export class ProgramLanguage {
    * @param {Position} position
    */
   routine(openText, { line, character }) {
-    return this.calls(openText).routine(nameAt(openText.lines, line, character), line);
+    return this.createCallHierarchy(openText).routine(nameAt(openText.lines, line, character), line);
   }
 
   /**
@@ -306,7 +307,7 @@ export class ProgramLanguage {
    * @param {Position} position
    */
   callers(openText, { line, character }) {
-    return this.calls(openText).callers(nameAt(openText.lines, line, character), line);
+    return this.createCallHierarchy(openText).callers(nameAt(openText.lines, line, character), line);
   }
 
   /**
@@ -314,7 +315,7 @@ export class ProgramLanguage {
    * @param {Position} position
    */
   callees(openText, { line, character }) {
-    return this.calls(openText).callees(nameAt(openText.lines, line, character), line);
+    return this.createCallHierarchy(openText).callees(nameAt(openText.lines, line, character), line);
   }
 
   /**
@@ -322,7 +323,7 @@ export class ProgramLanguage {
    * @param {OpenText} openText
    */
   lenses(openText) {
-    const rangesByName = operandRanges(openText.lines);
-    return this.calls(openText).lenses((name) => rangesByName.get(name) || []);
+    const rangesByName = findOperandRanges(openText.lines);
+    return this.createCallHierarchy(openText).lenses((name) => rangesByName.get(name) || []);
   }
 }

@@ -43,11 +43,11 @@ export class PropertyLanguage extends DependentLanguage {
    */
   async findErrors({ uri, lines, text }) {
     const dependencies = this.findDependencies(uri);
-    const dependencyError = this.dependencyError(dependencies);
-    if (dependencyError) return { faults: [dependencyError], isWhole: true };
-    if (text.trim() === "") return { faults: [], isWhole: true };
+    const dependencyError = this.findDependencyError(dependencies);
+    if (dependencyError) return { faults: [dependencyError], isComplete: true };
+    if (text.trim() === "") return { faults: [], isComplete: true };
     const { faults } = readCampaign(text, this.subject(dependencies.board.text || "", dependencies.program.text || ""));
-    return { faults: faults.map((fault) => locateError(lines, fault)), isWhole: true };
+    return { faults: faults.map((fault) => locateError(lines, fault)), isComplete: true };
   }
 
   /**
@@ -78,7 +78,7 @@ export class PropertyLanguage extends DependentLanguage {
    */
   completion(openText, { line, character }, trigger) {
     if (trigger !== "" && openText.lines[line].slice(0, character).trim() === "") return { from: character, to: character, list: [] };
-    return this.addKinds(completeProperty(openText.lines, line, character, this.names(openText), this.forms));
+    return this.addKinds(completeProperty(openText.lines, line, character, this.findNames(openText), this.forms));
   }
 
   /**
@@ -112,11 +112,11 @@ export class PropertyLanguage extends DependentLanguage {
   links({ uri, lines }) {
     const folder = parentFolder(uri);
     return lines.flatMap((text, line) => {
-      const [, before, path] = STATE_OF_FILE.exec(text.trimEnd()) || [];
+      const [, textBefore, path] = STATE_OF_FILE.exec(text.trimEnd()) || [];
       const isInside = path !== undefined && !path.startsWith("/") && !path.split("/").includes("..");
       const target = isInside ? uriInFolder(folder, path) : "";
       if (target === "" || this.readText(target, folder) === null) return [];
-      return [{ range: rangeInLine(line + 1, before.length, before.length + path.length), target, tooltip: path }];
+      return [{ range: rangeInLine(line + 1, textBefore.length, textBefore.length + path.length), target, tooltip: path }];
     });
   }
 }

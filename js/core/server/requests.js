@@ -1,15 +1,15 @@
 // Defines the handlers of all requests. A handler checks the parameters, calls the object that handles the kind of text (its `Language`,
 // language.js), and converts the result to the protocol's format.
 
-import { capabilitiesFor, readClient, RUN_TEST } from "./capabilities.js";
+import { listCapabilities, readClient, RUN_TEST } from "./capabilities.js";
 import { toCodeLens } from "./code_lens.js";
-import { quickFixes } from "./diagnostics.js";
+import { createQuickFixes } from "./diagnostics.js";
 import { findFolds } from "./folding_ranges.js";
 import { getField } from "./framing.js";
 import { INVALID_PARAMS, ProtocolError, needPosition, needRange, needText } from "./lsp_protocol.js";
 import { selectionRangeAt } from "./selection_ranges.js";
 import { TokenMemory } from "./token_memory.js";
-import { workspaceSymbols } from "./workspace_symbols.js";
+import { findWorkspaceSymbols } from "./workspace_symbols.js";
 import * as say from "../../words/server.js";
 
 /**
@@ -59,18 +59,18 @@ export class Requests {
    * Returns the handlers by method name.
    * @returns {Record<string, RequestHandler>}
    */
-  allHandlers() {
-    return { ...this.serverRequests(), ...this.positionRequests(), ...this.textRequests(), ...this.callRequests() };
+  createHandlers() {
+    return { ...this.createServerHandlers(), ...this.createPositionHandlers(), ...this.createTextHandlers(), ...this.createCallHandlers() };
   }
 
   // --- requests to the server
 
   /** @returns {Record<string, RequestHandler>} */
-  serverRequests() {
+  createServerHandlers() {
     return {
       "initialize": (params) => this.initialize(params),
       "shutdown": () => null,
-      "workspace/symbol": (params) => workspaceSymbols(this.server, needText(getField(params, "query"), "query")),
+      "workspace/symbol": (params) => findWorkspaceSymbols(this.server, needText(getField(params, "query"), "query")),
       "workspace/executeCommand": (params, pending) => this.execute(params, pending),
     };
   }
@@ -78,7 +78,7 @@ export class Requests {
   /** @param {any} params */
   initialize(params) {
     this.server.client = readClient(params);
-    return { capabilities: capabilitiesFor(this.server.client), serverInfo: { name: "mcs4 lsp" } };
+    return { capabilities: listCapabilities(this.server.client), serverInfo: { name: "mcs4 lsp" } };
   }
 
   /**
@@ -98,17 +98,17 @@ export class Requests {
    * Calls a function with the text that a request names, and with the language (language.js) of this text.
    * @template Result
    * @param {any} params
-   * @param {(language: Language, openText: OpenText) => Result} act
+   * @param {(language: Language, openText: OpenText) => Result} callback
    * @returns {Result | null} null for a text in an unknown language
    */
-  callWithLanguage(params, act) {
-    const { open: openText } = this.server.requestedText(params);
+  callWithLanguage(params, callback) {
+    const { open: openText } = this.server.getRequestedText(params);
     const language = this.server.findLanguage(openText);
-    return language && act(language, openText);
+    return language && callback(language, openText);
   }
 
   /** @returns {Record<string, RequestHandler>} */
-  textRequests() {
+  createTextHandlers() {
     return {
       "textDocument/documentSymbol": (params) => this.callWithLanguage(params, (language, openText) => (
         language.symbols ? language.symbols(openText) : [])),
@@ -122,11 +122,12 @@ export class Requests {
       "textDocument/foldingRange": (params) => this.callWithLanguage(params, (language, openText) => (
         findFolds(openText.lines, language.parts))),
       "textDocument/inlayHint": (params) => this.hints(params),
-      "textDocument/semanticTokens/full": (params) => this.colours(params, (openText, words) => this.tokens.allTokens(openText, words)),
+      "textDocument/semanticTokens/full": (params) => this.colours(params, (openText, words) => (
+        this.tokens.encodeAllTokens(openText, words))),
       "textDocument/semanticTokens/full/delta": (params) => this.colours(params, (openText, words) => (
-        this.tokens.changedTokens(openText, words, getField(params, "previousResultId")))),
+        this.tokens.encodeChangedTokens(openText, words, getField(params, "previousResultId")))),
       "textDocument/semanticTokens/range": (params) => this.colours(params, (openText, words) => (
-        this.tokens.tokensInRange(words, needRange(getField(params, "range"))))),
+        this.tokens.encodeTokensInRange(words, needRange(getField(params, "range"))))),
       "textDocument/diagnostic": (params) => this.diagnostic(params),
     };
   }
@@ -134,11 +135,11 @@ export class Requests {
   /**
    * Handles a request for semantic tokens.
    * @param {any} params
-   * @param {(openText: OpenText, words: import("./token_codes.js").ColouredWord[]) => object} act returns the response for the words to
-   *   colour
+   * @param {(openText: OpenText, words: import("./token_codes.js").ColouredWord[]) => object} callback returns the response for the words
+   *   to colour
    */
-  colours(params, act) {
-    return this.callWithLanguage(params, (language, openText) => act(openText, language.colours ? language.colours(openText) : []));
+  colours(params, callback) {
+    return this.callWithLanguage(params, (language, openText) => callback(openText, language.colours ? language.colours(openText) : []));
   }
 
   /**
@@ -158,15 +159,15 @@ export class Requests {
 
   /** @param {any} params */
   async codeAction(params) {
-    const text = this.server.requestedText(params);
+    const text = this.server.getRequestedText(params);
     const range = needRange(getField(params, "range"));
     await this.server.waitForCheck(text);
-    return quickFixes(text.open.uri, text.faults, range);
+    return createQuickFixes(text.open.uri, text.faults, range);
   }
 
   /** @param {any} params */
   async diagnostic(params) {
-    const text = this.server.requestedText(params);
+    const text = this.server.getRequestedText(params);
     await this.server.waitForCheck(text);
     const resultId = JSON.stringify(text.diagnostics);
     if (getField(params, "previousResultId") === resultId) return { kind: "unchanged", resultId };
@@ -179,20 +180,20 @@ export class Requests {
    * Calls a function with the position that a request names, and with the text and its language.
    * @template Result
    * @param {any} params
-   * @param {(language: Language, openText: OpenText, position: Position) => Result} act
+   * @param {(language: Language, openText: OpenText, position: Position) => Result} callback
    */
-  callAtPosition(params, act) {
+  callAtPosition(params, callback) {
     const position = needPosition(getField(params, "position"));
-    return this.callWithLanguage(params, (language, openText) => act(language, openText, openText.clampPosition(position)));
+    return this.callWithLanguage(params, (language, openText) => callback(language, openText, openText.clampPosition(position)));
   }
 
   /** @returns {Record<string, RequestHandler>} */
-  positionRequests() {
+  createPositionHandlers() {
     return {
       "textDocument/hover": (params) => this.hover(params),
       "textDocument/definition": (params) => this.callAtPosition(params, (language, openText, position) => {
-        const found = language.definition ? language.definition(openText, position) : null;
-        return found && ("uri" in found ? found : { uri: openText.uri, range: found });
+        const target = language.definition ? language.definition(openText, position) : null;
+        return target && ("uri" in target ? target : { uri: openText.uri, range: target });
       }),
       "textDocument/references": (params) => this.references(params),
       "textDocument/documentHighlight": (params) => this.callAtPosition(params, (language, openText, position) => (
@@ -209,11 +210,11 @@ export class Requests {
 
   /** @param {any} params */
   hover(params) {
-    const found = this.callAtPosition(params, (language, openText, position) => (
+    const hoverHelp = this.callAtPosition(params, (language, openText, position) => (
       language.hover ? language.hover(openText, position) : null));
-    if (!found) return null;
-    const { words, markdown, ...range } = found;
-    const contents = this.server.client.showsMarkdown ? { kind: "markdown", value: markdown } : { kind: "plaintext", value: words };
+    if (!hoverHelp) return null;
+    const { plainText, markdown, ...range } = hoverHelp;
+    const contents = this.server.client.showsMarkdown ? { kind: "markdown", value: markdown } : { kind: "plaintext", value: plainText };
     return { contents, ...range };
   }
 
@@ -257,7 +258,7 @@ export class Requests {
   // --- requests about routines
 
   /** @returns {Record<string, RequestHandler>} */
-  callRequests() {
+  createCallHandlers() {
     return {
       "textDocument/prepareCallHierarchy": (params) => this.callAtPosition(params, (language, openText, position) => {
         const routine = language.routine ? language.routine(openText, position) : null;
@@ -285,11 +286,11 @@ export class Requests {
    * Calls a function with the position of the call hierarchy item that a request names, and with the text and its language.
    * @template Result
    * @param {any} params
-   * @param {(language: Language, openText: OpenText, position: Position) => Result} act
+   * @param {(language: Language, openText: OpenText, position: Position) => Result} callback
    */
-  callAtItem(params, act) {
+  callAtItem(params, callback) {
     const item = getField(params, "item");
     const { start } = needRange(getField(item, "selectionRange"));
-    return this.callAtPosition({ textDocument: { uri: getField(item, "uri") }, position: start }, act);
+    return this.callAtPosition({ textDocument: { uri: getField(item, "uri") }, position: start }, callback);
   }
 }

@@ -30,7 +30,7 @@ function properlyContains(outer, inner) {
  * @param {Parts} parts
  * @returns {Range[]}
  */
-function enclosingRanges(lines, line, parts) {
+function findEnclosingRanges(lines, line, parts) {
   const folds = findFolds(lines, parts).filter(({ startLine, endLine }) => startLine <= line && line <= endLine);
   const ranges = [...folds, { startLine: 0, endLine: lines.length - 1 }];
   return ranges.sort((one, other) => one.endLine - one.startLine - other.endLine + other.startLine).map(({ startLine, endLine }) => (
@@ -55,7 +55,7 @@ export function selectionRangeAt(lines, { line, character }, columnRanges, parts
     .map(([from, to]) => ({ start: { line, character: from }, end: { line, character: to } }));
   /** @type {Range[]} */
   const nestedRanges = [];
-  for (const range of [...containingRanges, ...enclosingRanges(lines, line, parts)]) {
+  for (const range of [...containingRanges, ...findEnclosingRanges(lines, line, parts)]) {
     if (nestedRanges.length === 0 || properlyContains(range, nestedRanges[nestedRanges.length - 1])) nestedRanges.push(range);
   }
   const [outermost, ...inner] = nestedRanges.reverse();

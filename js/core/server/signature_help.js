@@ -14,27 +14,27 @@ import { describeDirective, describeInstruction } from "../text/text_help.js";
  * Returns a signature with the column ranges of its operands.
  * @param {string} label the form of the statement
  * @param {string} documentation
- * @param {{ operand: string, words: string }[]} operands
+ * @param {{ operand: string, description: string }[]} operands
  * @returns {Signature}
  */
 function createSignature(label, documentation, operands) {
   let column = label.indexOf(" ");
-  const parameters = operands.map(({ operand, words }) => {
+  const parameters = operands.map(({ operand, description }) => {
     const from = label.indexOf(operand, column + 1);
     column = from + operand.length;
-    return { label: /** @type {[number, number]} */ ([from, column]), documentation: words };
+    return { label: /** @type {[number, number]} */ ([from, column]), documentation: description };
   });
   return { label, documentation, parameters };
 }
 
 /**
  * Returns the signature of a directive.
- * @param {string} words the description of the directive, which starts with its form and a colon
+ * @param {string} description the description of the directive, which starts with its form and a colon
  * @param {string} kind the kind of operand, as the letter that instruction forms use
  */
-function directiveSignature(words, kind) {
-  const form = words.split(":")[0];
-  return createSignature(form, words, [{ operand: form.slice(form.indexOf(" ") + 1), words: describeOperand(kind) }]);
+function createDirectiveSignature(description, kind) {
+  const form = description.split(":")[0];
+  return createSignature(form, description, [{ operand: form.slice(form.indexOf(" ") + 1), description: describeOperand(kind) }]);
 }
 
 /**
@@ -42,12 +42,12 @@ function directiveSignature(words, kind) {
  * @param {string} head the upper-case mnemonic or directive
  * @param {Map<string, Instruction>} instructions
  */
-function statementSignature(head, instructions) {
-  if (describeDirective(head)) return directiveSignature(describeDirective(head), head === "ORG" ? "t" : "b");
+function createStatementSignature(head, instructions) {
+  if (describeDirective(head)) return createDirectiveSignature(describeDirective(head), head === "ORG" ? "t" : "b");
   const instruction = instructions.get(head);
   const kinds = instruction ? parseOperandKinds(instruction.form) : [];
   if (!instruction || kinds.length === 0) return null;
-  const operands = kinds.map((operand) => ({ operand, words: describeOperand(operand) }));
+  const operands = kinds.map((operand) => ({ operand, description: describeOperand(operand) }));
   return createSignature(instruction.form, describeInstruction(instruction), operands);
 }
 
@@ -59,12 +59,12 @@ function statementSignature(head, instructions) {
  * @returns {SignatureHelp | null}
  */
 export function signatureAt(line, column, instructions) {
-  const before = line.slice(0, column);
-  const { head, comment } = splitStatement(before);
-  if (!head || head.to === column || comment < before.length) return null;
-  const signature = statementSignature(head.text.toUpperCase(), instructions);
+  const textBefore = line.slice(0, column);
+  const { head, comment } = splitStatement(textBefore);
+  if (!head || head.to === column || comment < textBefore.length) return null;
+  const signature = createStatementSignature(head.text.toUpperCase(), instructions);
   if (!signature) return null;
-  const commas = before.slice(head.to).split(",").length - 1;
+  const commas = textBefore.slice(head.to).split(",").length - 1;
   const isList = head.text.toUpperCase() === "DB";
   if (commas >= signature.parameters.length && !isList) return null;
   return { signatures: [signature], activeSignature: 0, activeParameter: isList ? 0 : commas };

@@ -57,13 +57,14 @@ export class TestLanguage extends DependentLanguage {
    */
   async findErrors({ uri, lines, text }) {
     const dependencies = this.findDependencies(uri);
-    const dependencyError = this.dependencyError(dependencies);
-    if (dependencyError) return { faults: [dependencyError], isWhole: true };
+    const dependencyError = this.findDependencyError(dependencies);
+    if (dependencyError) return { faults: [dependencyError], isComplete: true };
     const { prepared } = this.prepareTexts({ boardText: dependencies.board.text || "", programText: dependencies.program.text || "" });
-    if (!prepared || text.trim() === "") return { faults: [], isWhole: true };
-    const sources = dependencies.tests.map((each) => ({ name: each.uri, text: each.uri === uri ? text : each.text || "" }));
+    if (!prepared || text.trim() === "") return { faults: [], isComplete: true };
+    const sources = dependencies.tests.map((namedText) => (
+      { name: namedText.uri, text: namedText.uri === uri ? text : namedText.text || "" }));
     const { faults } = readSources(sources, prepared.names);
-    return { faults: faults.filter(({ file }) => file === uri).map((fault) => locateError(lines, fault)), isWhole: true };
+    return { faults: faults.filter(({ file }) => file === uri).map((fault) => locateError(lines, fault)), isComplete: true };
   }
 
   /**
@@ -81,7 +82,7 @@ export class TestLanguage extends DependentLanguage {
    */
   completion(openText, { line, character }, trigger) {
     if (trigger !== "" && openText.lines[line].slice(0, character).trim() === "") return { from: character, to: character, list: [] };
-    return this.addKinds(completeTest(openText.lines, line, character, this.names(openText), this.forms));
+    return this.addKinds(completeTest(openText.lines, line, character, this.findNames(openText), this.forms));
   }
 
   /**

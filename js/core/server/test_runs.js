@@ -15,15 +15,15 @@ import * as say from "../../words/server.js";
  *
  * The result of a test: a message, whether the test passed, and its failure (null for none). The failure is the error in the failed line,
  * with the URI of the test file.
- * @typedef {{ words: string, hasPassed: boolean, failure: { uri: string, fault: ShownFault } | null }} TestResult
+ * @typedef {{ message: string, hasPassed: boolean, failure: { uri: string, fault: ShownFault } | null }} TestResult
  */
 
 /**
  * Returns the result for a test that did not run.
- * @param {string} words the reason
+ * @param {string} reason
  * @returns {TestResult}
  */
-const createNotRunResult = (words) => ({ words, hasPassed: false, failure: null });
+const createNotRunResult = (reason) => ({ message: reason, hasPassed: false, failure: null });
 
 export class TestRuns {
   /**
@@ -52,9 +52,9 @@ export class TestRuns {
     this.runNumber += 1;
     const { runNumber } = this;
     const { board, program, tests } = this.findDependencies(uri);
-    const missingFile = [board, program].find((each) => each.text === null);
+    const missingFile = [board, program].find((dependency) => dependency.text === null);
     if (missingFile) return createNotRunResult(say.missingDependency(decodeFileName(missingFile.uri)));
-    const sources = tests.map((each) => ({ name: each.uri, text: each.uri === uri ? text : each.text || "" }));
+    const sources = tests.map((namedText) => ({ name: namedText.uri, text: namedText.uri === uri ? text : namedText.text || "" }));
     const shouldContinue = async () => {
       await this.pause();
       return runNumber === this.runNumber && !pending.isCancelled;
@@ -64,10 +64,10 @@ export class TestRuns {
     if (faults.length > 0) return createNotRunResult(this.describeError(faults[0], { board, program, tests }));
     const failedTest = outcomes.find(({ failure }) => failure !== null);
     if (outcomes.length === 0) return createNotRunResult(say.noTest(name));
-    if (!failedTest || !failedTest.failure) return { words: say.testPassed(name), hasPassed: true, failure: null };
+    if (!failedTest || !failedTest.failure) return { message: say.testPassed(name), hasPassed: true, failure: null };
     const { source, line, words } = failedTest.failure;
     const message = say.testFailed(failedTest.name, line, words);
-    return { words: message, hasPassed: false, failure: { uri: source, fault: locateError(lines, { line, column: -1, words: message }) } };
+    return { message, hasPassed: false, failure: { uri: source, fault: locateError(lines, { line, column: -1, words: message }) } };
   }
 
   /**
@@ -79,8 +79,8 @@ export class TestRuns {
   async runOneTest(texts, shouldContinue, only) {
     try {
       return await runTests(this.engine, texts, shouldContinue, { only });
-    } catch (thrown) {
-      throw thrown instanceof CancelledError ? new ProtocolError(REQUEST_CANCELLED, IT_WAS_CANCELLED) : thrown;
+    } catch (error) {
+      throw error instanceof CancelledError ? new ProtocolError(REQUEST_CANCELLED, IT_WAS_CANCELLED) : error;
     }
   }
 

@@ -50,7 +50,7 @@ export class TextBench {
    * @param {Uint8Array} file the session file; not changed
    * @param {string} lines
    */
-  refusal(file, lines) {
+  findRefusal(file, lines) {
     return parseRefusal(this.engine.ask(file, lines).answers[0]);
   }
 
@@ -58,7 +58,7 @@ export class TextBench {
    * Returns the error in a board text; null if there is none.
    * @param {string} text the result of `sentText`
    */
-  wiring(text) {
+  findBoardError(text) {
     return readWiring(this.engine.ask(this.emptySession, `wiring\n${text}.\n`).answers[0]);
   }
 
@@ -66,7 +66,7 @@ export class TextBench {
    * Returns the errors in the lines of a program.
    * @param {string} text the result of `sentText`
    */
-  errors(text) {
+  findLineErrors(text) {
     return readErrors(this.engine.ask(this.emptySession, `errors\n${text}.\n`).answers);
   }
 
@@ -74,41 +74,41 @@ export class TextBench {
    * Returns the error with which the bench rejects a program on the current board; null if the bench accepts the program.
    * @param {string} text the result of `sentText`
    */
-  programRefusal(text) {
-    return this.refusal(this.boardSession.file, `asm\n${text}.\n`);
+  findProgramRefusal(text) {
+    return this.findRefusal(this.boardSession.file, `asm\n${text}.\n`);
   }
 
   /**
    * Returns the queries of this bench as callbacks for TextErrorFinder.
    * @returns {import("../text/text_error_finder.js").ErrorQueries}
    */
-  queries() {
+  createQueries() {
     return {
-      findBoardError: async (sent) => this.wiring(sent),
-      findLineErrors: async (sent) => this.errors(sent),
-      findRefusal: async (sent) => this.programRefusal(sent),
-      readMap: async (sent) => this.read(sent).map,
+      findBoardError: async (sentBoard) => this.findBoardError(sentBoard),
+      findLineErrors: async (sentProgram) => this.findLineErrors(sentProgram),
+      findRefusal: async (sentProgram) => this.findProgramRefusal(sentProgram),
+      readMap: async (sentProgram) => this.read(sentProgram).map,
       readRomNumbers: async () => this.boardSession.roms,
     };
   }
 
   /**
    * Returns the answers to `map` for a program; null if the bench rejects the program.
-   * @param {string} sent the result of `sentText`
+   * @param {string} sentProgram the result of `sentText`
    */
-  map(sent) {
-    if (findSendingError(sent)) return null;
-    const { answers } = this.engine.ask(this.emptySession, `map\n${sent}.\n`);
+  readMap(sentProgram) {
+    if (findSendingError(sentProgram)) return null;
+    const { answers } = this.engine.ask(this.emptySession, `map\n${sentProgram}.\n`);
     return parseRefusal(answers[0]) ? null : answers;
   }
 
   /**
    * Assembles a program. If the text is the same as in the last call, returns the same result again.
-   * @param {string} sent the result of `sentText`
+   * @param {string} sentProgram the result of `sentText`
    * @returns {Program}
    */
-  read(sent) {
-    if (!this.program || this.program.text !== sent) this.program = readProgram(this.engine, sent);
+  read(sentProgram) {
+    if (!this.program || this.program.text !== sentProgram) this.program = readProgram(this.engine, sentProgram);
     return this.program;
   }
 }

@@ -98,7 +98,7 @@ export function findProjectErrors(uri, text, readText) {
 export function findProject(uri, readText) {
   let folder = parentFolder(uri);
   for (let foldersLeft = MAX_FOLDERS; foldersLeft > 0 && folder.split("/").length > 4; foldersLeft--) {
-    const project = projectInFolder(folder, readText);
+    const project = findProjectInFolder(folder, readText);
     if (project) return project;
     folder = parentFolder(folder.slice(0, -1));
   }
@@ -111,7 +111,7 @@ export function findProject(uri, readText) {
  * @param {ReadText} readText
  * @returns {Project | null}
  */
-export function projectInFolder(folder, readText) {
+export function findProjectInFolder(folder, readText) {
   const text = readText(folder + PROJECT_FILE, "");
   const { names } = text === null ? { names: null } : readProject(text);
   if (!names) return null;

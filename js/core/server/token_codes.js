@@ -47,15 +47,15 @@ export function encodeTokens(words) {
 /**
  * Returns the edits that change an encoding to another encoding: no edit if both are equal, or else one edit that replaces a range of
  * numbers.
- * @param {number[]} before
- * @param {number[]} after
+ * @param {number[]} oldTokens
+ * @param {number[]} newTokens
  * @returns {{ start: number, deleteCount: number, data: number[] }[]}
  */
-export function tokenEdits(before, after) {
-  const minLength = Math.min(before.length, after.length);
+export function computeTokenEdits(oldTokens, newTokens) {
+  const minLength = Math.min(oldTokens.length, newTokens.length);
   let [start, suffix] = [0, 0];
-  while (start < minLength && before[start] === after[start]) start += 1;
-  while (suffix < minLength - start && before[before.length - 1 - suffix] === after[after.length - 1 - suffix]) suffix += 1;
-  if (start === before.length && start === after.length) return [];
-  return [{ start, deleteCount: before.length - start - suffix, data: after.slice(start, after.length - suffix) }];
+  while (start < minLength && oldTokens[start] === newTokens[start]) start += 1;
+  while (suffix < minLength - start && oldTokens[oldTokens.length - 1 - suffix] === newTokens[newTokens.length - 1 - suffix]) suffix += 1;
+  if (start === oldTokens.length && start === newTokens.length) return [];
+  return [{ start, deleteCount: oldTokens.length - start - suffix, data: newTokens.slice(start, newTokens.length - suffix) }];
 }

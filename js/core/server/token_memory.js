@@ -1,6 +1,6 @@
 // Stores the semantic tokens that the server last sent for each text, so that an editor can request only the changes.
 
-import { tokenEdits, encodeTokens } from "./token_codes.js";
+import { computeTokenEdits, encodeTokens } from "./token_codes.js";
 
 /**
  * @typedef {import("./open_text.js").OpenText} OpenText
@@ -37,7 +37,7 @@ export class TokenMemory {
    * @param {OpenText} openText
    * @param {ColouredWord[]} words
    */
-  allTokens({ uri }, words) {
+  encodeAllTokens({ uri }, words) {
     const encodedTokens = encodeTokens(words);
     return { resultId: this.store(uri, encodedTokens), data: encodedTokens };
   }
@@ -49,11 +49,11 @@ export class TokenMemory {
    * @param {ColouredWord[]} words
    * @param {unknown} previousId the id of the response that the client has
    */
-  changedTokens(openText, words, previousId) {
+  encodeChangedTokens(openText, words, previousId) {
     const lastResponse = this.sentTokens.get(openText.uri);
-    if (!lastResponse || lastResponse.resultId !== previousId) return this.allTokens(openText, words);
+    if (!lastResponse || lastResponse.resultId !== previousId) return this.encodeAllTokens(openText, words);
     const encodedTokens = encodeTokens(words);
-    return { resultId: this.store(openText.uri, encodedTokens), edits: tokenEdits(lastResponse.data, encodedTokens) };
+    return { resultId: this.store(openText.uri, encodedTokens), edits: computeTokenEdits(lastResponse.data, encodedTokens) };
   }
 
   /**
@@ -61,7 +61,7 @@ export class TokenMemory {
    * @param {ColouredWord[]} words
    * @param {Range} range
    */
-  tokensInRange(words, { start, end }) {
+  encodeTokensInRange(words, { start, end }) {
     return { data: encodeTokens(words.filter(({ line }) => start.line <= line && line <= end.line)) };
   }
 }

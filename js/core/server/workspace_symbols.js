@@ -32,8 +32,8 @@ export function matchesQuery(name, query) {
  * @param {LanguageServer} server
  * @param {string} query
  */
-export function workspaceSymbols(server, query) {
-  return server.allTexts().flatMap((openText) => {
+export function findWorkspaceSymbols(server, query) {
+  return server.listTexts().flatMap((openText) => {
     const language = server.findLanguage(openText);
     const symbols = language && language.symbols ? language.symbols(openText) : [];
     const containerName = decodeFileName(openText.uri);

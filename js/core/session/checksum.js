@@ -25,6 +25,6 @@ function addByte(sum, byte) {
 export function checksum(bytes) {
   let sum = 0;
   for (let at = 0; at < bytes.length; at++) sum = addByte(sum, bytes[at]);
-  for (let left = bytes.length; left > 0; left = Math.floor(left / 256)) sum = addByte(sum, left & 255);
+  for (let remaining = bytes.length; remaining > 0; remaining = Math.floor(remaining / 256)) sum = addByte(sum, remaining & 255);
   return ~sum >>> 0;
 }

@@ -60,7 +60,7 @@ class Drawing {
 
   /** Draws the displays and lamp groups whose lamps are all on the board. */
   drawGroups() {
-    for (const group of this.face.groups.filter((each) => groupEnd(each) <= this.lampCount)) {
+    for (const group of this.face.groups.filter((candidate) => groupEnd(candidate) <= this.lampCount)) {
       for (const lamp of groupLamps(group)) this.drawnLamps.add(lamp);
       if (group.kind === "display") this.drawDisplay(group);
       else if (group.kind === "die") {
@@ -92,9 +92,9 @@ class Drawing {
     const columns = Math.max(...cells.map(({ column }) => column)) + 1;
     const rows = Math.max(...cells.map(({ row }) => row)) + 1;
     const pitch = Math.min(16, (PICTURE_WIDTH - 2 * GAP) / columns);
-    const left = (PICTURE_WIDTH - columns * pitch) / 2;
+    const leftMargin = (PICTURE_WIDTH - columns * pitch) / 2;
     for (const { lamp, column, row } of cells) {
-      this.drawLamp(lamp, left + (column + 0.5) * pitch, this.bottom + (row + 0.5) * pitch, pitch * 0.36);
+      this.drawLamp(lamp, leftMargin + (column + 0.5) * pitch, this.bottom + (row + 0.5) * pitch, pitch * 0.36);
     }
     this.bottom += rows * pitch + GAP;
   }
@@ -114,10 +114,10 @@ class Drawing {
     if (keys.length === 0) return;
     const columns = Math.max(...keys.map(({ column }) => column)) + 1;
     const width = Math.min(30, (PICTURE_WIDTH - 2 * GAP) / columns);
-    const left = (PICTURE_WIDTH - columns * width) / 2;
+    const leftMargin = (PICTURE_WIDTH - columns * width) / 2;
     const height = Math.min(14, width);
     for (const { row, column, legend } of keys) {
-      const [x, y] = [left + column * width + 1, this.bottom + row * height + 1];
+      const [x, y] = [leftMargin + column * width + 1, this.bottom + row * height + 1];
       this.shapes.push({ kind: "key", x, y, width: width - 2, height: height - 2, legend });
     }
     this.bottom += (Math.max(...keys.map(({ row }) => row)) + 1) * height + GAP;

@@ -39,7 +39,7 @@ const TEXT_FILES = /(^[^.]*|\.(txt|text))$/i;
  * @param {string} reason
  * @returns {UnusableFile}
  */
-function unusableFileError(reason) {
+function createUnusableFileError(reason) {
   return new UnusableFile(say.supportedFiles(reason));
 }
 
@@ -62,16 +62,17 @@ function decodeText(bytes) {
  * @param {string} script
  * @returns {FileTexts}
  */
-function textsInLines(script) {
+function readTextsInLines(script) {
   const inputs = readInputs(script);
   /** @type {(kind: string) => string | null} */
-  const lastText = (kind) => {
-    const found = inputs.filter((input) => input.kind === kind).pop();
-    return found ? found.text.map((line) => `${line}\n`).join("") : null;
+  const findLastText = (kind) => {
+    const lastInput = inputs.filter((input) => input.kind === kind).pop();
+    return lastInput ? lastInput.text.map((line) => `${line}\n`).join("") : null;
   };
   const otherInputs = inputs.filter(({ kind }) => kind !== "wire" && kind !== "asm");
-  const lines = otherInputs.map(({ line, text }) => [line, ...text, ...(text.length > 0 ? ["."] : [])].map((each) => `${each}\n`).join(""));
-  return { board: lastText("wire"), program: lastText("asm"), tests: null, properties: null, lines: lines.join("") };
+  const lines = otherInputs.map(({ line, text }) => (
+    [line, ...text, ...(text.length > 0 ? ["."] : [])].map((benchLine) => `${benchLine}\n`).join("")));
+  return { board: findLastText("wire"), program: findLastText("asm"), tests: null, properties: null, lines: lines.join("") };
 }
 
 /**
@@ -86,7 +87,7 @@ function readTexts(name, text) {
   if (TEST_FILES.test(name)) return { ...noTexts, tests: text };
   if (PROPERTY_FILES.test(name)) return { ...noTexts, properties: text };
   if (PROGRAM_FILES.test(name)) return { ...noTexts, program: text };
-  if (/^[ \t]*(wire|asm)[ \t]*\r?$/m.test(text)) return textsInLines(text);
+  if (/^[ \t]*(wire|asm)[ \t]*\r?$/m.test(text)) return readTextsInLines(text);
   if (/^([ \t]*([#;].*)?\r?\n)*[ \t]*test[ \t]+[^01\s]/.test(text)) return { ...noTexts, tests: text };
   if (/^[ \t]*\[\[?(rom|ram|chain|keys|lamp)\]\]?/m.test(text)) return { ...noTexts, board: text };
   return { ...noTexts, program: text, isGuess: true };
@@ -102,15 +103,15 @@ function readTextFile(name, text) {
   if (name === PROJECT_FILE) throw new UnusableFile(say.NAMES_FILES);
   const kinds = [HEX_FILES, BOARD_FILES, PROGRAM_FILES, TEST_FILES, PROPERTY_FILES, TEXT_FILES];
   if (!kinds.some((ending) => ending.test(name)) && !/^\s*(:|S)[0-9A-F]{9}/i.test(text)) {
-    throw unusableFileError(say.NOT_A_KIND);
+    throw createUnusableFileError(say.NOT_A_KIND);
   }
   if (HEX_FILES.test(name) || /^\s*:[0-9A-F]{10}/i.test(text)) return { kind: "image", bytes: readHex(text) };
   if (/^\s*S[0-9][0-9A-F]{8}/.test(text)) return { kind: "image", bytes: readSRecords(text) };
   const texts = readTexts(name, text);
-  for (const each of [texts.board, texts.program, texts.tests, texts.properties]) {
-    if (each === null || each.length <= MAX_STORED_LENGTH) continue;
-    const [size, most] = [each.length, MAX_STORED_LENGTH].map((count) => count.toLocaleString("en"));
-    throw new UnusableFile(say.tooLong(size, most));
+  for (const storedText of [texts.board, texts.program, texts.tests, texts.properties]) {
+    if (storedText === null || storedText.length <= MAX_STORED_LENGTH) continue;
+    const [size, maxLength] = [storedText.length, MAX_STORED_LENGTH].map((count) => count.toLocaleString("en"));
+    throw new UnusableFile(say.tooLong(size, maxLength));
   }
   return { kind: "texts", texts };
 }
@@ -128,5 +129,5 @@ export function readOpenedFile(name, bytes) {
   if (IMAGE_FILES.test(name)) return { kind: "image", bytes: readBytes(bytes) };
   const text = decodeText(bytes);
   if (text !== null && text.trim() !== "") return readTextFile(name, text);
-  throw unusableFileError(text === null ? say.NOT_A_TEXT : say.EMPTY);
+  throw createUnusableFileError(text === null ? say.NOT_A_TEXT : say.EMPTY);
 }

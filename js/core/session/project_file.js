@@ -48,9 +48,9 @@ export class TextTooLong extends InvalidProject {}
 export function tooLongMessage({ boardText, programText, testText = "", propertiesText = "" }) {
   const namedTexts = [[say.BOARD_TEXT, boardText], [say.SOURCE_TEXT, programText], [say.TESTS_TEXT, testText],
     [say.PROPERTIES_TEXT, propertiesText]];
-  const [what, text] = namedTexts.find(([, each]) => each.length > MAX_STORED_LENGTH) || namedTexts[0];
-  const [size, most] = [text.length, MAX_STORED_LENGTH].map((count) => count.toLocaleString("en"));
-  return text.length > MAX_STORED_LENGTH ? say.textTooLong(what, size, most) : "";
+  const [what, text] = namedTexts.find(([, candidate]) => candidate.length > MAX_STORED_LENGTH) || namedTexts[0];
+  const [size, maxLength] = [text.length, MAX_STORED_LENGTH].map((count) => count.toLocaleString("en"));
+  return text.length > MAX_STORED_LENGTH ? say.textTooLong(what, size, maxLength) : "";
 }
 
 // --- writing ---
@@ -61,7 +61,7 @@ export function tooLongMessage({ boardText, programText, testText = "", properti
  * @param {Word} word
  * @param {string} text
  */
-function textLines(word, text) {
+function formatTextLines(word, text) {
   const lines = text.split("\n");
   if (lines[lines.length - 1] === "") lines.pop();
   return [word, ...lines.map((line) => (/^\.+$/.test(line) ? `.${line}` : line)), DOT];
@@ -72,7 +72,7 @@ function textLines(word, text) {
  * @param {Word} word
  * @param {string} text
  */
-function unendedLine(word, text) {
+function listUnendedLine(word, text) {
   return text === "" || text.endsWith("\n") ? [] : [`unended ${word}`];
 }
 
@@ -80,7 +80,7 @@ function unendedLine(word, text) {
  * Returns the lines of a project file that contain a session file.
  * @param {Uint8Array} file
  */
-function sessionLines(file) {
+function formatSessionLines(file) {
   const lines = [];
   for (let at = 0; at < file.length; at += BYTES_PER_LINE) {
     const bytes = file.subarray(at, at + BYTES_PER_LINE);
@@ -114,11 +114,11 @@ function toOneLine(text) {
  */
 export function projectLines({ name, boardText, programText, testText = "", propertiesText = "", breakpoints = [], watched = [] }) {
   const [board, program, tests, properties] = [boardText, programText, testText, propertiesText].map(removeCarriageReturns);
-  const head = [`name ${toOneLine(name)}`, ...unendedLine("wire", board), ...unendedLine("asm", program), ...unendedLine("test", tests),
-    ...unendedLine("properties", properties), ...formatBreakpoints(breakpoints),
+  const head = [`name ${toOneLine(name)}`, ...listUnendedLine("wire", board), ...listUnendedLine("asm", program),
+    ...listUnendedLine("test", tests), ...listUnendedLine("properties", properties), ...formatBreakpoints(breakpoints),
     ...watched.map((text) => ["value", toOneLine(text)].join(" "))];
-  return [...head, ...textLines("wire", board), ...textLines("asm", program), ...(tests === "" ? [] : textLines("test", tests)),
-    ...(properties === "" ? [] : textLines("properties", properties))];
+  return [...head, ...formatTextLines("wire", board), ...formatTextLines("asm", program),
+    ...(tests === "" ? [] : formatTextLines("test", tests)), ...(properties === "" ? [] : formatTextLines("properties", properties))];
 }
 
 /**
@@ -126,7 +126,7 @@ export function projectLines({ name, boardText, programText, testText = "", prop
  * @param {Project} project
  */
 export function projectText(project) {
-  const body = `${[say.ABOUT_PROJECT, ...projectLines(project), ...sessionLines(project.file), LAST_LINE].join("\n")}\n`;
+  const body = `${[say.ABOUT_PROJECT, ...projectLines(project), ...formatSessionLines(project.file), LAST_LINE].join("\n")}\n`;
   return `${FIRST_LINE}\ncksum ${checksum(new TextEncoder().encode(body))}\n${body}`;
 }
 
@@ -148,11 +148,11 @@ export class Lines {
     this.at = 0;
   }
 
-  get next() {
+  get nextLine() {
     return this.lines[this.at];
   }
 
-  take() {
+  takeLine() {
     const line = this.lines[this.at];
     this.at += 1;
     return line;
@@ -163,7 +163,7 @@ export class Lines {
    * @param {string} expected a description of the expected line
    * @returns {InvalidProject}
    */
-  fault(expected) {
+  createLineError(expected) {
     return new InvalidProject(say.lineMustBe(this.at + 1, expected));
   }
 
@@ -172,7 +172,7 @@ export class Lines {
    * @param {string} word
    */
   readUpToDot(word) {
-    if (this.next !== word) throw this.fault(`\`${word}\``);
+    if (this.nextLine !== word) throw this.createLineError(`\`${word}\``);
     const end = this.lines.indexOf(DOT, this.at + 1);
     if (end < 0) throw new InvalidProject(say.noEnd(word));
     const lines = this.lines.slice(this.at + 1, end);
@@ -192,10 +192,10 @@ function checkEnvelope(text) {
   if (!version) throw new InvalidProject(say.NO_PROJECT);
   if (firstLine !== FIRST_LINE) throw new InvalidProject(say.otherVersion(version[1]));
   if (!text.endsWith(`\n${LAST_LINE}\n`)) throw new InvalidProject(say.projectCutOff(LAST_LINE));
-  const found = /^[^\n]*\ncksum (\d+)\n/.exec(text);
-  if (!found) return;
-  const sum = checksum(new TextEncoder().encode(text.slice(found[0].length)));
-  if (sum !== Number(found[1])) {
+  const match = /^[^\n]*\ncksum (\d+)\n/.exec(text);
+  if (!match) return;
+  const sum = checksum(new TextEncoder().encode(text.slice(match[0].length)));
+  if (sum !== Number(match[1])) {
     throw new InvalidProject(say.OTHER_CHECKSUM);
   }
 }
@@ -212,15 +212,15 @@ function readHead(lines) {
   const breakpoints = [];
   /** @type {string[]} */
   const watched = [];
-  while (lines.next !== "wire") {
-    const [match, word, value] = /^(name|unended|value) (.+)$|^#/.exec(lines.next) || [];
-    const breakpoint = parseBreakpoint(lines.next || "");
+  while (lines.nextLine !== "wire") {
+    const [match, word, value] = /^(name|unended|value) (.+)$|^#/.exec(lines.nextLine) || [];
+    const breakpoint = parseBreakpoint(lines.nextLine || "");
     if (breakpoint) breakpoints.push(breakpoint);
-    else if (match === undefined) throw lines.fault(say.HEAD_LINE);
+    else if (match === undefined) throw lines.createLineError(say.HEAD_LINE);
     if (word === "name") name = shortName(value);
     if (word === "unended") unended.add(value);
     if (word === "value") watched.push(value);
-    lines.take();
+    lines.takeLine();
   }
   return { name, unended, breakpoints, watched };
 }
@@ -246,7 +246,7 @@ export function readTexts(lines, acceptsLongTexts = false) {
   const { name, unended, breakpoints, watched } = readHead(lines);
   const [boardText, programText] = [readText(lines, "wire", unended), readText(lines, "asm", unended)];
   const [testText, propertiesText] = (/** @type {Word[]} */ (["test", "properties"])).map((word) => (
-    lines.next === word ? readText(lines, word, unended) : ""));
+    lines.nextLine === word ? readText(lines, word, unended) : ""));
   const texts = { name, boardText, programText, testText, propertiesText };
   const message = tooLongMessage(texts);
   if (message && !acceptsLongTexts) throw new TextTooLong(message);
@@ -264,12 +264,12 @@ function readFile(lines, size) {
   const file = new Uint8Array(size);
   let end = 0;
   lines.readUpToDot(`session ${size}`).forEach((line, at) => {
-    const found = /^([0-9a-f]{5}) ([0-9a-f]{32})$/.exec(line);
-    const address = found ? parseInt(found[1], 16) : 0;
-    if (!found || address % BYTES_PER_LINE !== 0 || address < end || address >= size) {
+    const match = /^([0-9a-f]{5}) ([0-9a-f]{32})$/.exec(line);
+    const address = match ? parseInt(match[1], 16) : 0;
+    if (!match || address % BYTES_PER_LINE !== 0 || address < end || address >= size) {
       throw new InvalidProject(say.notOfSession(firstLineNumber + at));
     }
-    file.set((found[2].match(/../g) || []).map((digits) => parseInt(digits, 16)), address);
+    file.set((match[2].match(/../g) || []).map((digits) => parseInt(digits, 16)), address);
     end = address + BYTES_PER_LINE;
   });
   return file;
@@ -288,13 +288,13 @@ export function readProject(bytes, size, acceptsLongTexts = false) {
   const text = decodeUtf8(bytes);
   checkEnvelope(text);
   const lines = new Lines(text);
-  lines.take();
-  if (CHECKSUM_LINE.test(lines.next)) lines.take();
+  lines.takeLine();
+  if (CHECKSUM_LINE.test(lines.nextLine)) lines.takeLine();
   const texts = readTexts(lines, acceptsLongTexts);
   const file = readFile(lines, size);
-  if (lines.next !== LAST_LINE) throw lines.fault(say.END_OF_FILE);
-  lines.take();
-  if (lines.at !== lines.lines.length - 1) throw lines.fault(say.END_OF_FILE);
+  if (lines.nextLine !== LAST_LINE) throw lines.createLineError(say.END_OF_FILE);
+  lines.takeLine();
+  if (lines.at !== lines.lines.length - 1) throw lines.createLineError(say.END_OF_FILE);
   return { ...texts, file };
 }
 

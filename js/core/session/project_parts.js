@@ -24,7 +24,7 @@ export const PROJECT_FILE_NAMES = {
  * Returns the text of the project file `mcs4.toml`.
  * @param {Project} project
  */
-function projectFileText({ testText, propertiesText }) {
+function formatProjectFile({ testText, propertiesText }) {
   const { board, program, tests, properties } = PROJECT_FILE_NAMES;
   const values = {
     board, program, ...(testText ? { tests: [tests] } : {}), ...(propertiesText ? { properties: [properties] } : {}),
@@ -46,7 +46,7 @@ export function splitProject(project) {
     { name: PROJECT_FILE_NAMES.values, content: joinLines(watched) },
   ];
   return [
-    { name: PROJECT_FILE_NAMES.project, content: projectFileText(project) },
+    { name: PROJECT_FILE_NAMES.project, content: formatProjectFile(project) },
     { name: PROJECT_FILE_NAMES.board, content: boardText },
     { name: PROJECT_FILE_NAMES.program, content: programText },
     ...texts.filter(({ content }) => content !== ""),

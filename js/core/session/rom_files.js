@@ -26,7 +26,7 @@ export class RomFiles {
   }
 
   /** Resolves to the ROM numbers on the board. */
-  async chips() {
+  async readChips() {
     return readBoard(await this.calls.ask("board\n")).roms.map(({ chip }) => chip);
   }
 
@@ -37,7 +37,7 @@ export class RomFiles {
    * @param {Int16Array} bytes the bytes by address, NO_BYTE where the image has none
    */
   async load(name, bytes) {
-    const chips = await this.chips();
+    const chips = await this.readChips();
     const missingAddress = bytes.findIndex((byte, at) => byte !== NO_BYTE && !chips.includes(Math.floor(at / PAGE_BYTES)));
     if (missingAddress >= 0) {
       const chip = Math.floor(missingAddress / PAGE_BYTES);
@@ -54,19 +54,19 @@ export class RomFiles {
    * Resolves to the bytes of all ROMs on the board, by address. An address without a ROM has NO_BYTE, even if `list` reports a byte there.
    */
   async bytes() {
-    const chips = await this.chips();
+    const chips = await this.readChips();
     const allBytes = parseRomBytes(await this.calls.ask(listQueries(PAGE_NUMBERS.filter((page) => chips.includes(page)))));
     return allBytes.map((byte, at) => (chips.includes(Math.floor(at / PAGE_BYTES)) ? byte : NO_BYTE));
   }
 
   /** Resolves to the ROM contents in Intel HEX format; to "" if the board has no ROM. */
   async hex() {
-    return (await this.chips()).length === 0 ? "" : writeHex(await this.bytes());
+    return (await this.readChips()).length === 0 ? "" : writeHex(await this.bytes());
   }
 
   /** Resolves to the bytes from address 000 to the end of the last ROM on the board, with 0 for missing ROMs. */
   async image() {
-    const end = (Math.max(-1, ...(await this.chips())) + 1) * PAGE_BYTES;
+    const end = (Math.max(-1, ...(await this.readChips())) + 1) * PAGE_BYTES;
     return Uint8Array.from((await this.bytes()).subarray(0, end), (byte) => Math.max(0, byte));
   }
 }

@@ -13,7 +13,7 @@ import * as say from "../../words/session.js";
  * @param {string} text
  * @param {string} mark the character that starts a comment
  */
-function firstSentence(text, mark) {
+function findFirstSentence(text, mark) {
   const commentLines = [];
   for (const line of text.split("\n")) {
     const comment = line.startsWith(mark) ? line.replace(/^[#; ]+|[#; ]+$/g, "") : "";
@@ -30,7 +30,7 @@ function firstSentence(text, mark) {
  * @param {string} programText
  */
 export function sessionTitle(boardText, programText) {
-  return new Face(boardText).title || firstSentence(boardText, "#") || firstSentence(programText, ";");
+  return new Face(boardText).title || findFirstSentence(boardText, "#") || findFirstSentence(programText, ";");
 }
 
 /**

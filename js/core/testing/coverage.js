@@ -9,8 +9,8 @@ import * as say from "../../words/testing.js";
  * @typedef {import("./recorders.js").ExecutionRecorder} ExecutionRecorder
  *
  * The coverage of a line with an instruction. `count` is how often the instruction ran. `isJump` is true for a conditional jump, and
- * `taken` is how often it jumped (0 for any other instruction).
- * @typedef {{ line: number, count: number, isJump: boolean, taken: number }} LineCoverage
+ * `jumpCount` is how often it jumped (0 for any other instruction).
+ * @typedef {{ line: number, count: number, isJump: boolean, jumpCount: number }} LineCoverage
  *
  * A range of consecutive instruction lines that never ran. `from` and `to` are its first and last line number.
  * @typedef {{ from: number, to: number }} LineRange
@@ -18,11 +18,11 @@ import * as say from "../../words/testing.js";
  * A label that a JMS calls. `line` is the line number of the label, and `count` is how often the instruction at the label ran.
  * @typedef {{ label: string, line: number, count: number }} Subroutine
  *
- * The coverage of a program. `instructions` and `ways` are the total numbers of instructions and branch directions. `run` and
- * `directionsRun` are the numbers of instructions and branch directions that were executed. `never` lists the ranges of lines that never
- * ran.
- * @typedef {{ lines: LineCoverage[], instructions: number, run: number, ways: number, directionsRun: number, never: LineRange[],
- *   subroutines: Subroutine[] }} Coverage
+ * The coverage of a program. `instructions` and `directions` are the total numbers of instructions and branch directions.
+ * `instructionsRun` and `directionsRun` are the numbers of those that were executed. `unexecutedRanges` lists the ranges of lines that
+ * never ran.
+ * @typedef {{ lines: LineCoverage[], instructions: number, instructionsRun: number, directions: number, directionsRun: number,
+ *   unexecutedRanges: LineRange[], subroutines: Subroutine[] }} Coverage
  */
 
 /**
@@ -31,14 +31,14 @@ import * as say from "../../words/testing.js";
  * @param {SourceMap} map
  * @returns {LineCoverage[]}
  */
-function coveredLines({ codes, startCounts, jumpCounts }, map) {
+function listCoveredLines({ codes, startCounts, jumpCounts }, map) {
   /** @type {LineCoverage[]} */
   const lines = [];
   for (let line = 1; line <= map.count; line++) {
     const address = map.addressOf(line);
     if (address === undefined || !(map.beginsInstruction(address) || startCounts[address] > 0)) continue;
     const isJump = map.sizes[line] === 2 && isBranch(codes[address]);
-    lines.push({ line, count: startCounts[address], isJump, taken: isJump ? jumpCounts[address] : 0 });
+    lines.push({ line, count: startCounts[address], isJump, jumpCount: isJump ? jumpCounts[address] : 0 });
   }
   return lines;
 }
@@ -65,23 +65,23 @@ function findSubroutines({ codes, startCounts }, map, lines) {
  * @returns {Coverage}
  */
 export function computeCoverage(recorder, map) {
-  const lines = coveredLines(recorder, map);
+  const lines = listCoveredLines(recorder, map);
   const jumps = lines.filter(({ isJump }) => isJump);
   /** @type {LineRange[]} */
-  const never = [];
+  const unexecutedRanges = [];
   let isOpen = false;
   for (const { line, count } of lines) {
-    if (count === 0 && isOpen) never[never.length - 1].to = line;
-    else if (count === 0) never.push({ from: line, to: line });
+    if (count === 0 && isOpen) unexecutedRanges[unexecutedRanges.length - 1].to = line;
+    else if (count === 0) unexecutedRanges.push({ from: line, to: line });
     isOpen = count === 0;
   }
   return {
-    lines, never,
+    lines, unexecutedRanges,
     subroutines: findSubroutines(recorder, map, lines),
     instructions: lines.length,
-    run: lines.filter(({ count }) => count > 0).length,
-    ways: 2 * jumps.length,
-    directionsRun: jumps.reduce((sum, { taken, count }) => sum + Number(taken > 0) + Number(count > taken), 0),
+    instructionsRun: lines.filter(({ count }) => count > 0).length,
+    directions: 2 * jumps.length,
+    directionsRun: jumps.reduce((sum, { jumpCount, count }) => sum + Number(jumpCount > 0) + Number(count > jumpCount), 0),
   };
 }
 
@@ -89,8 +89,9 @@ export function computeCoverage(recorder, map) {
  * Returns a coverage summary such as `20 of 21 instructions were run (95.2 %)`.
  * @param {Coverage} coverage
  */
-export function formatCoverageSummary({ instructions, run, ways, directionsRun }) {
-  /** @type {(part: number, all: number) => string} */
-  const percent = (part, all) => (all > 0 ? ` (${formatTenths((100 * part) / all)} %)` : "");
-  return say.coverageSummary([run, instructions, directionsRun, ways], percent(run, instructions), percent(directionsRun, ways));
+export function formatCoverageSummary({ instructions, instructionsRun, directions, directionsRun }) {
+  /** @type {(part: number, total: number) => string} */
+  const formatPercent = (part, total) => (total > 0 ? ` (${formatTenths((100 * part) / total)} %)` : "");
+  const counts = [instructionsRun, instructions, directionsRun, directions];
+  return say.coverageSummary(counts, formatPercent(instructionsRun, instructions), formatPercent(directionsRun, directions));
 }

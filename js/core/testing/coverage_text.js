@@ -7,8 +7,8 @@ import * as say from "../../words/testing.js";
  * @typedef {import("./coverage.js").Coverage} Coverage
  * @typedef {import("./coverage.js").LineCoverage} LineCoverage
  *
- * The source text of a program. `before` is the number of lines before the text in the file that contains it.
- * @typedef {{ text: string, before: number }} ProgramText
+ * The source text of a program. `linesBefore` is the number of lines before the text in the file that contains it.
+ * @typedef {{ text: string, linesBefore: number }} ProgramText
  */
 
 /** The tab width, and the widths of the report columns, in characters. */
@@ -27,7 +27,7 @@ function expandTabs(text) {
 }
 
 /** @type {(jump: LineCoverage) => boolean} returns whether a conditional jump ran and always took the same direction */
-const isOneDirection = ({ isJump, count, taken }) => isJump && count > 0 && (taken === 0 || taken === count);
+const isOneDirection = ({ isJump, count, jumpCount }) => isJump && count > 0 && (jumpCount === 0 || jumpCount === count);
 
 /**
  * Returns the report row for a source line.
@@ -36,8 +36,8 @@ const isOneDirection = ({ isJump, count, taken }) => isJump && count > 0 && (tak
  */
 function formatRow(source, lineCoverage) {
   const count = lineCoverage ? lineCoverage.count || say.NEVER : "";
-  const ways = lineCoverage && lineCoverage.isJump ? `${lineCoverage.taken}/${lineCoverage.count - lineCoverage.taken}` : "";
-  return `${String(count).padStart(COUNT_WIDTH)} ${ways.padEnd(DIRECTIONS_WIDTH)}  ${expandTabs(source)}`.replace(/ +$/, "");
+  const jumpCounts = lineCoverage && lineCoverage.isJump ? `${lineCoverage.jumpCount}/${lineCoverage.count - lineCoverage.jumpCount}` : "";
+  return `${String(count).padStart(COUNT_WIDTH)} ${jumpCounts.padEnd(DIRECTIONS_WIDTH)}  ${expandTabs(source)}`.replace(/ +$/, "");
 }
 
 /**
@@ -45,14 +45,16 @@ function formatRow(source, lineCoverage) {
  * @param {Coverage} coverage
  * @param {ProgramText} program
  */
-export function coverageText(coverage, { text, before }) {
-  const lineCoverage = new Map(coverage.lines.map((each) => [each.line, each]));
+export function coverageText(coverage, { text, linesBefore }) {
+  const lineCoverage = new Map(coverage.lines.map((line) => [line.line, line]));
   const rows = text.replace(/\n$/, "").split("\n").map((source, at) => formatRow(source, lineCoverage.get(at + 1)));
-  const never = coverage.never.map(({ from, to }) => (from === to ? `${from + before}` : say.formatRange(from + before, to + before)));
-  const oneDirection = coverage.lines.filter(isOneDirection).map(({ line, taken }) => say.describeDirection(line + before, taken > 0));
+  const rangeTexts = coverage.unexecutedRanges.map(({ from, to }) => (
+    from === to ? `${from + linesBefore}` : say.formatRange(from + linesBefore, to + linesBefore)));
+  const oneDirection = coverage.lines.filter(isOneDirection).map(({ line, jumpCount }) => (
+    say.describeDirection(line + linesBefore, jumpCount > 0)));
   const summaryLines = [
     "", formatCoverageSummary(coverage),
-    ...(never.length > 0 ? [say.neverRun(never.join(", "), never.length > 1 || never[0].includes(" "))] : []),
+    ...(rangeTexts.length > 0 ? [say.neverRun(rangeTexts.join(", "), rangeTexts.length > 1 || rangeTexts[0].includes(" "))] : []),
     ...(oneDirection.length > 0 ? [say.oneDirectionOnly(oneDirection.join(", "), oneDirection.length > 1)] : []),
   ];
   return `${[...rows, ...summaryLines].join("\n")}\n`;
@@ -64,18 +66,18 @@ const formatRecord = (name, values) => `${name}:${values.join(",")}`;
 /**
  * Returns the coverage in the LCOV format. Reports each label that a JMS calls as a function.
  * @param {Coverage} coverage
- * @param {{ name: string, before: number }} program the file name, and the number of lines before the program in the file
+ * @param {{ name: string, linesBefore: number }} program the file name, and the number of lines before the program in the file
  */
-export function lcovText({ lines, subroutines, instructions, run, ways, directionsRun }, { name, before }) {
-  const branches = lines.filter(({ isJump }) => isJump).flatMap(({ line, count, taken }) => (
-    [taken, count - taken].map((times, way) => formatRecord("BRDA", [line + before, 0, way, count > 0 ? times : "-"]))));
+export function lcovText({ lines, subroutines, instructions, instructionsRun, directions, directionsRun }, { name, linesBefore }) {
+  const branches = lines.filter(({ isJump }) => isJump).flatMap(({ line, count, jumpCount }) => (
+    [jumpCount, count - jumpCount].map((times, way) => formatRecord("BRDA", [line + linesBefore, 0, way, count > 0 ? times : "-"]))));
   return `${[
     "TN:", `SF:${name}`,
-    ...subroutines.map(({ line, label }) => formatRecord("FN", [line + before, label])),
+    ...subroutines.map(({ line, label }) => formatRecord("FN", [line + linesBefore, label])),
     ...subroutines.map(({ count, label }) => formatRecord("FNDA", [count, label])),
     formatRecord("FNF", [subroutines.length]), formatRecord("FNH", [subroutines.filter(({ count }) => count > 0).length]),
-    ...branches, formatRecord("BRF", [ways]), formatRecord("BRH", [directionsRun]),
-    ...lines.map(({ line, count }) => formatRecord("DA", [line + before, count])),
-    formatRecord("LF", [instructions]), formatRecord("LH", [run]), "end_of_record",
+    ...branches, formatRecord("BRF", [directions]), formatRecord("BRH", [directionsRun]),
+    ...lines.map(({ line, count }) => formatRecord("DA", [line + linesBefore, count])),
+    formatRecord("LF", [instructions]), formatRecord("LH", [instructionsRun]), "end_of_record",
   ].join("\n")}\n`;
 }

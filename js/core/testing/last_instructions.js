@@ -48,7 +48,7 @@ export function lastInstructions(session, { board, map }) {
   engine.serve(file, laterActions.slice(0, firstAction).map(formatActionLines).join("") + (from > 0 ? runLines(from) : ""), file);
   let elapsed = storedState.elapsed + laterActions.slice(0, firstAction).reduce((sum, { cycles }) => sum + cycles, from);
   const trace = new TraceLines(engine, board, new InstructionTexts({ map, source: null }));
-  const lines = trace.secondCycleLines(file, elapsed);
+  const lines = trace.listSecondCycle(file, elapsed);
   laterActions.slice(firstAction).forEach(({ line, cycles }, at) => {
     const actionCycles = at === 0 ? cycles - from : cycles;
     if (line === "run") lines.push(...trace.runLines(file, actionCycles, elapsed));
@@ -56,6 +56,6 @@ export function lastInstructions(session, { board, map }) {
     engine.serve(file, line === "run" ? runLines(actionCycles) : `${line}\n`, file);
     elapsed += actionCycles;
   });
-  const last = [...lines.slice(-MAX_INSTRUCTIONS), say.nextInstructionLine(trace.next(session.file, elapsed))];
-  return last.flatMap((each) => each.split("\n"));
+  const last = [...lines.slice(-MAX_INSTRUCTIONS), say.nextInstructionLine(trace.formatNext(session.file, elapsed))];
+  return last.flatMap((traceLine) => traceLine.split("\n"));
 }

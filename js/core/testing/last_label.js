@@ -23,7 +23,9 @@ import * as say from "../../words/testing.js";
 function* splitRuns(actions) {
   for (const { line, cycles } of actions) {
     if (line !== "run") yield { line, cycles: 0 };
-    for (let left = cycles; left > 0; left -= MAX_RUN_CYCLES) yield { line: "run", cycles: Math.min(left, MAX_RUN_CYCLES) };
+    for (let remaining = cycles; remaining > 0; remaining -= MAX_RUN_CYCLES) {
+      yield { line: "run", cycles: Math.min(remaining, MAX_RUN_CYCLES) };
+    }
   }
 }
 

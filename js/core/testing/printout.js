@@ -32,7 +32,7 @@ export class Printout {
    * @param {ForecastAnswers} answers
    * @param {number} elapsed the cycles from the start of the test to the run
    */
-  take(answers, elapsed) {
+  readAnswers(answers, elapsed) {
     const from = answers.nextIndex;
     answers.takeTrace();
     this.printerCodes.take([answers.answers.slice(from, answers.nextIndex)], elapsed);

@@ -6,9 +6,9 @@
  * @typedef {import("./recorders.js").CallCounts} CallCounts
  * @typedef {import("./recorders.js").KeyTimes} KeyTimes
  *
- * The row of a label. `own` is the number of cycles spent between this label and the next label. `calls` counts the calls of the routine at
- * the label; it is null without calls. The code before the first label has a row with the label "" and the address -1.
- * @typedef {{ label: string, address: number, own: number, calls: CallCounts | null }} ProfileRow
+ * The row of a label. `ownCycles` is the number of cycles spent between this label and the next label. `calls` counts the calls of the
+ * routine at the label; it is null without calls. The code before the first label has a row with the label "" and the address -1.
+ * @typedef {{ label: string, address: number, ownCycles: number, calls: CallCounts | null }} ProfileRow
  *
  * A profile. `total` is the total number of cycles. `rows` has a row for each label with cycles, and `keys` has an entry for each pressed
  * key. `earlierInstructionCycles` counts the cycles that tests spent on instructions started before the test.
@@ -19,7 +19,7 @@
  * Returns the first label at each address, in ascending address order.
  * @param {SourceMap} map
  */
-function sortedLabels(map) {
+function sortLabels(map) {
   return [...map.labels].map(([address, [label]]) => ({ address, label })).sort((one, other) => one.address - other.address);
 }
 
@@ -30,13 +30,13 @@ function sortedLabels(map) {
  * @returns {Profile}
  */
 export function computeProfile({ cycleCounts, calls, keys, total, earlierInstructionCycles }, map) {
-  const labels = [{ address: -1, label: "" }, ...sortedLabels(map)];
-  const rows = labels.map((each) => ({ ...each, own: 0, calls: calls.get(each.address) || null }));
+  const labels = [{ address: -1, label: "" }, ...sortLabels(map)];
+  const rows = labels.map((label) => ({ ...label, ownCycles: 0, calls: calls.get(label.address) || null }));
   let at = 0;
   cycleCounts.forEach((cycles, address) => {
     while (at + 1 < rows.length && rows[at + 1].address <= address) at += 1;
-    rows[at].own += cycles;
+    rows[at].ownCycles += cycles;
   });
-  const shown = rows.filter((row) => row.own > 0).sort((one, other) => other.own - one.own);
-  return { total, rows: shown, earlierInstructionCycles, keys: [...keys].map(([key, times]) => ({ key, ...times })) };
+  const shownRows = rows.filter((row) => row.ownCycles > 0).sort((one, other) => other.ownCycles - one.ownCycles);
+  return { total, rows: shownRows, earlierInstructionCycles, keys: [...keys].map(([key, times]) => ({ key, ...times })) };
 }

@@ -14,23 +14,24 @@ const LABEL_WIDTH = 17;
 const LOCATION_WIDTH = 22;
 
 /** @type {(value: string | number, width: number) => string} returns a right-aligned table cell */
-const cell = (value, width) => String(value).padStart(width);
+const formatCell = (value, width) => String(value).padStart(width);
 
 /** @param {number} cycles */
 const formatMilliseconds = (cycles) => say.inMilliseconds(formatTenths(cycles * CYCLE_MS));
 
 /** @type {(ownCycles: number, total: number) => string} returns two table cells: the cycles, and their percentage of the total */
-const formatShare = (own, total) => `${cell(own, 10)} ${cell(formatTenths((100 * own) / total), 6)}`;
+const formatShare = (ownCycles, total) => `${formatCell(ownCycles, 10)} ${formatCell(formatTenths((100 * ownCycles) / total), 6)}`;
 
 /**
  * Returns the row of a label.
  * @param {ProfileRow} row
  * @param {number} total
  */
-function formatLabelRow({ label, address, own, calls }, total) {
+function formatLabelRow({ label, address, ownCycles, calls }, total) {
   const place = `${(label || say.NO_LABEL).padEnd(LABEL_WIDTH)} ${(address < 0 ? "" : hex(address, 3)).padEnd(4)}`;
-  const callColumns = calls && calls.times > 0 ? ` ${cell(calls.times, 9)} ${cell(calls.withCalls, 10)} ${cell(calls.longest, 10)}` : "";
-  return `${place} ${formatShare(own, total)}${callColumns}`;
+  const callColumns = calls && calls.times > 0
+    ? ` ${formatCell(calls.times, 9)} ${formatCell(calls.withCalls, 10)} ${formatCell(calls.longest, 10)}` : "";
+  return `${place} ${formatShare(ownCycles, total)}${callColumns}`;
 }
 
 /**
@@ -38,8 +39,8 @@ function formatLabelRow({ label, address, own, calls }, total) {
  * @param {Profile["keys"][number]} times
  */
 function formatKeyRow({ key, presses, answered, first, last }) {
-  const times = [first, last].map((cycles) => ` ${cell(cycles, 10)}, ${cell(formatMilliseconds(cycles), 12)}`).join("");
-  return `${key.padEnd(LABEL_WIDTH)} ${cell(presses, 9)} ${cell(answered, 9)}${answered > 0 ? times : ""}`;
+  const times = [first, last].map((cycles) => ` ${formatCell(cycles, 10)}, ${formatCell(formatMilliseconds(cycles), 12)}`).join("");
+  return `${key.padEnd(LABEL_WIDTH)} ${formatCell(presses, 9)} ${formatCell(answered, 9)}${answered > 0 ? times : ""}`;
 }
 
 /**
@@ -48,10 +49,11 @@ function formatKeyRow({ key, presses, answered, first, last }) {
  */
 export function profileText({ total, rows, earlierInstructionCycles, keys }) {
   const [label, at, own, percent, calls, withCalls, longest] = say.PROFILE_HEAD;
-  const head = [label.padEnd(LABEL_WIDTH), at.padEnd(4), cell(own, 10), cell(percent, 6), cell(calls, 9), cell(withCalls, 10),
-    cell(longest, 10)].join(" ");
+  const head = [label.padEnd(LABEL_WIDTH), at.padEnd(4), formatCell(own, 10), formatCell(percent, 6), formatCell(calls, 9),
+    formatCell(withCalls, 10), formatCell(longest, 10)].join(" ");
   const [key, presses, answered, first, last] = say.KEYS_HEAD;
-  const keysHead = `${key.padEnd(LABEL_WIDTH)} ${cell(presses, 9)} ${cell(answered, 9)} ${cell(first, 24)} ${cell(last, 24)}`;
+  const keysHead = [key.padEnd(LABEL_WIDTH), formatCell(presses, 9), formatCell(answered, 9), formatCell(first, 24),
+    formatCell(last, 24)].join(" ");
   return `${[
     say.cyclesInTime(total, formatMilliseconds(total)), "", head, ...rows.map((row) => formatLabelRow(row, total)),
     ...(earlierInstructionCycles > 0 ? [`${say.BEGUN_BEFORE.padEnd(LOCATION_WIDTH)} ${formatShare(earlierInstructionCycles, total)}`] : []),

@@ -1,6 +1,6 @@
-// Recorders of what a test executes. An ExecutionRecorder counts how often each instruction starts and jumps, and its cycles. It also
-// measures each call, and the time from a key press to a lamp change. The numbers come from the queries `count` and `trace`, which predict
-// a run before it is executed. The subclasses record less, for tools that print no profile.
+// Recorders of the instructions, calls and key presses in a test. An ExecutionRecorder counts how often each instruction starts and jumps,
+// and its cycles. It also measures each call, and the time from a key press to a lamp change. The numbers come from the queries `count` and
+// `trace`, which predict a run before it is executed. The subclasses record less, for tools that print no profile.
 
 import { ADDRESS_COUNT } from "../bench/rom_bytes.js";
 import { parseTraceLine } from "../engine/forecast_answers.js";
@@ -72,7 +72,7 @@ export class ExecutionRecorder {
    * @param {number} elapsed the cycles from the start of the test to the run
    * @param {() => ForecastAnswers} askAll returns a trace of all instructions in the run
    */
-  take(answers, elapsed, askAll) {
+  recordRun(answers, elapsed, askAll) {
     const callCount = this.count(answers.takeCounts());
     const lines = answers.takeTrace().lines;
     if (this.lastPress.key !== "") this.trackLampChanges(answers.takeTrace().lines, elapsed);
@@ -103,9 +103,9 @@ export class ExecutionRecorder {
    * @returns {CallCounts}
    */
   getCallCounts(address) {
-    const found = this.calls.get(address) || { times: 0, withCalls: 0, longest: 0 };
-    this.calls.set(address, found);
-    return found;
+    const counts = this.calls.get(address) || { times: 0, withCalls: 0, longest: 0 };
+    this.calls.set(address, counts);
+    return counts;
   }
 
   /**
@@ -208,7 +208,7 @@ export class LineRecorder extends ExecutionRecorder {
   }
 
   /** @param {ForecastAnswers} answers */
-  take(answers) {
+  recordRun(answers) {
     this.count(answers.takeCounts());
   }
 }
@@ -223,7 +223,7 @@ export class NullRecorder extends ExecutionRecorder {
     return "";
   }
 
-  take() {
+  recordRun() {
     // There is no answer to read.
   }
 }

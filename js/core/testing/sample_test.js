@@ -28,7 +28,7 @@ const HOLD_MS = 50;
  */
 async function findConditions(engine, { file, names: { face, board }, codes }, press) {
   const session = new TestSession(engine, file, new NullRecorder(codes), async () => {});
-  if (press !== "") session.command(press);
+  if (press !== "") session.executeCommand(press);
   await session.run(cyclesFromMilliseconds(HOLD_MS));
   const [display] = convertLampAnswers(face, board, "", session.ask(hasScannedDisplay(face) ? LAMPS_FORECAST_QUERY : "lamps\n")).lines;
   const [marks] = session.ask("lamps\n");

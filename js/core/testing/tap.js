@@ -30,7 +30,7 @@ const stepLocation = ({ source, line }) => `${source}:${line}`;
  * Returns the YAML lines below `not ok`: the error, its location, and the session state at the error.
  * @param {Failure} failure
  */
-function diagnosis(failure) {
+function formatDiagnosis(failure) {
   const { text, words, file, cycles, lamps, registers, trace } = failure;
   const lines = [say.tapMessage(yamlString(words)), say.tapLocation(yamlString(stepLocation(failure))), say.tapLine(yamlString(text))];
   if (file) {
@@ -49,7 +49,7 @@ function diagnosis(failure) {
 export function testTap({ name, failure }, number, total) {
   const head = number === 1 ? [TAP_HEAD, `1..${total}`] : [];
   const result = `${failure ? "not ok" : "ok"} ${number} - ${tapDescription(name)}`;
-  return `${[...head, result, ...(failure ? diagnosis(failure) : [])].join("\n")}\n`;
+  return `${[...head, result, ...(failure ? formatDiagnosis(failure) : [])].join("\n")}\n`;
 }
 
 /**

@@ -17,7 +17,7 @@ import { romCodes } from "../engine/rom_codes.js";
  * text. `file` is the file name of a test text.
  * @typedef {{ text: "board" | "program" | "tests" | "properties", file?: string, line: number, number: number, words: string }} TextFault
  *
- * Everything that a test run needs: the session file, the names in the texts, and the bytes in ROM.
+ * The data for a test run: the session file, the names in the texts, and the bytes in ROM.
  * @typedef {{ file: Uint8Array, names: Names & { map: SourceMap }, codes: Uint8Array }} PreparedTests
  */
 
@@ -48,7 +48,7 @@ export function findTextErrors(name, text) {
  * @param {string} answer
  * @returns {TextFault[]}
  */
-function refusalFaults(name, answer) {
+function toRefusalFaults(name, answer) {
   const refusal = parseRefusal(answer);
   return refusal ? [{ text: name, line: refusal.line, number: refusal.number, words: "" }] : [];
 }
@@ -63,7 +63,7 @@ export function wireBoard(engine, text) {
   const textFaults = findTextErrors("board", text);
   if (textFaults.length > 0) return { faults: textFaults, answers: [] };
   const [wired, ...answers] = engine.ask(engine.begin(), `wire\n${sentText(text, "#")}.\nboard\n`).answers;
-  return { faults: refusalFaults("board", wired), answers };
+  return { faults: toRefusalFaults("board", wired), answers };
 }
 
 /**
@@ -82,7 +82,7 @@ export function newSession(engine, { boardText, programText }) {
   ];
   if (texts.length === 0) return { file, faults: [] };
   const { answers } = engine.serve(file, texts.map(({ lines }) => lines).join(""), file);
-  return { file, faults: texts.flatMap(({ name }, at) => refusalFaults(name, answers[at])).slice(0, 1) };
+  return { file, faults: texts.flatMap(({ name }, at) => toRefusalFaults(name, answers[at])).slice(0, 1) };
 }
 
 /**

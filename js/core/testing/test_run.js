@@ -66,8 +66,8 @@ export class TestRun {
     /** The number of the test text whose tests saved `states`, from 1. */
     this.textNumber = 1;
     /** The times in cycles for which a key stays down and then up; a `pace` step changes them. */
-    this.down = TOOL_KEY_DOWN_CYCLES;
-    this.up = TOOL_KEY_UP_CYCLES;
+    this.keyDownCycles = TOOL_KEY_DOWN_CYCLES;
+    this.keyUpCycles = TOOL_KEY_UP_CYCLES;
     /** True if a test can change ROM. A test that starts at a saved state then reads the bytes in ROM again. */
     this.changesRom = true;
     /** @type {(session: TestSession) => void} called with the session of each test at its end */
@@ -95,8 +95,8 @@ export class TestRun {
     const session = new TestSession(this.engine, startState.file, this.recorder, this.yieldToMessages, printout);
     // The test that saved the state can have changed ROM.
     if (from !== "" && this.changesRom) session.readCodes();
-    this.down = TOOL_KEY_DOWN_CYCLES;
-    this.up = TOOL_KEY_UP_CYCLES;
+    this.keyDownCycles = TOOL_KEY_DOWN_CYCLES;
+    this.keyUpCycles = TOOL_KEY_UP_CYCLES;
     const failure = await this.runSteps(session, steps, []);
     session.end();
     this.onEnd(session);
@@ -172,12 +172,12 @@ export class TestRun {
     if (action.kind === "expect") return session.check(action.condition).message;
     if ("keys" in action) return this.operateKeys(session, action.keys, action.kind);
     if (action.kind === "set") {
-      for (const command of action.commands) session.command(command);
+      for (const command of action.commands) session.executeCommand(command);
       if (action.changesRom) session.readCodes();
     }
-    if (action.kind === "reset") session.command("reset");
+    if (action.kind === "reset") session.executeCommand("reset");
     if (action.kind === "mark") session.markedCycles = session.elapsed;
-    if (action.kind === "pace") [this.down, this.up] = [action.down, action.up];
+    if (action.kind === "pace") [this.keyDownCycles, this.keyUpCycles] = [action.down, action.up];
     if (action.kind === "save") this.save(session, action.state);
     return "";
   }
@@ -207,33 +207,33 @@ export class TestRun {
    * @param {TestSession} session
    */
   describeStop({ counter }) {
-    return say.beforeInvalidOpcode(this.addressText(counter));
+    return say.beforeInvalidOpcode(this.formatAddress(counter));
   }
 
   /**
    * Returns an address together with its label.
    * @param {number} address
    */
-  addressText(address) {
+  formatAddress(address) {
     const name = this.prepared.names.map.nameOf(address);
     return `${hex(address, 3)}${name && ` (${name})`}`;
   }
 
   /**
-   * Returns the key that a value in the session currently selects. If the value selects no key, `key` is undefined, and `words` is the
+   * Returns the key that a value in the session currently selects. If the value selects no key, `key` is undefined, and `message` is the
    * error message.
    * @param {TestSession} session
    * @param {ChosenKey} chosen
-   * @returns {{ key: Key | undefined, words: string }}
+   * @returns {{ key: Key | undefined, message: string }}
    */
   chooseKey(session, { word, place, probe, keys }) {
     const value = parseInt(rowValues(new ForecastAnswers(session.ask(`trace 1 ${probe}\n`)).takeTrace().row)[0], 16);
     const valueText = say.placeHasValue(place, value);
-    if (keys.length > 0) return { key: keys[value], words: say.valueHasKeys(valueText, word, formatQuantity(keys.length, "key")) };
+    if (keys.length > 0) return { key: keys[value], message: say.valueHasKeys(valueText, word, formatQuantity(keys.length, "key")) };
     const boardKeys = listNamedKeys(this.prepared.names.face);
     const digit = hex(value, 1);
     const key = boardKeys.get(String(value)) || boardKeys.get(digit);
-    return { key, words: say.valueHasNoKey(valueText, value, value > 9 ? say.orDigitKey(digit) : "") };
+    return { key, message: say.valueHasNoKey(valueText, value, value > 9 ? say.orDigitKey(digit) : "") };
   }
 
   /**
@@ -243,19 +243,19 @@ export class TestRun {
    * @param {"keys" | "press" | "release"} kind
    */
   async operateKeys(session, keys, kind) {
-    for (const each of keys) {
-      const { key, words } = "word" in each ? this.chooseKey(session, each) : { key: each, words: "" };
-      if (!key) return words;
+    for (const chosenKey of keys) {
+      const { key, message } = "word" in chosenKey ? this.chooseKey(session, chosenKey) : { key: chosenKey, message: "" };
+      if (!key) return message;
       const { name, press, release } = key;
       if (kind !== "release") {
-        session.command(press);
+        session.executeCommand(press);
         this.recorder.recordPress(name, session.elapsed);
       }
-      const down = kind === "keys" ? await this.runCycles(session, this.down) : "";
-      if (down !== "") return down;
-      if (kind !== "press") session.command(release);
-      const up = kind === "keys" ? await this.runCycles(session, this.up) : "";
-      if (up !== "") return up;
+      const downMessage = kind === "keys" ? await this.runCycles(session, this.keyDownCycles) : "";
+      if (downMessage !== "") return downMessage;
+      if (kind !== "press") session.executeCommand(release);
+      const upMessage = kind === "keys" ? await this.runCycles(session, this.keyUpCycles) : "";
+      if (upMessage !== "") return upMessage;
     }
     return "";
   }
@@ -280,7 +280,7 @@ export class TestRun {
   }
 
   /**
-   * Runs to a label with a temporary breakpoint. Resolves to the reason for the stop ("end" if the time is over).
+   * Runs to a label with a temporary breakpoint. Resolves to the reason for the stop ("end" if the time limit is reached).
    * @param {TestSession} session
    * @param {Condition} condition
    * @param {number} end
@@ -310,9 +310,9 @@ export class TestRun {
     let piece = condition.places.length > 0 ? 1000 : 1;
     const extraValues = { ...session.readCondition(condition).extraValues, owed: "0" };
     for (; session.elapsed < end && stop === "end"; piece = piece < 10000 ? piece * 10 : MAX_RUN_CYCLES) {
-      const most = end - session.elapsed;
-      piece = Math.min(piece, most);
-      const cycles = condition.places.length > 0 ? this.cyclesToChange(session, condition, extraValues, piece, most) : 0;
+      const maxCycles = end - session.elapsed;
+      piece = Math.min(piece, maxCycles);
+      const cycles = condition.places.length > 0 ? this.countCyclesToChange(session, condition, extraValues, piece, maxCycles) : 0;
       stop = await session.run(cycles || piece);
       if (cycles > 0 || (piece === 1 && session.check(condition).holds)) break;
     }
@@ -343,7 +343,7 @@ export class TestRun {
    * @param {number} piece
    * @param {number} maxResult the largest possible result
    */
-  cyclesToChange(session, condition, extraValues, piece, maxResult) {
+  countCyclesToChange(session, condition, extraValues, piece, maxResult) {
     const { lines } = new ForecastAnswers(session.ask(`trace ${piece} ${condition.places.join(" ")}\n`)).takeTrace();
     for (const line of lines) {
       const { cycles, address, row } = parseTraceLine(line);

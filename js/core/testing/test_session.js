@@ -83,7 +83,7 @@ export class TestSession {
    * Executes a command other than `run`. Throws if the bench rejects the command.
    * @param {string} line
    */
-  command(line) {
+  executeCommand(line) {
     if (line === "reset" && this.owed === "1") this.subtractLastCycle();
     const [answer, regs] = this.engine.serve(this.file, `${line}\nregs\n`, this.file).answers;
     if (!answer.startsWith("ok ")) throw new Error(`the bench answered ${answer} to: ${line}`);
@@ -102,10 +102,10 @@ export class TestSession {
    * @param {number} cycles
    */
   async run(cycles) {
-    for (let left = cycles; left > 0;) {
-      const piece = Math.min(left, MAX_RUN_CYCLES);
-      const { cycles: done, end } = this.runPiece(piece);
-      left -= done;
+    for (let remaining = cycles; remaining > 0;) {
+      const piece = Math.min(remaining, MAX_RUN_CYCLES);
+      const { cycles: cyclesRun, end } = this.runPiece(piece);
+      remaining -= cyclesRun;
       if (end !== "end") return end;
       await this.yieldToMessages();
     }
@@ -122,8 +122,8 @@ export class TestSession {
     const printoutQueries = printout ? printout.queries(cycles) : "";
     const lines = `${printoutQueries}${recorder.queries(cycles)}run ${cycles}\nregs\n`;
     const answers = new ForecastAnswers(engine.serve(file, lines, previousFile).answers);
-    if (printout) printout.take(answers, this.elapsed);
-    recorder.take(answers, this.elapsed, () => new ForecastAnswers(engine.ask(file, `trace ${cycles}\n`).answers));
+    if (printout) printout.readAnswers(answers, this.elapsed);
+    recorder.recordRun(answers, this.elapsed, () => new ForecastAnswers(engine.ask(file, `trace ${cycles}\n`).answers));
     const run = answers.takeRun();
     if (this.beginsInSecondCycle && run.cycles > 0) {
       this.beginsInSecondCycle = false;
@@ -156,8 +156,8 @@ export class TestSession {
   /** Subtracts the second cycle of the last instruction from the recorded cycles, because this cycle will not run. */
   subtractLastCycle() {
     if (this.lastRunCycles === 0 || !this.recorder.recordsTimes) return;
-    const before = this.lastRunCycles > 1 ? `run ${this.lastRunCycles - 1}\n` : "";
-    const answers = this.engine.ask(this.previousFile, `${before}trace 1\n`).answers.slice(before === "" ? 0 : 1);
+    const runLine = this.lastRunCycles > 1 ? `run ${this.lastRunCycles - 1}\n` : "";
+    const answers = this.engine.ask(this.previousFile, `${runLine}trace 1\n`).answers.slice(runLine === "" ? 0 : 1);
     const [line] = new ForecastAnswers(answers).takeTrace().lines;
     if (line) this.recorder.subtractLastCycle(parseTraceLine(line).address);
   }

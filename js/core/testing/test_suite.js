@@ -70,8 +70,8 @@ function hasStep(steps, isWanted) {
  * @param {Test} test
  */
 function findSavingTest(tests, { textNumber, from }) {
-  return tests.find((each) => each.textNumber === textNumber
-    && each.steps.some(({ action }) => action.kind === "save" && action.state === from));
+  return tests.find((candidate) => candidate.textNumber === textNumber
+    && candidate.steps.some(({ action }) => action.kind === "save" && action.state === from));
 }
 
 /**
@@ -81,9 +81,9 @@ function findSavingTest(tests, { textNumber, from }) {
  */
 function addPrerequisites(tests, isWanted) {
   /** @type {Set<Test>} */
-  const wanted = new Set();
-  for (let test = tests.find(isWanted); test && !wanted.has(test); test = findSavingTest(tests, test)) wanted.add(test);
-  return tests.filter((test) => wanted.has(test));
+  const selectedTests = new Set();
+  for (let test = tests.find(isWanted); test && !selectedTests.has(test); test = findSavingTest(tests, test)) selectedTests.add(test);
+  return tests.filter((test) => selectedTests.has(test));
 }
 
 /** @type {(action: Action) => boolean} returns whether the condition of a step depends on the printout */
@@ -96,8 +96,8 @@ const changesRom = (action) => action.kind === "set" && action.changesRom;
  * Runs all tests of the texts, or one test and its prerequisites. Throws `CancelledError` if `shouldContinue` resolves to false.
  * @param {Engine} engine
  * @param {TestedTexts} texts
- * @param {(done: number, total: number) => Promise<boolean>} shouldContinue called with the number of completed tests; resolves to true to
- *   continue
+ * @param {(doneCount: number, total: number) => Promise<boolean>} shouldContinue called with the number of completed tests; resolves to
+ *   true to continue
  * @param {Options} [options]
  * @returns {Promise<Report>}
  */

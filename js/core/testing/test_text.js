@@ -51,30 +51,30 @@ const MAX_LINES = 1000000;
 /** The error for an invalid line, with the column at which the error starts. */
 class InvalidLineError extends Error {
   /**
-   * @param {string} words
+   * @param {string} message
    * @param {number} column the column from 0; -1 if unknown
    */
-  constructor(words, column) {
-    super(words);
+  constructor(message, column) {
+    super(message);
     this.column = column;
   }
 }
 
 /**
  * Throws an InvalidLineError.
- * @param {string} words
+ * @param {string} message
  * @param {number} [column]
  * @returns {never}
  */
-function fail(words, column = -1) {
-  throw new InvalidLineError(words, column);
+function fail(message, column = -1) {
+  throw new InvalidLineError(message, column);
 }
 
 /**
  * Returns the address in a place such as `rom.0x12`; NaN for a place that is not in ROM.
  * @param {string} place
  */
-const romAddress = (place) => (place.startsWith("rom.") ? parseNumber(place.slice("rom.".length)) : NaN);
+const parseRomAddress = (place) => (place.startsWith("rom.") ? parseNumber(place.slice("rom.".length)) : NaN);
 
 /**
  * Creates a key from its name and location, with the commands that press and release it.
@@ -150,10 +150,10 @@ class TestReader {
       if (line === "") continue;
       try {
         this.readLine(line, at + 1);
-      } catch (fault) {
-        if (!(fault instanceof InvalidLineError)) throw fault;
-        const column = fault.column < 0 ? -1 : fault.column + originalLines[at].length - originalLines[at].trimStart().length;
-        this.addFault(at + 1, fault.message, Math.min(column, originalLines[at].trimEnd().length - 1));
+      } catch (error) {
+        if (!(error instanceof InvalidLineError)) throw error;
+        const column = error.column < 0 ? -1 : error.column + originalLines[at].length - originalLines[at].trimStart().length;
+        this.addFault(at + 1, error.message, Math.min(column, originalLines[at].trimEnd().length - 1));
         // If a text does not start like a test text, one error is sufficient.
         if (!this.hasBegun && /^[\t -~]*$/.test(lines[at])) return;
       }
@@ -169,11 +169,11 @@ class TestReader {
 
   /**
    * @param {number} line
-   * @param {string} words
+   * @param {string} message
    * @param {number} [column]
    */
-  addFault(line, words, column = -1) {
-    this.faults.push({ file: this.source.name, line, column, words: column < 0 ? words : errorInColumn(words, column) });
+  addFault(line, message, column = -1) {
+    this.faults.push({ file: this.source.name, line, column, words: column < 0 ? message : errorInColumn(message, column) });
   }
 
   /**
@@ -187,7 +187,7 @@ class TestReader {
     const hasKeys = /^(press|release|keys)[ \t]/.test(line);
     const isKey = (/** @type {RegExpMatchArray} */ { 1: name, index = 0 }) => (
       this.keys.has(name) && (hasKeys || /(^|[\s(!])key$/i.test(line.slice(0, index))));
-    const mark = [...line.matchAll(/[ \t]+([#;])(?=[ \t]|$)/g)].find((found) => !isKey(found));
+    const mark = [...line.matchAll(/[ \t]+([#;])(?=[ \t]|$)/g)].find((candidate) => !isKey(candidate));
     return mark ? line.slice(0, mark.index) : line;
   }
 
@@ -254,10 +254,10 @@ class TestReader {
 
   /** @param {string[]} words */
   endRepeat(words) {
-    const open = this.openRepeats.pop();
-    if (open) this.steps = open.outer;
+    const openRepeat = this.openRepeats.pop();
+    if (openRepeat) this.steps = openRepeat.outer;
     if (words.length > 1) fail(say.END_SYNTAX);
-    if (!open) fail(say.NO_REPEAT);
+    if (!openRepeat) fail(say.NO_REPEAT);
   }
 
   /**
@@ -265,10 +265,10 @@ class TestReader {
    * @param {number} lineCount the number of lines in the text
    */
   addLines(lineCount) {
-    const before = this.lines;
+    const previousLines = this.lines;
     this.lines += this.openRepeats.reduce((product, { times }) => product * times, lineCount);
     if (this.currentShared) this.currentShared.lines = this.lines;
-    if (before <= MAX_LINES && this.lines > MAX_LINES) fail(say.TOO_MANY_LINES);
+    if (previousLines <= MAX_LINES && this.lines > MAX_LINES) fail(say.TOO_MANY_LINES);
   }
 
   /**
@@ -307,7 +307,7 @@ class TestReader {
     const [, name] = words;
     const { currentShared } = this;
     if (currentShared && currentShared.name === name) fail(say.stepsUseThemselves(name));
-    const knownNames = [...this.sharedSteps.keys()].filter((each) => each !== "" && (!currentShared || each !== currentShared.name));
+    const knownNames = [...this.sharedSteps.keys()].filter((known) => known !== "" && (!currentShared || known !== currentShared.name));
     const shared = this.sharedSteps.get(name);
     if (!shared) {
       const which = say.knownSteps(knownNames.join(" "), name);
@@ -388,8 +388,8 @@ class TestReader {
     const [, inner] = /^\{([^{}]+)\}$/.exec(word) || [];
     if (inner === undefined) return null;
     const [, place, list] = /^([^:]*)(?::(.*))?$/.exec(inner) || ["", ""];
-    const found = parsePlace(place);
-    const placeName = found ? found.name : place.toLowerCase();
+    const knownPlace = parsePlace(place);
+    const placeName = knownPlace ? knownPlace.name : place.toLowerCase();
     if (!/^(acc|cy|dcl|r\d+|(ram|st)\..+)$/.test(placeName) || list === "") return fail(say.CHOICE_SYNTAX);
     const keys = list === undefined ? [] : list.split(",").map((name) => this.keys.get(name) || this.failForKey(name, name));
     const { expression, error: fault } = compileExpression(place, this.names);
@@ -444,7 +444,7 @@ class TestReader {
     const { board, map } = this.names;
     const { place, lines, error: fault, column } = readSetting(text, map, board);
     if (fault) fail(fault, startColumn + column);
-    const address = romAddress(place);
+    const address = parseRomAddress(place);
     const hasRom = Number.isNaN(address) || board.roms.some(({ chip }) => Number(chip) === Math.floor(address / 256));
     if (!hasRom) fail(say.noRomAt(text.trim().split(/[ \t=]+/)[0].slice("rom.".length)), startColumn + 1);
     return { commands: lines.trimEnd().split("\n"), changesRom: !Number.isNaN(address) };
@@ -458,8 +458,8 @@ class TestReader {
 function parsePace(words) {
   const down = parseDuration(words, 0);
   const up = parseDuration(words, down.wordCount);
-  const isWhole = down.cycles > 0 && up.cycles > 0 && down.wordCount + up.wordCount === words.length;
-  return isWhole ? { kind: "pace", down: down.cycles, up: up.cycles }
+  const isValid = down.cycles > 0 && up.cycles > 0 && down.wordCount + up.wordCount === words.length;
+  return isValid ? { kind: "pace", down: down.cycles, up: up.cycles }
     : fail(say.PACE_SYNTAX);
 }
 

@@ -7,7 +7,7 @@ import { MAX_SENT_LENGTH } from "./sendable_text.js";
 import * as say from "../../words/text.js";
 
 /**
- * The size of a program in bytes, and the addresses outside the program at which ROM still contains a byte other than 0 (`left`).
+ * The size of a program in bytes, and the addresses outside the program at which ROM still contains a byte other than 0.
  * @typedef {{ size: number, remainingAddresses: number[] }} Leftovers
  */
 
@@ -43,7 +43,7 @@ function groupIntoRanges(addresses) {
  */
 function formatStatements(from, bytes, maxInLine) {
   const lines = [`ORG 0x${hex(from, 3)}\n`];
-  for (let done = 0; done < bytes.length; done += maxInLine) lines.push(`DB ${bytes.slice(done, done + maxInLine).join(",")}\n`);
+  for (let index = 0; index < bytes.length; index += maxInLine) lines.push(`DB ${bytes.slice(index, index + maxInLine).join(",")}\n`);
   return lines.join("");
 }
 
@@ -124,8 +124,8 @@ export function createProgramTexts(program, addresses) {
  * @param {Leftovers} leftovers
  * @param {string} counter the program counter, as text
  */
-export function describeAssembled({ size, remainingAddresses: left }, counter) {
-  const first = left.length > 0 ? `0x${hex(left[0], 3)}` : "";
-  const stay = say.bytesRemaining(formatQuantity(left.length, "byte"), left.length === 1, first);
-  return say.bytesAssembled(formatQuantity(size, "byte"), left.length > 0 ? ` ${stay}` : "", counter);
+export function describeAssembled({ size, remainingAddresses: remaining }, counter) {
+  const first = remaining.length > 0 ? `0x${hex(remaining[0], 3)}` : "";
+  const remainingNote = say.bytesRemaining(formatQuantity(remaining.length, "byte"), remaining.length === 1, first);
+  return say.bytesAssembled(formatQuantity(size, "byte"), remaining.length > 0 ? ` ${remainingNote}` : "", counter);
 }

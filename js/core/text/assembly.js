@@ -30,7 +30,7 @@ export const MAX_NAME_LENGTH = 16;
  * @param {number} to
  * @returns {Word | null}
  */
-function trimmedWord(line, from, to) {
+function trimWord(line, from, to) {
   const text = line.slice(from, to);
   const trimmed = text.trim();
   if (trimmed === "") return null;
@@ -51,7 +51,7 @@ function splitOperands(line, from, to) {
   for (let at = from; at <= to;) {
     const comma = line.indexOf(",", at);
     const end = comma < 0 || comma > to ? to : comma;
-    words.push(trimmedWord(line, at, end) || { text: "", from: end, to: end });
+    words.push(trimWord(line, at, end) || { text: "", from: end, to: end });
     at = end + 1;
   }
   return words;
@@ -69,8 +69,8 @@ const MAX_CACHED_LENGTH = 255;
  */
 export function splitStatement(line) {
   if (line.length > MAX_CACHED_LENGTH) return splitLine(line);
-  const before = cache.get(line);
-  if (before) return before;
+  const cachedParts = cache.get(line);
+  if (cachedParts) return cachedParts;
   if (cache.size >= MAX_CACHED_LINES) cache.clear();
   const parts = splitLine(line);
   cache.set(line, parts);
@@ -86,17 +86,17 @@ function splitLine(line) {
   const mark = line.indexOf(";");
   const comment = mark < 0 ? line.length : mark;
   const colon = /^[^:=,]*?:/.exec(line.slice(0, comment));
-  const label = colon ? trimmedWord(line, 0, colon[0].length - 1) : null;
+  const label = colon ? trimWord(line, 0, colon[0].length - 1) : null;
   const from = colon ? colon[0].length : 0;
   const equals = line.slice(0, comment).indexOf("=", from);
   if (equals >= 0) {
-    const value = trimmedWord(line, equals + 1, comment);
-    return { label: label || trimmedWord(line, from, equals), defines: true, head: null, operands: value ? [value] : [], comment };
+    const value = trimWord(line, equals + 1, comment);
+    return { label: label || trimWord(line, from, equals), defines: true, head: null, operands: value ? [value] : [], comment };
   }
-  const found = /^\s*([^\s,]+)/.exec(line.slice(from, comment));
-  if (!found) return { label, defines: false, head: null, operands: [], comment };
-  const end = from + found[0].length;
-  const head = { text: found[1], from: end - found[1].length, to: end };
+  const match = /^\s*([^\s,]+)/.exec(line.slice(from, comment));
+  if (!match) return { label, defines: false, head: null, operands: [], comment };
+  const end = from + match[0].length;
+  const head = { text: match[1], from: end - match[1].length, to: end };
   return { label, defines: false, head, operands: splitOperands(line, end, comment), comment };
 }
 
@@ -153,9 +153,9 @@ export function findDefinedNames(lines) {
  * @returns {Word | null}
  */
 export function wordAt(line, column) {
-  const before = /\w*$/.exec(line.slice(0, column));
-  const after = /^\w*/.exec(line.slice(column));
-  const from = column - (before ? before[0].length : 0);
-  const to = column + (after ? after[0].length : 0);
+  const matchBefore = /\w*$/.exec(line.slice(0, column));
+  const matchAfter = /^\w*/.exec(line.slice(column));
+  const from = column - (matchBefore ? matchBefore[0].length : 0);
+  const to = column + (matchAfter ? matchAfter[0].length : 0);
   return from === to ? null : { text: line.slice(from, to), from, to };
 }

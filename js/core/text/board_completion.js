@@ -30,8 +30,8 @@ function describeLine({ name, kind, isInput }) {
   return kind === "ram" ? say.lineOfRam(third, second, first) : say.bitOfChain(second, first);
 }
 
-/** The number of characters before the caret in which the key of the value is searched. */
-const MAX_CHARACTERS_BEFORE_CURSOR = 2000;
+/** The maximum number of characters before the caret that the search for the key of a value examines. */
+const MAX_CHARACTERS_BEFORE_CARET = 2000;
 
 /** The chains and signal lines that a board text defines, and the ROM and RAM bank numbers that the text does not use. */
 class BoardParts {
@@ -54,8 +54,8 @@ class BoardParts {
    * @returns {{ list: CompletionItem[], isQuoted: boolean }}
    */
   listValues(table, key) {
-    const listLines = (/** @type {BoardLine[]} */ all) => (
-      { list: all.map((line) => ({ text: line.name, what: describeLine(line) })), isQuoted: true });
+    const listLines = (/** @type {BoardLine[]} */ boardLineList) => (
+      { list: boardLineList.map((line) => ({ text: line.name, what: describeLine(line) })), isQuoted: true });
     const listNumbers = (/** @type {number[]} */ list) => ({ list: withoutDescription(list.map(String)), isQuoted: false });
     switch (`${table}.${key}`) {
       case "rom.chip": return listNumbers(this.unusedRoms);
@@ -100,8 +100,8 @@ function completeValue(text, column, value, { list, isQuoted }) {
   if (isQuoteOpen && !isQuoted) return { from: column, to: column, list: [] };
   const closingQuote = isQuoted && text[column] !== "\"" ? "\"" : "";
   const openingQuote = isQuoted && !isQuoteOpen ? "\"" : "";
-  const { from, to, list: found } = filterCompletions(text, column, list, /[\w.]*$/);
-  return { from, to, list: found.map((each) => ({ ...each, text: `${openingQuote}${each.text}${closingQuote}` })) };
+  const { from, to, list: matchingItems } = filterCompletions(text, column, list, /[\w.]*$/);
+  return { from, to, list: matchingItems.map((item) => ({ ...item, text: `${openingQuote}${item.text}${closingQuote}` })) };
 }
 
 /**
@@ -118,10 +118,10 @@ export function completeBoard(lines, line, column, tables) {
   if (commentAt(textBefore, "#") < textBefore.length) return { from: column, to: column, list: [] };
   if (/^\s*\[+\w*$/.test(textBefore)) return filterCompletions(text, column, withoutDescription([...tables.keys()]));
   const table = tableAt(lines, line);
-  const parts = new BoardParts(lines.map((each, number) => (number === line ? "" : each)).join("\n"));
+  const parts = new BoardParts(lines.map((lineText, number) => (number === line ? "" : lineText)).join("\n"));
   // The array that contains the caret can start up to nine lines above.
-  const linesBefore = lines.slice(Math.max(0, line - 9), line).map((each) => each.slice(0, commentAt(each, "#")));
-  const value = VALUE.exec([...linesBefore, textBefore].join("\n").slice(-MAX_CHARACTERS_BEFORE_CURSOR));
+  const linesBefore = lines.slice(Math.max(0, line - 9), line).map((lineText) => lineText.slice(0, commentAt(lineText, "#")));
+  const value = VALUE.exec([...linesBefore, textBefore].join("\n").slice(-MAX_CHARACTERS_BEFORE_CARET));
   const isInValue = value && (textBefore.includes(value[1]) || value[0].includes("["));
   if (value && isInValue) return completeValue(text, column, value, parts.listValues(table, value[1]));
   const keys = tables.get(table) || new Map();

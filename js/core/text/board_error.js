@@ -63,14 +63,14 @@ class BoardErrorText {
   /** @returns {WrongPart} the table and key that contain the error */
   findWrongPart() {
     const { section, index, key: name } = this.error;
-    const findKey = (/** @type {Key[]} */ keys) => keys.find((each) => each.name === name) || null;
+    const findKey = (/** @type {Key[]} */ keys) => keys.find((candidate) => candidate.name === name) || null;
     if (section === "") {
       const entry = this.text.entries.find(({ table }) => table.replace(/[[\]]/g, "") === name) || null;
       return { entry, key: findKey(this.text.keys) };
     }
     const entry = this.entries[Math.max(0, index - 1)] || null;
     if (entry) return { entry, key: findKey(entry.keys) };
-    return { entry: null, key: this.text.keys.find((each) => each.name === section) || null };
+    return { entry: null, key: this.text.keys.find((candidate) => candidate.name === section) || null };
   }
 
   /**
@@ -91,12 +91,12 @@ class BoardErrorText {
   /** Returns the error in a text that is not valid TOML: a syntax error, or a key that occurs twice in a table. */
   createTomlFault() {
     const { number, line } = this.error;
-    const found = this.text.faults.find((each) => each.line === line);
-    if (found) return found;
+    const syntaxError = this.text.faults.find((candidate) => candidate.line === line);
+    if (syntaxError) return syntaxError;
     for (const keys of [this.text.keys, ...this.text.entries.map((entry) => entry.keys)]) {
-      const second = keys.find((key) => key.line === line);
-      const first = keys.find(({ name }) => second && name === second.name);
-      if (second && first && first !== second) return createFaultAt(number, second, say.alreadyThere(second.name, first.line));
+      const secondKey = keys.find((key) => key.line === line);
+      const first = keys.find(({ name }) => secondKey && name === secondKey.name);
+      if (secondKey && first && first !== secondKey) return createFaultAt(number, secondKey, say.alreadyThere(secondKey.name, first.line));
     }
     return this.createLineFault(this.messageFor(number));
   }
@@ -159,7 +159,7 @@ class BoardErrorText {
     const { banks, chains } = this.parts;
     if (kind === "") return say.noChain(name, chains.length);
     if (kind === "rom") return say.noSuchRom(name, number);
-    const bank = banks.find((each) => String(each.bank) === number);
+    const bank = banks.find((candidate) => String(candidate.bank) === number);
     if (kind === "ram" && bank && Number(chip) >= bank.chips) return say.noChipInBank(name, number, bank.chips);
     if (kind === "ram") return say.noSuchBank(name, number);
     const chain = chains[Number(number)];
@@ -172,7 +172,7 @@ class BoardErrorText {
    */
   explainRows({ keys }) {
     const [chain, first, rows] = ["chain", "first", "rows"].map((name) => {
-      const key = keys.find((each) => each.name === name);
+      const key = keys.find((candidate) => candidate.name === name);
       return key ? Number(key.value.inner) : 0;
     });
     const { chips = 0 } = this.parts.chains[chain] || {};
@@ -185,8 +185,8 @@ class BoardErrorText {
    * @param {Key} key
    */
   findFirstLine(entry, key) {
-    const first = this.entries.find((each) => each !== entry
-      && each.keys.some(({ name, value }) => name === key.name && value.inner === key.value.inner));
+    const first = this.entries.find((candidate) => candidate !== entry
+      && candidate.keys.some(({ name, value }) => name === key.name && value.inner === key.value.inner));
     return first ? first.line : 1;
   }
 
@@ -198,25 +198,25 @@ class BoardErrorText {
    */
   createUnknownKeyFault(entry, key) {
     const { section, key: name } = this.error;
-    const known = section === "" ? Object.keys(PART_KEYS) : PART_KEYS[section];
-    const suggestions = findSimilarWords(name, known);
-    const instead = formatSuggestion(suggestions) || say.whichHasKeys(known.join(", "));
+    const knownNames = section === "" ? Object.keys(PART_KEYS) : PART_KEYS[section];
+    const suggestions = findSimilarWords(name, knownNames);
+    const instead = formatSuggestion(suggestions) || say.whichHasKeys(knownNames.join(", "));
     const message = section === "" ? say.noPart(name, instead) : say.noKeyOf(name, section, instead);
     const range = key || entry;
-    const fault = range ? createFaultAt(UNKNOWN_KEY, range, message) : this.createLineFault(message);
+    const unknownKeyError = range ? createFaultAt(UNKNOWN_KEY, range, message) : this.createLineFault(message);
     const quickFixTexts = key ? suggestions : suggestions.map(formatHeader);
-    return quickFixTexts.length > 0 && range ? { ...fault, quickFixTexts } : fault;
+    return quickFixTexts.length > 0 && range ? { ...unknownKeyError, quickFixTexts } : unknownKeyError;
   }
 
   /**
    * Returns an error whose range is the complete line that the bench reports.
-   * @param {string} words the message
+   * @param {string} message the message
    * @returns {Fault}
    */
-  createLineFault(words) {
+  createLineFault(message) {
     const { number } = this.error;
     const line = Math.max(1, this.error.line);
-    return { number, line, from: 0, to: Infinity, words };
+    return { number, line, from: 0, to: Infinity, words: message };
   }
 }
 
@@ -229,7 +229,7 @@ class BoardErrorText {
  * @returns {Fault}
  */
 export function createBoardError(text, error, tables, messageFor) {
-  const fault = new BoardErrorText(readBoardText(text), error, tables, messageFor).createFault();
-  const line = text.split("\n")[fault.line - 1] || "";
-  return { ...fault, to: Math.min(fault.to, line.length) };
+  const boardError = new BoardErrorText(readBoardText(text), error, tables, messageFor).createFault();
+  const line = text.split("\n")[boardError.line - 1] || "";
+  return { ...boardError, to: Math.min(boardError.to, line.length) };
 }

@@ -15,7 +15,7 @@ import * as say from "../../words/text.js";
  *
  * A value (`inner`) with its position. `line`, `from` and `to` are the position of the value. For an array or an inline table, they are
  * the position of its opening bracket. `end` is the end of the complete value. `whole` is false for a number with a fraction or exponent.
- * @typedef {{ inner: PlainValue, whole: boolean, line: number, from: number, to: number, end: End }} Value
+ * @typedef {{ inner: PlainValue, isWhole: boolean, line: number, from: number, to: number, end: End }} Value
  *
  * A key: its name, the position of the name, and its value.
  * @typedef {{ name: string, line: number, from: number, to: number, value: Value }} Key
@@ -25,8 +25,8 @@ import * as say from "../../words/text.js";
  * @typedef {{ table: string, line: number, from: number, to: number, keys: Key[], end?: End }} Entry
  *
  * The contents of a board text. `entries` are its tables, including inline tables. `keys` are the keys before the first table header;
- * `others` are the keys in `keys` whose values are neither tables nor arrays of tables. `faults` are the errors.
- * @typedef {{ entries: Entry[], others: Key[], keys: Key[], faults: Fault[] }} BoardText
+ * `plainKeys` are the keys in `keys` whose values are neither tables nor arrays of tables. `faults` are the errors.
+ * @typedef {{ entries: Entry[], plainKeys: Key[], keys: Key[], faults: Fault[] }} BoardText
  */
 
 /** The refusal number for a text that is not TOML. */
@@ -40,10 +40,10 @@ const INTEGER = /^[+-]?(0|[1-9](_?\d)*)$|^0x[0-9A-Fa-f](_?[0-9A-Fa-f])*$|^0o[0-7
 class TomlSyntaxError extends Error {
   /**
    * @param {TomlWord} word
-   * @param {string} words the message
+   * @param {string} message the message
    */
-  constructor(word, words) {
-    super(words);
+  constructor(word, message) {
+    super(message);
     this.word = word;
   }
 }
@@ -58,7 +58,7 @@ export class BoardReader {
     /** @type {Entry[]} */
     this.entries = [];
     /** @type {Key[]} */
-    this.others = [];
+    this.plainKeys = [];
     /** @type {Key[]} */
     this.keys = [];
     /** @type {Fault[]} */
@@ -91,10 +91,10 @@ export class BoardReader {
   /**
    * Reads a punctuation mark. Throws if the next word is not this mark.
    * @param {string} mark
-   * @param {string} words the error message
+   * @param {string} message the error message
    */
-  expectMark(mark, words) {
-    if (!this.isMark(mark)) throw new TomlSyntaxError(this.word, this.word.fault || words);
+  expectMark(mark, message) {
+    if (!this.isMark(mark)) throw new TomlSyntaxError(this.word, this.word.fault || message);
     this.at += 1;
   }
 
@@ -104,10 +104,10 @@ export class BoardReader {
       const startIndex = this.at;
       try {
         this.readStatement();
-      } catch (fault) {
-        if (!(fault instanceof TomlSyntaxError)) throw fault;
-        const { line, from, to } = fault.word;
-        this.faults.push({ number: NOT_TOML, line, from, to, words: fault.message });
+      } catch (error) {
+        if (!(error instanceof TomlSyntaxError)) throw error;
+        const { line, from, to } = error.word;
+        this.faults.push({ number: NOT_TOML, line, from, to, words: error.message });
         this.at = this.findNextLineStart(line, startIndex);
       }
     }
@@ -159,7 +159,7 @@ export class BoardReader {
     if (this.currentTable) this.currentTable.keys.push(key);
     else {
       this.keys.push(key);
-      if (!this.addTables(key.name, inner)) this.others.push(key);
+      if (!this.addTables(key.name, inner)) this.plainKeys.push(key);
     }
     this.expectLineEnd();
   }
@@ -171,9 +171,9 @@ export class BoardReader {
    */
   addTables(name, inner) {
     if (Array.isArray(inner)) {
-      const tables = inner.filter(({ inner: each }) => typeof each === "object" && !Array.isArray(each));
+      const tables = inner.filter(({ inner: plainValue }) => typeof plainValue === "object" && !Array.isArray(plainValue));
       if (tables.length < inner.length) return false;
-      for (const { inner: each } of tables) this.entries.push({ .../** @type {Entry} */ (each), table: name });
+      for (const { inner: table } of tables) this.entries.push({ .../** @type {Entry} */ (table), table: name });
       return true;
     }
     if (typeof inner !== "object") return false;
@@ -198,13 +198,13 @@ export class BoardReader {
   readValue(key) {
     const { kind, text, line, from, to, fault } = this.word;
     const range = { line, from, to };
-    if (this.isMark("[")) return { inner: this.readNested(() => this.readArray(key)), whole: true, ...range, end: this.lastEnd };
-    if (this.isMark("{")) return { inner: this.readNested(() => this.readTable()), whole: true, ...range, end: this.lastEnd };
+    if (this.isMark("[")) return { inner: this.readNested(() => this.readArray(key)), isWhole: true, ...range, end: this.lastEnd };
+    if (this.isMark("{")) return { inner: this.readNested(() => this.readTable()), isWhole: true, ...range, end: this.lastEnd };
     if (kind === "end") throw new TomlSyntaxError(this.word, say.valueMissing(key));
     if (kind === "punctuation" || kind === "bad") throw new TomlSyntaxError(this.word, fault || say.noValue(text));
     const inner = this.parseScalar(kind, text);
     this.at += 1;
-    return { inner, whole: typeof inner !== "number" || INTEGER.test(text), ...range, end: { line, to } };
+    return { inner, isWhole: typeof inner !== "number" || INTEGER.test(text), ...range, end: { line, to } };
   }
 
   /**
@@ -249,11 +249,11 @@ export class BoardReader {
    * @returns {Value[]}
    */
   readArray(key) {
-    const opened = this.word;
+    const openingBracket = this.word;
     this.at += 1;
     const values = [];
     for (this.skipLineEnds(); !this.isMark("]"); this.skipLineEnds()) {
-      if (this.word.kind === "end") throw new TomlSyntaxError(opened, say.NO_BRACKET);
+      if (this.word.kind === "end") throw new TomlSyntaxError(openingBracket, say.NO_BRACKET);
       values.push(this.readValue(key));
       this.skipLineEnds();
       if (this.isMark(",")) this.at += 1;
@@ -287,8 +287,8 @@ export class BoardReader {
 export function readBoardText(text) {
   const reader = new BoardReader(text);
   reader.read();
-  const { entries, others, keys, faults } = reader;
-  return { entries, others, keys, faults };
+  const { entries, plainKeys, keys, faults } = reader;
+  return { entries, plainKeys, keys, faults };
 }
 
 /**

@@ -38,11 +38,11 @@ export function withoutDescription(words) {
  * @returns {Completion}
  */
 export function filterCompletions(line, column, words, typedPattern = /\w*$/) {
-  const found = typedPattern.exec(line.slice(0, column));
-  const typed = found ? found[0] : "";
-  const low = typed.toLowerCase();
-  const matchingWords = words.filter(({ text }) => text.toLowerCase().startsWith(low) && text !== typed).slice(0, MAX_COMPLETIONS);
-  return { from: column - typed.length, to: column, list: matchingWords };
+  const match = typedPattern.exec(line.slice(0, column));
+  const typedText = match ? match[0] : "";
+  const low = typedText.toLowerCase();
+  const matchingWords = words.filter(({ text }) => text.toLowerCase().startsWith(low) && text !== typedText).slice(0, MAX_COMPLETIONS);
+  return { from: column - typedText.length, to: column, list: matchingWords };
 }
 
 /**
@@ -59,9 +59,9 @@ export function completeProgram(lines, line, column, instructions) {
   const { head, comment } = splitStatement(textBefore);
   if (comment < textBefore.length) return { from: column, to: column, list: [] };
   // The line is cut at the caret. Otherwise, the name that the user is typing would complete itself.
-  const names = findDefinedNames(lines.map((each, number) => (number === line ? textBefore : each)));
+  const names = findDefinedNames(lines.map((lineText, number) => (number === line ? textBefore : lineText)));
   if (!head || head.to === column) {
-    const mnemonics = [...instructions].map(([name, { form, does }]) => ({ text: name, what: form.slice(name.length) + GAP + does }));
+    const mnemonics = [...instructions].map(([name, { form, effect }]) => ({ text: name, what: form.slice(name.length) + GAP + effect }));
     return filterCompletions(text, column, [...mnemonics, ...withoutDescription(DIRECTIVES)]);
   }
   const instruction = instructions.get(head.text.toUpperCase());

@@ -41,8 +41,8 @@ function isComment(text, { mark }) {
  * @param {Parts} parts
  */
 function isOuter(lineAt, line, parts) {
-  const before = line === 0 ? undefined : lineAt(line - 1);
-  return !parts.isNested || isBlank(before) || isComment(before, parts);
+  const previousLine = line === 0 ? undefined : lineAt(line - 1);
+  return !parts.isNested || isBlank(previousLine) || isComment(previousLine, parts);
 }
 
 /**

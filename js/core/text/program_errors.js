@@ -15,9 +15,9 @@ import * as say from "../../words/text.js";
  * @typedef {import("./program_words.js").WordError} WordError
  * @typedef {import("./sendable_text.js").Fault} Fault
  *
- * The errors in a program or board text. `faults` are the errors in its lines. `isWhole` is false if the text can have more errors.
- * `rest` is an error that belongs to no particular line, such as refusal 42 (the board lacks a ROM); null if there is none.
- * @typedef {{ faults: Fault[], isWhole: boolean, rest: Refusal | null }} AllFaults
+ * The errors in a program or board text. `faults` are the errors in its lines. `isComplete` is false if the text can have more errors.
+ * `generalRefusal` is an error that belongs to no particular line, such as refusal 42 (the board lacks a ROM); null if there is none.
+ * @typedef {{ faults: Fault[], isComplete: boolean, generalRefusal: Refusal | null }} AllFaults
  */
 
 /** The refusal number for a program that does not fit into the ROMs of the board. */
@@ -37,7 +37,7 @@ function createFault(source, lineNumber, error, number, messageFor) {
   const from = code.length - code.trimStart().length;
   const range = error && error.word ? { from: error.word.from, to: error.word.to } : { from, to: Math.max(from, code.trimEnd().length) };
   const quickFixTexts = error && error.word && error.quickFixTexts ? { quickFixTexts: error.quickFixTexts } : {};
-  return { number, line: lineNumber, ...range, words: error ? error.words : messageFor(number), ...quickFixTexts };
+  return { number, line: lineNumber, ...range, words: error ? error.message : messageFor(number), ...quickFixTexts };
 }
 
 /**
@@ -63,17 +63,17 @@ export function createLineError(lines, { line, number }, knownWords, messageFor)
  */
 export async function findProgramFaults(program, instructions, messageFor, queries) {
   const textFaults = findLineFaults(program, ";");
-  if (textFaults.some(({ number }) => number === TEXT_TOO_LONG)) return { faults: textFaults, isWhole: false, rest: null };
+  if (textFaults.some(({ number }) => number === TEXT_TOO_LONG)) return { faults: textFaults, isComplete: false, generalRefusal: null };
   const lines = asciiCommentsText(program, ";").split("\n");
   const unsentLines = new Set(textFaults.map(({ line }) => line));
-  const sent = lines.map((line, at) => (unsentLines.has(at + 1) ? "" : sentLine(line, ";"))).join("\n");
-  const errors = await queries.findLineErrors(sent);
+  const sentProgram = lines.map((line, at) => (unsentLines.has(at + 1) ? "" : sentLine(line, ";"))).join("\n");
+  const errors = await queries.findLineErrors(sentProgram);
   /** @type {KnownWords} */
   const knownWords = { instructions, names: findDefinedNames(lines) };
-  const found = errors.map((error) => createLineError(lines, error, knownWords, messageFor));
-  const faults = [...textFaults, ...found].sort((one, other) => one.line - other.line || one.from - other.from);
-  const rest = faults.length === 0 ? await queries.findRefusal(sent) : null;
-  return { faults, isWhole: errors.length < MAX_ERRORS, rest };
+  const lineErrors = errors.map((error) => createLineError(lines, error, knownWords, messageFor));
+  const faults = [...textFaults, ...lineErrors].sort((one, other) => one.line - other.line || one.from - other.from);
+  const generalRefusal = faults.length === 0 ? await queries.findRefusal(sentProgram) : null;
+  return { faults, isComplete: errors.length < MAX_ERRORS, generalRefusal };
 }
 
 /**
@@ -90,10 +90,10 @@ export function findMissingRoms(lines, map, roms) {
     const line = at + 1;
     const address = map.addressOf(line);
     if (address === undefined) return;
-    const chip = [Math.floor(address / 256), Math.floor((address + map.sizes[line] - 1) / 256)].find((each) => !roms.has(each));
+    const chip = [Math.floor(address / 256), Math.floor((address + map.sizes[line] - 1) / 256)].find((romNumber) => !roms.has(romNumber));
     if (chip === undefined || faults.has(chip)) return;
     const message = say.noRomForLine(chip, hex(address, 3));
-    faults.set(chip, createFault(text, line, { word: null, words: message }, MISSING_ROM, () => message));
+    faults.set(chip, createFault(text, line, { word: null, message }, MISSING_ROM, () => message));
   });
   return [...faults.values()];
 }
@@ -103,9 +103,9 @@ export function findMissingRoms(lines, map, roms) {
  * @param {string} program
  * @param {AllFaults} found the errors in the text
  */
-export function isProbablyNotProgram(program, { faults, isWhole }) {
+export function isProbablyNotProgram(program, { faults, isComplete }) {
   const wrongLines = new Set(faults.map(({ line }) => line));
-  const last = isWhole ? Infinity : Math.max(0, ...wrongLines);
+  const last = isComplete ? Infinity : Math.max(0, ...wrongLines);
   /** @type {(text: string) => boolean} */
   const isCode = (text) => text.slice(0, splitStatement(text).comment).trim() !== "";
   const code = program.split("\n").flatMap((text, at) => (at < last && isCode(text) ? [at + 1] : []));

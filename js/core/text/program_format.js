@@ -38,7 +38,7 @@ const CODE = /^(?:([A-Za-z_]\w*)[ \t]*:[ \t]*)?(?:([A-Za-z]\w*)(?:[ \t]+(\w+(?:[
  * @param {number} column the column at which the text starts
  * @param {Layout} layout
  */
-function columnAfter(text, column, { tabSize }) {
+function findColumnAfter(text, column, { tabSize }) {
   let at = column;
   for (const letter of text) at = letter === "\t" ? (Math.floor(at / tabSize) + 1) * tabSize : at + 1;
   return at;
@@ -69,13 +69,13 @@ function splitLine(line, canStartStatement, layout) {
   const code = trimBlanks(mark < 0 ? line : line.slice(0, mark));
   const empty = { name: "", value: "", label: "", head: "", operands: "" };
   const comment = mark < 0 ? "" : trimBlanks(line.slice(mark));
-  const rest = { comment, indent: mark < 0 ? 0 : columnAfter(line.slice(0, mark), 0, layout) };
+  const commentParts = { comment, indent: mark < 0 ? 0 : findColumnAfter(line.slice(0, mark), 0, layout) };
   const definition = DEFINITION.exec(code);
-  if (definition) return { ...empty, ...rest, name: definition[1], value: definition[2] };
-  const found = CODE.exec(code);
-  if (!found || (found[2] && !canStartStatement(found[2].toUpperCase()))) return null;
-  const operands = (found[3] || "").split(",").map(trimBlanks).join(", ");
-  return { ...empty, ...rest, label: found[1] || "", head: found[2] || "", operands };
+  if (definition) return { ...empty, ...commentParts, name: definition[1], value: definition[2] };
+  const match = CODE.exec(code);
+  if (!match || (match[2] && !canStartStatement(match[2].toUpperCase()))) return null;
+  const operands = (match[3] || "").split(",").map(trimBlanks).join(", ");
+  return { ...empty, ...commentParts, label: match[1] || "", head: match[2] || "", operands };
 }
 
 /**
@@ -83,8 +83,8 @@ function splitLine(line, canStartStatement, layout) {
  * definitions. The name width of any other line is 0.
  * @param {(SplitLine | null)[]} lines
  */
-function nameWidths(lines) {
-  const widths = lines.map((each) => (each ? each.name.length : 0));
+function findNameWidths(lines) {
+  const widths = lines.map((line) => (line ? line.name.length : 0));
   for (let at = 1; at < widths.length; at++) if (widths[at] > 0) widths[at] = Math.max(widths[at], widths[at - 1]);
   for (let at = widths.length - 2; at >= 0; at--) if (widths[at] > 0) widths[at] = Math.max(widths[at], widths[at + 1]);
   return widths;
@@ -100,7 +100,7 @@ function formatCode({ name, value, label, head, operands }, width, layout) {
   if (name) return `${name}${formatGap(name.length, width + 1, layout)}= ${value}`;
   let code = label && `${label}:`;
   const addWord = (/** @type {string} */ word, /** @type {number} */ column) => {
-    const end = columnAfter(code, 0, layout);
+    const end = findColumnAfter(code, 0, layout);
     code += formatGap(end, end < column ? column : end + (code ? 1 : 0), layout) + word;
   };
   if (head) addWord(head, STATEMENT_COLUMN);
@@ -114,7 +114,7 @@ function formatCode({ name, value, label, head, operands }, width, layout) {
  * @param {number} indent the current column of the comment
  * @param {number} last the column of the comment in the previous line; 0 if that line has no aligned comment
  */
-function commentColumn(end, indent, last) {
+function chooseCommentColumn(end, indent, last) {
   if (end > 0) return Math.max(COMMENT_COLUMN, Math.ceil((end + 2) / COMMENT_STEP) * COMMENT_STEP);
   if (indent === 0) return 0;
   return indent < MIN_COMMENT_INDENT ? STATEMENT_COLUMN : last || COMMENT_COLUMN;
@@ -129,12 +129,12 @@ function commentColumn(end, indent, last) {
  */
 export function formatProgramLines(lines, canStartStatement, layout) {
   const parts = lines.map((line) => splitLine(line, canStartStatement, layout));
-  const widths = nameWidths(parts);
+  const widths = findNameWidths(parts);
   let lastCommentColumn = 0;
   return parts.map((line, at) => {
     const code = line ? formatCode(line, widths[at], layout) : "";
-    const end = columnAfter(code, 0, layout);
-    const column = line && line.comment ? commentColumn(end, line.indent, lastCommentColumn) : 0;
+    const end = findColumnAfter(code, 0, layout);
+    const column = line && line.comment ? chooseCommentColumn(end, line.indent, lastCommentColumn) : 0;
     lastCommentColumn = column >= COMMENT_COLUMN ? column : 0;
     // A line stays unchanged if its formatted code is too long to send.
     if (!line || code.length > MAX_LINE_LENGTH) return lines[at];
@@ -148,21 +148,21 @@ export function formatProgramLines(lines, canStartStatement, layout) {
  */
 export function findLengthError(lines) {
   const text = lines.join("\n");
-  const sent = sentText(text, ";").length;
-  if (sent > MAX_SENT_LENGTH) return say.layoutTooLong(MAX_SENT_LENGTH.toLocaleString("en"), sent.toLocaleString("en"));
+  const sentLength = sentText(text, ";").length;
+  if (sentLength > MAX_SENT_LENGTH) return say.layoutTooLong(MAX_SENT_LENGTH.toLocaleString("en"), sentLength.toLocaleString("en"));
   return text.length > MAX_STORED_LENGTH ? say.layoutTooLong(MAX_STORED_LENGTH.toLocaleString("en"), text.length.toLocaleString("en")) : "";
 }
 
 /**
  * Returns the changes between two versions of a text, one per changed line. A change omits the common prefix and suffix of the old and the
  * new line.
- * @param {string[]} before the old lines
- * @param {string[]} after the new lines; their number equals that of the old lines
+ * @param {string[]} oldLines the old lines
+ * @param {string[]} newLines the new lines; their number equals that of the old lines
  * @returns {Change[]}
  */
-export function findLineChanges(before, after) {
-  return before.flatMap((old, line) => {
-    const text = after[line];
+export function findLineChanges(oldLines, newLines) {
+  return oldLines.flatMap((old, line) => {
+    const text = newLines[line];
     if (old === text) return [];
     const shorter = Math.min(old.length, text.length);
     let [from, suffix] = [0, 0];

@@ -13,8 +13,8 @@ import * as say from "../../words/text.js";
  * The known words: the instructions by mnemonic, and the line numbers of the definitions by name.
  * @typedef {{ instructions: Map<string, Instruction>, names: Map<string, number> }} KnownWords
  *
- * An error in a line: the wrong word (null if there is none), the message (`words`), and replacements for the word that fix the error.
- * @typedef {{ word: Word | null, words: string, quickFixTexts?: string[] }} WordError
+ * An error in a line: the wrong word (null if there is none), the message, and replacements for the word that fix the error.
+ * @typedef {{ word: Word | null, message: string, quickFixTexts?: string[] }} WordError
  */
 
 /**
@@ -43,7 +43,7 @@ export function describeOperand(kind) {
  * Converts a number from the syntax of another assembler to the bench's syntax. Returns the number and a message that explains the
  * difference; null for any other text.
  * @param {string} text
- * @returns {{ number: string, words: string } | null}
+ * @returns {{ number: string, explanation: string } | null}
  */
 function convertForeignNumber(text) {
   const hexadecimal = /^(?:\$|0X|&H?|#\$)([0-9A-Fa-f]+)$/.exec(text) || /^([0-9][0-9A-Fa-f]*)[Hh]$/.exec(text);
@@ -53,10 +53,10 @@ function convertForeignNumber(text) {
   const number = (hexadecimal && `0x${hexadecimal[1].toUpperCase()}`) || (binary && `${parseInt(binary[1], 2)}`)
     || (letter && `0x${letter[2].charCodeAt(0).toString(16).toUpperCase()}`) || (mark && mark[1]);
   if (!number) return null;
-  if (hexadecimal) return { number, words: say.isHexadecimal(number) };
-  if (binary) return { number, words: say.isBinary(number) };
-  if (letter) return { number, words: say.isLetter(letter[2], number) };
-  return { number, words: say.withoutNumberSign(number) };
+  if (hexadecimal) return { number, explanation: say.isHexadecimal(number) };
+  if (binary) return { number, explanation: say.isBinary(number) };
+  if (letter) return { number, explanation: say.isLetter(letter[2], number) };
+  return { number, explanation: say.withoutNumberSign(number) };
 }
 
 /**
@@ -66,7 +66,7 @@ function convertForeignNumber(text) {
  */
 function describeNumberError(text) {
   const converted = convertForeignNumber(text);
-  if (converted) return converted.words;
+  if (converted) return converted.explanation;
   if (/^-\d+$/.test(text)) return say.NO_NEGATIVES;
   if (/[-+*/()<>]/.test(text)) return say.NO_EXPRESSIONS;
   if (/\s/.test(text)) return say.OPERAND_COMMA_MISSING;
@@ -86,12 +86,12 @@ function findNumberFixes(text) {
 /**
  * Creates an error, with replacements if there are any.
  * @param {Word | null} word the wrong word
- * @param {string} words the message
+ * @param {string} message the message
  * @param {string[]} quickFixTexts the replacements
  * @returns {WordError}
  */
-function createError(word, words, quickFixTexts) {
-  return quickFixTexts.length > 0 ? { word, words, quickFixTexts } : { word, words };
+function createError(word, message, quickFixTexts) {
+  return quickFixTexts.length > 0 ? { word, message, quickFixTexts } : { word, message };
 }
 
 /**
@@ -124,13 +124,13 @@ function findOperandError(head, kind, word, knownWords, isFirst) {
   if (kind === "Pk" && PAIR.test(text)) return null;
   if (kind === "Rk" && REGISTER.test(text)) return null;
   if (kind === "Pk" || kind === "Rk") {
-    return { word, words: /\s/.test(text) ? `${expectation}; ${describeNumberError(text)}` : expectation };
+    return { word, message: /\s/.test(text) ? `${expectation}; ${describeNumberError(text)}` : expectation };
   }
   if (NUMBER.test(text)) return null;
   const reason = text === "" || REGISTER.test(text) || PAIR.test(text) ? ""
     : describeNumberError(text) || describeNameError(text, knownWords);
   if (reason) return createError(word, `${expectation}; ${reason}`, findNumberFixes(text));
-  return NAME.test(text) && !describeNameError(text, knownWords) ? null : { word, words: expectation };
+  return NAME.test(text) && !describeNameError(text, knownWords) ? null : { word, message: expectation };
 }
 
 /**
@@ -139,8 +139,8 @@ function findOperandError(head, kind, word, knownWords, isFirst) {
  * @returns {string[]}
  */
 export function parseOperandKinds(form) {
-  const rest = form.split(" ").slice(1).join(" ");
-  return rest === "" ? [] : rest.split(", ");
+  const operandText = form.split(" ").slice(1).join(" ");
+  return operandText === "" ? [] : operandText.split(", ");
 }
 
 /**
@@ -152,9 +152,11 @@ export function parseOperandKinds(form) {
  */
 function findHeadError({ label, operands }, head, { instructions }) {
   const upperCaseWord = head.text.toUpperCase();
-  if (upperCaseWord === "WPM") return { word: head, words: say.NO_WPM };
+  if (upperCaseWord === "WPM") return { word: head, message: say.NO_WPM };
   const definition = operands.length === 1 && NAME.test(head.text) && /^(?:EQU|SET)\s+(.*)$/i.exec(operands[0].text);
-  if (definition) return { word: operands[0], words: say.nameGetsNumber(head.text, definition[1]), quickFixTexts: [`= ${definition[1]}`] };
+  if (definition) {
+    return { word: operands[0], message: say.nameGetsNumber(head.text, definition[1]), quickFixTexts: [`= ${definition[1]}`] };
+  }
   const replacement = say.OTHER_ASSEMBLER_WORDS.get(upperCaseWord);
   const isName = !label && NAME.test(head.text);
   if (isName && operands.length > 0 && canStartStatement(operands[0].text.split(/\s/)[0], instructions)) {
@@ -166,7 +168,8 @@ function findHeadError({ label, operands }, head, { instructions }) {
   const message = say.noInstruction(head.text, question || (hasNoOperands ? say.labelSyntax(head.text) : ""));
   const quickFixTexts = hasNoOperands && !question ? [`${head.text}:`] : similar;
   if (!replacement) return createError(head, message, quickFixTexts);
-  return createError(head, message, replacement.split(" or ").filter((each) => /^[A-Z]+( \d+,?)?$/.test(each)).map(formatReplacement));
+  const instructionTexts = replacement.split(" or ").filter((alternative) => /^[A-Z]+( \d+,?)?$/.test(alternative));
+  return createError(head, message, instructionTexts.map(formatReplacement));
 }
 
 /**
@@ -202,8 +205,8 @@ function findDirectiveError(head, operands, knownWords) {
     const message = say.orgSyntax(reason && `; ${reason}`);
     return createError(operands[0] || head, message, reason ? findNumberFixes(operands[0].text) : []);
   }
-  if (operands.length === 0) return { word: head, words: say.DB_SYNTAX };
-  return operands.map((word) => findOperandError("DB", "b", word, knownWords, true)).find((found) => found !== null) || null;
+  if (operands.length === 0) return { word: head, message: say.DB_SYNTAX };
+  return operands.map((word) => findOperandError("DB", "b", word, knownWords, true)).find((error) => error !== null) || null;
 }
 
 /**
@@ -215,26 +218,26 @@ function findDirectiveError(head, operands, knownWords) {
 function findFormError(parts, knownWords) {
   const { label, defines, head, operands } = parts;
   const badName = label && describeNameError(label.text, knownWords);
-  if (badName) return { word: label, words: badName };
+  if (badName) return { word: label, message: badName };
   if (defines) {
     const reason = operands[0] ? describeNumberError(operands[0].text) : "";
     const message = say.equalsSyntax(reason && `; ${reason}`);
     return createError(operands[0] || label, message, reason ? findNumberFixes(operands[0].text) : []);
   }
-  if (!head) return { word: label, words: say.COLON_SYNTAX };
+  if (!head) return { word: label, message: say.COLON_SYNTAX };
   const upperCaseWord = head.text.toUpperCase();
   if (DIRECTIVES.includes(upperCaseWord)) return findDirectiveError(head, operands, knownWords);
   const instruction = knownWords.instructions.get(upperCaseWord);
   if (!instruction) return findHeadError(parts, head, knownWords);
   const kinds = parseOperandKinds(instruction.form);
-  if (kinds.length === 0) return { word: operands[0] || head, words: say.takesNothing(upperCaseWord) };
+  if (kinds.length === 0) return { word: operands[0] || head, message: say.takesNothing(upperCaseWord) };
   for (let at = 0; at < Math.min(kinds.length, operands.length); at++) {
-    const found = findOperandError(upperCaseWord, kinds[at], operands[at], knownWords, at === 0);
-    if (found) return found;
+    const error = findOperandError(upperCaseWord, kinds[at], operands[at], knownWords, at === 0);
+    if (error) return error;
   }
   const extra = operands[kinds.length];
-  const wanted = kinds.map((kind) => OPERAND_KINDS[kind].what).join(say.AND_AFTER);
-  return { word: extra || head, words: say.takesNoMore(upperCaseWord, wanted, Boolean(extra)) };
+  const expectation = kinds.map((kind) => OPERAND_KINDS[kind].what).join(say.AND_AFTER);
+  return { word: extra || head, message: say.takesNoMore(upperCaseWord, expectation, Boolean(extra)) };
 }
 
 /**
@@ -244,7 +247,7 @@ function findFormError(parts, knownWords) {
  * @returns {WordError | null}
  */
 function findValueError({ head, operands, defines, label }, { instructions }) {
-  if (defines) return { word: operands[0] || label, words: say.NAME_VALUE_RANGE };
+  if (defines) return { word: operands[0] || label, message: say.NAME_VALUE_RANGE };
   if (!head) return null;
   const upperCaseWord = head.text.toUpperCase();
   const instruction = instructions.get(upperCaseWord);
@@ -252,10 +255,11 @@ function findValueError({ head, operands, defines, label }, { instructions }) {
   const values = operands.map((word, at) => ({ word, kind: OPERAND_KINDS[kinds[at] || "b"] })).filter(({ kind }) => kind.maxValue > 0);
   const tooLarge = values.find(({ word, kind }) => NUMBER.test(word.text) && Number(word.text) > kind.maxValue);
   const namedOperand = values.find(({ word }) => NAME.test(word.text));
-  const found = tooLarge || namedOperand;
-  if (!found) return null;
-  const what = upperCaseWord === "ORG" ? say.ORG_ADDRESS : found.kind.what;
-  return { word: found.word, words: say.takesOperands(upperCaseWord, what, tooLarge ? "" : say.extraOperandNote(found.word.text)) };
+  const wrongOperand = tooLarge || namedOperand;
+  if (!wrongOperand) return null;
+  const what = upperCaseWord === "ORG" ? say.ORG_ADDRESS : wrongOperand.kind.what;
+  const note = tooLarge ? "" : say.extraOperandNote(wrongOperand.word.text);
+  return { word: wrongOperand.word, message: say.takesOperands(upperCaseWord, what, note) };
 }
 
 /**
@@ -292,15 +296,15 @@ export function explainProgramLine(line, number, knownWords) {
   const parts = splitStatement(line);
   if (number === 30) return findFormError(parts, knownWords);
   if (number === 31 && parts.label) {
-    return { word: parts.label, words: say.definedBefore(parts.label.text, knownWords.names.get(parts.label.text)) };
+    return { word: parts.label, message: say.definedBefore(parts.label.text, knownWords.names.get(parts.label.text)) };
   }
   if (number === 32) return findUnknownName(parts, knownWords);
   if (number === 33) return findValueError(parts, knownWords);
   if (number === 34 && parts.head) {
     const word = findLastName(parts);
     const head = parts.head.text.toUpperCase();
-    return { word, words: say.otherPage(word ? word.text : say.IT, head) };
+    return { word, message: say.otherPage(word ? word.text : say.IT, head) };
   }
-  if (number === 35) return { word: parts.head, words: say.BYTE_TWICE };
+  if (number === 35) return { word: parts.head, message: say.BYTE_TWICE };
   return null;
 }

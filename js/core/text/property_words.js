@@ -1,8 +1,9 @@
-// Finds the help and the completions for properties texts. They come from the manual's tables and from the names of the board and the
-// program.
+// Finds the help and the completions for properties texts, in the manual's tables and among the names of the board and the program.
 
 import { withoutDescription } from "./completion.js";
-import { completeWord, conditionForms, findDescription, firstWords, formsByTable, nextConditionWords, wordsUpTo } from "./test_words.js";
+import {
+  completeWord, findDescription, formsByTable, listFirstWords, listNextConditionWords, readConditionForms, wordsUpTo,
+} from "./test_words.js";
 import * as say from "../../words/text.js";
 
 /**
@@ -35,7 +36,7 @@ const AFTER_TARGET = ["within"];
  */
 export function propertyForms(manual) {
   const lines = SECTIONS.flatMap((title) => formsByTable(manual, title).flat());
-  return { lines, conditions: conditionForms(manual).filter(({ word }) => !TEST_WORDS.has(word)) };
+  return { lines, conditions: readConditionForms(manual).filter(({ word }) => !TEST_WORDS.has(word)) };
 }
 
 /**
@@ -53,37 +54,37 @@ export function createFirstProperties({ keys, lamps }) {
  * @param {string[]} words
  */
 function findCondition(words) {
-  const [first, ...rest] = words;
-  if (CONDITION_START.test(first || "")) return rest;
-  return first === "at" && rest.length > 0 ? rest.slice(1) : null;
+  const [first, ...conditionWords] = words;
+  if (CONDITION_START.test(first || "")) return conditionWords;
+  return first === "at" && conditionWords.length > 0 ? conditionWords.slice(1) : null;
 }
 
 /**
  * Returns the words that can come next in a line that starts with a label.
  * @param {string[]} words the words of the line so far
  */
-function nextWordsAfterLabel([, second, ...more]) {
-  if (second === undefined) return AFTER_LABEL;
-  return second === "to" && more.length === 1 ? AFTER_TARGET : [];
+function listWordsAfterLabel([, secondWord, ...laterWords]) {
+  if (secondWord === undefined) return AFTER_LABEL;
+  return secondWord === "to" && laterWords.length === 1 ? AFTER_TARGET : [];
 }
 
 /**
  * Returns the words that can come next in a line.
  * @param {string[]} previousWords the words before the unfinished word
- * @param {string} typed the unfinished word
+ * @param {string} unfinishedWord the unfinished word
  * @param {TestNames} names
  * @param {PropertyForms} forms
  * @returns {CompletionItem[]}
  */
-function nextWords(previousWords, typed, names, { lines, conditions }) {
+function listNextWords(previousWords, unfinishedWord, names, { lines, conditions }) {
   const labels = withoutDescription(names.labels.map((label) => `@${label}`));
-  if (typed.startsWith("@")) return labels;
-  if (previousWords.length === 0) return [...firstWords(lines.filter(({ word }) => /^[a-z]+$/.test(word))), ...labels];
+  if (unfinishedWord.startsWith("@")) return labels;
+  if (previousWords.length === 0) return [...listFirstWords(lines.filter(({ word }) => /^[a-z]+$/.test(word))), ...labels];
   const last = previousWords[previousWords.length - 1];
   if (previousWords[0] === "press" || last === "press") return withoutDescription(names.keys);
-  if (previousWords[0].startsWith("@")) return withoutDescription(nextWordsAfterLabel(previousWords));
+  if (previousWords[0].startsWith("@")) return withoutDescription(listWordsAfterLabel(previousWords));
   const condition = findCondition(previousWords);
-  if (condition) return nextConditionWords(condition, names, conditions, CONDITION_END);
+  if (condition) return listNextConditionWords(condition, names, conditions, CONDITION_END);
   return previousWords[0] === "note" ? withoutDescription(["lamps"]) : [];
 }
 
@@ -97,7 +98,7 @@ function nextWords(previousWords, typed, names, { lines, conditions }) {
  * @returns {Completion}
  */
 export function completeProperty(lines, line, column, names, forms) {
-  return completeWord(lines[line], column, (previousWords, typed) => nextWords(previousWords, typed, names, forms));
+  return completeWord(lines[line], column, (previousWords, unfinishedWord) => listNextWords(previousWords, unfinishedWord, names, forms));
 }
 
 /**
@@ -110,6 +111,6 @@ export function completeProperty(lines, line, column, names, forms) {
 export function helpForProperty(lines, line, column, forms) {
   const words = wordsUpTo(lines[line], column);
   if (words.length === 0) return "";
-  const known = words.length === 1 && forms.lines.find(({ word }) => word === words[0]);
-  return known ? `${known.form}: ${known.does}` : findDescription(forms.conditions, words[words.length - 1]);
+  const form = words.length === 1 && forms.lines.find(({ word }) => word === words[0]);
+  return form ? `${form.form}: ${form.effect}` : findDescription(forms.conditions, words[words.length - 1]);
 }

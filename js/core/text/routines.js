@@ -72,8 +72,8 @@ export class Routines {
    */
   findSuccessors(line) {
     const { head, target } = /** @type {Statement} */ (this.statements[line]);
-    const next = PATH_ENDS.has(head) ? [] : [this.findStatement(line + 1)];
-    return JUMPS.has(head) && target >= 0 ? [...next, this.findStatement(target)] : next;
+    const successors = PATH_ENDS.has(head) ? [] : [this.findStatement(line + 1)];
+    return JUMPS.has(head) && target >= 0 ? [...successors, this.findStatement(target)] : successors;
   }
 
   /**
@@ -82,8 +82,8 @@ export class Routines {
    * @returns {Set<number>}
    */
   findReachedLines(firstLine) {
-    const known = this.linesByRoutine.get(firstLine);
-    if (known) return known;
+    const knownLines = this.linesByRoutine.get(firstLine);
+    if (knownLines) return knownLines;
     const lines = new Set();
     const queue = [this.findStatement(firstLine)];
     while (queue.length > 0) {
@@ -101,9 +101,9 @@ export class Routines {
    * @param {number} firstLine the first line of the routine
    */
   findLastLine(firstLine) {
-    const reached = this.findReachedLines(firstLine);
+    const reachedLines = this.findReachedLines(firstLine);
     let last = firstLine;
-    for (let at = this.findStatement(firstLine); at >= 0 && reached.has(at); at = this.findStatement(at + 1)) last = at;
+    for (let at = this.findStatement(firstLine); at >= 0 && reachedLines.has(at); at = this.findStatement(at + 1)) last = at;
     return last;
   }
 
@@ -112,10 +112,10 @@ export class Routines {
    * @param {number} line
    */
   routineAt(line) {
-    const first = this.routines.find((each) => each.line === line);
-    const inside = this.routines.filter((each) => this.findReachedLines(each.line).has(line));
+    const first = this.routines.find((routine) => routine.line === line);
+    const inside = this.routines.filter((routine) => this.findReachedLines(routine.line).has(line));
     // If several routines reach the line, the nearest routine that starts above the line has priority.
-    return first || inside.filter((each) => each.line <= line).pop() || inside[0] || null;
+    return first || inside.filter((routine) => routine.line <= line).pop() || inside[0] || null;
   }
 
   /**
@@ -128,7 +128,7 @@ export class Routines {
     const { label, defines } = this.parts[line] || { label: null, defines: true };
     if (!label || defines) return null;
     const { from, to } = label;
-    return this.routines.find((each) => each.line === line) || { name, line, from, to, last: this.findLastLine(line) };
+    return this.routines.find((routine) => routine.line === line) || { name, line, from, to, last: this.findLastLine(line) };
   }
 
   /**
@@ -159,8 +159,9 @@ export class Routines {
    */
   findCalledRoutines(routine) {
     const calls = this.findCallsInLines(this.findReachedLines(routine.line));
-    return this.routines.map((each) => ({ routine: each, places: calls.filter(({ target }) => target === each.line) }))
-      .filter(({ places }) => places.length > 0);
+    const callsByRoutine = this.routines.map((callee) => (
+      { routine: callee, places: calls.filter(({ target }) => target === callee.line) }));
+    return callsByRoutine.filter(({ places }) => places.length > 0);
   }
 
   /**
@@ -169,8 +170,8 @@ export class Routines {
    * @param {number} line the line of the call
    * @returns {Routine[]}
    */
-  routinesContaining(line) {
-    const inside = this.routines.filter((each) => this.findReachedLines(each.line).has(line));
+  findRoutinesContaining(line) {
+    const inside = this.routines.filter((candidate) => this.findReachedLines(candidate.line).has(line));
     if (inside.length > 0) return inside;
     const above = [...this.names].filter(([, at]) => at - 1 <= line && !this.parts[at - 1].defines).pop();
     const routine = above ? this.getByName(above[0]) : null;
@@ -187,10 +188,10 @@ export class Routines {
     const callersByLine = new Map();
     for (const call of this.findCallsInLines(this.statements.keys())) {
       if (call.target !== callee) continue;
-      for (const routine of this.routinesContaining(call.line)) {
-        const known = callersByLine.get(routine.line) || { routine, places: [] };
-        known.places.push(call);
-        callersByLine.set(routine.line, known);
+      for (const routine of this.findRoutinesContaining(call.line)) {
+        const callers = callersByLine.get(routine.line) || { routine, places: [] };
+        callers.places.push(call);
+        callersByLine.set(routine.line, callers);
       }
     }
     return [...callersByLine.values()].sort((one, other) => one.routine.line - other.routine.line);
@@ -198,16 +199,16 @@ export class Routines {
 
   /**
    * Counts the uses of each label: the calls, and the other uses.
-   * @returns {Map<string, { calls: number, others: number }>}
+   * @returns {Map<string, { calls: number, otherUses: number }>}
    */
   countUses() {
     const labels = [...this.names].filter(([, line]) => !this.parts[line - 1].defines);
-    const uses = new Map(labels.map(([name]) => [name, { calls: 0, others: 0 }]));
+    const uses = new Map(labels.map(([name]) => [name, { calls: 0, otherUses: 0 }]));
     this.parts.forEach(({ operands }, line) => {
       for (const { text } of operands) {
         const use = uses.get(text);
         if (use && this.isCall(line)) use.calls += 1;
-        else if (use) use.others += 1;
+        else if (use) use.otherUses += 1;
       }
     });
     return uses;

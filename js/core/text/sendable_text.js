@@ -28,11 +28,11 @@ export const TEXT_TOO_LONG = 13;
  * Creates an error with a range.
  * @param {number} number the refusal number
  * @param {{ line: number, from: number, to: number }} range the line number from 1, and the columns
- * @param {string} words the message
+ * @param {string} message the message
  * @returns {Fault}
  */
-export function createFaultAt(number, { line, from, to }, words) {
-  return { number, line, from, to, words };
+export function createFaultAt(number, { line, from, to }, message) {
+  return { number, line, from, to, words: message };
 }
 
 /**
@@ -44,8 +44,8 @@ export function createFaultAt(number, { line, from, to }, words) {
 export function commentAt(line, mark) {
   const first = line.indexOf(mark);
   if (first < 0 || mark === ";") return first < 0 ? line.length : first;
-  const before = /^([^"'#]|"(\\.|[^"\\])*"|'[^']*')*/.exec(line);
-  const end = before ? before[0].length : 0;
+  const codeMatch = /^([^"'#]|"(\\.|[^"\\])*"|'[^']*')*/.exec(line);
+  const end = codeMatch ? codeMatch[0].length : 0;
   return line[end] === "#" ? end : line.length;
 }
 
@@ -67,7 +67,7 @@ export function toggleComments(lines, mark) {
  * @param {string} line
  * @param {CommentMark} mark
  */
-function alignedLine(line, mark) {
+function replaceNonAscii(line, mark) {
   if (/^[\t -~]*$/.test(line)) return line;
   const commentStart = commentAt(line, mark);
   return line.slice(0, commentStart) + line.slice(commentStart).replace(/[^\t -~]/g, " ");
@@ -114,7 +114,7 @@ function mapLines(text, change) {
  * @param {CommentMark} mark
  */
 export function asciiCommentsText(text, mark) {
-  return mapLines(text, (line) => alignedLine(line, mark));
+  return mapLines(text, (line) => replaceNonAscii(line, mark));
 }
 
 /**
@@ -146,16 +146,16 @@ function describeCharacter(character) {
 /**
  * Returns the error in a line that cannot be sent; null if the line can be sent.
  * @param {string} line the line, with the same columns as in the original text
- * @param {string} sent the line in the form that is sent
+ * @param {string} lineToSend the line in the form that is sent
  * @param {number} lineNumber
  * @returns {Fault | null}
  */
-function findLineFault(line, sent, lineNumber) {
+function findLineFault(line, lineToSend, lineNumber) {
   const range = { line: lineNumber, from: 0, to: line.length };
-  if (sent === ".") return { number: 0, ...range, words: say.DOT_ENDS };
-  if (sent.length > MAX_LINE_LENGTH) {
-    const message = say.lineTooLong(MAX_LINE_LENGTH, sent.length);
-    return { number: LINE_TOO_LONG, ...range, from: line.indexOf(sent) + MAX_LINE_LENGTH, words: message };
+  if (lineToSend === ".") return { number: 0, ...range, words: say.DOT_ENDS };
+  if (lineToSend.length > MAX_LINE_LENGTH) {
+    const message = say.lineTooLong(MAX_LINE_LENGTH, lineToSend.length);
+    return { number: LINE_TOO_LONG, ...range, from: line.indexOf(lineToSend) + MAX_LINE_LENGTH, words: message };
   }
   const invalid = /[^\t -~]+/u.exec(line);
   if (!invalid) return null;
@@ -179,14 +179,14 @@ function passesFastCheck(text, sentLines) {
  * @returns {Fault[]}
  */
 export function findLineFaults(text, mark) {
-  const sent = sentText(text, mark);
-  const sentLines = sent.split("\n");
-  if (sent.length <= MAX_SENT_LENGTH && passesFastCheck(text, sentLines)) return [];
+  const textToSend = sentText(text, mark);
+  const sentLines = textToSend.split("\n");
+  if (textToSend.length <= MAX_SENT_LENGTH && passesFastCheck(text, sentLines)) return [];
   const lines = asciiCommentsText(text, mark).split("\n");
   const faults = lines.map((line, at) => findLineFault(line, sentLines[at], at + 1)).filter((fault) => fault !== null);
-  if (sent.length > MAX_SENT_LENGTH) {
-    const last = sent.slice(0, MAX_SENT_LENGTH).split("\n").length;
-    const message = say.textTooLong(MAX_SENT_LENGTH.toLocaleString("en"), sent.length.toLocaleString("en"));
+  if (textToSend.length > MAX_SENT_LENGTH) {
+    const last = textToSend.slice(0, MAX_SENT_LENGTH).split("\n").length;
+    const message = say.textTooLong(MAX_SENT_LENGTH.toLocaleString("en"), textToSend.length.toLocaleString("en"));
     faults.push({ number: TEXT_TOO_LONG, line: last, from: 0, to: lines[last - 1].length, words: message });
   }
   return /** @type {Fault[]} */ (faults);

@@ -33,10 +33,10 @@ export function editDistance(first, second) {
 export function findSimilarWords(misspelled, words) {
   const maxDistance = misspelled.length <= 4 ? 1 : 2;
   const lowerCaseWord = misspelled.toLowerCase();
-  const found = [...words].map((word) => ({ word, distance: editDistance(lowerCaseWord, word.toLowerCase()) }))
+  const candidates = [...words].map((word) => ({ word, distance: editDistance(lowerCaseWord, word.toLowerCase()) }))
     .filter(({ distance }) => distance <= maxDistance);
-  const minDistance = Math.min(...found.map(({ distance }) => distance));
-  return found.filter(({ distance }) => distance === minDistance).slice(0, 2).map(({ word }) => word);
+  const minDistance = Math.min(...candidates.map(({ distance }) => distance));
+  return candidates.filter(({ distance }) => distance === minDistance).slice(0, 2).map(({ word }) => word);
 }
 
 /**

@@ -47,13 +47,13 @@ function chooseStyle(word, isFirst, { first, otherKeywords, startsWithCondition 
 
 /**
  * Returns whether a comment starts at a word.
- * @param {string} rest the rest of the line, starting at the word
+ * @param {string} restOfLine the rest of the line, starting at the word
  * @param {string} first the first word of the line; "" if `rest` starts with this word
  * @param {typeof TEST_LANGUAGE} language
  */
-function isComment(rest, first, language) {
+function isComment(restOfLine, first, language) {
   // In a line with key names, a word such as `#` can be the name of a key.
-  return /^[#;]/.test(rest) && (first === "" || (!language.uncommentedStart.test(first) && /^[#;](\s|$)/.test(rest)));
+  return /^[#;]/.test(restOfLine) && (first === "" || (!language.uncommentedStart.test(first) && /^[#;](\s|$)/.test(restOfLine)));
 }
 
 /**
@@ -66,8 +66,8 @@ function colourLine(line, language) {
   const ranges = [];
   let first = "";
   for (const { 0: word, index = 0 } of line.matchAll(/\S+/g)) {
-    const rest = line.slice(index);
-    const restStyle = isComment(rest, first, language) ? "comment" : first !== "" && first === language.nameKeyword ? "string" : "";
+    const restOfLine = line.slice(index);
+    const restStyle = isComment(restOfLine, first, language) ? "comment" : first !== "" && first === language.nameKeyword ? "string" : "";
     if (restStyle) return [...ranges, { from: index, to: line.length, style: restStyle }];
     const style = chooseStyle(word, first === "", language);
     if (style !== "") ranges.push({ from: index, to: index + word.length, style });

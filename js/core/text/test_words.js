@@ -1,4 +1,4 @@
-// Finds the help and the completions for test texts. They come from the manual's tables and from the names of the board and the program.
+// Finds the help and the completions for test texts, in the manual's tables and among the names of the board and the program.
 
 import { splitCell, cellText } from "../help/manual.js";
 import { withoutDescription } from "./completion.js";
@@ -12,8 +12,8 @@ import * as say from "../../words/text.js";
  * The names that a test can use: key and lamp names of the board, and labels of the program.
  * @typedef {{ keys: string[], lamps: string[], labels: string[] }} TestNames
  *
- * A form of a line or condition, as the manual writes it (`form`), with its first word and its description (`does`).
- * @typedef {{ word: string, form: string, does: string }} Form
+ * A form of a line or condition, as the manual writes it (`form`), with its first word and its description (`effect`).
+ * @typedef {{ word: string, form: string, effect: string }} Form
  *
  * The forms of the lines (`steps`) and conditions of a test.
  * @typedef {{ steps: Form[], conditions: Form[] }} TestForms
@@ -25,8 +25,8 @@ import * as say from "../../words/text.js";
  * @returns {Form[]}
  */
 function parseForms(rows) {
-  return rows.flatMap(([forms, does]) => splitCell(forms).filter(({ isCode }) => isCode).map(({ text }) => (
-    { word: text.split(" ", 1)[0], form: text, does: cellText(does) })));
+  return rows.flatMap(([forms, effect]) => splitCell(forms).filter(({ isCode }) => isCode).map(({ text }) => (
+    { word: text.split(" ", 1)[0], form: text, effect: cellText(effect) })));
 }
 
 /**
@@ -35,7 +35,7 @@ function parseForms(rows) {
  * @param {string} title
  */
 export function formsByTable(manual, title) {
-  const section = manual.find((each) => each.title === title);
+  const section = manual.find((candidate) => candidate.title === title);
   return section ? section.tables.map(({ rows }) => parseForms(rows)) : [];
 }
 
@@ -43,7 +43,7 @@ export function formsByTable(manual, title) {
  * Returns the forms of conditions in the manual, including conditions that only some kinds of text allow.
  * @param {ManualSection[]} manual
  */
-export function conditionForms(manual) {
+export function readConditionForms(manual) {
   const [forms] = formsByTable(manual, say.CONDITIONS);
   return forms || [];
 }
@@ -55,7 +55,7 @@ export function conditionForms(manual) {
  */
 export function testForms(manual) {
   const [steps] = formsByTable(manual, say.LINES_OF_TEST);
-  return { steps: steps || [], conditions: conditionForms(manual) };
+  return { steps: steps || [], conditions: readConditionForms(manual) };
 }
 
 /**
@@ -63,26 +63,26 @@ export function testForms(manual) {
  * @param {Form[]} forms
  * @returns {CompletionItem[]}
  */
-export function firstWords(forms) {
+export function listFirstWords(forms) {
   const words = new Map(forms.map((form) => [form.word, form]));
-  return [...words.values()].map(({ word, form, does }) => ({ text: word, what: `${form.slice(word.length)}   ${does}` }));
+  return [...words.values()].map(({ word, form, effect }) => ({ text: word, what: `${form.slice(word.length)}   ${effect}` }));
 }
 
 /**
  * Returns the words that can come next in a line.
- * @param {string[]} before the words before the unfinished word
- * @param {string} typed the unfinished word
+ * @param {string[]} previousWords the words before the unfinished word
+ * @param {string} unfinishedWord the unfinished word
  * @param {TestNames} names
  * @param {TestForms} forms
  * @returns {CompletionItem[]}
  */
-function nextWords(before, typed, { keys, lamps, labels }, forms) {
-  const [first] = before;
-  if (first === undefined) return firstWords(forms.steps);
+function listNextWords(previousWords, unfinishedWord, { keys, lamps, labels }, forms) {
+  const [first] = previousWords;
+  if (first === undefined) return listFirstWords(forms.steps);
   if (first === "press" || first === "release" || first === "keys") return withoutDescription(keys);
   if (first !== "until" && first !== "expect") return [];
-  if (typed.startsWith("@")) return withoutDescription(labels.map((label) => `@${label}`));
-  return nextConditionWords(before.slice(1), { keys, lamps, labels }, forms.conditions, ["within"]);
+  if (unfinishedWord.startsWith("@")) return withoutDescription(labels.map((label) => `@${label}`));
+  return listNextConditionWords(previousWords.slice(1), { keys, lamps, labels }, forms.conditions, ["within"]);
 }
 
 /** The words that join conditions. */
@@ -90,17 +90,17 @@ const CONJUNCTIONS = new Set(["and", "or", "&&", "||"]);
 
 /**
  * Returns the words that can come next in a condition.
- * @param {string[]} before the words of the condition so far
+ * @param {string[]} previousWords the words of the condition so far
  * @param {TestNames} names
  * @param {Form[]} conditions the forms of conditions
  * @param {string[]} nextKeywords the words that can follow a complete condition
  * @returns {CompletionItem[]}
  */
-export function nextConditionWords(before, { keys, lamps, labels }, conditions, nextKeywords) {
-  const start = before.reduce((last, word, at) => (CONJUNCTIONS.has(word) ? at + 1 : last), 0);
-  const words = before.slice(start).map((word) => word.replace(/^[(!]+/, "")).filter((word) => word !== "not" && word !== "");
+export function listNextConditionWords(previousWords, { keys, lamps, labels }, conditions, nextKeywords) {
+  const start = previousWords.reduce((last, word, at) => (CONJUNCTIONS.has(word) ? at + 1 : last), 0);
+  const words = previousWords.slice(start).map((word) => word.replace(/^[(!]+/, "")).filter((word) => word !== "not" && word !== "");
   const conjunctions = ["and", "or", ...nextKeywords];
-  if (words.length === 0) return [...firstWords(conditions), ...withoutDescription(labels.map((label) => `@${label}`))];
+  if (words.length === 0) return [...listFirstWords(conditions), ...withoutDescription(labels.map((label) => `@${label}`))];
   const [word] = words;
   if (word === "lamp") return withoutDescription(words.length === 1 ? lamps : ["on", "off", ...conjunctions]);
   if (word === "key") return withoutDescription(words.length === 1 ? keys : ["down", "up", ...conjunctions]);
@@ -112,17 +112,17 @@ export function nextConditionWords(before, { keys, lamps, labels }, conditions, 
  * Returns the completions of the unfinished word before the caret.
  * @param {string} line
  * @param {number} column the column of the caret
- * @param {(before: string[], typed: string) => CompletionItem[]} findWords returns the words that can come next, from the words before
- *   the unfinished word and from the unfinished word
+ * @param {(previousWords: string[], unfinishedWord: string) => CompletionItem[]} findWords returns the words that can
+ *   come next
  * @returns {Completion}
  */
 export function completeWord(line, column, findWords) {
-  const before = line.slice(0, column);
-  if (/^\s*[#;]/.test(before)) return { from: column, to: column, list: [] };
-  const typed = /\S*$/.exec(before) || [""];
-  const candidates = findWords(before.slice(0, column - typed[0].length).split(/\s+/).filter(Boolean), typed[0]);
-  const matchingWords = candidates.filter(({ text }) => text.startsWith(typed[0]) && text !== typed[0]);
-  return { from: column - typed[0].length, to: column, list: matchingWords };
+  const textBefore = line.slice(0, column);
+  if (/^\s*[#;]/.test(textBefore)) return { from: column, to: column, list: [] };
+  const typedMatch = /\S*$/.exec(textBefore) || [""];
+  const candidates = findWords(textBefore.slice(0, column - typedMatch[0].length).split(/\s+/).filter(Boolean), typedMatch[0]);
+  const matchingWords = candidates.filter(({ text }) => text.startsWith(typedMatch[0]) && text !== typedMatch[0]);
+  return { from: column - typedMatch[0].length, to: column, list: matchingWords };
 }
 
 /**
@@ -135,9 +135,10 @@ export function completeWord(line, column, findWords) {
  * @returns {Completion}
  */
 export function completeTest(lines, line, column, names, forms) {
-  const sharedSteps = lines.slice(0, line).flatMap((each) => (/^\s*steps\s+(\S+)\s*$/.exec(each) || []).slice(1));
-  return completeWord(lines[line], column, (before, typed) => (
-    before.length === 1 && before[0] === "do" ? withoutDescription(sharedSteps) : nextWords(before, typed, names, forms)));
+  const sharedSteps = lines.slice(0, line).flatMap((previousLine) => (/^\s*steps\s+(\S+)\s*$/.exec(previousLine) || []).slice(1));
+  return completeWord(lines[line], column, (previousWords, unfinishedWord) => (
+    previousWords.length === 1 && previousWords[0] === "do" ? withoutDescription(sharedSteps)
+      : listNextWords(previousWords, unfinishedWord, names, forms)));
 }
 
 /**
@@ -149,8 +150,8 @@ export function completeTest(lines, line, column, names, forms) {
 export function wordsUpTo(line, column) {
   const words = [...(line || "").matchAll(/\S+/g)];
   if (words.length === 0 || /^[#;]/.test(words[0][0])) return [];
-  const found = words.findIndex((word) => word.index !== undefined && word.index <= column && column <= word.index + word[0].length);
-  return words.slice(0, found + 1).map(([word]) => word);
+  const wordIndex = words.findIndex((word) => word.index !== undefined && word.index <= column && column <= word.index + word[0].length);
+  return words.slice(0, wordIndex + 1).map(([word]) => word);
 }
 
 /**
@@ -160,7 +161,7 @@ export function wordsUpTo(line, column) {
  */
 export function findDescription(forms, word) {
   const known = forms.find((form) => form.word === word) || forms.find((form) => normalizeWord(form.word) === normalizeWord(word));
-  return known ? `${known.form}: ${known.does}` : "";
+  return known ? `${known.form}: ${known.effect}` : "";
 }
 
 /**
@@ -174,8 +175,8 @@ export function helpForTest(lines, line, column, { steps, conditions }) {
   const words = wordsUpTo(lines[line], column);
   if (words.length === 0) return "";
   if (words.length > 1) return /^(until|expect)$/.test(words[0]) ? findDescription(conditions, words[words.length - 1]) : "";
-  const known = steps.find(({ word }) => word === words[0]);
-  return known ? `${known.form}: ${known.does}` : "";
+  const form = steps.find(({ word }) => word === words[0]);
+  return form ? `${form.form}: ${form.effect}` : "";
 }
 
 /**

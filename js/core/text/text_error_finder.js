@@ -13,15 +13,15 @@ import { asciiCommentsText, findLineFaults, sentText } from "./sendable_text.js"
  * @typedef {import("./program_errors.js").AllFaults} AllFaults
  * @typedef {import("./sendable_text.js").Fault} Fault
  *
- * The callbacks that query the bench. `sent` is a text in the form that is sent to the bench.
+ * The callbacks that query the bench. `sentBoard` and `sentProgram` are texts in the form that is sent to the bench.
  * @typedef {object} ErrorQueries
- * @property {(sent: string) => Promise<import("../bench/text_check_answers.js").BoardError | null>} findBoardError resolves to the error
- *   in a board text; null if it has none
- * @property {(sent: string) => Promise<import("../bench/text_check_answers.js").LineError[]>} findLineErrors
+ * @property {(sentBoard: string) => Promise<import("../bench/text_check_answers.js").BoardError | null>} findBoardError
+ *   resolves to the error in a board text; null if it has none
+ * @property {(sentProgram: string) => Promise<import("../bench/text_check_answers.js").LineError[]>} findLineErrors
  *   resolves to the errors in the lines of a program
- * @property {(sent: string) => Promise<Refusal | null>} findRefusal resolves to the refusal if the bench rejects a program for the current
- *   board; otherwise to null
- * @property {(sent: string) => Promise<string[]>} readMap resolves to the `map` answers for a program
+ * @property {(sentProgram: string) => Promise<Refusal | null>} findRefusal resolves to the refusal if the bench rejects a program for the
+ *   current board; otherwise to null
+ * @property {(sentProgram: string) => Promise<string[]>} readMap resolves to the `map` answers for a program
  * @property {() => Promise<Set<number>>} readRomNumbers resolves to the ROM numbers on the board
  */
 
@@ -58,12 +58,12 @@ export class TextErrorFinder {
    * @returns {Promise<AllFaults | undefined>}
    */
   async findInProgram(text, isWanted) {
-    const found = await findProgramFaults(text, this.instructions, this.messageFor, this.queries);
+    const result = await findProgramFaults(text, this.instructions, this.messageFor, this.queries);
     if (!isWanted()) return undefined;
-    if (!found || !found.rest || found.rest.number !== MISSING_ROM || found.faults.length > 0) return found;
-    const sent = sentText(text, ";");
-    const map = new SourceMap(await this.queries.readMap(sent), sent);
-    return { ...found, faults: findMissingRoms(asciiCommentsText(text, ";").split("\n"), map, await this.queries.readRomNumbers()) };
+    if (!result || !result.generalRefusal || result.generalRefusal.number !== MISSING_ROM || result.faults.length > 0) return result;
+    const sentProgram = sentText(text, ";");
+    const map = new SourceMap(await this.queries.readMap(sentProgram), sentProgram);
+    return { ...result, faults: findMissingRoms(asciiCommentsText(text, ";").split("\n"), map, await this.queries.readRomNumbers()) };
   }
 
   /**
@@ -74,11 +74,12 @@ export class TextErrorFinder {
    */
   async findInBoard(text, isWanted) {
     const textFaults = findLineFaults(text, "#");
-    if (textFaults.length > 0) return { faults: textFaults, isWhole: true, rest: null };
+    if (textFaults.length > 0) return { faults: textFaults, isComplete: true, generalRefusal: null };
     const error = await this.queries.findBoardError(sentText(text, "#"));
     if (!isWanted()) return undefined;
-    if (!error) return { faults: [], isWhole: true, rest: null };
-    return { faults: [createBoardError(asciiCommentsText(text, "#"), error, this.tables, this.messageFor)], isWhole: false, rest: null };
+    if (!error) return { faults: [], isComplete: true, generalRefusal: null };
+    const boardError = createBoardError(asciiCommentsText(text, "#"), error, this.tables, this.messageFor);
+    return { faults: [boardError], isComplete: false, generalRefusal: null };
   }
 }
 

@@ -1,4 +1,4 @@
-// Returns the help for words in programs and board texts. It comes mainly from the manual's tables.
+// Returns the help for words in programs and board texts. The help comes mainly from the manual's tables.
 
 import { formatQuantity } from "../bench/numbers.js";
 import { PAIR, REGISTER, findDefinedNames, splitStatement, wordAt } from "./assembly.js";
@@ -15,18 +15,18 @@ import * as say from "../../words/text.js";
  * @param {Instruction} instruction
  */
 export function describeInstruction(instruction) {
-  const { form, words, cycles } = instruction;
-  const size = `${formatQuantity(Number(words), "word")}, ${formatQuantity(Number(cycles), "cycle")}`;
-  const does = describeEffect(instruction);
-  return `${form}: ${size}. ${does[0].toUpperCase()}${does.slice(1)}.`;
+  const { form, byteCount, cycles } = instruction;
+  const size = `${formatQuantity(Number(byteCount), "word")}, ${formatQuantity(Number(cycles), "cycle")}`;
+  const effect = describeEffect(instruction);
+  return `${form}: ${size}. ${effect[0].toUpperCase()}${effect.slice(1)}.`;
 }
 
 /**
  * Describes the effect of an instruction. If the manual's description does not mention the carry, adds that the carry does not change.
  * @param {Instruction} instruction
  */
-export function describeEffect({ does }) {
-  return /\bCY\b|carry|borrow/.test(does) ? does : `${does}${say.CARRY_UNCHANGED}`;
+export function describeEffect({ effect }) {
+  return /\bCY\b|carry|borrow/.test(effect) ? effect : `${effect}${say.CARRY_UNCHANGED}`;
 }
 
 /**

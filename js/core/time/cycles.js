@@ -71,11 +71,11 @@ export class Cycles {
    * mark, the last number counts only up to this mark.
    */
   get counts() {
-    const [first, second = this.total] = this.marks;
+    const [first, secondMark = this.total] = this.marks;
     return {
       sinceReset: this.total - this.reset,
       sinceStop: this.total - this.from,
-      marked: first === undefined ? null : Math.abs(second - first),
+      marked: first === undefined ? null : Math.abs(secondMark - first),
     };
   }
 

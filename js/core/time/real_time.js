@@ -27,7 +27,7 @@ export class RealTime {
   }
 
   /** The time up to which the session has been simulated, on the frame clock. */
-  get reached() {
+  get simulatedUntil() {
     return this.lastFrame + (Math.max(0, -this.owed) * 1000) / this.perSecond;
   }
 

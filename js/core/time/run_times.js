@@ -9,8 +9,8 @@ import * as say from "../../words/time.js";
  * @typedef {(counter: string) => string} PlaceDescriber
  *
  * The durations of runs. `runs` has a text for each run: its duration, and where or why it stopped. `sum` is the total duration. In case of
- * an error, `words` is the error message, and there are no durations.
- * @typedef {{ runs: string[], sum: string, words: string }} RunTimes
+ * an error, `message` is the error message, and there are no durations.
+ * @typedef {{ runs: string[], sum: string, message: string }} RunTimes
  */
 
 const REFUSAL = /^no \d/;
@@ -36,7 +36,7 @@ function formatRunTime(cycles) {
  * @returns {RunTimes}
  */
 export function runTimes(answers, firstAnswer, lastAnswer, describePlace) {
-  const errorResult = (/** @type {string} */ words) => ({ runs: [], sum: "", words });
+  const createErrorResult = (/** @type {string} */ message) => ({ runs: [], sum: "", message });
   let cycles = 0;
   /** @type {{ time: string, stop: string, place: string }[]} */
   const runs = [];
@@ -45,7 +45,7 @@ export function runTimes(answers, firstAnswer, lastAnswer, describePlace) {
     const answer = answers[at - 1];
     if (answer.startsWith("ok ")) isOpen = false;
     if (at >= firstAnswer && (at <= lastAnswer || lastAnswer === 0)) {
-      if (REFUSAL.test(answer)) return errorResult(say.isRefusal(at, answer));
+      if (REFUSAL.test(answer)) return createErrorResult(say.isRefusal(at, answer));
       const run = readRun(answer);
       if (run) {
         cycles += run.cycles;
@@ -59,8 +59,8 @@ export function runTimes(answers, firstAnswer, lastAnswer, describePlace) {
       isOpen = false;
     }
   }
-  if (answers.length < lastAnswer) return errorResult(say.onlyAnswers(answers.length));
-  if (runs.length === 0) return errorResult(say.NO_RUN);
+  if (answers.length < lastAnswer) return createErrorResult(say.onlyAnswers(answers.length));
+  if (runs.length === 0) return createErrorResult(say.NO_RUN);
   const rows = runs.map(({ time, stop, place }) => `${time}${place === "" ? say.WHY_STOPPED[stop] : say.toPlace(place)}`);
-  return { runs: rows, sum: formatRunTime(cycles), words: "" };
+  return { runs: rows, sum: formatRunTime(cycles), message: "" };
 }

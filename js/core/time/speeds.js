@@ -5,18 +5,18 @@ import * as say from "../../words/time.js";
 /**
  * A speed. `slowdown` is the duration of a cycle in the session, divided by its duration in real time. `isByInstruction` is true for one
  * instruction per second, and `isFull` for full speed.
- * @typedef {{ id: string, words: string, slowdown: number, isByInstruction: boolean, isFull: boolean }} Speed
+ * @typedef {{ id: string, label: string, slowdown: number, isByInstruction: boolean, isFull: boolean }} Speed
  */
 
 /**
  * Creates a speed; the default is real time.
  * @param {string} id
- * @param {string} words
+ * @param {string} label
  * @param {Partial<Speed>} changes
  * @returns {Speed}
  */
-function createSpeed(id, words, changes = {}) {
-  return { id, words, slowdown: 1, isByInstruction: false, isFull: false, ...changes };
+function createSpeed(id, label, changes = {}) {
+  return { id, label, slowdown: 1, isByInstruction: false, isFull: false, ...changes };
 }
 
 export const REAL_TIME_SPEED = createSpeed("real", say.REAL_TIME);
@@ -36,7 +36,7 @@ export const SPEEDS = [
  * @param {string} id
  */
 export function findSpeed(id) {
-  return SPEEDS.find((each) => each.id === id) || REAL_TIME_SPEED;
+  return SPEEDS.find((speed) => speed.id === id) || REAL_TIME_SPEED;
 }
 
 /**

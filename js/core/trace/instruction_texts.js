@@ -12,8 +12,8 @@ import { instructionWords } from "../engine/rom_codes.js";
  * @typedef {import("../machine/source_map.js").SourceMap} SourceMap
  *
  * The names of a program. If the trace shows source lines, `source` contains them, and the number of lines before them in their file
- * (`before`).
- * @typedef {{ map: SourceMap, source: { lines: string[], before: number } | null }} TraceNames
+ * (`linesBefore`).
+ * @typedef {{ map: SourceMap, source: { lines: string[], linesBefore: number } | null }} TraceNames
  */
 
 /** The width of the instruction text in characters, without and with source lines. */
@@ -88,9 +88,9 @@ export class InstructionTexts {
     const unread = addresses.filter((address) => !this.texts.has(address));
     if (unread.length === 0) return;
     // An instruction at the last address can have its second byte at address 0.
-    const listed = unread.includes(LAST_ADDRESS) ? [...unread, 0] : unread;
-    const { answers } = engine.ask(state, joinLines(listed.map((address) => `list 0x${hex(address, 3)} 1`)));
-    listed.forEach((address, at) => {
+    const listedAddresses = unread.includes(LAST_ADDRESS) ? [...unread, 0] : unread;
+    const { answers } = engine.ask(state, joinLines(listedAddresses.map((address) => `list 0x${hex(address, 3)} 1`)));
+    listedAddresses.forEach((address, at) => {
       this.codes[address] = parseInt(answers[at].slice(...CODE_COLUMNS), 16);
     });
     unread.forEach((address, at) => this.texts.set(address, this.formatInstruction(address, answers[at])));
@@ -117,9 +117,9 @@ export class InstructionTexts {
    * @param {string} text
    */
   replaceTarget(text) {
-    const [, before = "", target = ""] = JUMP_LINE.exec(text) || [];
+    const [, textBefore = "", target = ""] = JUMP_LINE.exec(text) || [];
     const [label] = this.names && target ? this.names.map.labelsAt(parseInt(target, 16)) : [];
-    return label ? `${before}${label}` : text;
+    return label ? `${textBefore}${label}` : text;
   }
 
   /**
@@ -132,7 +132,7 @@ export class InstructionTexts {
     const line = map ? map.lineOf(address) : 0;
     if (!map || !source || line === 0) return text;
     const code = map.beginsInstruction(address) ? extractCode(source.lines[line - 1]) : text.slice(10);
-    return `${text.slice(0, 9)}${String(line + source.before).padStart(5)}  ${code}`;
+    return `${text.slice(0, 9)}${String(line + source.linesBefore).padStart(5)}  ${code}`;
   }
 
   /**
@@ -141,7 +141,7 @@ export class InstructionTexts {
    * @param {number} cycles the cycles before the instruction
    * @param {number} address
    */
-  instructionLine(cycles, address) {
+  formatInstructionLine(cycles, address) {
     const { label, text } = /** @type {{ label: string, text: string }} */ (this.texts.get(address));
     return `${label}${formatElapsed(cycles)}${text}`;
   }
@@ -149,9 +149,9 @@ export class InstructionTexts {
   /**
    * Returns the first columns of a trace line that has a given text instead of an instruction.
    * @param {number} cycles the cycles before the line
-   * @param {string} words
+   * @param {string} text
    */
-  plainLine(cycles, words) {
-    return `${formatElapsed(cycles)}${words.padEnd(this.width)}  `;
+  formatPlainLine(cycles, text) {
+    return `${formatElapsed(cycles)}${text.padEnd(this.width)}  `;
   }
 }

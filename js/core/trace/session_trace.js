@@ -30,12 +30,12 @@ const RAN_TO_END = "end";
  * @param {YieldToMessages} yieldToMessages
  */
 async function runState(engine, state, cycles, yieldToMessages) {
-  for (let done = 0; done < cycles;) {
-    const [answer] = engine.serve(state, `run ${Math.min(MAX_RUN_CYCLES, cycles - done)}\n`, state).answers;
+  for (let cyclesRun = 0; cyclesRun < cycles;) {
+    const [answer] = engine.serve(state, `run ${Math.min(MAX_RUN_CYCLES, cycles - cyclesRun)}\n`, state).answers;
     const run = readRun(answer);
     if (!run) throw new Error(`the bench answered a run by: ${answer}`);
-    done += run.cycles;
-    if (run.end !== RAN_TO_END) return { cycles: done, end: run.end };
+    cyclesRun += run.cycles;
+    if (run.end !== RAN_TO_END) return { cycles: cyclesRun, end: run.end };
     await yieldToMessages();
   }
   return { cycles, end: RAN_TO_END };
@@ -59,9 +59,9 @@ export class SessionTrace {
    * @param {number} cycles
    * @param {TraceNames | null} names
    */
-  async* next(cycles, names) {
+  async* traceNext(cycles, names) {
     const state = copyWithoutStops(this.engine, this.startState);
-    yield* this.lines(state, { from: 0, to: cycles, end: RAN_TO_END }, names);
+    yield* this.traceRange(state, { from: 0, to: cycles, end: RAN_TO_END }, names);
   }
 
   /**
@@ -70,7 +70,7 @@ export class SessionTrace {
    * @param {number} cycles the maximum number of cycles up to the stop
    * @param {TraceNames | null} names
    */
-  async* last(count, cycles, names) {
+  async* traceLast(count, cycles, names) {
     const { engine, yieldToMessages } = this;
     const stop = await runState(engine, this.startState.slice(), cycles, yieldToMessages);
     // An instruction takes at most two cycles, and the session can start between them.
@@ -79,7 +79,7 @@ export class SessionTrace {
     await runState(engine, state, from, yieldToMessages);
     /** @type {string[]} */
     const lines = [];
-    for await (const piece of this.lines(state, { from, to: stop.cycles, end: stop.end }, names)) lines.push(...piece);
+    for await (const piece of this.traceRange(state, { from, to: stop.cycles, end: stop.end }, names)) lines.push(...piece);
     const isStopped = stop.end !== RAN_TO_END;
     yield lines.slice(-count - Number(isStopped));
   }
@@ -90,11 +90,11 @@ export class SessionTrace {
    * @param {{ from: number, to: number, end: string }} range the range; `end` is the reason for the stop at its end
    * @param {TraceNames | null} names
    */
-  async* lines(state, { from, to, end }, names) {
+  async* traceRange(state, { from, to, end }, names) {
     const { engine, board } = this;
     const trace = new TraceLines(engine, board, new InstructionTexts(names));
     let stop = { at: from, end };
-    yield trace.secondCycleLines(state, from);
+    yield trace.listSecondCycle(state, from);
     for (let piece = FIRST_PIECE_CYCLES; stop.at < to && stop.end === end; piece = PIECE_CYCLES) {
       const count = Math.min(piece, to - stop.at);
       yield trace.runLines(state, count, stop.at);
@@ -102,6 +102,6 @@ export class SessionTrace {
       const cyclesDone = stop.at + run.cycles;
       stop = { at: cyclesDone, end: cyclesDone < to ? run.end : end };
     }
-    if (stop.end !== RAN_TO_END) yield [`${trace.next(state, stop.at)}${say.stopsBefore(stop.end)}`];
+    if (stop.end !== RAN_TO_END) yield [`${trace.formatNext(state, stop.at)}${say.stopsBefore(stop.end)}`];
   }
 }

@@ -77,10 +77,10 @@ export class TraceLines {
    * @param {State} state
    * @param {number} elapsed the number of cycles before the line
    */
-  secondCycleLines(state, elapsed) {
+  listSecondCycle(state, elapsed) {
     const [answer] = this.engine.ask(state, "state\n").answers;
     if (stateValue(answer, "owed") !== "1") return [];
-    return [`${this.texts.plainLine(elapsed, say.SECOND_CYCLE)}acc ${stateValue(answer, "acc")} cy ${stateValue(answer, "cy")}`];
+    return [`${this.texts.formatPlainLine(elapsed, say.SECOND_CYCLE)}acc ${stateValue(answer, "acc")} cy ${stateValue(answer, "cy")}`];
   }
 
   /**
@@ -117,22 +117,22 @@ export class TraceLines {
     const lines = [];
     let { row } = main;
     let nextCycle = firstCycle;
-    const addLine = (/** @type {number} */ at, /** @type {number} */ address, /** @type {string} */ after) => {
-      const registers = after === row ? "" : formatRegisterChanges(after, row);
-      const changes = groups.reduce((sum, group) => sum + updateGroup(group, group.rows.get(at)), registers);
-      row = after;
-      const start = this.texts.instructionLine(elapsed + at, address);
+    const addLine = (/** @type {number} */ startCycle, /** @type {number} */ address, /** @type {string} */ newRow) => {
+      const registers = newRow === row ? "" : formatRegisterChanges(newRow, row);
+      const changes = groups.reduce((sum, group) => sum + updateGroup(group, group.rows.get(startCycle)), registers);
+      row = newRow;
+      const start = this.texts.formatInstructionLine(elapsed + startCycle, address);
       lines.push(`${start}acc ${row[ROW_INDICES.acc]} cy ${row[ROW_INDICES.cy]}${changes && ` ${changes}`}`);
-      nextCycle = at + instructionCycles(this.texts.codes[address]);
+      nextCycle = startCycle + instructionCycles(this.texts.codes[address]);
     };
     // An instruction that jumps to itself changes nothing, so the answer has no row for it. Its line is repeated up to the next row.
     const repeatJump = (/** @type {number} */ to) => {
       while (nextCycle < to) addLine(nextCycle, parseInt(row.slice(ROW_INDICES.pc, ROW_INDICES.acc - 1), 16), row);
     };
     for (const line of main.lines) {
-      const { cycles: at, address, row: after } = parseTraceLine(line);
-      repeatJump(at);
-      addLine(at, address, after);
+      const { cycles: startCycle, address, row: newRow } = parseTraceLine(line);
+      repeatJump(startCycle);
+      addLine(startCycle, address, newRow);
     }
     repeatJump(main.cycles);
     return lines;
@@ -143,11 +143,11 @@ export class TraceLines {
    * @param {State} state
    * @param {number} elapsed the number of cycles before the instruction
    */
-  next(state, elapsed) {
+  formatNext(state, elapsed) {
     const { engine, texts } = this;
     const address = parseInt(stateValue(engine.ask(state, "regs\n").answers[0], "pc"), 16);
     texts.readInstructions(engine, state, [address]);
-    return texts.instructionLine(elapsed, address);
+    return texts.formatInstructionLine(elapsed, address);
   }
 }
 
@@ -158,6 +158,6 @@ export class TraceLines {
  * @returns {Group}
  */
 function createGroup(places, { row, lines }) {
-  const rows = new Map(lines.map(parseTraceLine).map(({ cycles, row: after }) => [cycles, after]));
+  const rows = new Map(lines.map(parseTraceLine).map(({ cycles, row: newRow }) => [cycles, newRow]));
   return { places, values: rowValues(row), rows };
 }

@@ -48,18 +48,19 @@ export function findLastRise(clock, moment) {
 /**
  * Extends the track of a shift register up to the end of the recording.
  * @param {{ clock: Track, data: Track, rise: number }} from the tracks of the register's clock and data lines; `rise` is the moment of the
- *   last rising clock edge up to `after`, or -1
+ *   last rising clock edge up to `computedUntil`, or -1
  * @param {Track} track
- * @param {number} after the moment up to which the track is already computed
+ * @param {number} computedUntil the moment up to which the track is already computed
  * @param {number} end the end of the recording
  */
-export function extendShiftTrack({ clock, data, rise }, track, after, end) {
+export function extendShiftTrack({ clock, data, rise }, track, computedUntil, end) {
   const edges = clock.moments.all;
   let lastRise = rise;
   const addRest = (/** @type {number} */ until) => {
-    if (lastRise >= 0 && lastRise + REST_CYCLES > after && lastRise + REST_CYCLES <= until) track.set(AT_REST, lastRise + REST_CYCLES);
+    const restStart = lastRise + REST_CYCLES;
+    if (lastRise >= 0 && restStart > computedUntil && restStart <= until) track.set(AT_REST, restStart);
   };
-  for (let at = countUpTo(edges, after); at < edges.length; at++) {
+  for (let at = countUpTo(edges, computedUntil); at < edges.length; at++) {
     if (clock.valueAfter(at + 1) === 0) continue;
     addRest(edges[at] - 1);
     lastRise = edges[at];
@@ -86,7 +87,7 @@ function formatBits(bits, base) {
  * @param {number[]} bits
  * @param {NumberBase} base
  */
-export function shiftText(value, bits, base) {
+export function formatShift(value, bits, base) {
   return value === AT_REST ? say.valueAtRest(formatBits(bits, base)) : String(value & 1);
 }
 
@@ -97,9 +98,9 @@ export function shiftText(value, bits, base) {
  * @param {number} to the number of the first bit after the range
  */
 function findOneBits(value, from, to) {
-  const found = [];
-  for (let bit = from; bit < to; bit++) if ((value >> bit) & 1) found.push(bit - from);
-  return found;
+  const positions = [];
+  for (let bit = from; bit < to; bit++) if ((value >> bit) & 1) positions.push(bit - from);
+  return positions;
 }
 
 /**
@@ -120,7 +121,7 @@ export function parseScan({ places, columns, width }, value) {
  * @param {WaveLine} line
  * @param {number} value
  */
-export function scanText(line, value) {
+export function formatScan(line, value) {
   const { rows, columns, keys } = parseScan(line, value);
   if (rows.length === 0) return say.NO_ROW;
   const rowText = say.rowsDriven(rows);

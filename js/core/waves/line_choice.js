@@ -7,9 +7,9 @@ import * as say from "../../words/waves.js";
  * @typedef {import("../bench/answers.js").Board} Board
  * @typedef {import("./wave_lines.js").WaveLine} WaveLine
  *
- * A choice of lines. `lines` are all lines of a board, followed by the requested values. `chosen` are the indexes of the requested lines in
- * `lines`, in the order of the request.
- * @typedef {{ lines: WaveLine[], chosen: number[] }} LineChoice
+ * A choice of lines. `lines` are all lines of a board, followed by the requested values. `chosenIndexes` are the indexes of the requested
+ * lines in `lines`, in the order of the request.
+ * @typedef {{ lines: WaveLine[], chosenIndexes: number[] }} LineChoice
  */
 
 /** The error for a name that matches no line. */
@@ -35,7 +35,7 @@ export function listRequestableNames(board, text, hasLabels) {
  * @param {WaveLine} line
  * @param {number} number the lamp number
  */
-function numberedName({ group, places }, number) {
+function formatNumberedName({ group, places }, number) {
   if (group === "lamps") return `lamp${number}`;
   return group === "keys" ? `key${places[0]}` : "";
 }
@@ -45,9 +45,9 @@ function numberedName({ group, places }, number) {
  * @param {WaveLine[]} lines
  * @param {string} word
  */
-function lineIndices(lines, word) {
+function findLineIndexes(lines, word) {
   const lamps = lines.findIndex(({ group }) => group === "lamps");
-  const namedLine = lines.findIndex((line, at) => line.name === word || numberedName(line, at - lamps) === word);
+  const namedLine = lines.findIndex((line, at) => line.name === word || formatNumberedName(line, at - lamps) === word);
   if (namedLine >= 0) return [namedLine];
   return lines.flatMap((line, at) => (canBeRequested(line) && line.group === word ? [at] : []));
 }
@@ -63,12 +63,12 @@ function lineIndices(lines, word) {
  */
 export function chooseLines(board, text, hasLabels, words) {
   const lines = createBoardLines(board, text, hasLabels);
-  const all = lines.map((_, at) => at);
-  if (words.length === 0) return { lines, chosen: all.filter((at) => isOneBitLine(lines[at])) };
+  const allIndexes = lines.map((_, at) => at);
+  if (words.length === 0) return { lines, chosenIndexes: allIndexes.filter((at) => isOneBitLine(lines[at])) };
   /** @type {Set<number>} */
-  const chosen = new Set();
+  const chosenIndexes = new Set();
   for (const word of words) {
-    let indices = lineIndices(lines, word);
+    let indices = findLineIndexes(lines, word);
     const value = indices.length === 0 ? createValueLine(word, board) : null;
     if (value) {
       const knownLine = lines.findIndex(({ name }) => name === value.name);
@@ -76,9 +76,9 @@ export function chooseLines(board, text, hasLabels, words) {
     }
     if (indices.length === 0) throw new UnknownLineError(word === "label" ? say.LABEL_NEEDS_PROGRAM : say.noSuchLine(word));
     for (const number of indices) {
-      if (chosen.has(number)) throw new UnknownLineError(say.lineTwice(lines[number].name));
-      chosen.add(number);
+      if (chosenIndexes.has(number)) throw new UnknownLineError(say.lineTwice(lines[number].name));
+      chosenIndexes.add(number);
     }
   }
-  return { lines, chosen: [...chosen] };
+  return { lines, chosenIndexes: [...chosenIndexes] };
 }

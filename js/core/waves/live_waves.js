@@ -9,9 +9,9 @@ import * as say from "../../words/waves.js";
  * @typedef {import("../engine/live_recorder.js").LivePart} LivePart
  * @typedef {import("../engine/wave_recorder.js").Recording} Recording
  *
- * The settings of a recording. `most` is its maximum length in cycles. `behind` is the number of cycles to record after the trigger.
+ * The settings of a recording. `maxCycles` is its maximum length. `cyclesAfterTrigger` is the number of cycles to record after the trigger.
  * `trigger` is the text of the trigger; "" for none. `stopsTime` is true if the session pauses when the recording ends.
- * @typedef {{ most: number, behind: number, trigger: string, stopsTime: boolean }} RecordingSettings
+ * @typedef {{ maxCycles: number, cyclesAfterTrigger: number, trigger: string, stopsTime: boolean }} RecordingSettings
  */
 
 export class LiveWaves {
@@ -37,15 +37,15 @@ export class LiveWaves {
    * Adds a part to the recording. Drops cycles at the start if the recording exceeds its maximum length.
    * @param {LivePart} part
    */
-  take(part) {
+  append(part) {
     const { waves } = this;
-    const { most, behind, trigger } = this.settings;
+    const { maxCycles, cyclesAfterTrigger, trigger } = this.settings;
     waves.append(part);
     this.triggerMoment = part.triggerMoment;
     this.endReason = part.endReason;
-    if (this.endReason === "trigger") waves.endAt(this.triggerMoment + behind);
-    if (trigger === "") waves.beginAt(waves.cycles - most);
-    else waves.beginAt((this.triggerMoment < 0 ? waves.cycles : this.triggerMoment) - (most - behind));
+    if (this.endReason === "trigger") waves.endAt(this.triggerMoment + cyclesAfterTrigger);
+    if (trigger === "") waves.beginAt(waves.cycles - maxCycles);
+    else waves.beginAt((this.triggerMoment < 0 ? waves.cycles : this.triggerMoment) - (maxCycles - cyclesAfterTrigger));
   }
 
   /** Ends the recording because the worker that recorded its last part has stopped. */
@@ -60,7 +60,7 @@ export class LiveWaves {
   }
 
   /** The status of the recording, as text. Changes rarely. */
-  get words() {
+  get statusText() {
     const { waves, triggerMoment, endReason: over } = this;
     const { trigger } = this.settings;
     const triggerText = triggerMoment < 0 ? "" : say.triggerWasAt(formatNumber(triggerMoment));

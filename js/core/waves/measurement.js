@@ -8,10 +8,10 @@ import * as say from "../../words/waves.js";
 /**
  * @typedef {import("./wave_recording.js").Waves} Waves
  *
- * A measurement: the line keeps its value from the moment `from` to the moment `to`. `isWhole` is true if the line changes at both moments,
- * and false if one of them is the start or end of the recording. `period` is the number of cycles from the edge at `from` to the next edge
- * in the same direction; 0 if the recording does not contain both edges.
- * @typedef {{ from: number, to: number, isWhole: boolean, period: number }} Measurement
+ * A measurement: the line keeps its value from the moment `from` to the moment `to`. `isComplete` is true if the line changes at both
+ * moments, and false if one of them is the start or end of the recording. `period` is the number of cycles from the edge at `from` to the
+ * next edge in the same direction; 0 if the recording does not contain both edges.
+ * @typedef {{ from: number, to: number, isComplete: boolean, period: number }} Measurement
  */
 
 /** The number of significant digits of a frequency. */
@@ -29,7 +29,7 @@ export function measureAt(waves, line, moment) {
   const endEdge = waves.changeAfter(line, moment);
   const nextEdge = endEdge === undefined || isDrawnAsBoxes(waves.lines[line]) ? undefined : waves.changeAfter(line, endEdge);
   const [from, to] = [startEdge === undefined ? waves.from : startEdge, endEdge === undefined ? waves.cycles : endEdge];
-  return { from, to, isWhole: startEdge !== undefined && endEdge !== undefined,
+  return { from, to, isComplete: startEdge !== undefined && endEdge !== undefined,
     period: startEdge === undefined || nextEdge === undefined ? 0 : nextEdge - startEdge };
 }
 
@@ -47,7 +47,7 @@ export function frequencyText(period) {
  * @param {string} value the value of the line as text
  * @param {Measurement} measurement
  */
-export function describeMeasurement(value, { from, to, isWhole, period }) {
-  const valueWords = say.hasValueFor(value, isWhole, formatCycles(to - from));
+export function describeMeasurement(value, { from, to, isComplete, period }) {
+  const valueWords = say.hasValueFor(value, isComplete, formatCycles(to - from));
   return period === 0 ? valueWords : say.withPeriod(valueWords, formatCycles(period), frequencyText(period));
 }

@@ -96,7 +96,7 @@ export class NumberQueue {
   }
 
   /** Removes all numbers and returns a copy of them. */
-  take() {
+  takeAll() {
     const numbers = /** @type {Kind} */ (this.all.slice());
     this.from = this.to = 0;
     return numbers;

@@ -100,9 +100,9 @@ export class Track {
    * Returns the track data and empties the track. The track continues with its last value.
    * @returns {TrackData}
    */
-  take() {
+  takeData() {
     const { first } = this;
     this.first = this.lastValue;
-    return { first, moments: this.moments.take(), values: this.values && /** @type {Uint16Array} */ (this.values.take()) };
+    return { first, moments: this.moments.takeAll(), values: this.values && /** @type {Uint16Array} */ (this.values.takeAll()) };
   }
 }

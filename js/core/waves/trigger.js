@@ -56,9 +56,9 @@ export function findLineByName(text, lines) {
  * Returns the name of the line in an edge trigger such as `rom0.2 rises`; "" for any other text.
  * @param {string} text
  */
-export function lineNameInEdge(text) {
-  const found = EDGE_SYNTAX.exec(text.trim());
-  return found ? found[1] : "";
+export function findLineNameInEdge(text) {
+  const match = EDGE_SYNTAX.exec(text.trim());
+  return match ? match[1] : "";
 }
 
 /**
@@ -71,8 +71,8 @@ export function lineNameInEdge(text) {
  */
 export function readTrigger(text, lines, names) {
   if (text.trim() === "") return { trigger: null, fault: "" };
-  const found = EDGE_SYNTAX.exec(text.trim());
-  if (found) return parseEdge(found[1], /** @type {Edge} */ (found[2]), lines);
+  const match = EDGE_SYNTAX.exec(text.trim());
+  if (match) return parseEdge(match[1], /** @type {Edge} */ (match[2]), lines);
   const { condition, error: fault, column } = compileTracedCondition(text, names);
   if (!condition) return { trigger: null, fault: errorInColumn(fault, column) };
   const { places, address, holds } = condition;

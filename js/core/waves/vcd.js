@@ -9,7 +9,8 @@ import { isDecoder } from "./decoders.js";
 /** The number of time units per cycle. A unit is 100 ns. */
 const UNITS_PER_CYCLE = CYCLE_TENTHS_US;
 /**
- * A number greater than the number of lines in any recording. `sortedChanges` encodes a change as one number: moment * MAX_LINES + line.
+ * A number greater than the number of lines in any recording. `sortChanges` encodes a change as one number: moment * MAX_LINES + index,
+ * where `index` is the position of the line among the chosen lines.
  */
 const MAX_LINES = 8192;
 /** The maximum number of text lines per part of the file. The file has parts because a long recording does not fit into one string. */
@@ -24,10 +25,12 @@ const CODE_LETTERS = "ACDEFGHIJKLMNOPQSTUVWY";
  * Returns the short code that identifies a signal line in the file.
  * @param {number} number the index of the line, from 0
  */
-function lineCode(number) {
+function createLineCode(number) {
   let text = "";
   const { length } = CODE_LETTERS;
-  for (let rest = number; rest >= 0; rest = Math.floor(rest / length) - 1) text = CODE_LETTERS[rest % length] + text;
+  for (let remaining = number; remaining >= 0; remaining = Math.floor(remaining / length) - 1) {
+    text = CODE_LETTERS[remaining % length] + text;
+  }
   return text;
 }
 
@@ -36,7 +39,7 @@ function lineCode(number) {
  * @param {Waves} waves
  * @param {number} line
  */
-function variableType({ lines }, line) {
+function formatVariableType({ lines }, line) {
   return lines[line].kind === "label" || isDecoder(lines[line]) ? "string 1" : `wire ${lines[line].width}`;
 }
 
@@ -44,12 +47,12 @@ function variableType({ lines }, line) {
 export class VcdText {
   /**
    * @param {Waves} waves
-   * @param {number[]} chosen the indexes of the lines, in file order
+   * @param {number[]} chosenLines the indexes of the lines, in file order
    */
-  constructor(waves, chosen) {
+  constructor(waves, chosenLines) {
     this.waves = waves;
-    this.chosen = chosen;
-    this.codes = chosen.map((_, at) => lineCode(at));
+    this.chosenLines = chosenLines;
+    this.codes = chosenLines.map((_, at) => createLineCode(at));
     /** The start of the recording, which is time 0 in the file. */
     this.startMoment = waves.from;
     /** The last moment written to the file so far. */
@@ -65,7 +68,7 @@ export class VcdText {
   changeText(index, value, moment) {
     const { waves } = this;
     const { program, lines } = waves;
-    const line = this.chosen[index];
+    const line = this.chosenLines[index];
     const { kind, width } = lines[line];
     if (kind === "label") return `s${program && value > 0 ? program.labels[value - 1].name : "-"} ${this.codes[index]}`;
     if (isDecoder(lines[line])) return `s${waves.valueAt(line, moment).replace(/ /g, "_")} ${this.codes[index]}`;
@@ -74,30 +77,30 @@ export class VcdText {
   }
 
   /** Returns the header of the file, including the values at the start of the recording. */
-  head() {
-    const { waves, chosen, codes } = this;
+  formatHead() {
+    const { waves, chosenLines, codes } = this;
     return `${[
       "$version Fethsaim $end",
       `$comment ${UNITS_PER_CYCLE} units of time are a cycle of the 4004, ${CYCLE_US} microseconds $end`,
       "$timescale 100 ns $end",
       "$scope module board $end",
-      ...chosen.map((line, at) => `$var ${variableType(waves, line)} ${codes[at]} ${waves.lines[line].name} $end`),
+      ...chosenLines.map((line, at) => `$var ${formatVariableType(waves, line)} ${codes[at]} ${waves.lines[line].name} $end`),
       "$upscope $end",
       "$enddefinitions $end",
       "#0",
       "$dumpvars",
-      ...chosen.map((line, at) => this.changeText(at, waves.numberAt(line, waves.from), waves.from)),
+      ...chosenLines.map((line, at) => this.changeText(at, waves.numberAt(line, waves.from), waves.from)),
       "$end",
     ].join("\n")}\n`;
   }
 
   /** Yields the changes in parts. */
-  * changes() {
-    const { waves, chosen } = this;
-    const tracks = chosen.map((line) => waves.getTrack(line));
-    const counts = new Uint32Array(chosen.length);
+  * formatChanges() {
+    const { waves, chosenLines } = this;
+    const tracks = chosenLines.map((line) => waves.getTrack(line));
+    const counts = new Uint32Array(chosenLines.length);
     let lines = [];
-    for (const change of sortedChanges(waves, chosen)) {
+    for (const change of sortChanges(waves, chosenLines)) {
       const moment = Math.floor(change / MAX_LINES);
       const index = change % MAX_LINES;
       counts[index] += 1;
@@ -121,13 +124,13 @@ export class VcdText {
 /**
  * Returns the encoded changes of the chosen lines, sorted by moment and line.
  * @param {Waves} waves
- * @param {number[]} chosen
+ * @param {number[]} chosenLines
  */
-function sortedChanges(waves, chosen) {
-  const counts = chosen.map((line) => waves.changesOf(line).length);
+function sortChanges(waves, chosenLines) {
+  const counts = chosenLines.map((line) => waves.changesOf(line).length);
   const changes = new Float64Array(counts.reduce((sum, count) => sum + count, 0));
   let at = 0;
-  chosen.forEach((line, index) => {
+  chosenLines.forEach((line, index) => {
     for (const moment of waves.changesOf(line)) {
       changes[at] = moment * MAX_LINES + index;
       at += 1;
@@ -139,12 +142,12 @@ function sortedChanges(waves, chosen) {
 /**
  * Yields the file of a complete recording in parts.
  * @param {Waves} waves
- * @param {number[]} chosen the indexes of the lines, in file order
+ * @param {number[]} chosenLines the indexes of the lines, in file order
  */
-export function* vcdParts(waves, chosen) {
-  const text = new VcdText(waves, chosen);
-  yield text.head();
-  yield* text.changes();
+export function* vcdParts(waves, chosenLines) {
+  const text = new VcdText(waves, chosenLines);
+  yield text.formatHead();
+  yield* text.formatChanges();
   const end = text.end();
   if (end) yield end;
 }

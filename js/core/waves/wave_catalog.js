@@ -54,11 +54,11 @@ export function chosenValueNames(lines, chosenNames) {
  * @param {WaveLine[]} lines
  * @param {string} text
  */
-function matchingLines(lines, text) {
-  const wanted = normalizeName(text);
-  const exact = lines.filter(({ name }) => normalizeName(name) === wanted);
-  if (exact.length > 0) return exact;
-  return lines.filter(({ name, title, group }) => normalizeName(`${name} ${title} ${groupTitle(group)}`).includes(wanted));
+function findMatchingLines(lines, text) {
+  const searchedName = normalizeName(text);
+  const exactMatches = lines.filter(({ name }) => normalizeName(name) === searchedName);
+  if (exactMatches.length > 0) return exactMatches;
+  return lines.filter(({ name, title, group }) => normalizeName(`${name} ${title} ${groupTitle(group)}`).includes(searchedName));
 }
 
 /**
@@ -67,18 +67,18 @@ function matchingLines(lines, text) {
  * @param {WaveLine[]} allLines
  * @param {string} text
  * @param {Set<string>} chosenNames
- * @returns {{ lines: WaveLine[], more: string }} `more` is a note about unlisted lines, or that no line matches; "" for none
+ * @returns {{ lines: WaveLine[], note: string }} `note` is a note about unlisted lines, or that no line matches; "" for none
  */
 export function searchLines(allLines, text, chosenNames) {
   const isAll = text.trim() === "";
   const isCharacter = (/** @type {WaveLine} */ { group }) => group.startsWith(say.RAM_GROUP);
-  let left = isAll ? 0 : MAX_NIBBLES;
-  const matching = matchingLines(allLines, text);
-  if (matching.length === 0 && !isAll) return { lines: matching, more: say.noName(text.trim()) };
-  const lines = matching.filter((line) => !isCharacter(line) || chosenNames.has(line.name) || left-- > 0);
+  let remaining = isAll ? 0 : MAX_NIBBLES;
+  const matching = findMatchingLines(allLines, text);
+  if (matching.length === 0 && !isAll) return { lines: matching, note: say.noName(text.trim()) };
+  const lines = matching.filter((line) => !isCharacter(line) || chosenNames.has(line.name) || remaining-- > 0);
   const hidden = matching.length - lines.length;
-  if (hidden === 0) return { lines, more: "" };
-  return { lines, more: say.notListed(hidden) };
+  if (hidden === 0) return { lines, note: "" };
+  return { lines, note: say.notListed(hidden) };
 }
 
 /**

@@ -48,7 +48,7 @@ function createLine(name, group, kind, details = {}) {
  * @param {string} ending the number of the lamp or key, for a line without a valid name
  * @param {FaceText | undefined} faceText
  */
-function lineNames(group, ending, faceText) {
+function chooseLineNames(group, ending, faceText) {
   const text = faceText ? faceText.text : "";
   return PLAIN_NAME.test(text) ? { name: `${group}.${text}`, title: "" } : { name: `${group}${ending}`, title: text };
 }
@@ -60,7 +60,7 @@ function lineNames(group, ending, faceText) {
  * @param {Face} face
  * @returns {WaveLine[]}
  */
-function levelLines(group, count, face) {
+function createLevelLines(group, count, face) {
   const port = face.ports.get(group);
   return indices(count).map((line) => (
     createLine(`${group}.${line}`, group, "level", { places: [`${group}.${line}`], title: port ? say.lineOf(port.text, line) : "" })));
@@ -71,13 +71,13 @@ function levelLines(group, count, face) {
  * @param {Board} board
  * @param {Face} face
  */
-function chipLines({ roms, banks, chains }, face) {
+function createChipLines({ roms, banks, chains }, face) {
   const chips = roms.map(({ chip }) => Number(chip)).sort((one, other) => one - other);
   const sorted = [...banks].sort((one, other) => one.bank - other.bank);
   return [
-    ...chips.flatMap((chip) => levelLines(`rom${chip}`, 4, face)),
-    ...sorted.flatMap(({ bank, chips: count }) => indices(count).flatMap((chip) => levelLines(`ram${bank}.${chip}`, 4, face))),
-    ...chains.flatMap(({ chips: count }, chain) => levelLines(`chain${chain}`, BITS_PER_CHIP * count, face)),
+    ...chips.flatMap((chip) => createLevelLines(`rom${chip}`, 4, face)),
+    ...sorted.flatMap(({ bank, chips: count }) => indices(count).flatMap((chip) => createLevelLines(`ram${bank}.${chip}`, 4, face))),
+    ...chains.flatMap(({ chips: count }, chain) => createLevelLines(`chain${chain}`, BITS_PER_CHIP * count, face)),
   ];
 }
 
@@ -86,15 +86,15 @@ function chipLines({ roms, banks, chains }, face) {
  * @param {Board} board
  * @param {Face} face
  */
-function frontPanelLines({ lamps, rows, columns }, face) {
+function createFrontPanelLines({ lamps, rows, columns }, face) {
   const lines = lamps.map((place, at) => {
-    const { name, title } = lineNames("lamp", String(at), face.lamps.get(at));
+    const { name, title } = chooseLineNames("lamp", String(at), face.lamps.get(at));
     return createLine(name, "lamps", "level", { places: [place], title });
   });
   for (const row of indices(rows)) {
     for (const column of indices(columns)) {
       const key = `${row}.${column}`;
-      const { name, title } = lineNames("key", key, face.keys.get(`${row} ${column}`));
+      const { name, title } = chooseLineNames("key", key, face.keys.get(`${row} ${column}`));
       lines.push(createLine(name, "keys", "key", { places: [key], title }));
     }
   }
@@ -106,7 +106,7 @@ function frontPanelLines({ lamps, rows, columns }, face) {
  * @param {WaveLine[]} lines the signal lines of the board
  * @param {Face} face
  */
-function portLines(lines, face) {
+function createPortLines(lines, face) {
   /** @type {Map<string, number[]>} */
   const ports = new Map();
   lines.forEach(({ group, kind }, at) => {
@@ -125,7 +125,7 @@ function portLines(lines, face) {
  * @param {WaveLine[]} lines the signal lines of the board
  * @param {Face} face
  */
-function decoderLines({ chains, matrix }, lines, face) {
+function createDecoderLines({ chains, matrix }, lines, face) {
   const indexesOf = (/** @type {string[]} */ places) => places.map((place) => lines.findIndex(({ name }) => name === place));
   const bitsOf = (/** @type {number} */ chain, /** @type {number} */ first, /** @type {number} */ count) => (
     indices(count).map((bit) => `chain${chain}.${first + bit}`));
@@ -195,11 +195,11 @@ export function characterNames({ banks }) {
  */
 export function createBoardLines(board, text, hasLabels, values = []) {
   const face = new Face(text);
-  const bits = [...chipLines(board, face), ...frontPanelLines(board, face), createLine("test", "test", "test")];
-  const others = values.flatMap((name) => createValueLine(name, board) || []);
+  const bits = [...createChipLines(board, face), ...createFrontPanelLines(board, face), createLine("test", "test", "test")];
+  const valueLines = values.flatMap((name) => createValueLine(name, board) || []);
   const counter = createLine("pc", "pc", "pc", { width: 12 });
   const labels = hasLabels ? [createLine("label", "label", "label", { width: 16 })] : [];
-  return [...bits, ...portLines(bits, face), ...decoderLines(board, bits, face), ...others, counter, ...labels];
+  return [...bits, ...createPortLines(bits, face), ...createDecoderLines(board, bits, face), ...valueLines, counter, ...labels];
 }
 
 /**

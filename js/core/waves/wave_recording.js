@@ -2,7 +2,7 @@
 // The recording of a running session grows at its end and drops cycles at its start. A moment is a time, counted in cycles.
 
 import { ADDRESS_COUNT } from "../bench/rom_bytes.js";
-import { extendShiftTrack, findLastRise, scanText, shiftText } from "./decoders.js";
+import { extendShiftTrack, findLastRise, formatScan, formatShift } from "./decoders.js";
 import { NumberQueue, countUpTo } from "./number_queue.js";
 import { Track, emptyTrack } from "./track.js";
 import { valueText } from "./wave_words.js";
@@ -13,10 +13,10 @@ import { valueText } from "./wave_words.js";
  * @typedef {import("./wave_lines.js").WaveLine} WaveLine
  * @typedef {import("./wave_words.js").NumberBase} NumberBase
  *
- * The instruction at a moment: its address, its listing line (`listed`), and its source line with the line number (0 for none). `isSecond`
- * is true if the recording starts at the second cycle of the instruction, and the moment is this cycle. `isEnd` is true at the end of the
- * recording; the instruction is then the next to run.
- * @typedef {{ address: number, listed: string, line: number, source: string, isSecond: boolean, isEnd: boolean }} Instruction
+ * The instruction at a moment: its address, its listing line, and its source line with the line number (0 for none). `isSecond` is true if
+ * the recording starts at the second cycle of the instruction, and the moment is this cycle. `isEnd` is true at the end of the recording;
+ * the instruction is then the next to run.
+ * @typedef {{ address: number, listingLine: string, line: number, source: string, isSecond: boolean, isEnd: boolean }} Instruction
  */
 
 /** The kinds of lines whose values are computed from other lines or from the program counter. */
@@ -26,12 +26,12 @@ const DERIVED_KINDS = new Set(["pc", "label", "port", "shift", "scan"]);
  * Returns for each address the index of the nearest label at the same or a lower address; -1 for none.
  * @param {{ address: number }[]} labels the labels in ascending address order
  */
-function labelsBelow(labels) {
+function findLabelsBelow(labels) {
   const below = new Int16Array(ADDRESS_COUNT);
-  let [next, now] = [0, -1];
+  let [nextLabel, currentLabel] = [0, -1];
   for (let address = 0; address < below.length; address++) {
-    while (next < labels.length && labels[next].address <= address) now = next++;
-    below[address] = now;
+    while (nextLabel < labels.length && labels[nextLabel].address <= address) currentLabel = nextLabel++;
+    below[address] = currentLabel;
   }
   return below;
 }
@@ -53,7 +53,7 @@ export class Waves {
     this.listing = new Map(listing);
     this.program = program;
     this.sources = program ? program.text.split("\n") : [];
-    this.labelIndexes = labelsBelow(program ? program.labels : []);
+    this.labelIndexes = findLabelsBelow(program ? program.labels : []);
     /** @type {Map<number, Track>} the tracks computed so far, by line index */
     this.derivedTracks = new Map();
     /** @type {Map<number, number>} the moment of the last rising clock edge before the recording, by shift register line */
@@ -170,19 +170,19 @@ export class Waves {
    * Extends the track of a derived line up to the end of the recording.
    * @param {number} line
    * @param {Track} track
-   * @param {number} after the moment up to which the track is already computed
+   * @param {number} computedUntil the moment up to which the track is already computed
    */
-  extendTrack(line, track, after) {
+  extendTrack(line, track, computedUntil) {
     const { kind, members } = this.lines[line];
     const tracks = members.map((member) => this.tracks[member]);
     if (kind === "shift") {
       const [clock, data] = tracks;
-      extendShiftTrack({ clock, data, rise: this.findRiseBefore(line, after) }, track, after, this.cycles);
+      extendShiftTrack({ clock, data, rise: this.findRiseBefore(line, computedUntil) }, track, computedUntil, this.cycles);
     }
-    if (kind === "port" || kind === "scan") this.extendPortTrack(tracks, track, after);
+    if (kind === "port" || kind === "scan") this.extendPortTrack(tracks, track, computedUntil);
     if (kind !== "pc" && kind !== "label") return;
     const [moments, counters] = [this.moments.all, this.counters.all];
-    for (let at = countUpTo(moments, after); at < moments.length; at++) {
+    for (let at = countUpTo(moments, computedUntil); at < moments.length; at++) {
       track.set(kind === "pc" ? counters[at] : this.labelIndexes[counters[at]] + 1, moments[at]);
     }
   }
@@ -201,15 +201,15 @@ export class Waves {
    * Extends the track of a port or key scan up to the end of the recording. Bit k of the value is the value of member line k.
    * @param {Track[]} members
    * @param {Track} track
-   * @param {number} after the moment up to which the track is already computed
+   * @param {number} computedUntil the moment up to which the track is already computed
    */
-  extendPortTrack(members, track, after) {
+  extendPortTrack(members, track, computedUntil) {
     const moments = members.map((member) => member.moments.all);
-    const nextIndexes = moments.map((each) => countUpTo(each, after));
+    const nextIndexes = moments.map((memberMoments) => countUpTo(memberMoments, computedUntil));
     for (;;) {
       let moment = Infinity;
-      moments.forEach((each, bit) => {
-        if (nextIndexes[bit] < each.length) moment = Math.min(moment, each[nextIndexes[bit]]);
+      moments.forEach((memberMoments, bit) => {
+        if (nextIndexes[bit] < memberMoments.length) moment = Math.min(moment, memberMoments[nextIndexes[bit]]);
       });
       if (moment === Infinity) return;
       let value = 0;
@@ -271,9 +271,9 @@ export class Waves {
   valueAt(line, moment) {
     const { kind, width, members } = this.lines[line];
     if (kind === "label") return this.labelAt(moment) || "-";
-    if (kind === "scan") return scanText(this.lines[line], this.numberAt(line, moment));
+    if (kind === "scan") return formatScan(this.lines[line], this.numberAt(line, moment));
     if (kind === "shift") {
-      return shiftText(this.numberAt(line, moment), members.slice(2).map((member) => this.tracks[member].valueAt(moment)), this.base);
+      return formatShift(this.numberAt(line, moment), members.slice(2).map((member) => this.tracks[member].valueAt(moment)), this.base);
     }
     return valueText(this.numberAt(line, moment), width, kind === "pc" ? "hex" : this.base);
   }
@@ -312,7 +312,7 @@ export class Waves {
     const line = program ? program.lines[address] : 0;
     return {
       address,
-      listed: this.listing.get(address) || "",
+      listingLine: this.listing.get(address) || "",
       line,
       source: line > 0 ? this.sources[line - 1].trim() : "",
       isSecond: sample === 0 && this.isOwed,

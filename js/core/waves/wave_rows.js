@@ -71,11 +71,11 @@ export class WaveRows {
   /**
    * Returns the rows of the visible lines.
    * @param {WaveLine[]} lines all lines of the recording
-   * @param {number[]} chosen the indexes of the visible lines
+   * @param {number[]} visibleIndexes the indexes of the visible lines
    * @returns {WaveRow[]}
    */
-  arrange(lines, chosen) {
-    const linesByName = new Map(chosen.map((line) => [lines[line].name, line]));
+  arrange(lines, visibleIndexes) {
+    const linesByName = new Map(visibleIndexes.map((line) => [lines[line].name, line]));
     /** @type {WaveRow[]} */
     const rows = [];
     let lastGroup = "";
@@ -102,8 +102,8 @@ export class WaveRows {
     const isDown = toIndex > fromIndex;
     const movedNames = movedRow.line < 0 ? names.filter((name) => this.groupOf(name) === movedRow.group) : [movedRow.name];
     const otherNames = names.filter((name) => !movedNames.includes(name));
-    const isWhole = targetRow.group !== "" && (movedRow.line < 0 || targetRow.line < 0);
-    const neighbourNames = isWhole ? otherNames.filter((name) => this.groupOf(name) === targetRow.group) : [targetRow.name];
+    const isGroupMove = targetRow.group !== "" && (movedRow.line < 0 || targetRow.line < 0);
+    const neighbourNames = isGroupMove ? otherNames.filter((name) => this.groupOf(name) === targetRow.group) : [targetRow.name];
     const joinsGroup = movedRow.line >= 0 && targetRow.group !== "" && (targetRow.line >= 0 || (isDown && !targetRow.isFolded));
     if (movedRow.line >= 0) this.change(movedRow.name, { group: joinsGroup ? targetRow.group : "" });
     const isAfter = isDown && !(joinsGroup && targetRow.line < 0);

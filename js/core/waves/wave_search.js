@@ -10,9 +10,9 @@ import * as say from "../../words/waves.js";
 /**
  * @typedef {import("./wave_recording.js").Waves} Waves
  *
- * A search: the index of a line, and a function that returns whether a value matches. If `each` is true, the search finds every change to a
- * matching value. Otherwise it finds a change only if the previous value does not match.
- * @typedef {{ line: number, matches: (value: number) => boolean, each: boolean }} Search
+ * A search: the index of a line, and a function that returns whether a value matches. If `findsEachMatch` is true, the search finds every
+ * change to a matching value. Otherwise it finds a change only if the previous value does not match.
+ * @typedef {{ line: number, matches: (value: number) => boolean, findsEachMatch: boolean }} Search
  */
 
 /** @type {Record<string, (left: number, right: number) => boolean>} the comparisons, by operator */
@@ -39,8 +39,8 @@ function searchError(fault) {
  * @param {string} name
  */
 function findLabel(waves, name) {
-  const found = waves.program ? waves.program.labels.findIndex((label) => label.name === name) : -1;
-  return found < 0 ? null : { address: waves.program ? waves.program.labels[found].address : 0, number: found + 1 };
+  const labelIndex = waves.program ? waves.program.labels.findIndex((label) => label.name === name) : -1;
+  return labelIndex < 0 ? null : { address: waves.program ? waves.program.labels[labelIndex].address : 0, number: labelIndex + 1 };
 }
 
 /**
@@ -57,7 +57,7 @@ export function readSearch(text, waves, markedLine) {
     const label = findLabel(waves, trimmed.slice(1));
     const counter = waves.lines.findIndex(({ kind }) => kind === "pc");
     if (!label) return searchError(say.noLabel(trimmed.slice(1)));
-    return { search: { line: counter, matches: (value) => value === label.address, each: false }, fault: "" };
+    return { search: { line: counter, matches: (value) => value === label.address, findsEachMatch: false }, fault: "" };
   }
   const edge = /^(?:(.*\S)\s+)?(rises|falls|changes)$/.exec(trimmed);
   if (edge) return parseEdge(edge[1], edge[2], waves, markedLine);
@@ -92,7 +92,7 @@ function parseEdge(name, edge, waves, markedLine) {
   const { width } = waves.lines[line];
   if (edge !== "changes" && isDecoder(waves.lines[line])) return searchError(say.isDecoded(waves.lines[line].name));
   if (edge !== "changes" && width > 1) return searchError(say.isNumber(waves.lines[line].name));
-  return { search: { line, matches: EDGE_TESTS[edge], each: true }, fault: "" };
+  return { search: { line, matches: EDGE_TESTS[edge], findsEachMatch: true }, fault: "" };
 }
 
 /**
@@ -115,7 +115,8 @@ function parseValue(name, sign, value, waves, markedLine) {
   if (Number.isNaN(number)) return searchError(say.noNumber(value, say.SEARCH_FORMS));
   const max = 2 ** width - 1;
   if (kind !== "label" && number > max) return searchError(say.valueTooLarge(lineName, width, max));
-  return { search: { line, matches: (/** @type {number} */ current) => COMPARISONS[sign](current, number), each: false }, fault: "" };
+  const matches = (/** @type {number} */ current) => COMPARISONS[sign](current, number);
+  return { search: { line, matches, findsEachMatch: false }, fault: "" };
 }
 
 /**
@@ -128,7 +129,7 @@ function parseValue(name, sign, value, waves, markedLine) {
  */
 function parseKeySearch(decoder, line, sign, key) {
   if (sign !== "=" || !decoder.places.includes(key)) return searchError(say.isDecoded(decoder.name));
-  return { search: { line, matches: (value) => parseScan(decoder, value).keys.includes(key), each: false }, fault: "" };
+  return { search: { line, matches: (value) => parseScan(decoder, value).keys.includes(key), findsEachMatch: false }, fault: "" };
 }
 
 /**
@@ -138,14 +139,14 @@ function parseKeySearch(decoder, line, sign, key) {
  * @param {number} moment
  * @param {boolean} isForward true to search after the moment, false to search before it
  */
-export function find(waves, { line, matches, each }, moment, isForward) {
+export function find(waves, { line, matches, findsEachMatch }, moment, isForward) {
   const track = waves.getTrack(line);
   const changes = track.moments.all;
   const direction = isForward ? 1 : -1;
   const first = isForward ? countUpTo(changes, moment) : countUpTo(changes, moment - 1) - 1;
   for (let at = first; at >= 0 && at < changes.length; at += direction) {
-    if (matches(track.valueAfter(at + 1)) && (each || !matches(track.valueAfter(at)))) return changes[at];
+    if (matches(track.valueAfter(at + 1)) && (findsEachMatch || !matches(track.valueAfter(at)))) return changes[at];
   }
   // The first value of the recording can also match.
-  return !isForward && !each && moment > waves.from && matches(track.first) ? waves.from : -1;
+  return !isForward && !findsEachMatch && moment > waves.from && matches(track.first) ? waves.from : -1;
 }

@@ -89,8 +89,8 @@ export class WaveWindow {
   }
 
   /**
-   * Adapts to a recording that has grown at its end or lost cycles at its start. Whatever was at the end, the visible range or a cursor,
-   * moves with the end. A short recording stays completely visible.
+   * Adapts to a recording that has grown at its end or lost cycles at its start. If the visible range or a cursor was at the end, it moves
+   * with the end. A short recording stays completely visible.
    * @param {number} begin
    * @param {number} end
    */
@@ -169,7 +169,7 @@ export class WaveWindow {
 export function tickMoments(view, labelWidth) {
   const minDistance = (labelWidth / view.width) * view.span;
   const power = 10 ** Math.floor(Math.log10(Math.max(1, minDistance)));
-  const distance = [1, 2, 5, 10].map((each) => each * power).find((each) => each >= minDistance) || 1;
+  const distance = [1, 2, 5, 10].map((step) => step * power).find((step) => step >= minDistance) || 1;
   const ticks = [];
   for (let tick = Math.ceil(view.from / distance) * distance; tick <= view.to; tick += distance) ticks.push(tick);
   return ticks;

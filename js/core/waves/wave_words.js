@@ -53,9 +53,9 @@ export function describeDistance(cycles) {
  * Describes the instruction at a moment.
  * @param {Instruction} instruction
  */
-export function instructionText({ listed, line, source, isSecond, isEnd }) {
+export function instructionText({ listingLine, line, source, isSecond, isEnd }) {
   if (isSecond) return say.SECOND_CYCLE;
-  const text = listed.replace(/ +/g, " ");
+  const text = listingLine.replace(/ +/g, " ");
   const sourceText = line > 0 ? say.sourceLineSuffix(line, source) : "";
   return `${isEnd ? say.NEXT_PREFIX : ""}${text}${sourceText}`;
 }

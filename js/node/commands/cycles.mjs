@@ -32,7 +32,7 @@ export async function run({ source }, positionals) {
   const answers = texts.readAnswers("cycles");
   const describeAddress = source === undefined ? null : await makeAddressDescriber(texts, await startEngine(), source, session);
   const describeCounter = describeAddress && ((/** @type {string} */ counter) => describeAddress(parseInt(counter, 16)));
-  const { runs, sum, words: error } = runTimes(answers, first, last, describeCounter);
+  const { runs, sum, message: error } = runTimes(answers, first, last, describeCounter);
   if (error !== "") throw new CommandError(error);
   print(joinLines(describeAddress ? [...runs, sum] : [sum]));
   return 0;

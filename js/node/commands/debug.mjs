@@ -34,7 +34,7 @@ async function runScript(prompt, position) {
   let hasRejected = false;
   for await (const line of createInterface({ input: process.stdin, crlfDelay: Infinity })) {
     position.line += 1;
-    if (!(await prompt.take(line))) hasRejected = true;
+    if (!(await prompt.enterLine(line))) hasRejected = true;
     if (prompt.isEnded) break;
   }
   return hasRejected ? 1 : 0;

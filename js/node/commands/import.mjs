@@ -24,7 +24,7 @@ async function checkOnBench(name, source, text) {
   // Use the message of the refusal, because a message about the line would describe the bench's syntax.
   const { describeRefusal } = await import("../rejected_texts.mjs");
   const faults = refusal ? [{ text: /** @type {const} */ ("program"), ...refusal, words: describeRefusal(refusal.number) }] : textFaults;
-  throw await createRejectedTextsError(engine, { program: { name, text: source, before: 0 } }, faults);
+  throw await createRejectedTextsError(engine, { program: { name, text: source, linesBefore: 0 } }, faults);
 }
 
 /** @type {import("./table.mjs").CommandModule["run"]} */

@@ -6,7 +6,7 @@ import { differingLines } from "../../core/bench/script_progress.js";
 import { missingParts } from "../../core/board/face_board.js";
 import { sortByLine } from "../../core/board/face.js";
 import { Panel } from "../../core/panel/terminal_panel.js";
-import { Screen, fitsPanel, middleRows } from "../../core/panel/screen.js";
+import { Screen, fitsPanel, countMiddleRows } from "../../core/panel/screen.js";
 import { boardDiffers } from "../../words/commands.js";
 import { noteOfBoard } from "../../words/panel.js";
 import { checkArguments, findProject } from "../arguments.mjs";
@@ -69,7 +69,7 @@ async function readTexts(session, name, texts) {
   const { program } = texts;
   const map = program && await readCheckedMap(engine, parseRomCodes(await readAnswers(session, listQueries(PAGE_NUMBERS))), program);
   endEngine();
-  return { board, face, source: map && { map, lines: program.text.split("\n"), before: program.before } };
+  return { board, face, source: map && { map, lines: program.text.split("\n"), linesBefore: program.linesBefore } };
 }
 
 /**
@@ -90,8 +90,8 @@ function findMissingPartNote({ board, face }, linesBefore) {
  */
 async function drawFrame(terminal, panel, screen) {
   const { size } = terminal;
-  await panel.snapshot.refresh(fitsPanel(size) ? middleRows(size) : 0);
-  if (fitsPanel(terminal.size) && terminal.size.rows === size.rows) terminal.draw(screen.rows(terminal.size));
+  await panel.snapshot.refresh(fitsPanel(size) ? countMiddleRows(size) : 0);
+  if (fitsPanel(terminal.size) && terminal.size.rows === size.rows) terminal.draw(screen.buildRows(terminal.size));
   else if (!fitsPanel(terminal.size)) terminal.drawTooSmall();
 }
 
@@ -147,7 +147,7 @@ export async function run(values, words) {
     });
     const panel = new Panel((lines) => readAnswers(session, lines), {
       ...panelTexts, name: basename(names.session), describeRefusal, isPaused: values.stopped === true,
-      note: findMissingPartNote(panelTexts, board.before),
+      note: findMissingPartNote(panelTexts, board.linesBefore),
     }, performance.now());
     return await runPanel(terminal, panel);
   } catch (error) {

@@ -102,7 +102,7 @@ async function readSession(folder, names, texts) {
   const engine = await startEngine();
   const { file, faults } = newSession(engine, texts);
   if (faults.length === 0) return engine.bytesOf(file);
-  const makeText = (/** @type {string} */ textName, /** @type {string} */ text) => ({ name: textName, text, before: 0 });
+  const makeText = (/** @type {string} */ textName, /** @type {string} */ text) => ({ name: textName, text, linesBefore: 0 });
   const board = makeText(names.board, texts.boardText);
   const program = makeText(names.program, texts.programText);
   throw await createRejectedTextsError(engine, { board, program }, faults);

@@ -23,7 +23,7 @@ export async function run({ folder, most: statesWord, memory: memoryWord }, posi
   const texts = new InputTexts();
   const [board, program] = [texts.readText(names[0], "wire"), texts.readText(names[1], "asm")];
   const properties = texts.readSource(names[2]);
-  return proveAll(await beginProving({ board, program, properties }, { most: maxStates, memory }), properties.name);
+  return proveAll(await beginProving({ board, program, properties }, { maxStates, memory }), properties.name);
 }
 
 /**

@@ -34,9 +34,9 @@ export async function run(values, words) {
   const state = await openSession(engine, texts, session);
   const trace = new SessionTrace(engine, state, yieldToMessages);
   const map = program && await readCheckedMap(engine, romCodes(engine, state), program);
-  const source = program && values.names === undefined ? { lines: program.text.split("\n"), before: program.before } : null;
+  const source = program && values.names === undefined ? { lines: program.text.split("\n"), linesBefore: program.linesBefore } : null;
   const names = map && { map, source };
-  const pieces = lastCount > 0 ? trace.last(lastCount, cycles, names) : trace.next(cycles, names);
+  const pieces = lastCount > 0 ? trace.traceLast(lastCount, cycles, names) : trace.traceNext(cycles, names);
   for await (const lines of pieces) print(lines.map((line) => `${line}\n`).join(""));
   return 0;
 }

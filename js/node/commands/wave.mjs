@@ -108,15 +108,15 @@ function reportStop({ isStuck, cycles }, wantedCycles) {
 async function printVcd(openedSession, cycles, words) {
   const { engine, state, board, program } = openedSession;
   const choice = convertLineErrors(() => chooseLines(board, readBoardText(openedSession), program !== null, words));
-  const { lines, chosen } = linesWithMembers(choice.lines, choice.chosen);
+  const { lines, chosen } = linesWithMembers(choice.lines, choice.chosenIndexes);
   /** @type {VcdText | null} */
   let text = null;
   for await (const waves of recordPieces(engine, state, { lines, program, cycles }, yieldToMessages)) {
     if (!text) {
       text = new VcdText(waves, chosen);
-      print(text.head());
+      print(text.formatHead());
     }
-    for (const part of text.changes()) print(part);
+    for (const part of text.formatChanges()) print(part);
   }
   if (!text) return;
   print(text.end());
@@ -157,7 +157,7 @@ async function writeWav(openedSession, cycles, word, name) {
   const { engine, state, board } = openedSession;
   const line = buzzerLine(openedSession, word);
   const choice = convertLineErrors(() => chooseLines(board, "", false, [line]));
-  const { lines, chosen } = linesWithMembers(choice.lines, choice.chosen);
+  const { lines, chosen } = linesWithMembers(choice.lines, choice.chosenIndexes);
   const edges = [];
   let [level, recordedCycles] = [-1, 0];
   for await (const waves of recordPieces(engine, state, { lines, program: null, cycles }, yieldToMessages)) {

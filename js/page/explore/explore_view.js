@@ -125,7 +125,7 @@ export class ExploreView {
       label.set(words);
     }
     // The list would change continuously during a search, so it is empty until the end.
-    this.listNeverRunLines(isRunning || !isSearched ? [] : coverage.left);
+    this.listNeverRunLines(isRunning || !isSearched ? [] : coverage.unexecutedLines);
   }
 
   /** @param {number[]} lines the lines that never ran */

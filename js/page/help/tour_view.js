@@ -53,8 +53,8 @@ export class TourView {
     for (const name of ["tour-begin", "first-program", "hello-program"]) onClick(button(name), () => this.begin());
     onClick(button("tour-close"), () => this.close());
     onClick(this.putButton, () => calls.putProgram(this.progress.step.program));
-    onClick(this.nextButton, () => (this.isLastStep ? this.close() : this.show(this.progress.at + 1)));
-    onClick(button("tour-back"), () => this.show(Math.max(0, this.progress.at - 1)));
+    onClick(this.nextButton, () => (this.isLastStep ? this.close() : this.show(this.progress.stepIndex + 1)));
+    onClick(button("tour-back"), () => this.show(Math.max(0, this.progress.stepIndex - 1)));
   }
 
   async begin() {
@@ -83,13 +83,13 @@ export class TourView {
   }
 
   get isLastStep() {
-    return this.progress.at === this.progress.steps.length - 1;
+    return this.progress.stepIndex === this.progress.steps.length - 1;
   }
 
   /** @param {number} index the index of the step */
   show(index) {
     this.progress.begin(index);
-    const { title, words, program } = this.progress.step;
+    const { title, paragraphs: words, program } = this.progress.step;
     this.title.set(say.stepOf(index + 1, this.progress.steps.length, title));
     this.textBlock.replaceChildren(...words.map((paragraph) => element("p", {}, ...[paragraph].flat().map((part) => this.makeNode(part)))));
     this.program.set(program);
@@ -120,8 +120,8 @@ export class TourView {
   /** @param {ParagraphPiece} part */
   makeNode(part) {
     if (typeof part === "string") return part;
-    const node = element("button", { type: "button", className: "place" }, part.words);
-    onClick(node, async () => this.status.set(await this.calls.executeAction(part.act)));
+    const node = element("button", { type: "button", className: "place" }, part.linkText);
+    onClick(node, async () => this.status.set(await this.calls.executeAction(part.action)));
     return node;
   }
 

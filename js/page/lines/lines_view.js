@@ -21,7 +21,7 @@ const MAX_EXPLAINED_COMMANDS = 4;
 
 export class LinesView {
   /**
-   * @param {{ form: string, does: string }[]} lines the forms of the bench's commands, with their explanations
+   * @param {{ form: string, effect: string }[]} lines the forms of the bench's commands, with their explanations
    * @param {LinesCalls} calls
    */
   constructor(lines, calls) {
@@ -106,7 +106,7 @@ export class LinesView {
 
   showHint() {
     const matches = matchLines(this.lines, this.lastLine);
-    const shownForms = matches.slice(0, MAX_EXPLAINED_COMMANDS).map(({ form, does }) => `${form}: ${does}`);
+    const shownForms = matches.slice(0, MAX_EXPLAINED_COMMANDS).map(({ form, effect }) => `${form}: ${effect}`);
     if (matches.length > MAX_EXPLAINED_COMMANDS) shownForms.push(matches.slice(MAX_EXPLAINED_COMMANDS).map(({ form }) => form).join(", "));
     this.hint.set(shownForms.length > 0 ? shownForms.join("\n") : say.LINES_HINT);
   }

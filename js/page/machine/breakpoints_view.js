@@ -82,7 +82,7 @@ export class BreakpointsView {
    */
   showRow(row, breakpoint, error, map) {
     const { isOn, hits } = breakpoint;
-    const { mark, words } = breakpointMark(breakpoint, error);
+    const { mark, description: words } = breakpointMark(breakpoint, error);
     row.enableBox.checked = isOn;
     row.mark.set(mark);
     row.mark.node.title = words;

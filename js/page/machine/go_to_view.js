@@ -41,7 +41,7 @@ export class GoToView {
 
   /** Shows the typed address in the disassembly. Returns the address, or null if the typed text is not an address. */
   goToTypedAddress() {
-    const { address, words } = parseGoal(this.field.value, this.map);
+    const { address, message: words } = parseGoal(this.field.value, this.map);
     this.status.set(words);
     this.field.setAttribute("aria-invalid", String(words !== ""));
     if (words !== "") return null;

@@ -23,7 +23,7 @@ import * as say from "../../words/machine.js";
 function findSecondByteMark(address, breakpoints) {
   if (!breakpoints.has(address)) return undefined;
   const message = say.breakpointInsideInstruction(address);
-  return { mark: "\u25CB", words: message };
+  return { mark: "\u25CB", description: message };
 }
 
 export class ListingRows {
@@ -93,11 +93,11 @@ export class ListingRows {
       const line = lines[index];
       row.button.hidden = line === undefined;
       if (!line) return;
-      const lineMark = breakpoints.get(line.first);
-      const mark = lineMark || findSecondByteMark(line.second, breakpoints);
-      const title = [mark ? mark.words : "", line.source].filter(Boolean).join("; ");
+      const lineMark = breakpoints.get(line.firstAddress);
+      const mark = lineMark || findSecondByteMark(line.secondAddress, breakpoints);
+      const title = [mark ? mark.description : "", line.source].filter(Boolean).join("; ");
       row.address = line.address;
-      row.markedAddress = mark && !lineMark ? parseInt(line.second, 16) : line.address;
+      row.markedAddress = mark && !lineMark ? parseInt(line.secondAddress, 16) : line.address;
       row.bytes.set(line.bytes);
       row.labels.set(line.labels);
       row.instruction.set(line.instruction);

@@ -123,7 +123,7 @@ export class StackView {
 
   /** @param {AddressNote[]} notes */
   showNotes(notes) {
-    notes.forEach(({ isLive, words, title }, index) => {
+    notes.forEach(({ isLive, description: words, title }, index) => {
       const row = this.rows[index];
       row.note.set(words);
       row.liveSwitch.set(isLive);

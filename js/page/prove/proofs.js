@@ -45,7 +45,7 @@ export class Proofs {
         const line = findPropertyLine(text, calls.texts().propertiesText);
         if (line > 0) calls.goTo(line);
       },
-      openCounterexample: ({ text, isGoal }, { before }) => {
+      openCounterexample: ({ text, isGoal }, { linesBefore: before }) => {
         const { currentResults } = this;
         const description = isGoal ? say.nextStepReaches(text) : say.nextStepBreaks(text);
         if (currentResults) calls.open(text, before, currentResults.texts, description).catch(calls.reportFailure);
@@ -95,7 +95,7 @@ export class Proofs {
   /** The verdicts about the current texts. */
   get currentVerdicts() {
     const { currentResults } = this;
-    return currentResults ? currentResults.progress.judged.filter(this.currentVerdictFilter(currentResults)) : [];
+    return currentResults ? currentResults.progress.verdicts.filter(this.currentVerdictFilter(currentResults)) : [];
   }
 
   /** The short text that the tab shows about the current verdicts. */
@@ -155,7 +155,7 @@ export class Proofs {
     const { calls, sessionId } = this;
     const texts = calls.texts();
     /** @type {ProofResults} */
-    const results = { texts, maxStates, progress: { judged: [], count: 0, states: 0 } };
+    const results = { texts, maxStates, progress: { verdicts: [], count: 0, states: 0 } };
     const controller = new AbortController();
     this.controller = controller;
     this.resultsBySession.set(sessionId, results);
@@ -169,7 +169,7 @@ export class Proofs {
       });
     } finally {
       this.controller = null;
-      if (results.progress.judged.length === 0) this.resultsBySession.delete(sessionId);
+      if (results.progress.verdicts.length === 0) this.resultsBySession.delete(sessionId);
       if (sessionId === this.sessionId) this.finish(results, proofEnd);
     }
   }
@@ -178,7 +178,7 @@ export class Proofs {
    * @param {ProofResults} results
    * @param {TaskResult} proofEnd
    */
-  finish({ progress: { judged } }, { faults, isStopped }) {
+  finish({ progress: { verdicts: judged } }, { faults, isStopped }) {
     if (judged.length === 0) this.view.clear();
     this.show();
     if (faults.length > 0) this.calls.showFaults(faults);

@@ -37,7 +37,7 @@ class VerdictRow {
     this.status = new Cell(statusText);
     this.litSwitch = new Switch((isOn) => mark.classList.toggle("lit", isOn));
     this.notOkSwitch = new Switch((isOn) => mark.classList.toggle("not-ok", isOn));
-    if (verdict.kind === "found") this.node.append(...this.makeCounterexampleNodes(isGoal, verdict.found, calls));
+    if (verdict.kind === "found") this.node.append(...this.makeCounterexampleNodes(isGoal, verdict.counterexample, calls));
   }
 
   /**
@@ -93,7 +93,7 @@ export class ProofsView {
    * @param {(propertyVerdict: PropertyVerdict) => boolean} isCurrent returns true if a verdict is about the current texts
    */
   show(progress, maxStates, isRunning, isCurrent) {
-    const newRows = progress.judged.slice(this.rows.length).map((propertyVerdict) => new VerdictRow(propertyVerdict, this.calls));
+    const newRows = progress.verdicts.slice(this.rows.length).map((propertyVerdict) => new VerdictRow(propertyVerdict, this.calls));
     this.list.append(...newRows.map(({ node }) => node));
     this.rows.push(...newRows);
     for (const row of this.rows) row.show(isCurrent(row.propertyVerdict));

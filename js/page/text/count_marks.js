@@ -12,7 +12,7 @@ import * as say from "../../words/text.js";
  * Returns the text in the margin of a line: its execution count and, for a jump, how often the jump was taken and not taken.
  * @param {LineCoverage} covered
  */
-export function formatCount({ count, isJump, taken }) {
+export function formatCount({ count, isJump, jumpCount: taken }) {
   if (count === 0) return "never";
   return isJump ? `${count} ${taken}/${count - taken}` : String(count);
 }
@@ -26,7 +26,7 @@ function formatTimes(number) {
  * Returns a sentence about a line's execution count.
  * @param {LineCoverage} covered
  */
-export function describeCount({ count, isJump, taken }) {
+export function describeCount({ count, isJump, jumpCount: taken }) {
   if (count === 0) return say.NO_TEST_RUNS;
   return say.runCount(formatTimes(count)) + (isJump ? say.jumpCounts(formatTimes(taken), formatTimes(count - taken)) : "");
 }
@@ -55,7 +55,8 @@ export class CountMarks {
     this.marks.showTexts("counts", (line) => formatEntry(lines.get(line), formatCount),
       (line) => formatEntry(lines.get(line), describeCount));
     // Highlight lines that never ran, and jumps that were always or never taken.
-    const incompleteLines = coverage.filter(({ count, isJump, taken }) => count === 0 || (isJump && (taken === 0 || taken === count)));
+    const incompleteLines = coverage.filter(({ count, isJump, jumpCount }) => (
+      count === 0 || (isJump && (jumpCount === 0 || jumpCount === count))));
     editor.showLineStyle("lacking", incompleteLines.map(({ line }) => line - 1).filter((line) => line <= editor.lastLine()));
     editor.refresh();
   }

@@ -177,7 +177,7 @@ export class Editors {
    * @param {"program" | "board"} name
    * @param {AllFaults} result
    */
-  showFoundErrors(name, { faults, isWhole }) {
+  showFoundErrors(name, { faults, isComplete: isWhole }) {
     const shownFaults = name === "board" ? [...faults, ...findFrontPanelErrors(this.board.text)] : faults;
     const moreNote = isWhole || faults.length < 2 ? "" : say.MAY_BE_MORE;
     this[name].showErrors(shownFaults.slice(0, MAX_LISTED_ERRORS), moreErrors(shownFaults, MAX_LISTED_ERRORS) || moreNote);

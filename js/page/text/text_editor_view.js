@@ -310,8 +310,8 @@ export class EditorView {
 
   /** @param {Map<number, BreakpointMark>} marks the breakpoint marks, by line */
   showBreakpoints(marks) {
-    const noMark = { mark: "", words: "" };
-    this.marks.showTexts("breakpoints", (line) => (marks.get(line) || noMark).mark, (line) => (marks.get(line) || noMark).words);
+    const noMark = { mark: "", description: "" };
+    this.marks.showTexts("breakpoints", (line) => (marks.get(line) || noMark).mark, (line) => (marks.get(line) || noMark).description);
   }
 
   /** @param {string[]} addresses the address of each line; "" for a line without an address */

@@ -54,7 +54,7 @@ export class Clock {
 
   /** The time in milliseconds up to which cycles have been simulated. */
   get simulatedTime() {
-    return this.isFull ? performance.now() : this.realTime.reached;
+    return this.isFull ? performance.now() : this.realTime.simulatedUntil;
   }
 
   /**

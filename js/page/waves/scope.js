@@ -3,7 +3,7 @@
 import { Cell, block, button, byId, findDescendant, field, onClick } from "../ui/dom.js";
 import { download } from "../session/download.js";
 import { LiveWaves } from "../../core/waves/live_waves.js";
-import { findLineByName, lineNameInEdge } from "../../core/waves/trigger.js";
+import { findLineByName, findLineNameInEdge } from "../../core/waves/trigger.js";
 import { vcdParts } from "../../core/waves/vcd.js";
 import { WaveChoice } from "./wave_choice.js";
 import { renderPng, toSvg } from "./wave_pictures.js";
@@ -189,14 +189,14 @@ export class Scope {
     field("behind").setAttribute("aria-invalid", String(cyclesAfter > maxCycles));
     if (cyclesAfter > maxCycles) this.status.set(say.maxAfter(maxCycles.toLocaleString("en")));
     const stopsTime = byId("stops-time", HTMLInputElement).checked;
-    return cyclesAfter > maxCycles ? null : { most: maxCycles, behind: cyclesAfter, trigger, stopsTime };
+    return cyclesAfter > maxCycles ? null : { maxCycles, cyclesAfterTrigger: cyclesAfter, trigger, stopsTime };
   }
 
   async beginLive() {
     const settings = this.readLiveSettings();
     if (!settings) return;
     this.selectTriggerLine(settings.trigger);
-    const { trigger, behind: cyclesAfter, stopsTime } = settings;
+    const { trigger, cyclesAfterTrigger: cyclesAfter, stopsTime } = settings;
     const result = await this.calls.startLive({ trigger, cyclesAfterTrigger: cyclesAfter, stopsMachine: stopsTime }, this.choice.valueNames);
     if (!result) return;
     const { recorded, error: fault } = result;
@@ -214,7 +214,7 @@ export class Scope {
    */
   selectTriggerLine(trigger) {
     const boardLines = this.calls.boardLines();
-    const line = boardLines[findLineByName(lineNameInEdge(trigger), boardLines)];
+    const line = boardLines[findLineByName(findLineNameInEdge(trigger), boardLines)];
     if (line && line.kind === "value" && !this.choice.selectedNames.has(line.name)) this.choice.select(line.name, true);
   }
 
@@ -241,7 +241,7 @@ export class Scope {
   addPart(part) {
     const { liveWaves } = this;
     if (!liveWaves || !liveWaves.isOn) return;
-    if (part) liveWaves.take(part);
+    if (part) liveWaves.append(part);
     else liveWaves.markLost();
     if (!liveWaves.isOn) this.drawLive(liveWaves);
     else if (this.isUpToDate) {
@@ -274,7 +274,7 @@ export class Scope {
 
   /** @param {LiveWaves} liveWaves */
   showLive(liveWaves) {
-    this.status.set(liveWaves.words);
+    this.status.set(liveWaves.statusText);
     this.lengthStatus.set(liveWaves.isOn ? liveWaves.lengthText : "");
     this.recordLabel.set(liveWaves.isOn ? say.STOP_RECORDING : say.RECORD);
     this.calls.showRecording(liveWaves.isOn);

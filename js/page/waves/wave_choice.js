@@ -89,7 +89,7 @@ export class WaveChoice {
   /** Draws the check boxes of the lines that match the search, if the list is open. */
   draw() {
     if (!block("wave-choice").hasAttribute("open")) return;
-    const { lines, more: moreText } = searchLines(this.calls.boardLines(), field("signal-search").value, this.selectedNames);
+    const { lines, note: moreText } = searchLines(this.calls.boardLines(), field("signal-search").value, this.selectedNames);
     /** @type {Map<string, HTMLElement>} */
     const groups = new Map();
     this.checkBoxes.clear();
