@@ -90,7 +90,7 @@ def text_of(browser):
 
 def drag(browser, one, other, kind="mouse"):
     """Drags from the centre of one element to the centre of another, or by a distance in pixels."""
-    browser.show("#wiring-picture")
+    browser.scroll_to("#wiring-picture")
     time.sleep(browser.settle_seconds)
     begin = browser.script(GET_MIDDLE, one)
     end = browser.script(GET_MIDDLE, other) if isinstance(other, str) else [begin[0] + other[0], begin[1] + other[1]]
@@ -168,7 +168,7 @@ def check_wires(browser):
     eventually(browser, "and done again", GET_WIRING_LINES, re.compile("open is at rom0.2"))
     browser.click("#shelf-ram")
     eventually(browser, "after a click on the shelf", GET_WIRING_LINES, re.compile("RAM 0.1"))
-    browser.chord(CONTROL, "z")
+    browser.press_chord(CONTROL, "z")
     eventually(browser, "Ctrl Z undoes it, too", GET_DRAWING_STATUS, "Undone.")
     verdict("and nothing else", browser.script(GET_WIRING_LINES), re.compile("open is at rom0.2"))
     check_part_is_dragged(browser)
@@ -197,16 +197,16 @@ def check_buzzer(browser):
     browser.script("document.querySelector('#wiring-picture .of-buzzer').focus()")
     browser.keys([DELETE])
     eventually(browser, "the Delete key deletes it", GET_DRAWING_STATUS, "The buzzer was deleted.")
-    browser.chord(CONTROL, "z")
+    browser.press_chord(CONTROL, "z")
     eventually(browser, "Ctrl Z brings it back", GET_WIRING_LINES, re.compile("the horn sounds the edges of rom0.3"))
     browser.script("document.querySelector(arguments[0]).focus()", pin("Buzzer, the horn"))
     browser.keys([ENTER])
     eventually(browser, "Enter begins a wire at it", GET_DRAWING_STATUS, "Wire from the buzzer: it can end at 3 pins.")
     browser.keys([UP, ENTER])
     eventually(browser, "and ends it at another line", GET_DRAWING_STATUS, "Line rom0.2 is wired to the buzzer.")
-    if browser.has_fingers:
-        browser.fingers([f"{pin('ROM 0 · 4001, out 1')} circle"], 60)
-        browser.fingers([f"{pin('Buzzer, the horn')} circle"], 60)
+    if browser.can_multitouch:
+        browser.touch_together([f"{pin('ROM 0 · 4001, out 1')} circle"], 60)
+        browser.touch_together([f"{pin('Buzzer, the horn')} circle"], 60)
         eventually(browser, "fingers wire it, too", GET_DRAWING_STATUS, "Line rom0.1 is wired to the buzzer.")
 
 
@@ -232,7 +232,7 @@ def check_chain_keeps_its_place(browser):
     first, second = browser.script(chains)
     browser.script("document.querySelectorAll('#wiring-picture .of-chain')[1].focus()")
     for _ in range(5):
-        browser.chord(SHIFT, DOWN)
+        browser.press_chord(SHIFT, DOWN)
     eventually(browser, "Shift and arrows move the second chain", f"{chains}[1] > {second}", True)
     _, moved = browser.script(chains)
     browser.script("document.querySelector('#wiring-picture .of-chain').focus()")
@@ -274,15 +274,15 @@ def check_by_keyboard(browser):
     eventually(browser, "and left by Escape", GET_DRAWING_STATUS, "No wire was drawn.")
     browser.keys([DELETE])
     eventually(browser, "a line cannot be deleted", GET_DRAWING_STATUS, re.compile("is deleted only with its chip"))
-    browser.chord(CONTROL, "z")
+    browser.press_chord(CONTROL, "z")
     eventually(browser, "Ctrl Z takes the wire back", GET_DRAWING_STATUS, "Undone.")
-    browser.chord(CONTROL, "z")
+    browser.press_chord(CONTROL, "z")
     eventually(browser, "and the lamp", GET_WIRING_LINES, re.compile("Lamps · 3"))
     verdict("the text is as it was", text_of(browser), before)
     browser.script("document.querySelector('#wiring-picture .of-chain').focus()")
     browser.keys([DELETE])
     eventually(browser, "what hangs on a part goes with it", GET_DRAWING_STATUS, "Chain 0 was deleted, and with it the keys.")
-    browser.chord(CONTROL, "z")
+    browser.press_chord(CONTROL, "z")
     eventually(browser, "and comes back with it", GET_WIRING_LINES, re.compile("Keys · 4 × 3"))
     verdict("nothing is lost", text_of(browser), before)
 
@@ -309,7 +309,7 @@ def check_zoom(browser):
     be drawn."""
     choose_example(browser, "lock")
     browser.script("document.getElementById('wiring-tab').click()")
-    browser.show("#wiring-picture")
+    browser.scroll_to("#wiring-picture")
     before = browser.script(GET_WIDTH)
     browser.click("#picture-larger")
     verdict("a button makes it larger", abs(browser.script(GET_WIDTH) - before * 1.25) <= 1, True)
@@ -353,11 +353,11 @@ def check_zoom(browser):
 
 def check_by_fingers(browser):
     """Checks that touching one pin and then another draws a wire."""
-    browser.fingers([f"{pin('RAM 0.0 · 4002, out 3')} circle"], 60)
+    browser.touch_together([f"{pin('RAM 0.0 · 4002, out 3')} circle"], 60)
     eventually(browser, "a finger begins a wire", GET_DRAWING_STATUS, re.compile("^Wire from line ram0.0.3"))
-    browser.fingers([f"{pin('Lamps · 3, alarm')} circle"], 60)
+    browser.touch_together([f"{pin('Lamps · 3, alarm')} circle"], 60)
     eventually(browser, "and another touch ends it", GET_DRAWING_STATUS, "Line ram0.0.3 is wired to lamp 2.")
-    browser.fingers(["#drawing-undo"], 60)
+    browser.touch_together(["#drawing-undo"], 60)
     eventually(browser, "a button undoes it", GET_DRAWING_STATUS, "Undone.")
 
 
@@ -418,14 +418,14 @@ def check_pulled(browser, kind):
 
 def check_shelf(browser):
     """Checks that a part that is dragged from the shelf by mouse or touch is added where it is dropped, and that the keyboard can add one, too."""
-    for kind in ("mouse", "touch") if browser.has_fingers else ("mouse",):
+    for kind in ("mouse", "touch") if browser.can_multitouch else ("mouse",):
         check_pulled(browser, kind)
     browser.script("document.getElementById('shelf-chain').focus()")
-    browser.chord(SHIFT, ENTER)
+    browser.press_chord(SHIFT, ENTER)
     eventually(browser, "Shift and Enter add a part", GET_DRAWING_STATUS, re.compile("^Chain 0 was added"))
     eventually(browser, "and go to it on the sheet", GET_FOCUSED_LABEL, re.compile("^Chain 0"))
     before = browser.script(GET_HEAD_PLACE, "Chain 0")
-    browser.chord(SHIFT, DOWN)
+    browser.press_chord(SHIFT, DOWN)
     eventually(browser, "where arrows move it", f"return ((...arguments) => {{{GET_HEAD_PLACE}}})('Chain 0')[1] > {before[1] + 6}", True)
 
 
@@ -443,7 +443,7 @@ def check_scan_at_caret(browser):
                "A routine that scans the keys is at line 4 of the source.")
     lines = browser.script(GET_SOURCE).split("\n")
     verdict("between what was before and after it", lines[:3] + lines[-9:], [*source.split("\n")[:2], "", *source.split("\n")[-9:]])
-    browser.chord(CONTROL, "z")
+    browser.press_chord(CONTROL, "z")
     eventually(browser, "one step undoes it", GET_SOURCE, source)
 
 
@@ -501,7 +501,7 @@ def check(browser, page, _folder, _mcs4):
     check_wires(browser)
     check_by_keyboard(browser)
     check_zoom(browser)
-    if browser.has_fingers:
+    if browser.can_multitouch:
         check_by_fingers(browser)
     check_faults(browser)
     check_other_boards(browser)

@@ -109,11 +109,11 @@ def check_typing(browser):
     browser.script(SET_CARET, PROGRAM, 1, 0)
     # Type a key first, so that Tab indents.
     browser.keys([DOWN, TAB, "l", "d"], 5, 5)
-    browser.chord(CONTROL, " ")
+    browser.press_chord(CONTROL, " ")
     eventually(browser, "what begins so can be chosen", "return [...document.querySelectorAll('.cm-tooltip-autocomplete li')]"
                ".map((each) => each.textContent.slice(0, 3)).join()", "LD ,LDM")
     browser.keys([DOWN, ENTER, " ", "5", ENTER, "J", "U", "N", " ", "l", "o"], 5, 5)
-    browser.chord(CONTROL, " ")
+    browser.press_chord(CONTROL, " ")
     browser.until("return document.querySelectorAll('.cm-tooltip-autocomplete li').length", 1)
     browser.keys([ENTER], 5, 5)
     eventually(browser, "Tab indents, and what was chosen is there", GET_TEXT_OF_EDITOR.replace("arguments[0]", f"'{PROGRAM}'"),
@@ -121,7 +121,7 @@ def check_typing(browser):
     browser.script(SET_CARET, PROGRAM, 1, 2)
     eventually(browser, "the instruction at the caret is explained", GET_MEANING.format(PROGRAM),
                re.compile(r"^(acc 0, cy 0\. )?LDM d: 1 word, 1 cycle\. Load immediate: d into ACC\. The carry stays\.$"))
-    browser.chord(CONTROL, "f")
+    browser.press_chord(CONTROL, "f")
     browser.keys([*"jun", ENTER, ESCAPE], 5, 5)
     eventually(browser, "what is sought is selected", GET_CARET.replace("arguments[0]", f"'{PROGRAM}'"), [2, 4, "JUN"])
     browser.keys([ESCAPE, TAB], 5, 5)
@@ -137,7 +137,7 @@ def check_names(browser):
     browser.script(SET_CARET, PROGRAM, 2, 7)
     browser.keys([F12], 5, 5)
     eventually(browser, "F12 leads to where a name is defined", caret, [0, 4, "loop"])
-    browser.chord(SHIFT, F12)
+    browser.press_chord(SHIFT, F12)
     eventually(browser, "its places are listed", "return [...document.querySelectorAll('#program-editor .places li')].map((each) => each.textContent).join('|')",
                "loop is at 3 places Close|line 1, where it is defined loop:\tNOP ; loop|line 2 FIM P0, loop|line 3 JUN loop")
     browser.click(f"{PROGRAM} .places li:nth-child(3) button")
@@ -148,15 +148,15 @@ def check_names(browser):
                "jun is an instruction.")
     browser.keys([BACKSPACE, BACKSPACE, BACKSPACE, *"again", ENTER], 5, 5)
     eventually(browser, "another name stands at all places", text, "again:\tNOP ; loop\n\tFIM P0, again\n\tJUN again")
-    browser.chord(CONTROL, "g")
+    browser.press_chord(CONTROL, "g")
     browser.keys(["3", ENTER], 5, 5)
     eventually(browser, "a line is gone to by its number", caret, [2, 0, ""])
-    browser.chord(CONTROL, "/")
+    browser.press_chord(CONTROL, "/")
     eventually(browser, "a line becomes a comment", text, "again:\tNOP ; loop\n\tFIM P0, again\n; \tJUN again")
-    browser.chord(CONTROL, "/")
+    browser.press_chord(CONTROL, "/")
     eventually(browser, "and a line again", text, "again:\tNOP ; loop\n\tFIM P0, again\n\tJUN again")
     browser.script(SET_CARET, PROGRAM, 0, 0)
-    browser.chord(CONTROL, "h")
+    browser.press_chord(CONTROL, "h")
     browser.keys([*"again"], 5, 5)
     browser.script(f"document.querySelector('{PROGRAM} [aria-label=\"Replace with\"]').value = 'loop'")
     browser.script(f"[...document.querySelectorAll('{PROGRAM} .search button')].find((each) => each.textContent === 'Replace all').click()")
@@ -263,9 +263,9 @@ def check_sessions(browser):
     browser.click("#ask .bar button:first-child")
     time.sleep(0.5)
     browser.script(SET_CARET, PROGRAM, 0, 0)
-    browser.chord(CONTROL, "z")
+    browser.press_chord(CONTROL, "z")
     eventually(browser, "what was taken from ROM is undone by one step", GET_TEXT_OF_EDITOR.replace("arguments[0]", f"'{PROGRAM}'"), before)
-    browser.chord(CONTROL, "z")
+    browser.press_chord(CONTROL, "z")
     verdict("and there is no step before that", browser.script(GET_TEXT_OF_EDITOR, PROGRAM), before)
 
 
@@ -278,7 +278,7 @@ def check_running(browser):
     eventually(browser, "assembling alone says what it leaves", GET_STATUS_OF.format(PROGRAM), re.compile(
         r"^3 bytes assembled\. \d+ bytes from before stay in ROM, from 0x0..?\. The counter stays at ..., nothing was reset\.$".replace(", n", "; n")))
     browser.script(SET_CARET, PROGRAM, 0, 0)
-    browser.chord(CONTROL, ENTER)
+    browser.press_chord(CONTROL, ENTER)
     eventually(browser, "Control and Enter assemble and run", GET_STATUS_OF.format(PROGRAM), "Assembled 3 bytes; running from 000.")
     eventually(browser, "time runs", GET_STATUS, re.compile("^Running"))
     browser.until("return document.querySelector('#registers').textContent", re.compile("^acc7"))
@@ -334,7 +334,7 @@ def check_board(browser):
     put(browser, BOARD, "")
     browser.script(SET_CARET, BOARD, 0, 0)
     for text in ("[[rom]]\nchip = 0\nport = \"0000\"", "[[lamp]]\nline = \"rom0.0\""):
-        browser.chord(CONTROL, " ")
+        browser.press_chord(CONTROL, " ")
         browser.until("return document.querySelectorAll('.cm-tooltip-autocomplete li').length", 5)
         browser.script("[...document.querySelectorAll('.cm-tooltip-autocomplete li')].find((each) => each.textContent.startsWith(arguments[0]))"
                        ".dispatchEvent(new MouseEvent('mousedown', { bubbles: true, cancelable: true }))",

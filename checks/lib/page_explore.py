@@ -152,7 +152,7 @@ def check_stopped(browser):
     verdict("at once", time.monotonic() - start < 3, True)
     verdict("and says so", browser.script(GET_PROPERTIES_STATUS), re.compile("^Stopped. "))
     browser.script("document.querySelector('#properties-editor .cm-editor').lineEditor.focus()")
-    browser.chord(CONTROL, ENTER)
+    browser.press_chord(CONTROL, ENTER)
     eventually(browser, "Ctrl and Enter begins it", GET_BUTTON_WORD, "Stop")
     eventually(browser, "and it looks", GET_FIGURES, re.compile("^[1-9][0-9,]* steps"), 120)
     browser.script("document.getElementById('explore').focus()")
@@ -230,7 +230,7 @@ def check_phone(browser):
     verdict("which fit into its width", browser.script("""return [...document.querySelectorAll('#explore-results *')]
       .filter((each) => isShown(each) && each.getBoundingClientRect().right > innerWidth).length"""), 0)
     verdict("and nothing scrolls sideways", browser.script(MEASURE_OVERFLOW), 0)
-    browser.resize_back()
+    browser.restore_size()
 
 
 def check_kept(browser, folder):

@@ -95,7 +95,7 @@ def check_spring_button(browser):
     browser.script(f"window.presses = []; new MutationObserver(() => window.presses.push(document.querySelector('{TEST_KEY}')"
                    ".getAttribute('aria-pressed'))).observe(document.getElementById('keys'), { subtree: true, attributes: true, "
                    "attributeFilter: ['aria-pressed'] })")
-    browser.fingers([TEST_KEY], 300)
+    browser.touch_together([TEST_KEY], 300)
     eventually(browser, "it is down while a finger holds it, and springs back", "return window.presses.join(' ')", "true false")
     eventually(browser, "the cars have to stop", GET_NAMES, re.compile("red, lit.*stand, lit|amber, lit.*stand, lit"))
     eventually(browser, "and those who walk may go", GET_NAMES, re.compile("red, lit.*walk, lit"))
@@ -119,10 +119,10 @@ def check_stopwatch(browser):
     verdict("and is off", [browser.text(f"{TEST_KEY} b"), browser.script(IS_TEST_PRESSED)], ["RUN", "false"])
     eventually(browser, "the display begins with 0", GET_DIGITS, "0")
     browser.script(WATCH_ANNOUNCEMENTS)
-    browser.fingers([TEST_KEY], 80)
+    browser.touch_together([TEST_KEY], 80)
     eventually(browser, "a switch stays", IS_TEST_PRESSED, "true")
     eventually(browser, "and the digits count", GET_DIGITS, re.compile("^[1-9][0-9][0-9]$"))
-    browser.fingers([TEST_KEY], 80)
+    browser.touch_together([TEST_KEY], 80)
     eventually(browser, "until it is switched off", IS_TEST_PRESSED, "false")
     eventually(browser, "what stands still is announced", IS_ANNOUNCEMENT_SHOWN, True)
     shown, segments = browser.script(GET_DISPLAY)
@@ -141,7 +141,7 @@ def check_die(browser):
     above, centre, below = sorted({y for _, y in at})
     verdict("in the places of the pips", at,
             [(left, above), (right, above), (left, centre), (middle, centre), (right, centre), (left, below), (right, below)])
-    browser.fingers([key("THROW")], 100)
+    browser.touch_together([key("THROW")], 100)
     eventually(browser, "it shows a face", "return [1, 2, 3, 4, 5, 6].includes(document.querySelectorAll('.die .lit').length)", True)
 
 
@@ -151,7 +151,7 @@ def check_game(browser):
     rows = "return new Set([...document.querySelectorAll('.matrix .bulb')].map((bulb) => Math.round(bulb.getBoundingClientRect().y))).size"
     verdict("in eight rows", browser.script(rows), 8)
     eventually(browser, "three of them run", "return document.querySelectorAll('.matrix .lit').length", 3)
-    browser.fingers([TEST_KEY], 80)
+    browser.touch_together([TEST_KEY], 80)
     eventually(browser, "and stand, while the next ones run", "return document.querySelectorAll('.matrix .lit').length", 6)
 
 
@@ -255,4 +255,4 @@ def take_pictures(browser, page, folder):
             return [front.x, front.y, front.width, document.getElementById("keys").getBoundingClientRect().bottom - front.y + 8]""")
         taken = browser.command("Page.captureScreenshot", clip=dict(zip(("x", "y", "width", "height", "scale"), [*box, 1])))
         write_picture(base64.b64decode(taken["data"]), folder / f"{name.replace(' ', '_')}.png")
-    browser.resize_back()
+    browser.restore_size()

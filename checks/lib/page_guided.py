@@ -71,7 +71,7 @@ def check_phone(browser):
         eventually(browser, f"on a phone the story stays beside {words}", IS_STORY_IN_VIEW, True)
         verdict(f"and {words} has room", browser.script(GET_TAB_HEIGHT) > 150, True)
         verdict("nothing scrolls sideways", browser.script(MEASURE_OVERFLOW), 0)
-    browser.resize_back()
+    browser.restore_size()
 
 
 def check_key(browser):

@@ -6,7 +6,7 @@ import re
 import subprocess
 import time
 
-from driven import Fault
+from driven import DriverError
 from page_module import module_of_page
 from picture import write_picture
 from verdicts import eventually, verdict
@@ -133,7 +133,7 @@ def step_with_marks(browser):
 def check_calculator(browser):
     choose_example(browser, "calculator")
     for legend in "12+30=":
-        browser.fingers([key(legend)], 60)
+        browser.touch_together([key(legend)], 60)
         time.sleep(0.08)
     eventually(browser, "1 2 + 3 0 = by the pointer", GET_DIGITS, "42")
     browser.reload()
@@ -153,7 +153,7 @@ def check_two_keys(browser):
     browser.script("window.both = 0; new MutationObserver(() => { window.both = Math.max(window.both, "
                    "document.querySelectorAll(\"#keys [aria-pressed='true']\").length); }).observe(document.getElementById('keys'), "
                    "{ subtree: true, attributes: true, attributeFilter: ['aria-pressed'] })")
-    browser.fingers([key("C"), key("S"), key("0")], 400)
+    browser.touch_together([key("C"), key("S"), key("0")], 400)
     eventually(browser, "three keys at once", "return window.both", 3)
     eventually(browser, "and all up again", COUNT_KEYS_DOWN, 0)
 
@@ -231,7 +231,7 @@ def check_stops(browser):
     eventually(browser, "a watch by a click", "return document.querySelector('.ram button').getAttribute('aria-pressed')", "true")
     browser.script(SET_SPEED, "full")
     browser.click("#run")
-    browser.fingers([key("C")], 60)
+    browser.touch_together([key("C")], 60)
     eventually(browser, "a run at full speed stops where the character changes", GET_STATUS,
                re.compile("^Paused at ..., after a watched nibble changed.$"))
     browser.script(SET_SPEED, "real")
@@ -266,7 +266,7 @@ def check_keyboard_alone(browser):
 def check_narrow(browser):
     browser.command("Emulation.setDeviceMetricsOverride", width=360, height=740, deviceScaleFactor=1, mobile=True)
     eventually(browser, "a phone shows the page without scrolling sideways", "return document.documentElement.scrollWidth <= 360", True)
-    browser.resize_back()
+    browser.restore_size()
 
 
 def check_hidden(browser):
@@ -330,7 +330,7 @@ def show_text(browser, name):
         if browser.script(selected) == "true":
             return
         time.sleep(0.2)
-    raise Fault(f"the tab {name} does not come to the front")
+    raise DriverError(f"the tab {name} does not come to the front")
 
 
 def status_of(browser, editor, text):
@@ -388,7 +388,7 @@ def check_use(browser, page, folder, mcs4):
     until_ready(browser)
     verdict("without a notice", browser.script(GET_NOTICE), "")
     check_calculator(browser)
-    if browser.has_fingers:
+    if browser.can_multitouch:
         check_two_keys(browser)
     check_files(browser, folder, mcs4)
     check_stops(browser)
@@ -396,7 +396,7 @@ def check_use(browser, page, folder, mcs4):
     check_texts(browser)
     check_two_tabs(browser)
     choose_example(browser, "calculator")
-    if browser.hides_tabs:
+    if browser.hides_background_tabs:
         check_hidden(browser)
     check_speed_field(browser)
 
@@ -432,7 +432,7 @@ def take_picture(browser, page, path):
     show_text(browser, "program")
     browser.command("Emulation.setDeviceMetricsOverride", width=1280, height=800, deviceScaleFactor=1, mobile=False)
     for legend in "22/7=":
-        browser.fingers([key(legend)], 60)
+        browser.touch_together([key(legend)], 60)
         time.sleep(0.1)
     browser.until(GET_DIGITS, "3.1428571")
     browser.click("#run")
@@ -443,4 +443,4 @@ def take_picture(browser, page, path):
     browser.until("return document.querySelectorAll('#lines-of-program [aria-pressed=true], .ram [aria-pressed=true]').length", 2)
     browser.script("scrollTo(0, 0)")
     write_picture(browser.picture(), path)
-    browser.resize_back()
+    browser.restore_size()

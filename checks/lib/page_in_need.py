@@ -3,7 +3,7 @@
 import re
 import time
 
-from page_altered import CAUSE_FAULT, EXPOSE_WORKER, INSTALL_FAULTS, altered
+from page_altered import REQUEST_FAULT, EXPOSE_WORKER, INSTALL_FAULTS, write_altered_page
 from page_in_browser import (ENTER, ESCAPE, GET_DIGITS, GET_NOTICE, GET_STATUS, GET_TEXT_OF_EDITOR, IS_READY, PUT_INTO_EDITOR, choose_example,
                              lines_answered, open_anew, stop_time, until_ready)
 from verdicts import eventually, verdict
@@ -30,7 +30,7 @@ return [...document.querySelectorAll("button, input, select, textarea")].filter(
 
 
 def fail(browser, fault):
-    browser.script(CAUSE_FAULT, fault)
+    browser.script(REQUEST_FAULT, fault)
 
 
 def dismiss(browser):
@@ -39,7 +39,7 @@ def dismiss(browser):
 
 def check_failures(browser, page, folder):
     """Checks that the session survives a trap in the module, a lack of memory, a worker that dies or hangs, and a full store."""
-    browser.go(altered(page, folder, EXPOSE_WORKER, INSTALL_FAULTS).as_uri())
+    browser.go(write_altered_page(page, folder, EXPOSE_WORKER, INSTALL_FAULTS).as_uri())
     until_ready(browser)
     choose_example(browser, "calculator")
     browser.keys([ESCAPE, "1", "2"])
@@ -164,7 +164,7 @@ window.setTimeout = (act, time, ...rest) => wait(act, time === 10000 ? 300 : tim
 
 def page_without_feature(page, folder, code):
     """Returns a copy of the page in which `code` takes a feature of the browser away. The copy waits only 0.3 seconds for a store, instead of ten."""
-    return altered(page, folder, f"{SHORTEN_WAIT}{code}")
+    return write_altered_page(page, folder, f"{SHORTEN_WAIT}{code}")
 
 
 def notice_at_start(browser, page, code=GET_NOTICE, wanted=re.compile(".")):
@@ -197,7 +197,7 @@ def check_poor_browsers(browser, page, folder):
 
 def check_no_locks(browser, page, folder):
     """Checks that in a browser without locks, two tabs with the same session do not overwrite each other's changes."""
-    notice_at_start(browser, altered(page, folder, "Object.defineProperty(Navigator.prototype, 'locks', { value: undefined })"), IS_READY, True)
+    notice_at_start(browser, write_altered_page(page, folder, "Object.defineProperty(Navigator.prototype, 'locks', { value: undefined })"), IS_READY, True)
     address = browser.script("return location.href")
     first = browser.tab()
     stop_time(browser)
@@ -259,7 +259,7 @@ def hang(browser, address):
 
 def check_left_soon(browser, address, session):
     """Checks that a page that the user leaves within a second does not count as hung, whichever event reports to the page that the user leaves."""
-    for query in ("", *(["?deaf=beforeunload"] if browser.runs_at_pagehide else []), "?deaf=pagehide"):
+    for query in ("", *(["?deaf=beforeunload"] if browser.always_calls_pagehide else []), "?deaf=pagehide"):
         browser.go("about:blank")
         browser.go(address.replace(".html", f".html{query}") + session)
         until_ready(browser)
@@ -276,7 +276,7 @@ def check_left_soon(browser, address, session):
 def check_unended(browser, page, folder):
     """Checks that the page does not open a session automatically if the page hung when it opened this session the last time. A message reports that,
     and the user can open or delete the session."""
-    hanging = altered(page, folder, MAKE_DEAF).as_uri()
+    hanging = write_altered_page(page, folder, MAKE_DEAF).as_uri()
     reopen(browser, hanging)
     browser.script(REMOVE_FLAGS)
     choose_example(browser, "die")

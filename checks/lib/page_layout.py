@@ -215,7 +215,7 @@ def edit(browser, cell, opening, typed):
 
 
 def double_click(browser, selector):
-    browser.show(selector)
+    browser.scroll_to(selector)
     browser.script("const cell = document.querySelector(arguments[0]); for (const [kind, detail] of [['click', 1], ['click', 2], "
                    "['dblclick', 2]]) cell.dispatchEvent(new MouseEvent(kind, { bubbles: true, detail }))", selector)
 
@@ -405,13 +405,13 @@ def check_sizes(browser):
         verdict(f"the width is used at {width}", (boxes["front"]["left"], boxes["side"]["right"]), (0, width))
     check_not_covered(browser, 999, 820, 700)
     check_drawer(browser)
-    browser.resize_back()
+    browser.restore_size()
 
 
 def check_narrow_sizes(browser):
     """Checks widths that are too small for a browser window. The driver sets them for the page alone."""
     check_not_covered(browser, 699, 320)
-    browser.resize_back()
+    browser.restore_size()
 
 
 def check_not_covered(browser, *widths):
@@ -451,7 +451,7 @@ def check_controls(browser):
             show_text(browser, tab)
             verdict(f"the controls of {tab} are whole at {width}", browser.script(FIND_WRONG_CONTROLS), [])
     browser.command("Emulation.setTouchEmulationEnabled", enabled=False)
-    browser.resize_back()
+    browser.restore_size()
 
 
 IS_DRAWER_SHOWN = "return isShown(document.getElementById('processor'))"
@@ -536,7 +536,7 @@ def check_phone(browser):
     eventually(browser, "a swipe that begins on a key scrolls the front panel", "return document.getElementById('front').scrollTop > 50", True)
     eventually(browser, "and presses nothing that stays down", COUNT_KEYS_DOWN, 0)
     browser.command("Emulation.setTouchEmulationEnabled", enabled=False)
-    browser.resize_back()
+    browser.restore_size()
 
 
 def emulate(browser, media="", **features):

@@ -7,7 +7,7 @@ import re
 import subprocess
 import time
 
-from page_commands import chord
+from page_commands import press_chord
 from page_explore import GET_MARK, GET_PROPERTIES_STATUS, put, text_of
 from page_in_browser import GET_NOTICE, GET_STATUS, TOP, choose_example, lines_answered, open_anew, show_text
 from page_layout import MEASURE_OVERFLOW, at_size
@@ -182,7 +182,7 @@ def check_cancelled(browser):
     verdict("and says so", browser.script(GET_PROPERTIES_STATUS), "It was cancelled before anything was proved.")
     verdict("with nothing left of it", browser.script("return isShown(document.getElementById('proof-results'))"), False)
     browser.script("document.querySelector('#properties-editor .cm-editor').lineEditor.focus()")
-    chord(browser, CONTROL, SHIFT, ENTER)
+    press_chord(browser, CONTROL, SHIFT, ENTER)
     eventually(browser, "Ctrl, Shift and Enter begin it", GET_BUTTON_WORD, "Cancel")
     browser.script("document.getElementById('prove').focus()")
     browser.keys([ENTER])
@@ -203,7 +203,7 @@ def check_phone(browser):
     verdict("its rows fit into the width", browser.script("""return [...document.querySelectorAll('#proof-results *')]
       .filter((each) => isShown(each) && each.getBoundingClientRect().right > innerWidth).length"""), 0)
     verdict("and nothing scrolls sideways", browser.script(MEASURE_OVERFLOW), 0)
-    browser.resize_back()
+    browser.restore_size()
 
 
 def check(browser, page, folder, mcs4):

@@ -39,7 +39,7 @@ stop:   JUN stop
 
 def press(browser, legends):
     for legend in legends:
-        browser.fingers([key(legend)], 60)
+        browser.touch_together([key(legend)], 60)
         time.sleep(0.08)
 
 

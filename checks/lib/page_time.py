@@ -222,7 +222,7 @@ def check_back(browser):
     open_paused_example(browser, "calculator")
     browser.click("#run")
     for legend in "12":
-        browser.fingers([key(legend)], 60)
+        browser.touch_together([key(legend)], 60)
     browser.until(GET_DIGITS, "12")
     pause_time(browser)
     there = state(browser)
@@ -310,7 +310,7 @@ def check_waiting(browser):
     browser.script(PRESS_KEY, "F10", False)
     eventually(browser, "Over a subroutine that waits for a key is time that runs", GET_STATUS, "Running to the return from the subroutine.")
     browser.until(GET_RATE, re.compile("^9[0-4],"))
-    browser.fingers([key("right")], 60)
+    browser.touch_together([key("right")], 60)
     eventually(browser, "it returns once the key is pressed", GET_STATUS, re.compile("^Returned to 00A, after [0-9,]+ cycles, "))
     verdict("no breakpoint and no watch stays", state(browser)[-len("breaksbreaks -watcheswatches -"):], "breaksbreaks -watcheswatches -")
     browser.script(PRESS_KEY, "F10", False)

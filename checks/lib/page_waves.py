@@ -116,7 +116,7 @@ def check_click(browser):
     browser.keys(["a", HOME, "b", HOME, "0"], 1, 1)
     eventually(browser, "the cursor at the beginning", "return document.getElementById('wave-canvas').getAttribute('aria-valuenow')", "0")
     box = browser.script("const b = document.getElementById('wave-canvas').getBoundingClientRect(); return [b.width, b.height]")
-    browser.show("#wave-canvas")
+    browser.scroll_to("#wave-canvas")
     browser.click("#wave-canvas")
     # The driver clicks at the centre of the element. The names of the lines occupy `gutter` pixels on the left, and a click can snap to a near edge.
     gutter = 150 if box[0] >= 600 else 112
@@ -390,7 +390,7 @@ def check_pointer(browser):
     browser.keys([ENTER])
     browser.keys([*"tens", ENTER])
     eventually(browser, "by which it is named", GET_NAMES, "lamp15 tens lamp14")
-    browser.chord("\ue00a", DOWN)
+    browser.press_chord("\ue00a", DOWN)
     eventually(browser, "Alt and an arrow move the row that is marked", GET_NAMES, "lamp15 lamp14 tens")
     browser.click_secondary(*browser.script(GET_PLACE, 40, 0))
     browser.until("return document.activeElement.textContent", "Rename")
@@ -475,4 +475,4 @@ def take_picture(browser, page, path):
     clip = dict(zip(("x", "y", "width", "height", "scale"), [*box, 1]))
     taken = browser.command("Page.captureScreenshot", clip=clip, captureBeyondViewport=True)
     write_picture(base64.b64decode(taken["data"]), path)
-    browser.resize_back()
+    browser.restore_size()

@@ -34,7 +34,7 @@ def drag_by(browser, border, move, kind):
 def check_borders(browser):
     for border, panel, way, move in BORDERS:
         before = browser.script(MEASURE_PANEL, panel, way)
-        for kind in ("mouse", "touch") if browser.has_fingers else ("mouse",):
+        for kind in ("mouse", "touch") if browser.can_multitouch else ("mouse",):
             drag_by(browser, border, move, kind)
             verdict(f"{border}: a {kind} makes {panel} larger", browser.script(MEASURE_PANEL, panel, way), before + 40)
             drag_by(browser, border, tuple(-each for each in move), kind)
@@ -234,7 +234,7 @@ def check_small_things(browser, at_size):
     found = browser.script(COUNT_CONTROLS)
     verdict(f"a large window has at most {MAX_CONTROLS} controls, too", found <= MAX_CONTROLS or found, True)
     verdict("and no log in front", browser.script(GET_SHOWN, ["log"]), [])
-    browser.resize_back()
+    browser.restore_size()
 
 
 def check_narrow_things(browser, at_size):
@@ -245,7 +245,7 @@ def check_narrow_things(browser, at_size):
     browser.click("#region-source")
     verdict("and the source begins in the upper quarter", browser.script(GET_TOP, "#program-editor .cm-scroller") < 844 / 4, True)
     browser.click("#region-board")
-    browser.resize_back()
+    browser.restore_size()
 
 
 def first_word(browser, word):
@@ -302,7 +302,7 @@ def draw_board(browser):
     browser.click("#drawing-wire")
     eventually(browser, "there are sixteen keys", "return document.querySelectorAll('#keys .key').length", 16)
     browser.script("document.activeElement.blur()")
-    browser.chord(CONTROL, "k")
+    browser.press_chord(CONTROL, "k")
     browser.until("return document.activeElement.getAttribute('role')", "combobox")
     browser.keys([*"scan", ENTER], 5, 5)
     eventually(browser, "the source has a routine", GET_SOURCE, re.compile("keys_scan"))
@@ -381,7 +381,7 @@ def check_shifts(browser, page, at_size):
         until_ready(browser)
         eventually(browser, "the example runs", GET_STATUS, re.compile("^Running"))
         verdict(f"at {width} nothing moves after the first paint", browser.script(MEASURE_SHIFTS), [])
-    browser.resize_back()
+    browser.restore_size()
 
 
 def check_by_finger(browser, at_size):
@@ -395,4 +395,4 @@ def check_by_finger(browser, at_size):
         verdict(f"at {width} nothing of Wiring is below 44 pixels", browser.script(FIND_SMALL_CONTROLS, 44), [])
         browser.script("document.getElementById('program-tab').click(); document.getElementById('region-board').click()")
     browser.command("Emulation.setTouchEmulationEnabled", enabled=False)
-    browser.resize_back()
+    browser.restore_size()

@@ -185,9 +185,9 @@ def set_seen(board: Board, seen: int) -> None:
 def value_with(board: Board, down: Iterable[tuple[int, int]]) -> int:
     """Returns the value of the selected port with these keys down."""
     chips = board.chips
-    before, chips.down = chips.down, set(down)
+    before, chips.pressed_keys = chips.pressed_keys, set(down)
     value = chips.read_port(chips.rom_src >> 4)
-    chips.down = before
+    chips.pressed_keys = before
     return value
 
 
@@ -238,7 +238,7 @@ def mistakes(board: Board) -> set[str]:
     """Returns the mistakes that the next cycle makes. There are none in the second cycle of an instruction."""
     if board.owed:
         return set()
-    if board.is_outside():
+    if board.is_at_invalid_code():
         return {"code"}
     name, chips = CODES[board.rom[board.pc]][0], board.chips
     port = chips.masks.get(chips.rom_src >> 4, "")
@@ -256,7 +256,7 @@ def cycle(board: Board) -> None:
     """Executes one cycle, which can open or close a call. A fourth nested call replaces the first one. At a code that is not an instruction, only the
     stopwatch and the number of marks can change."""
     elapsed, seen = elapsed_after(board), seen_after(board)
-    if board.owed or not board.is_outside():
+    if board.owed or not board.is_at_invalid_code():
         name = "" if board.owed else CODES[board.rom[board.pc]][0]
         change = {"JMS": 1, "BBL": -1}.get(name, 0)
         set_calls(board, min(max(calls_of(board) + change, 0), OPEN_CALLS))
@@ -300,7 +300,7 @@ def fault_of(question: Question) -> Condition:
 def begins(board: Board) -> tuple[str, int]:
     """Returns the mnemonic of the instruction that takes effect in the next cycle, and the lower half of its code. The mnemonic is "" if there is no
     such instruction."""
-    return ("", 0) if board.owed or board.is_outside() else CODES[board.rom[board.pc]]
+    return ("", 0) if board.owed or board.is_at_invalid_code() else CODES[board.rom[board.pc]]
 
 
 def is_reading(board: Board) -> bool:
@@ -315,7 +315,7 @@ def port_values(board: Board) -> dict[int, Levels]:
     port = chips.rom_src >> 4
 
     def value_at(down: Iterable[tuple[int, int]]) -> int:
-        chips.down = set(down)
+        chips.pressed_keys = set(down)
         return chips.read_port(port)
 
     keys = [(row, column) for row in range(chips.keys["rows"]) for column in range(len(chips.columns))]
@@ -364,10 +364,10 @@ def load(board: Board, state: tuple) -> None:
 def go_on(board: Board, levels: Levels, is_bad: Condition, pause: int) -> tuple[int, bool]:
     """Executes one cycle with these levels of keys and TEST, and then continues to the next state. Returns the number of cycles, and true if the
     property failed after the last one."""
-    board.chips.down, board.test = set(levels[0]), levels[1]
+    board.chips.pressed_keys, board.test = set(levels[0]), levels[1]
     at, state = board.pc, saved(board)
     for cycles in range(1, pause + 2):
-        if not board.owed and board.is_outside() and not stopwatch_of(board) and not mark_sequence_of(board):
+        if not board.owed and board.is_at_invalid_code() and not stopwatch_of(board) and not mark_sequence_of(board):
             # The state repeats, so nothing changes any more.
             return cycles - 1, False
         cycle(board)
@@ -433,7 +433,7 @@ def is_met_when_driven(question: Question, chance: random.Random, cycles: int) -
     for _cycle in range(cycles):
         if is_bad(board):
             return True
-        chips.down = {(row, column) for row in range(chips.keys["rows"]) for column in range(len(chips.columns)) if chance.random() < 0.1}
+        chips.pressed_keys = {(row, column) for row in range(chips.keys["rows"]) for column in range(len(chips.columns)) if chance.random() < 0.1}
         board.test = chance.randrange(2)
         cycle(board)
     return is_bad(board)

@@ -254,7 +254,7 @@ def marks_on_way(question: Question, chance: random.Random) -> list[tuple[Board,
     for _n in range(2 * MAX_WALK_STATES):
         values = values_read(board)
         levels = values[chance.choice(sorted(values))]
-        board.chips.down = set(levels[0])
+        board.chips.pressed_keys = set(levels[0])
         marks = [(level, row, column) for row, column in all_keys(board) for level in ("up", "down") if is_shown(board, (level, row, column))]
         way.append((copy.deepcopy(board), marks))
         go_on(board, levels, lambda _board: False, min(question.pause, 50))
