@@ -37,7 +37,7 @@ def resident_bytes(root):
 
 
 def memory_growth(root, seconds):
-    """Measures the memory of a process tree for a number of seconds. Returns the median in the last third divided by the median in the first third."""
+    """Measures the memory of a process tree for a number of seconds. Returns the median of the last third divided by that of the first third."""
     sizes = []
     deadline = time.monotonic() + seconds
     while time.monotonic() < deadline:

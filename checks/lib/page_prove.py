@@ -8,7 +8,7 @@ import subprocess
 import time
 
 from page_commands import press_chord
-from page_explore import GET_MARK, GET_PROPERTIES_STATUS, put, text_of
+from page_explore import GET_MARK, GET_PROPERTIES_STATUS, set_text, text_of
 from page_in_browser import GET_NOTICE, GET_STATUS, TOP, choose_example, lines_answered, open_anew, show_text
 from page_layout import MEASURE_OVERFLOW, at_size
 from page_texts import GET_NAME
@@ -83,15 +83,15 @@ def check_edits(browser):
     count = browser.script(COUNT_LIT_ROWS)
     for name, mark in (("program", ";"), ("board", "#")):
         text = text_of(browser, name)
-        put(browser, name, f"{text}{mark} another one\n")
+        set_text(browser, name, f"{text}{mark} another one\n")
         eventually(browser, f"an edit of the {name} takes the marks away", COUNT_LIT_ROWS, 0)
         verdict("and says why", {row.split(" | ")[-1] for row in browser.script(GET_ROWS)}, {CHANGED})
         verdict("the tab says nothing then", browser.script(GET_MARK), "")
-        put(browser, name, text)
+        set_text(browser, name, text)
         eventually(browser, "undone, they are there again", COUNT_LIT_ROWS, count)
     properties = text_of(browser, "properties")
     first, second = [row.split(" | ")[1] for row in browser.script(GET_ROWS)][:2]
-    put(browser, "properties", f"# one more\nnever r0 = 1 and r0 = 2\n{properties.replace(first, first.replace('9', '8'))}")
+    set_text(browser, "properties", f"# one more\nnever r0 = 1 and r0 = 2\n{properties.replace(first, first.replace('9', '8'))}")
     eventually(browser, "a property that is another one loses its mark alone", COUNT_LIT_ROWS, count - 1)
     verdict("and the next one keeps its verdict", [row.split(" | ")[0] for row in browser.script(GET_ROWS)][:2], [first, "proved"])
     browser.click("#proof-list li:nth-of-type(2) .name")
@@ -128,9 +128,9 @@ def check_counterexample(browser):
 def check_kinds(browser):
     """Checks all kinds of verdicts at once, with a separate board and program."""
     choose_example(browser, "empty bench")
-    put(browser, "board", BOARD)
-    put(browser, "program", PROGRAM)
-    put(browser, "properties", "test\nnever lamp 1 on\nnever lamp lit on\nreach lamp lit on\nreach lamp 1 on\nevery 1 ms @look\n"
+    set_text(browser, "board", BOARD)
+    set_text(browser, "program", PROGRAM)
+    set_text(browser, "properties", "test\nnever lamp 1 on\nnever lamp lit on\nreach lamp lit on\nreach lamp 1 on\nevery 1 ms @look\n"
         "lamp lit on only after press WALK\n")
     prove_to_end(browser, "it comes to its end")
     verdict("what came of all is said", browser.script(GET_PROPERTIES_STATUS), f"{2 + MISTAKES} proved, 1 can fail, 1 reached, 1 never reached, 1 not decided.")
@@ -157,13 +157,13 @@ def check_wrong(browser):
     for states in ("0", "x", ""):
         prove(browser, states)
         verdict(f"{states or 'no'} states are refused", browser.script(GET_PROPERTIES_STATUS), "The number of states must be 1 to 999,999,999.")
-    put(browser, "properties", "never lamp purple on\n")
+    set_text(browser, "properties", "never lamp purple on\n")
     prove_to_end(browser, "nothing is proved of a text with an error")
     verdict("which is reported", browser.script(GET_PROPERTIES_STATUS), re.compile("^Nothing was run: Properties, line 1: the board has no lamp purple"))
-    put(browser, "properties", "test\n")
+    set_text(browser, "properties", "test\n")
     prove_to_end(browser, "without a property the mistakes are asked for")
     verdict("and nothing else", browser.script(GET_PROPERTIES_STATUS), f"{MISTAKES} proved.")
-    put(browser, "program", "        JUN 256\n")
+    set_text(browser, "program", "        JUN 256\n")
     prove_to_end(browser, "a program can make one")
     verdict("which is reported", browser.script(GET_PROPERTIES_STATUS), f"{MISTAKES - 1} proved, 1 can fail.")
     verdict("as one", [row for row in browser.script(GET_ROWS) if not row.startswith("proved")], ["can fail | no ROM that is absent | broken by 0 steps, 2 cycles"])
@@ -171,8 +171,8 @@ def check_wrong(browser):
 
 def check_cancelled(browser):
     """Checks that an endless search can be cancelled immediately, also by keyboard, and that time keeps running in the meantime."""
-    put(browser, "program", COUNTING)
-    put(browser, "properties", "never lamp 1 on\n")
+    set_text(browser, "program", COUNTING)
+    set_text(browser, "properties", "never lamp 1 on\n")
     prove(browser, 999999999)
     eventually(browser, "it searches", GET_PROGRESS, re.compile("more than .* states so far"), LONGEST)
     start = time.monotonic()
@@ -194,9 +194,9 @@ def check_cancelled(browser):
 
 def check_phone(browser):
     choose_example(browser, "empty bench")
-    put(browser, "board", BOARD)
-    put(browser, "program", PROGRAM)
-    put(browser, "properties", "never lamp lit on\nnever lamp 1 on\n")
+    set_text(browser, "board", BOARD)
+    set_text(browser, "program", PROGRAM)
+    set_text(browser, "properties", "never lamp lit on\nnever lamp 1 on\n")
     at_size(browser, 390, 844, True)
     prove_to_end(browser, "on a phone it proves, too")
     verdict("with its verdicts", browser.script(GET_PROPERTIES_STATUS), f"{1 + MISTAKES} proved, 1 can fail.")

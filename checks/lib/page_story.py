@@ -5,7 +5,7 @@ the example that is a project, whose session is in the state that its texts desc
 import re
 import time
 
-from page_editor import GET_CARET, GET_FAULTS, GET_STATUS_OF, PROGRAM, SET_CARET
+from page_editor import GET_CARET, GET_ERRORS, GET_STATUS_OF, PROGRAM, SET_CARET
 from page_in_browser import DOWN, ENTER, ESCAPE, GET_NOTICE, GET_STATUS, GET_TEXT_OF_EDITOR, STEPPED, TAB, focused, lines_answered, until_ready
 from page_names import GET_BREAKPOINT_LINES, GET_SOURCE_STATUS
 from page_texts import GET_NAME, GET_PROGRAM_TEXT, GET_QUESTION, GET_TEXTS, kept_download
@@ -71,13 +71,13 @@ def check_program(browser):
     for line in TYPED:
         type_keys(browser, line)
         browser.keys([ENTER], 2, 2)
-    eventually(browser, "a fault is reported while one types", GET_FAULTS.format(PROGRAM), FAULT)
+    eventually(browser, "a fault is reported while one types", GET_ERRORS.format(PROGRAM), FAULT)
     before = browser.script(GET_CARET, PROGRAM)
     browser.press_chord(CONTROL, ENTER)
     eventually(browser, "Control and Enter assemble nothing then", GET_STATUS_OF.format(PROGRAM), FAULT)
     verdict("and the caret stays", browser.script(GET_CARET, PROGRAM), before)
     browser.keys([UP, UP, END, BACKSPACE, "P"], 5, 5)
-    eventually(browser, "mended, it has no fault", GET_FAULTS.format(PROGRAM), "")
+    eventually(browser, "mended, it has no fault", GET_ERRORS.format(PROGRAM), "")
     browser.press_chord(CONTROL, ENTER)
     eventually(browser, "and is assembled and run", GET_STATUS_OF.format(PROGRAM), "Assembled 6 bytes; running from 000.")
     eventually(browser, "time runs", GET_STATUS, re.compile("^Running"))
