@@ -3,7 +3,7 @@ tree), the order in which the Tab key reaches the controls, and the contrast of 
 
 import re
 
-from page_in_browser import (ESCAPE, GET_TEXT_OF_EDITOR, IS_AT_COUNTER, PUT_INTO_EDITOR, TAB, choose_example, lines_answered, open_anew, show_text,
+from page_in_browser import (ESCAPE, GET_TEXT_OF_EDITOR, IS_AT_COUNTER, PUT_INTO_EDITOR, TAB, choose_example, send_lines, reopen_page, show_text,
                              step_with_marks, stop_time)
 from verdicts import eventually, verdict
 from web_driver import Chromium
@@ -18,7 +18,7 @@ UNSPOKEN_SYMBOLS = re.compile("[\u25b2-\u25cf\u2713]")
 
 
 def check(browser, page, _folder, _mcs4):
-    open_anew(browser, page)
+    reopen_page(browser, page)
     check_answers_announced(browser)
     check_tab_key(browser)
     if isinstance(browser, Chromium):
@@ -30,9 +30,9 @@ def check_answers_announced(browser):
     choose_example(browser, "three lamps")
     stop_time(browser)
     get_status = "return document.getElementById('answer-status').textContent"
-    lines_answered(browser, "poke acc 5")
+    send_lines(browser, "poke acc 5")
     eventually(browser, "an answer is said", get_status, re.compile(r"^ok \d+$"))
-    lines_answered(browser, "poke acc 77")
+    send_lines(browser, "poke acc 77")
     eventually(browser, "and a refusal in words", get_status, re.compile(r"^no \d+.*: [a-z]"))
 
 

@@ -5,7 +5,7 @@ import re
 
 from driven import ELEMENT
 from page_access import check_view
-from page_in_browser import DOWN, ENTER, ESCAPE, GET_STATUS, IS_READY, STEPPED, TAB, TOP, choose_example, open_anew, show_text, stop_time, until_ready
+from page_in_browser import DOWN, ENTER, ESCAPE, GET_STATUS, IS_READY, STEPPED, TAB, TOP, choose_example, reopen_page, show_text, stop_time, until_ready
 from verdicts import eventually, verdict
 from web_driver import Chromium
 
@@ -387,7 +387,7 @@ def check_examples(browser):
 
 
 def check(browser, page, _folder, _mcs4):
-    open_anew(browser, page)
+    reopen_page(browser, page)
     check_palette_contents(browser)
     check_listbox(browser)
     check_disabled(browser)

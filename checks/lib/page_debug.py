@@ -7,7 +7,7 @@ An earlier version of the page moved breakpoints of the program below away from 
 import re
 import time
 
-from page_in_browser import ENTER, ESCAPE, GET_NOTICE, GET_STATUS, GET_WHOLE_STATUS, TAB, choose_example, lines_answered, until_ready
+from page_in_browser import ENTER, ESCAPE, GET_NOTICE, GET_STATUS, GET_WHOLE_STATUS, TAB, choose_example, send_lines, until_ready
 from page_names import CLICK_MARGIN, GET_BREAKPOINT_LINES
 from page_texts import UNDO
 from verdicts import eventually, verdict
@@ -109,7 +109,7 @@ def check_moves_with_line(browser):
     browser.click(SEND_BUTTON)
     eventually(browser, "assembled anew it stops there, reported by name and line", GET_WHOLE_STATUS,
                f"Paused at 010 (loop + 7, line {JUN_LINE + 1}), at a breakpoint.")
-    verdict("and is no other one", lines_answered(browser, "breaks"), re.compile("breaks 010$"))
+    verdict("and is no other one", send_lines(browser, "breaks"), re.compile("breaks 010$"))
     browser.script(CLICK_MARGIN, WMP_LINE + 1)
     browser.script(CLICK_MARGIN, JUN_LINE + 1)
     eventually(browser, "another one in its place", GET_BREAKPOINT_LINES, str(WMP_LINE + 1))
@@ -136,7 +136,7 @@ def check_no_instruction(browser):
     eventually(browser, "which stops the time that runs", GET_STATUS, "Paused at 00F, at a breakpoint.")
     browser.click("#breakpoint-list .bar button[title='removes it']")
     eventually(browser, "it is taken away in the list", GET_BREAKPOINT_LINES, "")
-    lines_answered(browser, "break 0x010")
+    send_lines(browser, "break 0x010")
     eventually(browser, "one inside an instruction goes to the next one", GET_BREAKPOINT_LINES, str(JUN_LINE + 2))
     verdict("and says so", browser.script(GET_POPUP),
             f"010 is inside the instruction of line {JUN_LINE + 1}: its breakpoint is at the next one, line {JUN_LINE + 2}.")
@@ -154,9 +154,9 @@ def check_condition(browser):
     eventually(browser, "one with a condition has a mark of its own", GET_BREAKPOINTS, re.compile("^\u25c6 "))
     browser.click("#run")
     eventually(browser, "it stops where its condition holds", GET_STATUS, "Paused at 011, at a breakpoint, when r9 = 9.")
-    verdict("as the bench says", lines_answered(browser, "regs"), re.compile(" r .{9}9.{6} "))
+    verdict("as the bench says", send_lines(browser, "regs"), re.compile(" r .{9}9.{6} "))
     check_going_back(browser)
-    verdict("it is none of the session's file", lines_answered(browser, "breaks"), re.compile("breaks -$"))
+    verdict("it is none of the session's file", send_lines(browser, "breaks"), re.compile("breaks -$"))
     check_console_run(browser)
     browser.script(FILL_ROW, CONDITION, "r44 = 9")
     eventually(browser, "a condition that cannot be read says why, in its place", GET_BREAKPOINT_ERRORS,
@@ -180,7 +180,7 @@ def check_condition(browser):
     browser.click("#run")
     eventually(browser, "from the fiftieth hit on", GET_HITS, "50 hits")
     eventually(browser, "it stops", GET_STATUS, "Paused at 011, at a breakpoint, at hit 50.")
-    verdict("R9 was counted on 49 times", lines_answered(browser, "regs"), re.compile(" r .{9}1.{6} "))
+    verdict("R9 was counted on 49 times", send_lines(browser, "regs"), re.compile(" r .{9}1.{6} "))
     browser.script(FILL_ROW, HIT_COUNT, "")
     browser.script(FILL_ROW, LOG_MESSAGE, "R9 is {r9}, {lamps}")
     eventually(browser, "one with a note has a mark of its own", GET_BREAKPOINTS, re.compile("^\u25b8 "))
@@ -198,11 +198,11 @@ def check_condition(browser):
 def check_console_run(browser):
     """Checks that a `run` typed at the console also stops at a breakpoint, with a message."""
     browser.script(FILL_ROW, CONDITION, "r9 = 9")
-    lines_answered(browser, "reset")
-    verdict("a line's run ends where the condition holds", lines_answered(browser, "run 100000"), re.compile(r"run (\d+)ok \d+ ran \1 end$"))
+    send_lines(browser, "reset")
+    verdict("a line's run ends where the condition holds", send_lines(browser, "run 100000"), re.compile(r"run (\d+)ok \d+ ran \1 end$"))
     eventually(browser, "and the status says so", GET_WHOLE_STATUS,
                "Paused at 011 (wait, line 14), at a breakpoint, when r9 = 9. The line run 100000 ended there.")
-    verdict("the bench stands there", lines_answered(browser, "regs"), re.compile(" r .{9}9.{6} "))
+    verdict("the bench stands there", send_lines(browser, "regs"), re.compile(" r .{9}9.{6} "))
 
 
 def check_going_back(browser):
@@ -210,11 +210,11 @@ def check_going_back(browser):
     must not depend on the lengths of the runs."""
     # Runs past the next arrival at which the condition is true. That takes 16 increments of R9, one every 11 cycles.
     for cycles in (150, 26, 77):
-        lines_answered(browser, f"run {cycles}")
+        send_lines(browser, f"run {cycles}")
     browser.click("#back-breakpoint")
     eventually(browser, "back to the arrival where its condition holds", GET_STATUS,
                re.compile(r"^Back at 011, 77 cycles, .* earlier, at a breakpoint, when r9 = 9\.$"))
-    verdict("R9 is what it was", lines_answered(browser, "regs"), re.compile(" r .{9}9.{6} "))
+    verdict("R9 is what it was", send_lines(browser, "regs"), re.compile(" r .{9}9.{6} "))
     browser.click("#forward")
     browser.until(GET_STATUS, re.compile("^Forward again"))
     browser.click("#back-breakpoint")
@@ -340,7 +340,7 @@ def check_menu(browser):
     browser.keys([ESCAPE])
     eventually(browser, "Escape leaves the menu, and the keyboard is the text's", IS_FOCUS_IN_SOURCE, True)
     browser.click("#breakpoints-remove")
-    lines_answered(browser, "break 0x200")
+    send_lines(browser, "break 0x200")
     browser.until(GET_BREAKPOINTS, re.compile("200"))
     browser.click("#breakpoint-list .edit")
     eventually(browser, "one without a line is edited in the list", "return document.activeElement.closest('#breakpoint-list .breakpoint-row') !== null", True)

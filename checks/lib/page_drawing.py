@@ -4,7 +4,7 @@ Each action edits the board's text and can be undone like any edit. Also checks 
 import re
 import time
 
-from page_in_browser import (ENTER, ESCAPE, GET_NOTICE, GET_STATUS, GET_TEXT_OF_EDITOR, PUT_INTO_EDITOR, TAB, choose_example, focused, show_text,
+from page_in_browser import (ENTER, ESCAPE, GET_NOTICE, GET_STATUS, GET_TEXT_OF_EDITOR, PUT_INTO_EDITOR, TAB, choose_example, move_focus_until, show_text,
                              until_ready)
 from verdicts import eventually, verdict
 
@@ -248,10 +248,10 @@ def check_by_keyboard(browser):
     choose_example(browser, "lock")
     browser.script("document.getElementById('wiring-tab').click(); document.getElementById('wiring-tab').focus()")
     text_before = text_of(browser)
-    verdict("Tab comes to the shelf", focused(browser, TAB, "e.id === 'shelf-lamp'", 14), True)
+    verdict("Tab comes to the shelf", move_focus_until(browser, TAB, "e.id === 'shelf-lamp'", 14), True)
     browser.keys([ENTER])
     eventually(browser, "Enter adds a lamp", GET_DRAWING_STATUS, "Lamp 3 was added.")
-    verdict("Tab comes to the picture", focused(browser, TAB, "e.closest('#wiring-picture') !== null", 20), True)
+    verdict("Tab comes to the picture", move_focus_until(browser, TAB, "e.closest('#wiring-picture') !== null", 20), True)
     eventually(browser, "at the lamp that is chosen", GET_FOCUSED_LABEL, re.compile("^Lamps · 4, lamp 3"))
     browser.keys([UP, UP, UP, UP])
     eventually(browser, "arrows go from pin to part", GET_FOCUSED_LABEL, re.compile("^Lamps · 4: locked is at"))

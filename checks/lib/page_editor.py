@@ -3,7 +3,7 @@
 import re
 import time
 
-from page_in_browser import GET_ALL_NOTICES, GET_STATUS, GET_TEXT_OF_EDITOR, PUT_INTO_EDITOR, STEPPED, choose_example, open_anew, show_text, stop_time
+from page_in_browser import GET_ALL_NOTICES, GET_STATUS, GET_TEXT_OF_EDITOR, PUT_INTO_EDITOR, STEPPED, choose_example, reopen_page, show_text, stop_time
 from verdicts import eventually, verdict
 
 CONTROL, SHIFT, ALT, ENTER, ESCAPE, TAB = "\ue009", "\ue008", "\ue00a", "\ue007", "\ue00c", "\ue004"
@@ -228,7 +228,7 @@ def check_hidden_text(browser):
 
 def check_opened_text(browser, page):
     """Checks that an opened text is shown from its first line, even if the previous text was scrolled, and that its visible part is coloured."""
-    open_anew(browser, page)
+    reopen_page(browser, page)
     choose_example(browser, "calculator")
     show_text(browser, "program")
     browser.script(FIND_EDITOR + "editor.scrollTo(4000)", PROGRAM)
@@ -362,7 +362,7 @@ def compose(browser, *words, replaced_range=None):
 def check_phone(browser, page):
     """Checks words that a phone's keyboard composes and corrects while the editor marks errors, and typing over selected lines. Needs Chromium's
     driver."""
-    open_anew(browser, page)
+    reopen_page(browser, page)
     choose_example(browser, "calculator")
     show_text(browser, "program")
     get_text = GET_TEXT_OF_EDITOR.replace("arguments[0]", f"'{PROGRAM}'")
@@ -383,7 +383,7 @@ def check_phone(browser, page):
 
 def check_editor(browser, page, _folder, _mcs4):
     check_opened_text(browser, page)
-    open_anew(browser, page)
+    reopen_page(browser, page)
     browser.script("for (const each of document.querySelectorAll('#notice .dismiss')) each.click()")
     notice_count_before = len(browser.script(GET_ALL_NOTICES))
     choose_example(browser, "calculator")

@@ -3,16 +3,16 @@
 The check puts an error into an example's program, and the page must find it. The counterexample must be the same as that of `mcs4 explore` with the
 same seed, and the session must keep running during the search. The counterexample opens as a session. Its test can be added to the tests, where it
 fails. A search can be stopped. Errors in properties, seconds and boards are reported. The check also covers a program with so few states that its
-properties are proved, a search from a state that a test saves, the keyboard, a phone's width, and saving the text with the session and in a project."""
+properties are proved, a search from a saved state, the keyboard, a phone's width, and saving the text with the session and in a project."""
 
 import os
 import re
 import subprocess
 import time
 
-from page_in_browser import (GET_NOTICE, GET_TEXT_OF_EDITOR, IS_READY, PUT_INTO_EDITOR, TOP, choose_example, lines_answered, of_file_menu,
-                             open_anew, show_text)
-from page_layout import MEASURE_OVERFLOW, at_size
+from page_in_browser import (GET_NOTICE, GET_TEXT_OF_EDITOR, IS_READY, PUT_INTO_EDITOR, TOP, choose_example, send_lines, choose_from_file_menu,
+                             reopen_page, show_text)
+from page_layout import MEASURE_OVERFLOW, set_size
 from page_tests import GET_FAULTS as GET_TESTS_FAULTS
 from page_tests import GET_TESTS_STATUS
 from page_tests import GET_WRONG
@@ -130,7 +130,7 @@ def check_counterexample_opened(browser):
     browser.click("#property-list .bar button:nth-of-type(1)")
     eventually(browser, "the find is opened as a session", GET_NAME, re.compile("^lamp open on only after press 4"))
     eventually(browser, "the way back is offered", GET_NOTICE, re.compile('"lock" is saved'))
-    verdict("the lamp is lit there", "lamps .*." in lines_answered(browser, "lamps"), True)
+    verdict("the lamp is lit there", "lamps .*." in send_lines(browser, "lamps"), True)
     verdict("its texts are there", (text_of(browser, "properties"), text_of(browser, "program") == faulty_program()),
             ((LOCK / "lock.props").read_text(), True))
     verdict("nothing was looked for in it yet", browser.script("return isShown(document.getElementById('explore-results'))"), False)
@@ -222,7 +222,7 @@ def check_search_from_state(browser):
 
 
 def check_phone(browser):
-    at_size(browser, 390, 844, True)
+    set_size(browser, 390, 844, True)
     verdict("on a phone nothing scrolls sideways", browser.script(MEASURE_OVERFLOW), 0)
     explore(browser, 5)
     eventually(browser, "it looks there, too", GET_BUTTON_LABEL, "Search", 20)
@@ -242,7 +242,7 @@ def check_saving(browser, folder):
     show_text(browser, "properties")
     eventually(browser, "the text is there after a reload", GET_TEXT_OF_EDITOR.replace("arguments[0]", f"'{EDITOR}'"), "never lamp 1 on")
     rename(browser, "with properties")
-    of_file_menu(browser, "#save-button")
+    choose_from_file_menu(browser, "#save-button")
     project_file = kept_download(folder, "with properties.mcsp")
     text = project_file.read_text()
     verdict("a project has it", "\nunended properties\n" in text and "\nproperties\nnever lamp 1 on\n.\n" in text, True)
@@ -254,7 +254,7 @@ def check_saving(browser, folder):
 
 
 def check(browser, page, folder, mcs4):
-    open_anew(browser, page)
+    reopen_page(browser, page)
     check_counterexample(browser, folder, mcs4)
     check_line_never_run(browser)
     check_test_added(browser)

@@ -5,7 +5,7 @@ import base64
 import re
 import time
 
-from page_in_browser import GET_DIGITS, GET_STATUS, PUT_INTO_EDITOR, TOP, choose_example, focused, key, show_text, status_of, until_ready
+from page_in_browser import GET_DIGITS, GET_STATUS, PUT_INTO_EDITOR, TOP, choose_example, move_focus_until, key, show_text, status_of, until_ready
 from picture import write_picture
 from verdicts import eventually, verdict
 
@@ -102,7 +102,7 @@ def check_spring_button(browser):
     browser.keys(["w"], 100)
     eventually(browser, "by its letter", "return window.presses.join(' ')", "true false true false")
     browser.script("document.getElementById('run').focus()")
-    verdict("Tab comes to it", focused(browser, TAB, f"e.matches('{TEST_KEY}')"), True)
+    verdict("Tab comes to it", move_focus_until(browser, TAB, f"e.matches('{TEST_KEY}')"), True)
     browser.keys([" "], 100)
     eventually(browser, "by the space bar", "return window.presses.join(' ')", "true false true false true false")
     browser.click("#run")

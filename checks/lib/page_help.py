@@ -3,7 +3,7 @@
 import re
 import time
 
-from page_in_browser import ENTER, ESCAPE, GET_STATUS, choose_example, key, lines_answered, show_text, until_ready
+from page_in_browser import ENTER, ESCAPE, GET_STATUS, choose_example, key, send_lines, show_text, until_ready
 from verdicts import eventually, verdict
 
 F1, UP, DOWN, CONTROL = "\ue031", "\ue013", "\ue015", "\ue009"
@@ -104,9 +104,9 @@ def check_tour(browser):
     browser.touch_together([key("right")], 400)
     eventually(browser, "the key is seen", GET_TOUR_STATUS, "Done.")
     browser.click("#tour-next")
-    lines_answered(browser, "break 0x006")
+    send_lines(browser, "break 0x006")
     eventually(browser, "the breakpoint is seen", GET_TOUR_STATUS, "Done.")
-    lines_answered(browser, "unbreak 0x006")
+    send_lines(browser, "unbreak 0x006")
     browser.click("#tour-next")
     run_program(browser)
     browser.click(".ram button")
@@ -118,9 +118,9 @@ def check_tour(browser):
 
 
 def check_hints(browser):
-    titles = "return [...document.querySelectorAll('#processor [title], #calls [title], #ports [title]')].map((each) => each.title).join('; ')"
-    for words in ("the accumulator", "in the middle of an instruction of two cycles", "the return addresses, the newest first", "what WRR has written"):
-        eventually(browser, f"a cell says what it shows: {words}", titles, re.compile(words))
+    get_titles = "return [...document.querySelectorAll('#processor [title], #calls [title], #ports [title]')].map((each) => each.title).join('; ')"
+    for description in ("the accumulator", "in the middle of an instruction of two cycles", "the return addresses, the newest first", "what WRR has written"):
+        eventually(browser, f"a cell says what it shows: {description}", get_titles, re.compile(description))
 
 
 def check(browser, page, _folder, _mcs4):

@@ -6,7 +6,7 @@ import re
 import time
 
 from page_editor import GET_CARET, GET_ERRORS, GET_STATUS_OF, PROGRAM, SET_CARET
-from page_in_browser import DOWN, ENTER, ESCAPE, GET_NOTICE, GET_STATUS, GET_TEXT_OF_EDITOR, STEPPED, TAB, focused, lines_answered, until_ready
+from page_in_browser import DOWN, ENTER, ESCAPE, GET_NOTICE, GET_STATUS, GET_TEXT_OF_EDITOR, STEPPED, TAB, move_focus_until, send_lines, until_ready
 from page_names import GET_BREAKPOINT_LINES, GET_SOURCE_STATUS
 from page_texts import GET_NAME, GET_PROGRAM_TEXT, GET_QUESTION, GET_TEXTS, kept_download
 from verdicts import eventually, verdict
@@ -29,7 +29,7 @@ document.body.dispatchEvent(new DragEvent("drop", { dataTransfer: data, bubbles:
 
 
 def go_by_tab(browser, what, code, most=90):
-    verdict(f"Tab comes to {what}", focused(browser, TAB, code, most), True)
+    verdict(f"Tab comes to {what}", move_focus_until(browser, TAB, code, most), True)
 
 
 def type_keys(browser, text):
@@ -39,7 +39,7 @@ def type_keys(browser, text):
 def choose_by_keyboard(browser, name):
     """Chooses an example by keyboard alone."""
     browser.script("document.getElementById('name').focus()")
-    focused(browser, TAB, "e.id === 'sessions-button'", 5)
+    move_focus_until(browser, TAB, "e.id === 'sessions-button'", 5)
     browser.keys([ENTER])
     browser.until(IS_SESSIONS_OPEN, True)
     go_by_tab(browser, f"the example {name}", f"e.getAttribute('aria-label') === 'new session: {name}'")
@@ -185,7 +185,7 @@ def check_example(browser):
     eventually(browser, "mended, it is assembled and run", GET_STATUS_OF.format(PROGRAM), re.compile("^Assembled .* bytes; running from 000"))
     browser.until(GET_STATUS, re.compile("at a breakpoint"))
     script = "\n".join(["unbreak 8", "reset", *["run 91000"] * 10, "lamps", "run 97000", "lamps"])
-    verdict("and counts to 9, and then from 0 on", lines_answered(browser, script), re.compile(r"lamps \*\.\.\*.*lamps \.\.\.\."))
+    verdict("and counts to 9, and then from 0 on", send_lines(browser, script), re.compile(r"lamps \*\.\.\*.*lamps \.\.\.\."))
 
 
 def check(browser, page, folder, _mcs4):

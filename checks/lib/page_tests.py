@@ -5,7 +5,7 @@ is cancelled, and saving the text with the session and in a project."""
 import re
 import time
 
-from page_in_browser import (GET_STATUS, GET_TEXT_OF_EDITOR, PUT_INTO_EDITOR, choose_example, lines_answered, of_file_menu, open_anew, show_text,
+from page_in_browser import (GET_STATUS, GET_TEXT_OF_EDITOR, PUT_INTO_EDITOR, choose_example, send_lines, choose_from_file_menu, reopen_page, show_text,
                              until_ready)
 from page_texts import GET_NAME, kept_download, rename
 from verdicts import eventually, verdict
@@ -60,7 +60,7 @@ def check_failing(browser):
     verdict("the trace ends there", (last[0], last[-1]), ("lamps .*.", "     536  007 50 14 JMS wait         comes next"))
     browser.click("#test-list .bar button")
     eventually(browser, "the session is opened as it is there", GET_NAME, "each lamp is lit for 538 cycles, line 14")
-    verdict("at the cycle of the failure", "pc 007 owed 0" in lines_answered(browser, "regs"), True)
+    verdict("at the cycle of the failure", "pc 007 owed 0" in send_lines(browser, "regs"), True)
     verdict("its text of tests is there, too", browser.script(GET_TEXT_OF_EDITOR, EDITOR).count("\ntest "), 2)
     verdict("and nothing was run in it yet", browser.script(GET_RESULTS), [])
 
@@ -137,13 +137,13 @@ def check_kept(browser, folder):
     show_text(browser, "tests")
     eventually(browser, "the text is there after a reload", GET_TEXT_OF_EDITOR.replace("arguments[0]", f"'{EDITOR}'"), "test mine\n  run 5")
     rename(browser, "with tests")
-    of_file_menu(browser, "#save-button")
+    choose_from_file_menu(browser, "#save-button")
     saved = kept_download(folder, "with tests.mcsp").read_text()
     verdict("a project has it", "\nunended test\n" in saved and "\ntest\ntest mine\n  run 5\n.\n" in saved, True)
 
 
 def check(browser, page, folder, _mcs4):
-    open_anew(browser, page)
+    reopen_page(browser, page)
     check_passing(browser)
     check_failing(browser)
     check_faults(browser)

@@ -7,7 +7,7 @@ import subprocess
 import time
 import zlib
 
-from page_in_browser import (ESCAPE, GET_ALL_NOTICES, GET_NOTICE, GET_STATUS, choose_example, lines_answered, of_file_menu, open_anew, show_text,
+from page_in_browser import (ESCAPE, GET_ALL_NOTICES, GET_NOTICE, GET_STATUS, choose_example, send_lines, choose_from_file_menu, reopen_page, show_text,
                              status_of, stop_time, until_ready)
 from verdicts import eventually, verdict
 
@@ -53,7 +53,7 @@ def check_project(browser, folder):
     status_of(browser, "#program-editor", PROGRAM)
     browser.type_into("#watched-field", "count = R5" + ENTER)
     rename(browser, "my light")
-    of_file_menu(browser, "#save-button")
+    choose_from_file_menu(browser, "#save-button")
     saved = kept_download(folder, "my light.mcsp")
     before = saved.read_bytes()
     verdict("a project is a text with both texts in it", BOARD in before.decode() and PROGRAM in before.decode(), True)
@@ -194,7 +194,7 @@ def check_notices(browser, folder):
     browser.click("#notice .dismiss")
     browser.click("#notice .dismiss")
     eventually(browser, "each can be dismissed", GET_NOTICE, "")
-    lines_answered(browser, "reset\nbreak 0x024")
+    send_lines(browser, "reset\nbreak 0x024")
     browser.click("#run")
     browser.until(GET_STATUS, re.compile("at a breakpoint"))
     browser.click("#reset")
@@ -330,7 +330,7 @@ document.body.dispatchEvent(new DragEvent("drop", { dataTransfer: data, bubbles:
 
 def saved_as(browser, folder, ending):
     """Returns the contents of a file that the Export dialog saves."""
-    of_file_menu(browser, "#export-button")
+    choose_from_file_menu(browser, "#export-button")
     number = [".asm", ".toml", ".hex", ".bin"].index(ending) + 1
     browser.click(f"#export li:nth-child({number}) button")
     saved = kept_download(folder, f"my light{ending}")
@@ -368,7 +368,7 @@ def check_files(browser, folder, mcs4):
     verdict("the source is exported", saved_as(browser, folder, ".asm"), (example / "three_lamps.asm").read_bytes())
     verdict("and the board", saved_as(browser, folder, ".toml"), (example / "board.toml").read_bytes())
     image = saved_as(browser, folder, ".bin")
-    of_file_menu(browser, "#save-session-button")
+    choose_from_file_menu(browser, "#save-session-button")
     session = kept_download(folder, "my light.mcs")
     rom, size = [TOP / "mcs4", "rom"], str(len(image))
     questions = subprocess.run([*rom, "ask", "0", size], stdout=subprocess.PIPE, check=True, text=True).stdout
@@ -405,7 +405,7 @@ def check_tool(folder, project):
 
 
 def check_texts(browser, page, folder, mcs4):
-    open_anew(browser, page)
+    reopen_page(browser, page)
     stop_time(browser)
     project = check_project(browser, folder)
     check_damaged(browser, folder, project.read_bytes())

@@ -6,7 +6,7 @@ import pathlib
 import re
 import subprocess
 
-from page_in_browser import GET_DIGITS, GET_RATE, GET_STATUS, SET_SPEED, STEPPED, choose_example, key, lines_answered, stop_time, until_ready
+from page_in_browser import GET_DIGITS, GET_RATE, GET_STATUS, SET_SPEED, STEPPED, choose_example, key, send_lines, stop_time, until_ready
 from verdicts import eventually, verdict
 
 TOP = pathlib.Path(__file__).resolve().parent.parent.parent
@@ -90,13 +90,13 @@ def open_paused_example(browser, name):
     choose_example(browser, name)
     browser.until("return document.getElementById('run').textContent", "Pause", 3)
     pause_time(browser)
-    lines_answered(browser, "reset")
+    send_lines(browser, "reset")
     browser.until(GET_CYCLES_SINCE_RESET, "0 cycles, 0.000 ms")
 
 
 def state(browser):
     """Returns the answers to all queries. If time was running, an entry about runs can precede them in the log."""
-    answers = lines_answered(browser, ALL)
+    answers = send_lines(browser, ALL)
     return answers[answers.index("seqseq"):]
 
 
@@ -104,7 +104,7 @@ def check_over(browser, program, name, example):
     """Checks stepping over a JMS, into it, out of its subroutine, and to the next line. The cycles must match the trace. No breakpoint may remain."""
     before, over, address, behind = first_call(program, example)
     open_paused_example(browser, name)
-    lines_answered(browser, f"run {before}")
+    send_lines(browser, f"run {before}")
     browser.click("#over")
     eventually(browser, f"{name}: Over comes back behind the JMS at {address}", GET_STATUS, f"Returned to {behind}, after {counted(over)}.")
     verdict("the counter has the cycles since the stop", browser.script(GET_CYCLES_SINCE_STOP), counted(over))
@@ -146,7 +146,7 @@ const editor = document.querySelector("#program-editor .cm-editor").lineEditor;
 editor.setCursor({ line: editor.getValue().split("\\n").findIndex((line) => line.startsWith("turn:")), ch: 0 });
 editor.getInputField().dispatchEvent(new KeyboardEvent("keydown", { key: "F10", ctrlKey: true, bubbles: true, cancelable: true }))""")
     eventually(browser, "Control and F10 in the source run to the label turn", GET_STATUS, re.compile("^Paused at 016, as requested, after 11 cycles, "))
-    lines_answered(browser, "reset")
+    send_lines(browser, "reset")
     browser.script(CHANGE_FIELD, "#change-place", "right")
     browser.click("#until-change")
     eventually(browser, "to a change of a lamp by its name", GET_STATUS, "Paused at 007, after lamp 2 changed, after 7 cycles, 0.076 ms.")
@@ -170,7 +170,7 @@ def check_far(browser):
     never happens ends."""
     choose_example(browser, "empty bench")
     loops = "".join(f"ISZ R{each}, loop\n" for each in range(5))
-    lines_answered(browser, "wire\n[[rom]]\nchip = 0\nport = \"0000\"\n.\nasm\nJMS wait\nend: JUN end\n"
+    send_lines(browser, "wire\n[[rom]]\nchip = 0\nport = \"0000\"\n.\nasm\nJMS wait\nend: JUN end\n"
                    f"wait: FIM P0, 0\nFIM P1, 0\nFIM P2, 0\nloop: {loops}BBL 0\n.")
     # An ISZ takes two cycles, and each loop runs 16 times.
     cycles = 0
@@ -194,7 +194,7 @@ def check_far(browser):
 def check_stopwatch(browser):
     """Checks that a hundredth of a second of the stopwatch is 926 cycles, measured between two markers."""
     open_paused_example(browser, "stopwatch")
-    lines_answered(browser, "test 0")
+    send_lines(browser, "test 0")
     browser.script(CHANGE_FIELD, "#change-place", "lamps")
     for _ in range(2):
         browser.script("document.getElementById('status').firstChild.data = ''")
@@ -202,13 +202,13 @@ def check_stopwatch(browser):
         browser.until(GET_STATUS, re.compile("after lamps changed, after"))
         browser.click("#mark")
     verdict("from one hundredth to the next", browser.script(GET_MARKED), re.compile(r"Between the marks 926 cycles, 10\.001 ms$"))
-    lamps = lines_answered(browser, "lamps")
+    lamps = send_lines(browser, "lamps")
     browser.click("#back-change")
     eventually(browser, "back to the change of the lamps", GET_STATUS, re.compile("^Back at ..., 1 cycle, 0.011 ms earlier: this instruction changes lamps"))
-    verdict("it is not done yet", lines_answered(browser, "lamps") != lamps, True)
+    verdict("it is not done yet", send_lines(browser, "lamps") != lamps, True)
     browser.click("#step")
     browser.until(GET_STATUS, STEPPED)
-    verdict("and it does it", lines_answered(browser, "lamps"), lamps)
+    verdict("and it does it", send_lines(browser, "lamps"), lamps)
     browser.script(CHANGE_FIELD, "#change-place", "chain2.0")
     browser.click("#until-change")
     eventually(browser, "a line that the board lacks", GET_STATUS, "Nothing was done: this board has no chain2.0.")
@@ -248,20 +248,20 @@ def check_back(browser):
     verdict("leads to the same again", state(browser), there)
     browser.click("#back-stop")
     browser.until("return document.getElementById('forward').disabled", False)
-    lines_answered(browser, "poke r5 9")
+    send_lines(browser, "poke r5 9")
     eventually(browser, "once something else is done, there is no forward", "return document.getElementById('forward').disabled", True)
     browser.reload()
     until_ready(browser)
-    verdict("the present is what is kept", re.search("r [0-9A-F]{5}9", lines_answered(browser, "regs")) is not None, True)
+    verdict("the present is what is kept", re.search("r [0-9A-F]{5}9", send_lines(browser, "regs")) is not None, True)
     browser.click("#back-stop")
     eventually(browser, "a page that was loaded anew goes back through the reload", GET_STATUS, re.compile("^Back at the stop at 000"))
-    verdict("to what was then", re.search("r [0-9A-F]{5}9", lines_answered(browser, "regs")), None)
+    verdict("to what was then", re.search("r [0-9A-F]{5}9", send_lines(browser, "regs")), None)
 
 
 def check_never(browser):
     """Checks that Stop, F8 and a reload end a run to an unreachable goal, and that the session then contains only the runs."""
     choose_example(browser, "empty bench")
-    lines_answered(browser, 'wire\n[[rom]]\nchip = 0\nport = "0000"\n.\nasm\nJMS round\nround: JUN round\n.\nstep')
+    send_lines(browser, 'wire\n[[rom]]\nchip = 0\nport = "0000"\n.\nasm\nJMS round\nround: JUN round\n.\nstep')
     for what, stop in {"F8": lambda: browser.script(PRESS_KEY, "F8", False), "Stop": lambda: browser.click("#run")}.items():
         browser.click("#out")
         eventually(browser, f"what never comes is time that runs, before {what}", GET_STATUS, "Running to the return from the subroutine.")
@@ -306,7 +306,7 @@ def check_waiting(browser):
     choose_example(browser, "empty bench")
     browser.click("#first-board")
     browser.until("return document.querySelectorAll('#keys button').length", 2)
-    lines_answered(browser, f"{WAITS}\nrun 8")
+    send_lines(browser, f"{WAITS}\nrun 8")
     browser.script(PRESS_KEY, "F10", False)
     eventually(browser, "Over a subroutine that waits for a key is time that runs", GET_STATUS, "Running to the return from the subroutine.")
     browser.until(GET_RATE, re.compile("^9[0-4],"))
@@ -317,7 +317,7 @@ def check_waiting(browser):
     eventually(browser, "Over a plain instruction says where it is", GET_STATUS, "At 00B, after 1 cycle, 0.011 ms.")
     browser.script(PRESS_KEY, "F10", False)
     eventually(browser, "and so at one that jumps to itself", GET_STATUS, "At 00B, after 2 cycles, 0.022 ms.")
-    verdict("the lamps have what it gave", lines_answered(browser, "lamps"), re.compile(r"lamps \.\*\*\."))
+    verdict("the lamps have what it gave", send_lines(browser, "lamps"), re.compile(r"lamps \.\*\*\."))
 
 
 def check_slow(browser):
@@ -337,7 +337,7 @@ def check_slow(browser):
     browser.click("#run")
     browser.until(GET_CYCLES_SINCE_STOP, re.compile("^[3-9] cycles"))
     pause_time(browser)
-    verdict("an instruction a second ends between instructions", re.search("owed 0", lines_answered(browser, "regs")) is not None, True)
+    verdict("an instruction a second ends between instructions", re.search("owed 0", send_lines(browser, "regs")) is not None, True)
     browser.script(SET_SPEED, "real")
     browser.click("#run")
     eventually(browser, "and real time is held again", GET_RATE, re.compile("^9[0-4]...$"))

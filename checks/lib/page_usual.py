@@ -4,7 +4,7 @@ If the mistake's check box is on, time pauses before the mistake, and can contin
 import re
 import time
 
-from page_in_browser import GET_STATUS, choose_example, open_anew, show_text, status_of, stop_time, until_ready
+from page_in_browser import GET_STATUS, choose_example, reopen_page, show_text, status_of, stop_time, until_ready
 from verdicts import eventually, verdict
 
 GET_ROWS = "return [...document.querySelectorAll('#usual-list li .words')].map((each) => each.textContent)"
@@ -23,7 +23,7 @@ WRITE = "WRR writes to ROM 1, whose port has no output line; the last SRC is at 
 
 
 def check(browser, page, _folder, _mcs4):
-    open_anew(browser, page)
+    reopen_page(browser, page)
     choose_example(browser, "calculator")
     show_text(browser, "problems")
     time.sleep(1)

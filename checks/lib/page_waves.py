@@ -8,7 +8,7 @@ import re
 import subprocess
 import time
 
-from page_in_browser import GET_NOTICE, GET_STATUS, choose_example, lines_answered, of_file_menu, show_text, stop_time, until_ready
+from page_in_browser import GET_NOTICE, GET_STATUS, choose_example, send_lines, choose_from_file_menu, show_text, stop_time, until_ready
 from picture import write_picture
 from verdicts import eventually, verdict
 
@@ -57,7 +57,7 @@ def saved(browser, folder, selector, name):
     file = folder / "downloads" / name
     file.unlink(missing_ok=True)
     if selector == "#save-session-button":
-        of_file_menu(browser, selector)
+        choose_from_file_menu(browser, selector)
     elif selector.startswith("#save-"):
         browser.click("#wave-files summary")
         browser.click(selector)
@@ -79,7 +79,7 @@ def wave(mcs4, *words):
 def check_stopwatch(browser):
     """Checks that the stopwatch counts a hundredth of a second in exactly 926 cycles while TEST is 0."""
     choose_example(browser, "stopwatch")
-    lines_answered(browser, "test 0")
+    send_lines(browser, "test 0")
     verdict("a recording", record(browser, 30000), "30,000 cycles recorded, 324.000 ms.")
     verdict("time stands still then", browser.text("#run"), "Continue")
     browser.script(CHOOSE_LINES, ["lamp15"])
@@ -167,7 +167,7 @@ def check_before(browser):
     """Checks a recording of the last cycles before a pause. The page runs these cycles again, with the key presses in them."""
     choose_example(browser, "calculator")
     stop_time(browser)
-    lines_answered(browser, "run 300\npress 0 0\nrun 5000\nrelease 0 0\nrun 3000")
+    send_lines(browser, "run 300\npress 0 0\nrun 5000\nrelease 0 0\nrun 3000")
     verdict("what was before this stop", record(browser, 8200, "before"), "8,200 cycles recorded, 88.560 ms.")
     browser.script(CHOOSE_LINES, ["key.7", "pc"])
     browser.script(FOCUS_CANVAS)
@@ -255,7 +255,7 @@ def difference(some, others):
 def check_triggers(browser):
     """Checks that a recording with a trigger has cycles before and after the trigger, and that the trigger pauses time on request."""
     choose_example(browser, "stopwatch")
-    lines_answered(browser, "test 0")
+    send_lines(browser, "test 0")
     stop_time(browser)
     browser.script(FILL_FIELDS, {"trigger": "lamp15 rises", "behind": "1000"})
     browser.script("document.getElementById('stops-time').checked = true")
@@ -287,7 +287,7 @@ def check_search(browser):
     """Checks that a value can be searched for by keyboard in both directions, and that a missing value is reported."""
     found = "return document.getElementById('wave-search-status').textContent"
     choose_example(browser, "stopwatch")
-    lines_answered(browser, "test 0")
+    send_lines(browser, "test 0")
     browser.script(CHOOSE_LINES, ["r3"])
     verdict("a register is recorded", record(browser, 30000), re.compile("^30,000 cycles recorded"))
     browser.script(FOCUS_CANVAS)
@@ -363,7 +363,7 @@ def check_pointer(browser):
     """Checks the measurement under the pointer, the zoom with the wheel, and that rows can be dragged, named, grouped and coloured. All of this must
     be saved."""
     choose_example(browser, "stopwatch")
-    lines_answered(browser, "test 0")
+    send_lines(browser, "test 0")
     record(browser, 5000)
     browser.script(CHOOSE_LINES, ["lamp13", "lamp14", "lamp15"])
     eventually(browser, "three rows", GET_NAMES, "lamp13 lamp14 lamp15")
@@ -463,7 +463,7 @@ def take_picture(browser, page, path):
     browser.go(page.as_uri())
     until_ready(browser)
     choose_example(browser, "stopwatch")
-    lines_answered(browser, "test 0")
+    send_lines(browser, "test 0")
     record(browser, 5000)
     browser.script(CHOOSE_LINES, ["lamp12", "lamp13", "lamp14", "lamp15", "label"])
     browser.script("document.getElementById('wave-choice').open = false")

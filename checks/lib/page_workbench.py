@@ -3,7 +3,7 @@ page remembers the layout, and can reset it."""
 
 import re
 
-from page_in_browser import ENTER, ESCAPE, GET_STATUS, choose_example, open_anew, show_text, stop_time, until_ready
+from page_in_browser import ENTER, ESCAPE, GET_STATUS, choose_example, reopen_page, show_text, stop_time, until_ready
 from verdicts import eventually, verdict
 
 HOME, UP, RIGHT, LEFT, F1 = "\ue011", "\ue013", "\ue014", "\ue012", "\ue031"
@@ -156,7 +156,7 @@ def check_first_glance(browser, page, at_size):
     """Checks what a new user sees: the debugger's panels beside the source and a trace, few controls and words, and nothing that is too small."""
     browser.script("localStorage.clear()")
     at_size(browser, 1440, 900)
-    open_anew(browser, page)
+    reopen_page(browser, page)
     choose_example(browser, "calculator")
     verdict(f"at most {MAX_CONTROLS} controls are seen", browser.script(COUNT_CONTROLS) <= MAX_CONTROLS, True)
     # On a busy machine, the status first reports that the tab was busy.
