@@ -165,7 +165,7 @@ def values_but_largest(board: Board) -> dict[int, Levels]:
 
 def values_at_constant_test(board: Board) -> dict[int, Levels]:
     """Keeps TEST at 1, so that JCN never reads a 0 there."""
-    return {value: levels for value, levels in CORRECT_VALUES(board).items() if second_search.begins(board)[0] != "JCN" or levels[1] == 1}
+    return {value: levels for value, levels in CORRECT_VALUES(board).items() if second_search.next_instruction(board)[0] != "JCN" or levels[1] == 1}
 
 
 def tested_only_at_end(board: Board, levels: Levels, is_bad: Condition, pause: int) -> tuple[int, bool]:
@@ -207,19 +207,19 @@ def elapsed_without_restart(board: Board) -> int:
     return 0 if stopwatch and second_search.elapsed_of(board) and stopwatch.ends(board) else CORRECT_ELAPSED(board)
 
 
-CORRECT_SAVED, CORRECT_VALUES, CORRECT_GO_ON = second_search.saved, second_search.values_read, second_search.go_on
-CORRECT_CONDITION, CORRECT_MET, CORRECT_BEGINS = second_search.condition_of, second_search.is_met, second_search.begins
-CORRECT_CYCLE, CORRECT_MISTAKES = second_search.cycle, second_search.mistakes
+CORRECT_SAVED, CORRECT_VALUES, CORRECT_GO_ON = second_search.state_of, second_search.values_read, second_search.run_to_next_state
+CORRECT_CONDITION, CORRECT_MET, CORRECT_BEGINS = second_search.condition_of, second_search.is_met, second_search.next_instruction
+CORRECT_CYCLE, CORRECT_MISTAKES = second_search.run_cycle, second_search.mistakes_of_next_cycle
 def seen_without_reset(board: Board) -> int:
     """Does not reset the number of seen marks when the condition becomes true."""
     sequence = second_search.mark_sequence_of(board)
-    return second_search.seen_of(board) if sequence and sequence.opens(board) else CORRECT_SEEN(board)
+    return second_search.marks_seen(board) if sequence and sequence.opens(board) else CORRECT_SEEN(board)
 
 
 def seen_while_condition_true(board: Board) -> int:
     """Counts marks while the condition is true, instead of starting after it."""
     sequence = second_search.mark_sequence_of(board)
-    return int(second_search.is_shown(board, sequence.marks[0])) if sequence and sequence.opens(board) else CORRECT_SEEN(board)
+    return int(second_search.is_mark_shown(board, sequence.marks[0])) if sequence and sequence.opens(board) else CORRECT_SEEN(board)
 
 
 def is_shown_by_line(level: str) -> Callable[[Board, Mark], bool]:
@@ -227,7 +227,7 @@ def is_shown_by_line(level: str) -> Callable[[Board, Mark], bool]:
     is driven."""
     def is_shown(board: Board, mark: Mark) -> bool:
         chips = board.chips
-        if mark[0] != level or second_search.begins(board)[0] != "RDR" or mark[1:] not in second_search.all_keys(board):
+        if mark[0] != level or second_search.next_instruction(board)[0] != "RDR" or mark[1:] not in second_search.all_keys(board):
             return CORRECT_SHOWN(board, mark)
         kind, numbers = chips.columns[mark[2]]
         return kind == "rom" and numbers[0] == chips.rom_src >> 4 and chips.read_port(numbers[0]) >> numbers[1] & 1 == (level == "down")
@@ -235,38 +235,38 @@ def is_shown_by_line(level: str) -> Callable[[Board, Mark], bool]:
 
 
 CORRECT_ELAPSED, CORRECT_LATE = second_search.elapsed_after, second_search.is_late
-CORRECT_SEEN, CORRECT_SHOWN, CORRECT_EARLY = second_search.seen_after, second_search.is_shown, second_search.is_early
+CORRECT_SEEN, CORRECT_SHOWN, CORRECT_EARLY = second_search.marks_seen_after, second_search.is_mark_shown, second_search.is_early
 STATE_PARTS = ("accumulator", "carry", "counter", "DCL", "owed cycle", "registers", "return addresses", "SRC of the ROMs", "SRC of the banks",
          "ports of ROMs", "ports of RAM", "chains", "RAM", "open calls", "elapsed cycles", "marks")
 WRONG_SEARCHES: dict[str, Callable[[], AbstractContextManager]] = {
-    **{f"a state without its {part}": replace_function(second_search, "saved", saved_without(place)) for place, part in enumerate(STATE_PARTS)},
+    **{f"a state without its {part}": replace_function(second_search, "state_of", saved_without(place)) for place, part in enumerate(STATE_PARTS)},
     "a value is left out": replace_function(second_search, "values_read", values_but_largest),
     "TEST is constant": replace_function(second_search, "values_read", values_at_constant_test),
-    "JCN 9 reads nothing": replace_function(second_search, "begins", lambda board: ("", 0) if CORRECT_BEGINS(board) == ("JCN", 9) else CORRECT_BEGINS(board)),
-    "RDR reads nothing": replace_function(second_search, "begins", lambda board: ("", 0) if CORRECT_BEGINS(board)[0] == "RDR" else CORRECT_BEGINS(board)),
-    "an owed cycle reads": replace_function(second_search, "begins", lambda board: ("", 0) if board.is_at_invalid_code() else board4004.CODES[board.rom[board.pc]]),
+    "JCN 9 reads nothing": replace_function(second_search, "next_instruction", lambda board: ("", 0) if CORRECT_BEGINS(board) == ("JCN", 9) else CORRECT_BEGINS(board)),
+    "RDR reads nothing": replace_function(second_search, "next_instruction", lambda board: ("", 0) if CORRECT_BEGINS(board)[0] == "RDR" else CORRECT_BEGINS(board)),
+    "an owed cycle reads": replace_function(second_search, "next_instruction", lambda board: ("", 0) if board.is_at_invalid_code() else board4004.CODES[board.rom[board.pc]]),
     "each row is driven": replace_function(Chips, "is_pulled", lambda chips, line: int(any(chips.columns[column] == line for _row, column in chips.pressed_keys))),
-    "a stretch is cut a cycle late": replace_function(second_search, "go_on", lambda board, levels, bad, pause: CORRECT_GO_ON(board, levels, bad, pause + 1)),
-    "looked at where states stand": replace_function(second_search, "go_on", tested_only_at_end),
+    "a stretch is cut a cycle late": replace_function(second_search, "run_to_next_state", lambda board, levels, bad, pause: CORRECT_GO_ON(board, levels, bad, pause + 1)),
+    "looked at where states stand": replace_function(second_search, "run_to_next_state", tested_only_at_end),
     "not looked at between two cycles": replace_function(second_search, "condition_of", condition_between_instructions),
     "one comparison of a row is enough": replace_function(second_search, "condition_of", lambda nevers: CORRECT_CONDITION([[each] for row in nevers for each in row])),
     "lines count from the left": replace_function(second_search, "is_met", is_met_from_left),
     "out is in": replace_function(second_search, "is_met", lambda board, words: CORRECT_MET(board, words if words[0] == "mistake" else ("in", *words[1:]))),
-    "mistakes are looked at at reads": replace_function(second_search, "mistakes", lambda board: CORRECT_MISTAKES(board) if second_search.is_reading(board) else set()),
+    "mistakes are looked at at reads": replace_function(second_search, "mistakes_of_next_cycle", lambda board: CORRECT_MISTAKES(board) if second_search.is_reading(board) else set()),
     "four calls may be open": replace_function(second_search, "OPEN_CALLS", 4),
-    "a BBL leaves calls open": replace_function(second_search, "cycle", cycle_without_closing),
+    "a BBL leaves calls open": replace_function(second_search, "run_cycle", cycle_without_closing),
     "a stopwatch begins while it runs": replace_function(second_search, "elapsed_after", elapsed_with_restart),
     "a stopwatch that ends does not begin": replace_function(second_search, "elapsed_after", elapsed_without_restart),
     "a stopwatch stands while a cycle reads": replace_function(second_search, "elapsed_after", lambda board: (
         second_search.elapsed_of(board) if second_search.is_reading(board) else CORRECT_ELAPSED(board))),
     "a limit is a cycle longer": replace_function(second_search, "is_late", lambda board, within: within is not None and CORRECT_LATE(board, within + 1)),
     "a limit is a cycle shorter": replace_function(second_search, "is_late", lambda board, within: within is not None and CORRECT_LATE(board, within - 1)),
-    "marks are kept when the condition holds": replace_function(second_search, "seen_after", seen_without_reset),
-    "a mark is seen while the condition holds": replace_function(second_search, "seen_after", seen_while_condition_true),
-    "a key is up if its line is 0": replace_function(second_search, "is_shown", is_shown_by_line("up")),
-    "a key is down if its line is 1": replace_function(second_search, "is_shown", is_shown_by_line("down")),
-    "up is down": replace_function(second_search, "is_shown", lambda board, mark: CORRECT_SHOWN(board, ("down" if mark[0] == "up" else "up", *mark[1:]))),
+    "marks are kept when the condition holds": replace_function(second_search, "marks_seen_after", seen_without_reset),
+    "a mark is seen while the condition holds": replace_function(second_search, "marks_seen_after", seen_while_condition_true),
+    "a key is up if its line is 0": replace_function(second_search, "is_mark_shown", is_shown_by_line("up")),
+    "a key is down if its line is 1": replace_function(second_search, "is_mark_shown", is_shown_by_line("down")),
+    "up is down": replace_function(second_search, "is_mark_shown", lambda board, mark: CORRECT_SHOWN(board, ("down" if mark[0] == "up" else "up", *mark[1:]))),
     "the last mark need not be seen": replace_function(second_search, "is_early", lambda board: (
-        CORRECT_EARLY(board) and second_search.seen_of(board) < len(second_search.mark_sequence_of(board).marks) - 1)),
-    **{f"no mistake {kind}": replace_function(second_search, "mistakes", lambda board, kind=kind: CORRECT_MISTAKES(board) - {kind}) for kind in second_search.MISTAKES},
+        CORRECT_EARLY(board) and second_search.marks_seen(board) < len(second_search.mark_sequence_of(board).marks) - 1)),
+    **{f"no mistake {kind}": replace_function(second_search, "mistakes_of_next_cycle", lambda board, kind=kind: CORRECT_MISTAKES(board) - {kind}) for kind in second_search.MISTAKES},
 }

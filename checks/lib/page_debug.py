@@ -9,7 +9,7 @@ import time
 
 from page_in_browser import ENTER, ESCAPE, GET_NOTICE, GET_STATUS, GET_WHOLE_STATUS, TAB, choose_example, send_lines, until_ready
 from page_names import CLICK_MARGIN, GET_BREAKPOINT_LINES
-from page_texts import UNDO
+from page_texts import UNDO_BUTTON
 from verdicts import eventually, verdict
 
 PROGRAM = """        LDM 3
@@ -261,7 +261,7 @@ def check_replaced(browser, folder):
     for length, text in (("short", "; a\n NOP\n"), ("long", "; a\n" + " NOP\n" * 40)):
         other = folder / f"{length}.asm"
         other.write_text(text)
-        for action, undo in (("Undo", lambda: browser.click(UNDO)), ("Control and Z", lambda: browser.script(UNDO_EDIT))):
+        for action, undo in (("Undo", lambda: browser.click(UNDO_BUTTON)), ("Control and Z", lambda: browser.script(UNDO_EDIT))):
             browser.type_into("#file", str(other))
             browser.until(GET_NOTICE, re.compile(f"{length}.asm"))
             eventually(browser, f"a {length} source has none of the breakpoints of the one before it", GET_LINES_IN_MARGIN, "")

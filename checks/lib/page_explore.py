@@ -13,10 +13,10 @@ import time
 from page_in_browser import (GET_NOTICE, GET_TEXT_OF_EDITOR, IS_READY, PUT_INTO_EDITOR, TOP, choose_example, send_lines, choose_from_file_menu,
                              reopen_page, show_text)
 from page_layout import MEASURE_OVERFLOW, set_size
-from page_tests import GET_FAULTS as GET_TESTS_FAULTS
+from page_tests import GET_ERRORS as GET_TESTS_FAULTS
 from page_tests import GET_TESTS_STATUS
-from page_tests import GET_WRONG
-from page_texts import GET_NAME, kept_download, rename
+from page_tests import GET_FAILURES
+from page_texts import GET_NAME, wait_for_download, rename
 from verdicts import eventually, verdict
 from web_driver import Chromium
 
@@ -122,7 +122,7 @@ def check_test_added(browser):
     show_text(browser, "tests")
     browser.click("#tests-editor .send")
     eventually(browser, "it is run there", GET_TESTS_STATUS, re.compile("failed|passed"))
-    verdict("and fails as it has to", browser.script(GET_WRONG), re.compile(r"^\['line \d+ expect not lamp open on: [^']*'\]$"))
+    verdict("and fails as it has to", browser.script(GET_FAILURES), re.compile(r"^\['line \d+ expect not lamp open on: [^']*'\]$"))
     show_text(browser, "properties")
 
 
@@ -243,7 +243,7 @@ def check_saving(browser, folder):
     eventually(browser, "the text is there after a reload", GET_TEXT_OF_EDITOR.replace("arguments[0]", f"'{EDITOR}'"), "never lamp 1 on")
     rename(browser, "with properties")
     choose_from_file_menu(browser, "#save-button")
-    project_file = kept_download(folder, "with properties.mcsp")
+    project_file = wait_for_download(folder, "with properties.mcsp")
     text = project_file.read_text()
     verdict("a project has it", "\nunended properties\n" in text and "\nproperties\nnever lamp 1 on\n.\n" in text, True)
     browser.click("#sessions-button")

@@ -6,8 +6,8 @@ import time
 
 from page_in_browser import (ENTER, ESCAPE, GET_STATUS, IS_AT_COUNTER, STEPPED, choose_example, key, send_lines, reopen_page, show_text,
                              step_with_marks, stop_time, until_ready)
-from page_workbench import (check_arrangement, check_by_finger, check_first_glance, check_narrow_things, check_newcomer, check_shifts,
-                            check_small_things)
+from page_workbench import (check_arrangement, check_touch_targets, check_first_glance, check_phone_details, check_first_tasks, check_shifts,
+                            check_details)
 from page_waves import record
 from verdicts import eventually, verdict
 from web_driver import Chromium
@@ -32,12 +32,12 @@ def check(browser, page, _folder, _mcs4):
     check_swipe(browser)
     check_text_sizes(browser)
     check_first_glance(browser, page, set_size)
-    check_small_things(browser, set_size)
-    check_newcomer(browser)
+    check_details(browser, set_size)
+    check_first_tasks(browser)
     check_sizes(browser)
     if isinstance(browser, Chromium):
-        check_narrow_things(browser, set_size)
-        check_by_finger(browser, set_size)
+        check_phone_details(browser, set_size)
+        check_touch_targets(browser, set_size)
         check_shifts(browser, page, set_size)
         check_narrow_sizes(browser)
         check_controls(browser)

@@ -45,15 +45,15 @@ def line_of(text):
     return LINES.index(next(line for line in LINES if text in line)) + 1
 
 
-def pointed(browser, line, word, shown, wanted):
+def point_until_shown(browser, line, word, query, expected):
     """Rests the pointer on a word until its value is shown. Moves the pointer again if the page has moved the word in the meantime."""
     for _ in range(4):
         point_at(browser, line, word)
-        if matches(browser.until(shown, wanted, 5), wanted):
+        if matches(browser.until(query, expected, 5), expected):
             return
 
 
-def begin(browser):
+def run_to_add(browser):
     """Runs the program to just after RDM. R5 is then 1, and the nibble that the program writes is 7."""
     browser.script("document.getElementById('change-place').value = 'nonsense'")
     choose_example(browser, "empty bench")
@@ -62,7 +62,7 @@ def begin(browser):
     eventually(browser, "a board without a title is called so", "return document.getElementById('name').value", "my board")
     status_of(browser, "#program-editor", PROGRAM)
     eventually(browser, "the status says what runs, and what stops it", GET_STATUS, 'Running "my board". F5 pauses it.')
-    pointed(browser, line_of("INC R5"), "R5", GET_EXPLANATION, "R5: the lower half of P2.")
+    point_until_shown(browser, line_of("INC R5"), "R5", GET_EXPLANATION, "R5: the lower half of P2.")
     eventually(browser, "while time runs a register has no value", GET_EXPLANATION, "R5: the lower half of P2.")
     stop_time(browser)
     send_lines(browser, "reset")
@@ -72,7 +72,7 @@ def begin(browser):
 
 
 def check_pointer(browser):
-    for text, word, wanted in (
+    for text, word, expected in (
             ("INC R5", "R5", "R5 = 1"),
             ("FIM P2", "P2", "P2 = 61: R4 6, R5 1"),
             ("SRC P0", "P0", "P0 = 12: R0 1, R1 2; selects ROM 1; bank 0, chip 0, register 1, character 2 = 7"),
@@ -80,13 +80,13 @@ def check_pointer(browser):
             ("FIM P0", "digit", re.compile(r"^digit = 0x12, 18, 0001 0010; by SRC it selects ROM 1; bank 0, chip 0, register 1, char")),
             ("JUN turn", "turn", "turn: address 0x002, line 3"),
             ("LDM 7", "7", "7 = 0x7, 0111")):
-        pointed(browser, line_of(text), word, GET_TIP, wanted)
-        eventually(browser, f"the pointer on {word} reports what it stands for", GET_TIP, wanted)
+        point_until_shown(browser, line_of(text), word, GET_TIP, expected)
+        eventually(browser, f"the pointer on {word} reports what it stands for", GET_TIP, expected)
     point_at(browser, line_of("INC R5"), "INC")
     eventually(browser, "an instruction that uses nothing else has no value", GET_TIP, "")
 
 
-def check_edit(browser):
+def check_editing(browser):
     """Checks that the value of R5 is shown below the text when the caret is there, and that it can be edited there."""
     browser.script(SET_CARET, line_of("INC R5"), "R5")
     eventually(browser, "the caret, too", GET_EXPLANATION, "R5 = 1. R5: the lower half of P2.")
@@ -102,7 +102,7 @@ def check_edit(browser):
     verdict("in the bench, too", send_lines(browser, "regs"), re.compile(" r 12006C"))
 
 
-def check_lines(browser):
+def check_line_values(browser):
     """Checks that the values that a line has changed are shown after it, and after a call, all values that its subroutine has changed."""
     for step in range(9):
         browser.click("#over")
@@ -161,7 +161,7 @@ field.value = arguments[1];
 field.dispatchEvent(new Event("change"))"""
 GET_WARM_CELLS = "return [...document.querySelectorAll('.ram [data-warmth]')].map((cell) => `${cell.dataset.warmth} ${cell.title}`)"
 # Worked out manually: 6 of the 100 cycles precede the WRM at 006, which overwrites 3 with 7.
-HEATED = "once by 006 (turn + 4, line 6), 94 cycles, 1.015 ms ago"
+CHANGE_DESCRIPTION = "once by 006 (turn + 4, line 6), 94 cycles, 1.015 ms ago"
 
 
 def check_heat(browser):
@@ -169,14 +169,14 @@ def check_heat(browser):
     send_lines(browser, "reset")
     send_lines(browser, "poke ram.0.0x12 3")
     send_lines(browser, "run 100")
-    names = "return [...document.querySelectorAll('.cell-names:not([hidden])')].map((line) => line.textContent)"
-    eventually(browser, "a character has the name that the source gives it", names, ["2 digit"])
+    get_names = "return [...document.querySelectorAll('.cell-names:not([hidden])')].map((line) => line.textContent)"
+    eventually(browser, "a character has the name that the source gives it", get_names, ["2 digit"])
     browser.script(CHOOSE_OPTION, "heat", "often")
     browser.script(CHOOSE_OPTION, "heat-cycles", "some")
     eventually(browser, "a number of cycles is wanted", GET_HEAT_STATUS, re.compile("^Enter a number of cycles"))
     browser.script(CHOOSE_OPTION, "heat-cycles", "100")
-    eventually(browser, "what changed is reported", GET_HEAT_STATUS, f"In the last 100 cycles, 1.080 ms, one character has changed: digit, {HEATED}.")
-    cell = f"5 digit, bank 0, chip 0, register 1, character 2: SRC byte 12; changed {HEATED}"
+    eventually(browser, "what changed is reported", GET_HEAT_STATUS, f"In the last 100 cycles, 1.080 ms, one character has changed: digit, {CHANGE_DESCRIPTION}.")
+    cell = f"5 digit, bank 0, chip 0, register 1, character 2: SRC byte 12; changed {CHANGE_DESCRIPTION}"
     eventually(browser, "and its cell is warm, and reports it", GET_WARM_CELLS, [cell])
     browser.click("#run")
     eventually(browser, "what changes is counted while time runs", GET_HEAT_STATUS, "Counted while running.")
@@ -196,10 +196,10 @@ def check_heat(browser):
 
 def check(browser, page, _folder, _mcs4):
     reopen_page(browser, page)
-    begin(browser)
+    run_to_add(browser)
     check_pointer(browser)
-    check_edit(browser)
+    check_editing(browser)
     check_watched(browser)
-    check_lines(browser)
+    check_line_values(browser)
     check_last_change(browser)
     check_heat(browser)
