@@ -39,9 +39,9 @@ def condition_lines(word: str, rows: list[Row]) -> list[str]:
 @dataclass
 class Question:
     """A question about a board and a program. A row is met when all its conditions are true. No row of `nevers` may ever be met. `max_states` is the
-    maximum number of states, and `pause` the maximum number of cycles from one state to the next. If `within` is given, there is a stopwatch, which
-    must never show more cycles than that. It starts when a row of `begins` is met, and stops when a row of `ends` is met. A row of `opens` may only
-    be met after all `marks` were seen in order since the last time that such a row was met."""
+    maximum number of states, and `pause` the maximum number of cycles from one state to the next. If `within` is not None, there is a stopwatch,
+    which must never show more than `within` cycles. It starts when a row of `begins` is met, and stops when a row of `ends` is met. A row of `opens`
+    may only be met after all `marks` were seen in order since the last time that such a row was met."""
 
     board: list[str]
     program: list[str]
