@@ -20,7 +20,7 @@ MAX_NAMES = 512
 MAX_ERRORS = 100
 
 
-class Refused(Exception):
+class ProgramError(Exception):
     """Raised for an error in a program, with the error's number in the manual and the number of the wrong line, from 1 (0 if no single line is
     wrong)."""
 
@@ -35,7 +35,7 @@ def is_name(word):
     return re.fullmatch("[A-Za-z_][A-Za-z0-9_]{0,15}", word) is not None and word.upper() not in RESERVED
 
 
-def tokens(line):
+def tokens_of(line):
     """Returns the tokens of a line: words, the signs `,`, `:` and `=`, and `?` for any other character."""
     return [token if re.match("[A-Za-z0-9_,:=]", token) else "?" for token in re.findall(r"[A-Za-z0-9_]+|[^ \t]", line.split(";")[0])]
 
@@ -46,42 +46,42 @@ def values_of(words):
     return None if None in values else values
 
 
-def statement(words):
-    """Parses a statement. Returns its kind (`ORG`, `DB`, a mnemonic with values, or `CODE`) and its values, or None if the words are not a
-    statement."""
-    name, rest = words[0].upper(), words[1:]
+def parse_statement(words):
+    """Parses a statement. Returns its kind and its values, or None if the words are not a statement. The kind is `ORG`, `DB`, `CODE` for an
+    instruction without values, or the mnemonic of an instruction with values, which is followed by its code."""
+    name, operand_tokens = words[0].upper(), words[1:]
     if name in CODES_WITHOUT_OPERAND:
-        return ("CODE", CODES_WITHOUT_OPERAND[name]) if not rest else None
-    if len(rest) % 2 == 0 or any(comma != "," for comma in rest[1::2]):
+        return ("CODE", CODES_WITHOUT_OPERAND[name]) if not operand_tokens else None
+    if len(operand_tokens) % 2 == 0 or any(comma != "," for comma in operand_tokens[1::2]):
         return None
-    operands = rest[::2]
-    upper = operands[0].upper()
+    operands = operand_tokens[::2]
+    register_name = operands[0].upper()
     if name == "ORG":
         target = number_of(operands[0])
         return ("ORG", target) if len(operands) == 1 and target is not None else None
     if name == "DB":
         return ("DB", values) if (values := values_of(operands)) else None
     if name in CODES_ON_REGISTER:
-        return ("CODE", CODES_ON_REGISTER[name] + REGISTERS[upper]) if len(operands) == 1 and upper in REGISTERS else None
+        return ("CODE", CODES_ON_REGISTER[name] + REGISTERS[register_name]) if len(operands) == 1 and register_name in REGISTERS else None
     if name in CODES_ON_PAIR:
-        return ("CODE", CODES_ON_PAIR[name] + 2 * PAIRS[upper]) if len(operands) == 1 and upper in PAIRS else None
+        return ("CODE", CODES_ON_PAIR[name] + 2 * PAIRS[register_name]) if len(operands) == 1 and register_name in PAIRS else None
     if name not in CODES_WITH_VALUES:
         return None
-    before, code, most = CODES_WITH_VALUES[name]
-    if before:
-        place = (PAIRS if before == "P" else REGISTERS).get(upper)
-        if place is None:
+    register_kind, code, maxima = CODES_WITH_VALUES[name]
+    if register_kind:
+        register_number = (PAIRS if register_kind == "P" else REGISTERS).get(register_name)
+        if register_number is None:
             return None
-        code += place * (2 if before == "P" else 1)
+        code += register_number * (2 if register_kind == "P" else 1)
         operands = operands[1:]
     values = values_of(operands)
-    return (name, code, values) if values is not None and len(values) == len(most) else None
+    return (name, code, values) if values is not None and len(values) == len(maxima) else None
 
 
 def parse_line(line):
     """Parses a line. Returns `=`, a name and its number for a definition; otherwise `:`, a label and a statement, which can both be None. Returns
     None if the syntax is wrong."""
-    words = tokens(line)
+    words = tokens_of(line)
     if len(words) == 3 and words[1] == "=":
         return ("=", words[0], number_of(words[2])) if is_name(words[0]) and number_of(words[2]) is not None else None
     label = None
@@ -91,7 +91,7 @@ def parse_line(line):
         label, words = words[0], words[2:]
     if not words:
         return (":", label, None)
-    parsed = statement(words)
+    parsed = parse_statement(words)
     return (":", label, parsed) if parsed else None
 
 
@@ -104,42 +104,42 @@ def size_of(parsed):
 
 
 class FirstPass:
-    """The first pass: the statements that were read so far with their addresses, and the values of the names."""
+    """The first pass: the statements read so far, with their addresses, and the values of the names."""
 
     def __init__(self):
-        self.at, self.rows, self.names = 0, [], {}
+        self.address, self.rows, self.names = 0, [], {}
 
-    def take(self, line):
-        """Reads the next line. Raises Refused if the line is wrong on its own or because of the lines before it."""
+    def read(self, line):
+        """Reads the next line. Raises ProgramError if the line is wrong, by itself or because of the lines before it."""
         number = len(self.rows) + 1
-        whole = parse_line(line)
-        if whole is None:
-            raise Refused(30, number)
-        sign, name, parsed = whole
+        parsed_line = parse_line(line)
+        if parsed_line is None:
+            raise ProgramError(30, number)
+        sign, name, parsed = parsed_line
         target = parsed if sign == "=" else parsed[1] if parsed and parsed[0] == "ORG" else 0
         if target >= ADDRESS_COUNT:
-            raise Refused(33, number)
+            raise ProgramError(33, number)
         if name in self.names:
-            raise Refused(31, number)
+            raise ProgramError(31, number)
         if name is not None and len(self.names) == MAX_NAMES:
-            raise Refused(37, number)
+            raise ProgramError(37, number)
         if sign == "=":
             self.names[name] = parsed
-            self.rows.append((self.at, None))
+            self.rows.append((self.address, None))
             return
-        if name is not None and self.at == ADDRESS_COUNT or self.at + size_of(parsed) > ADDRESS_COUNT:
-            raise Refused(36, number)
+        if name is not None and self.address == ADDRESS_COUNT or self.address + size_of(parsed) > ADDRESS_COUNT:
+            raise ProgramError(36, number)
         if name is not None:
-            self.names[name] = self.at
-        self.rows.append((self.at, parsed))
-        self.at = parsed[1] if parsed and parsed[0] == "ORG" else self.at + size_of(parsed)
+            self.names[name] = self.address
+        self.rows.append((self.address, parsed))
+        self.address = parsed[1] if parsed and parsed[0] == "ORG" else self.address + size_of(parsed)
 
     def skip(self):
         """Counts the next line as an empty line, because it has an error."""
-        self.rows.append((self.at, None))
+        self.rows.append((self.address, None))
 
 
-def bytes_of(at, parsed, names, number):
+def bytes_of(address, parsed, names, number):
     if parsed is None or parsed[0] == "ORG":
         return []
     if parsed[0] == "CODE":
@@ -147,21 +147,21 @@ def bytes_of(at, parsed, names, number):
     values = []
     for value in parsed[-1]:
         if isinstance(value, str) and value not in names:
-            raise Refused(32, number)
+            raise ProgramError(32, number)
         values.append(names[value] if isinstance(value, str) else value)
-    most = [255] * len(values) if parsed[0] == "DB" else CODES_WITH_VALUES[parsed[0]][2]
-    if any(value > limit for value, limit in zip(values, most)):
-        raise Refused(33, number)
+    maxima = [255] * len(values) if parsed[0] == "DB" else CODES_WITH_VALUES[parsed[0]][2]
+    if any(value > maximum for value, maximum in zip(values, maxima)):
+        raise ProgramError(33, number)
     if parsed[0] == "DB":
         return values
-    name, code, last = parsed[0], parsed[1], values[-1]
-    if name in ("JCN", "ISZ") and last // 256 != (at + 2) % ADDRESS_COUNT // 256:
-        raise Refused(34, number)
+    name, code, last_value = parsed[0], parsed[1], values[-1]
+    if name in ("JCN", "ISZ") and last_value // 256 != (address + 2) % ADDRESS_COUNT // 256:
+        raise ProgramError(34, number)
     if name in ("LDM", "BBL"):
-        return [code + last]
+        return [code + last_value]
     if name in ("JUN", "JMS"):
-        return [code + last // 256, last % 256]
-    return [code + values[0] if name == "JCN" else code, last % 256]
+        return [code + last_value // 256, last_value % 256]
+    return [code + values[0] if name == "JCN" else code, last_value % 256]
 
 
 class SecondPass:
@@ -170,80 +170,80 @@ class SecondPass:
     def __init__(self, names):
         self.bytes, self.spans, self.names = {}, [], names
 
-    def take(self, at, statement):
-        """Assembles the statement of the next line, which can be None, at an address. Raises Refused if the statement is wrong."""
+    def read(self, address, statement):
+        """Assembles the statement of the next line (None for a line without one) at an address. Raises ProgramError if the statement is wrong."""
         number = len(self.spans) + 1
-        held = bytes_of(at, statement, self.names, number)
-        if any(at + i in self.bytes for i in range(len(held))):
-            raise Refused(35, number)
-        self.bytes.update({at + i: byte for i, byte in enumerate(held)})
-        self.spans.append((at, len(held)))
+        statement_bytes = bytes_of(address, statement, self.names, number)
+        if any(address + i in self.bytes for i in range(len(statement_bytes))):
+            raise ProgramError(35, number)
+        self.bytes.update({address + i: byte for i, byte in enumerate(statement_bytes)})
+        self.spans.append((address, len(statement_bytes)))
 
 
 def assemble(lines):
     """Returns the bytes by address, each line's address and number of bytes, and the names with their values."""
-    places = FirstPass()
+    first_pass = FirstPass()
     for line in lines:
-        places.take(line)
-    image = SecondPass(places.names)
-    for at, parsed in places.rows:
-        image.take(at, parsed)
-    return image.bytes, image.spans, image.names
+        first_pass.read(line)
+    second_pass = SecondPass(first_pass.names)
+    for address, parsed in first_pass.rows:
+        second_pass.read(address, parsed)
+    return second_pass.bytes, second_pass.spans, second_pass.names
 
 
 def errors_of(lines):
     """Returns the number and line of each error. The errors of the second pass are included only if the first pass found none."""
-    places, found = FirstPass(), []
+    first_pass, errors = FirstPass(), []
     for line in lines:
         try:
-            places.take(line)
-        except Refused as refused:
-            found.append(refused.args)
-            places.skip()
-    if found:
-        return found
-    image = SecondPass(places.names)
-    for at, parsed in places.rows:
+            first_pass.read(line)
+        except ProgramError as error:
+            errors.append(error.args)
+            first_pass.skip()
+    if errors:
+        return errors
+    second_pass = SecondPass(first_pass.names)
+    for address, parsed in first_pass.rows:
         try:
-            image.take(at, parsed)
-        except Refused as refused:
-            found.append(refused.args)
-            image.spans.append((at, 0))
-    return found
+            second_pass.read(address, parsed)
+        except ProgramError as error:
+            errors.append(error.args)
+            second_pass.spans.append((address, 0))
+    return errors
 
 
-def judge(lines):
-    """Raises Refused if the text or a line is too long, or has a character that is not allowed."""
+def check_text(lines):
+    """Raises ProgramError if the text or a line is too long, or has a character that is not allowed."""
     if sum(len(line) + 1 for line in lines) > 16384:
-        raise Refused(13, 0)
+        raise ProgramError(13, 0)
     if any(len(line) > 255 for line in lines):
-        raise Refused(12, 0)
+        raise ProgramError(12, 0)
     if any(character != "\t" and not 32 <= ord(character) < 127 for line in lines for character in line):
-        raise Refused(14, 0)
+        raise ProgramError(14, 0)
 
 
 def map_of(lines):
     """Returns the answer to `map`, line by line."""
     try:
-        judge(lines)
+        check_text(lines)
         _image, spans, names = assemble(lines)
-    except Refused as refused:
-        return [refusal(refused)]
+    except ProgramError as error:
+        return [refusal_of(error)]
     answer_lines = [f"map lines {len(spans)} names {len(names)}"]
-    answer_lines += [f"line {number} {at:03X} {size}" for number, (at, size) in enumerate(spans, 1)]
+    answer_lines += [f"line {number} {address:03X} {size}" for number, (address, size) in enumerate(spans, 1)]
     return answer_lines + [f"name {name} {value:03X}" for name, value in names.items()]
 
 
 def errors_answer(lines):
     """Returns the answer to `errors`, line by line."""
     try:
-        judge(lines)
-    except Refused as refused:
-        return [refusal(refused)]
-    found = errors_of(lines)[:MAX_ERRORS]
-    return [f"errors {len(found)}", *(f"error {line} {number}" for number, line in found)]
+        check_text(lines)
+    except ProgramError as error:
+        return [refusal_of(error)]
+    errors = errors_of(lines)[:MAX_ERRORS]
+    return [f"errors {len(errors)}", *(f"error {line} {number}" for number, line in errors)]
 
 
-def refusal(refused):
-    number, line = refused.args
+def refusal_of(error):
+    number, line = error.args
     return f"no {number} line {line}" if line else f"no {number}"

@@ -22,20 +22,20 @@ PLACES: list[tuple[str, Callable[..., str]]] = [
     (r"cy", lambda board: f"{board.cy}"),
     (r"pc", lambda board: f"{board.pc:03X}"),
     (r"dcl", lambda board: f"{board.dcl}"),
-    (r"ret", lambda board: ",".join(f"{at:03X}" for at in board.ret)),
+    (r"ret", lambda board: ",".join(f"{address:03X}" for address in board.ret)),
     (r"lamps", lambda board: board.chips.marks() or "-"),
     (r"src", lambda board: f"{board.chips.rom_src:02X}"),
     (r"rom(\w+)", lambda board, chip: f"{board.chips.levels('rom', chip):X}"),
     (r"ram(\w+)\.(\w+)", lambda board, bank, chip: f"{board.chips.levels('ram', bank, chip):X}"),
     (r"chain(\w+)", lambda board, n: "".join(str(bit) for bit in board.chips.chains[n]) if n < len(board.chips.chains) else "-"),
     (r"r(\w+)", lambda board, k: f"{board.r[k]:X}"),
-    (r"rom\.(\w+)", lambda board, at: f"{board.rom[at]:02X}"),
+    (r"rom\.(\w+)", lambda board, address: f"{board.rom[address]:02X}"),
     (r"ram\.(\w+)\.(\w+)", lambda board, bank, src: f"{board.chips.ram[bank][src]:X}"),
     (r"st\.(\w+)\.(\w+)\.(\w+)", lambda board, bank, high, k: f"{board.chips.status[bank][high][k]:X}"),
 ]
 
 
-def number(word: str) -> int:
+def parse_number(word: str) -> int:
     """Parses a number in a session line."""
     return int(word, 16 if word.startswith("0x") else 10)
 
@@ -45,52 +45,52 @@ def reader_of(place: str) -> Callable[[Board], str]:
     if re.fullmatch(r"(rom|chain)\w+\.\w+|ram\w+\.\w+\.\w+", place):
         line = line_of(place)
         return lambda board: str(board.chips.level(line))
-    for form, reader in PLACES:
-        if found := re.fullmatch(form, place):
-            numbers = [number(word) for word in found.groups()]
+    for pattern, reader in PLACES:
+        if match := re.fullmatch(pattern, place):
+            numbers = [parse_number(word) for word in match.groups()]
             return lambda board: reader(board, *numbers)
     raise ValueError(place)
 
 
-def count_instructions(board: Board, most: int) -> tuple[Counter[int], Counter[int], int, str]:
-    """Runs a board for at most `most` cycles. Returns how often the instruction at each address was executed, how often it jumped, the number of
-    cycles, and the reason for the stop."""
+def count_instructions(board: Board, limit: int) -> tuple[Counter[int], Counter[int], int, str]:
+    """Runs a board for at most `max_cycles` cycles. Returns how often the instruction at each address was executed, how often it jumped, the number
+    of cycles, and the reason for the stop."""
     runs: Counter[int] = Counter()
     jumps: Counter[int] = Counter()
 
-    def on_instruction(_done: int, at: int) -> None:
-        runs[at] += 1
-        jumps[at] += board.pc != (at + 2) % ADDRESS_COUNT
+    def on_instruction(_cycles: int, address: int) -> None:
+        runs[address] += 1
+        jumps[address] += board.pc != (address + 2) % ADDRESS_COUNT
 
-    return runs, jumps, *board.run(most, on_instruction)
+    return runs, jumps, *board.run(limit, on_instruction)
 
 
-def count_answer(board: Board, most: int) -> list[str]:
+def count_answer(board: Board, limit: int) -> list[str]:
     """Returns the answer to `count n`: how often a run would execute the instruction at each address, and how often its JCN and ISZ would jump."""
-    runs, jumps, done, stop = count_instructions(board.copy(), most)
-    lines = [f"{at:03X} {runs[at]}" + (f" {jumps[at]}" if CODES[board.rom[at]][0] in BRANCHES else "") for at in sorted(runs)]
-    return [f"count ran {done} {stop} lines {len(lines)}", *lines]
+    runs, jumps, cycles, stop = count_instructions(board.copy(), limit)
+    lines = [f"{address:03X} {runs[address]}" + (f" {jumps[address]}" if CODES[board.rom[address]][0] in BRANCHES else "") for address in sorted(runs)]
+    return [f"count ran {cycles} {stop} lines {len(lines)}", *lines]
 
 
-def trace_answer(board: Board, most: int, places: list[str]) -> list[str]:
+def trace_answer(board: Board, limit: int, places: list[str]) -> list[str]:
     """Returns the answer to `trace n PLACE ..`: the instructions in the next n cycles that would change one of the places, or all instructions if
     no place is given."""
-    ahead, readers = board.copy(), [reader_of(place) for place in places]
+    copy, readers = board.copy(), [reader_of(place) for place in places]
     lines: list[str] = []
 
-    def row() -> str:
-        return "".join(f" {reader(ahead)}" for reader in readers)
+    def row_text() -> str:
+        return "".join(f" {reader(copy)}" for reader in readers)
 
-    first = last = row()
+    first_row = last_row = row_text()
 
-    def on_instruction(done: int, at: int) -> None:
-        nonlocal last
-        if not places or row() != last:
-            last = row()
-            lines.append(f"{done} {at:03X}{last}")
+    def on_instruction(cycles: int, address: int) -> None:
+        nonlocal last_row
+        if not places or row_text() != last_row:
+            last_row = row_text()
+            lines.append(f"{cycles} {address:03X}{last_row}")
 
-    done, stop = ahead.run(most, on_instruction)
-    return [f"trace ran {done} {stop} lines {len(lines)}{first}", *lines]
+    cycles, stop = copy.run(limit, on_instruction)
+    return [f"trace ran {cycles} {stop} lines {len(lines)}{first_row}", *lines]
 
 
 def ram_answer(board: Board, bank: int) -> list[str]:
@@ -105,32 +105,32 @@ def ram_answer(board: Board, bank: int) -> list[str]:
     return lines
 
 
-def instruction_text(board: Board, at: int) -> str:
+def instruction_text(board: Board, address: int) -> str:
     """Returns an instruction in the format of `list`: address, bytes and text."""
-    byte, second = board.rom[at], board.rom[(at + 1) % ADDRESS_COUNT]
+    byte, second_byte = board.rom[address], board.rom[(address + 1) % ADDRESS_COUNT]
     if byte not in CODES:
-        return f"{at:03X} {byte:02X}    DB 0x{byte:02X}"
+        return f"{address:03X} {byte:02X}    DB 0x{byte:02X}"
     name, low = CODES[byte]
-    on_page = f"0x{(at + 2) % ADDRESS_COUNT & 0xF00 | second:03X}"
-    far = f" 0x{256 * low + second:03X}"
-    operands = {"JCN": f" {low}, {on_page}", "FIM": f" P{low}, 0x{second:02X}", "ISZ": f" R{low}, {on_page}", "JUN": far, "JMS": far,
+    on_page = f"0x{(address + 2) % ADDRESS_COUNT & 0xF00 | second_byte:03X}"
+    far = f" 0x{256 * low + second_byte:03X}"
+    operands = {"JCN": f" {low}, {on_page}", "FIM": f" P{low}, 0x{second_byte:02X}", "ISZ": f" R{low}, {on_page}", "JUN": far, "JMS": far,
                 "LDM": f" {low}", "BBL": f" {low}", **{name: f" P{low}" for name in CODES_ON_PAIR},
                 **{name: f" R{low}" for name in CODES_ON_REGISTER}}
-    return f"{at:03X} {byte:02X} {f'{second:02X}' if name in TWO_WORDS else '  '} {name}{operands.get(name, '')}"
+    return f"{address:03X} {byte:02X} {f'{second_byte:02X}' if name in TWO_WORDS else '  '} {name}{operands.get(name, '')}"
 
 
-def list_answer(board: Board, at: int, most: int) -> list[str]:
+def list_answer(board: Board, address: int, limit: int) -> list[str]:
     """Returns the answer to `list a n`. (A two-word instruction at FFF is not supported.)"""
     lines: list[str] = []
-    while at < ADDRESS_COUNT and len(lines) < most:
-        lines.append(instruction_text(board, at))
-        at += 2 if CODES.get(board.rom[at], ("", 0))[0] in TWO_WORDS else 1
+    while address < ADDRESS_COUNT and len(lines) < limit:
+        lines.append(instruction_text(board, address))
+        address += 2 if CODES.get(board.rom[address], ("", 0))[0] in TWO_WORDS else 1
     return lines
 
 
-def registers(board: Board, separator: str) -> str:
+def registers_answer(board: Board, separator: str) -> str:
     """Returns the answer to `regs`, which is also a part of `state`."""
-    ret = separator.join(f"{at:03X}" for at in board.ret)
+    ret = separator.join(f"{address:03X}" for address in board.ret)
     return (f"acc {board.acc:X} cy {board.cy} pc {board.pc:03X} owed {board.owed} dcl {board.dcl} test {board.test} "
             f"r {''.join(f'{value:X}' for value in board.r)} ret {ret}")
 
@@ -143,13 +143,13 @@ def state_answer(board: Board, seq: int) -> str:
         "roms": [f"{chip}.{latch:X}.{chips.read_port(chip):X}" for chip, latch in chips.rom_latch.items()],
         "rams": [f"{bank}.{chip}.{latch:X}" for (bank, chip), latch in chips.ram_latch.items()],
         "chains": ["".join(str(bit) for bit in chain) for chain in chips.chains],
-        "keys": [f"{row}.{column}" for row, column in sorted(chips.down)],
+        "keys": [f"{row}.{column}" for row, column in sorted(chips.pressed_keys)],
         "lamps": [chips.marks()] if chips.lamps else [],
-        "breaks": [f"{at:03X}" for at in sorted(board.breaks)],
+        "breaks": [f"{address:03X}" for address in sorted(board.breaks)],
         "watches": [f"{bank}.{src:02X}" for bank, src in sorted(board.watches)],
     }
-    listed = " ".join(f"{name} {','.join(items) or '-'}" for name, items in lists.items())
-    return f"state seq {seq} {registers(board, ',')} src {chips.rom_src:02X} {listed}"
+    list_fields = " ".join(f"{name} {','.join(items) or '-'}" for name, items in lists.items())
+    return f"state seq {seq} {registers_answer(board, ',')} src {chips.rom_src:02X} {list_fields}"
 
 
 class Bench:
@@ -170,11 +170,11 @@ class Bench:
             elif words:
                 yield line, self.answer(*words)
 
-    def answer(self, word: str, *rest: object) -> list[str]:
+    def answer(self, command: str, *operands: object) -> list[str]:
         """Returns the answer to a line, or to a command word that is followed by a text."""
-        if word in QUERIES:
-            return QUERIES[word](self, *rest)
-        reply = COMMANDS[word](self.board, *rest)
+        if command in QUERIES:
+            return QUERIES[command](self, *operands)
+        reply = COMMANDS[command](self.board, *operands)
         if reply.startswith("no "):
             return [reply]
         self.seq += 1
@@ -184,13 +184,13 @@ class Bench:
 QUERIES: dict[str, Callable[..., list[str]]] = {
     "seq": lambda bench: [f"seq {bench.seq}"],
     "lamps": lambda bench: [f"lamps {bench.board.chips.marks() or '-'}"],
-    "regs": lambda bench: [registers(bench.board, " ")],
-    "breaks": lambda bench: ["breaks " + (" ".join(f"{at:03X}" for at in sorted(bench.board.breaks)) or "-")],
-    "list": lambda bench, at, most: list_answer(bench.board, number(at), number(most)),
+    "regs": lambda bench: [registers_answer(bench.board, " ")],
+    "breaks": lambda bench: ["breaks " + (" ".join(f"{address:03X}" for address in sorted(bench.board.breaks)) or "-")],
+    "list": lambda bench, address, limit: list_answer(bench.board, parse_number(address), parse_number(limit)),
     "state": lambda bench: [state_answer(bench.board, bench.seq)],
-    "ram": lambda bench, bank: ram_answer(bench.board, number(bank)),
-    "count": lambda bench, most: count_answer(bench.board, number(most)),
-    "trace": lambda bench, most, *places: trace_answer(bench.board, number(most), list(places)),
+    "ram": lambda bench, bank: ram_answer(bench.board, parse_number(bank)),
+    "count": lambda bench, limit: count_answer(bench.board, parse_number(limit)),
+    "trace": lambda bench, limit, *places: trace_answer(bench.board, parse_number(limit), list(places)),
 }
 
 
@@ -205,43 +205,43 @@ def wire(board: Board, text: list[str]) -> str:
 def load(board: Board, text: list[str]) -> str:
     """Loads a program into ROM."""
     image = assemble(text)[0]
-    if any(at >> 8 not in board.chips.masks for at in image):
+    if any(address >> 8 not in board.chips.masks for address in image):
         return "no 42"
-    for at, byte in image.items():
-        board.rom[at] = byte
+    for address, byte in image.items():
+        board.rom[address] = byte
     return f" bytes {len(image)}"
 
 
-def put_key(board: Board, row: str, column: str, is_down: bool) -> str:
+def set_key(board: Board, row: str, column: str, is_down: bool) -> str:
     """Presses or releases a key. Rejects a key that the board does not have."""
-    if number(row) >= board.chips.keys["rows"] or number(column) >= len(board.chips.columns):
+    if parse_number(row) >= board.chips.keys["rows"] or parse_number(column) >= len(board.chips.columns):
         return "no 41"
-    (board.chips.down.add if is_down else board.chips.down.discard)((number(row), number(column)))
+    (board.chips.pressed_keys.add if is_down else board.chips.pressed_keys.discard)((parse_number(row), parse_number(column)))
     return ""
 
 
-def put(items: set, item: object, is_there: bool) -> str:
+def set_membership(items: set, item: object, is_there: bool) -> str:
     """Adds or removes an item of a set (a breakpoint or a watch)."""
     (items.add if is_there else items.discard)(item)
     return ""
 
 
 def power_cycle(board: Board) -> str:
-    """Resets the board, as `reset` does."""
+    """Switches the board off and on, as `reset` does."""
     board.power_on()
     return ""
 
 
-def put_test(board: Board, level: str) -> str:
+def set_test(board: Board, level: str) -> str:
     """Sets the TEST pin."""
-    board.test = number(level)
+    board.test = parse_number(level)
     return ""
 
 
-def poke(board: Board, place: str, text: str) -> str:
+def poke(board: Board, place: str, value_text: str) -> str:
     """Sets the value of a register or of a memory cell, which `place` names."""
     kind, *words = place.split(".")
-    numbers, value = [number(word) for word in words], number(text)
+    numbers, value = [parse_number(word) for word in words], parse_number(value_text)
     if kind == "rom":
         if numbers[0] >> 8 not in board.chips.masks:
             return "no 42"
@@ -257,7 +257,7 @@ def poke(board: Board, place: str, text: str) -> str:
     elif kind in ("acc", "cy", "pc", "dcl"):
         setattr(board, kind, value)
     else:
-        board.r[number(kind[1:])] = value
+        board.r[parse_number(kind[1:])] = value
     return ""
 
 
@@ -269,15 +269,15 @@ def run_answer(cycles_and_stop: tuple[int, str]) -> str:
 COMMANDS: dict[str, Callable[..., str]] = {
     "wire": wire,
     "asm": load,
-    "press": lambda board, row, column: put_key(board, row, column, True),
-    "release": lambda board, row, column: put_key(board, row, column, False),
-    "run": lambda board, most: run_answer(board.run(number(most))),
+    "press": lambda board, row, column: set_key(board, row, column, True),
+    "release": lambda board, row, column: set_key(board, row, column, False),
+    "run": lambda board, limit: run_answer(board.run(parse_number(limit))),
     "step": lambda board: run_answer(board.step()),
     "poke": poke,
-    "test": put_test,
+    "test": set_test,
     "reset": power_cycle,
-    "break": lambda board, at: put(board.breaks, number(at), True),
-    "unbreak": lambda board, at: put(board.breaks, number(at), False),
-    "watch": lambda board, bank, src: put(board.watches, (number(bank), number(src)), True),
-    "unwatch": lambda board, bank, src: put(board.watches, (number(bank), number(src)), False),
+    "break": lambda board, address: set_membership(board.breaks, parse_number(address), True),
+    "unbreak": lambda board, address: set_membership(board.breaks, parse_number(address), False),
+    "watch": lambda board, bank, src: set_membership(board.watches, (parse_number(bank), parse_number(src)), True),
+    "unwatch": lambda board, bank, src: set_membership(board.watches, (parse_number(bank), parse_number(src)), False),
 }

@@ -20,8 +20,8 @@ TWO_CYCLES = TWO_WORDS | {"FIN"}
 Line = tuple[str, tuple[int, ...]]
 
 
-def table() -> dict[int, tuple[str, int]]:
-    """Returns for each valid code the mnemonic and the operand in the code's lower half: a register, a pair or a value (0 for no operand)."""
+def operations_by_code() -> dict[int, tuple[str, int]]:
+    """Returns the mnemonic and the operand of each valid code. The operand in the code's lower half is a register, a pair or a value (0 for none)."""
     codes = {code: (name, 0) for name, code in CODES_WITHOUT_OPERAND.items()}
     for name, code in [*CODES_ON_REGISTER.items(), *((name, CODES_WITH_VALUES[name][1]) for name in ("JCN", "JUN", "JMS", "ISZ", "BBL", "LDM"))]:
         codes.update({code + low: (name, low) for low in range(16)})
@@ -30,7 +30,7 @@ def table() -> dict[int, tuple[str, int]]:
     return codes
 
 
-CODES = table()
+CODES = operations_by_code()
 
 
 def line_of(name: str) -> Line:
@@ -53,7 +53,7 @@ class Chips:
         self.keys = wiring.get("keys", {"chain": 0, "first": 0, "rows": 0, "columns": []})
         self.columns = [line_of(name) for name in self.keys["columns"]]
         self.lamps = [line_of(part["line"]) for part in wiring.get("lamp", [])]
-        self.down: set[tuple[int, int]] = set()
+        self.pressed_keys: set[tuple[int, int]] = set()
         self.power_on()
 
     def power_on(self) -> None:
@@ -97,7 +97,7 @@ class Chips:
 
     def is_pulled(self, line: Line) -> int:
         """Returns the level of an input line: 1 if a pressed key connects the line to a driven row."""
-        return int(any(self.columns[column] == line and self.chains[self.keys["chain"]][self.keys["first"] + row] for row, column in self.down))
+        return int(any(self.columns[column] == line and self.chains[self.keys["chain"]][self.keys["first"] + row] for row, column in self.pressed_keys))
 
     def marks(self) -> str:
         """Returns the lamps in the format of `lamps`: `*` for on, `.` for off."""
@@ -112,7 +112,7 @@ class Chips:
             self.bank_src[bank] = byte
 
     def read_port(self, chip: int) -> int:
-        """Executes RDR: returns the levels of a port. The keys define the input lines, and the port's letters define the output lines."""
+        """Executes RDR: returns the levels of a port. The keys define the levels of input lines, and the port's mask those of output lines."""
         mask = self.masks.get(chip, "0000")
         return sum((self.is_pulled(("rom", (chip, k))) if mask[k] == "i" else int(mask[k])) << k for k in range(4))
 
@@ -130,10 +130,10 @@ class Chips:
 
     def write_latch(self, latches: dict, port: object, value: int) -> None:
         """Writes a port. Each chain whose clock rises shifts in the current level of its data line."""
-        before = [self.level(clock) for clock, _data in self.clocks]
+        levels_before = [self.level(clock) for clock, _data in self.clocks]
         latches[port] = value
         for n, (clock, data) in enumerate(self.clocks):
-            if not before[n] and self.level(clock):
+            if not levels_before[n] and self.level(clock):
                 self.chains[n] = [self.level(data), *self.chains[n][:-1]]
 
     def character(self, bank: int) -> int:
@@ -178,7 +178,7 @@ class Board:
                 self.rom[256 * page:256 * (page + 1)] = bytes(256)
 
     def copy(self) -> Board:
-        """Returns an independent copy, much faster than `copy.deepcopy` does."""
+        """Returns an independent copy. This is much faster than `copy.deepcopy`."""
         return pickle.loads(pickle.dumps(self))
 
     def pair(self, k: int) -> int:
@@ -189,13 +189,13 @@ class Board:
         """Writes a byte to a pair."""
         self.r[2 * k:2 * k + 2] = divmod(byte, 16)
 
-    def put_sum(self, total: int) -> None:
+    def set_sum(self, total: int) -> None:
         """Stores a sum in the accumulator, and its overflow in the carry."""
         self.cy, self.acc = divmod(total, 16)
 
     # ---- cycles
 
-    def is_outside(self) -> bool:
+    def is_at_invalid_code(self) -> bool:
         """Returns true if the byte at the program counter is not the code of an instruction."""
         return self.rom[self.pc] not in CODES
 
@@ -205,47 +205,47 @@ class Board:
             self.owed = 0
             return
         name, low = CODES[self.rom[self.pc]]
-        second = self.rom[(self.pc + 1) % ADDRESS_COUNT]
+        second_byte = self.rom[(self.pc + 1) % ADDRESS_COUNT]
         self.pc = (self.pc + (2 if name in TWO_WORDS else 1)) % ADDRESS_COUNT
         self.owed = int(name in TWO_CYCLES)
-        WORK[name](self, low, second)
+        OPERATIONS[name](self, low, second_byte)
 
     def step(self) -> tuple[int, str]:
         """Executes an instruction, or its pending second cycle. Returns the number of cycles, and the reason for the stop."""
-        if not self.owed and self.is_outside():
+        if not self.owed and self.is_at_invalid_code():
             return 0, "code"
         cycles = 1 if self.owed else 1 + (CODES[self.rom[self.pc]][0] in TWO_CYCLES)
         for _cycle in range(cycles):
             self.cycle()
         return cycles, "end"
 
-    def stops(self, done: int, most: int, changed: bool) -> str:
-        """Returns the reason why a run ends after `done` cycles, or "" if it continues. `changed` is true if the last cycle changed a watched nibble.
-        """
-        if not self.owed and self.is_outside():
+    def stop_reason(self, cycles: int, max_cycles: int, is_watch_hit: bool) -> str:
+        """Returns the reason why a run ends after this number of cycles, or "" if it continues. `is_watch_hit` is true if the last cycle changed a
+        watched nibble."""
+        if not self.owed and self.is_at_invalid_code():
             return "code"
-        if done and not self.owed and self.pc in self.breaks:
+        if cycles and not self.owed and self.pc in self.breaks:
             return "break"
-        if done and changed:
+        if cycles and is_watch_hit:
             return "watch"
-        return "end" if done == most else ""
+        return "end" if cycles == max_cycles else ""
 
-    def watched(self) -> list[int]:
-        """Returns the watched nibbles."""
+    def watched_values(self) -> list[int]:
+        """Returns the values of the watched nibbles."""
         return [self.chips.ram[bank][src] for bank, src in self.watches]
 
-    def run(self, most: int, on_instruction: Callable[[int, int], None] | None = None) -> tuple[int, str]:
-        """Runs at most `most` cycles. Returns the number of cycles, and the reason for the stop. Calls `on_instruction` after the first cycle of each
-        instruction, with the number of cycles before the instruction and its address."""
-        done, changed = 0, False
-        while not (stop := self.stops(done, most, changed)):
-            at, begins, watched = self.pc, not self.owed, self.watched()
+    def run(self, max_cycles: int, on_instruction: Callable[[int, int], None] | None = None) -> tuple[int, str]:
+        """Runs at most `max_cycles` cycles. Returns the number of cycles, and the reason for the stop. Calls `on_instruction` after the first cycle
+        of each instruction, with the number of cycles before the instruction and its address."""
+        cycles, is_watch_hit = 0, False
+        while not (reason := self.stop_reason(cycles, max_cycles, is_watch_hit)):
+            address, is_first_cycle, values_before = self.pc, not self.owed, self.watched_values()
             self.cycle()
-            changed = watched != self.watched()
-            if begins and on_instruction:
-                on_instruction(done, at)
-            done += 1
-        return done, stop
+            is_watch_hit = values_before != self.watched_values()
+            if is_first_cycle and on_instruction:
+                on_instruction(cycles, address)
+            cycles += 1
+        return cycles, reason
 
 
 # ---- the instructions; each is called after the program counter has moved past its words
@@ -255,166 +255,167 @@ def jump_on_page(board: Board, low: int) -> None:
     board.pc = board.pc & 0xF00 | low
 
 
-def nop(_board: Board, _low: int, _second: int) -> None:
+def nop(_board: Board, _low: int, _second_byte: int) -> None:
     """No operation."""
 
 
-def jcn(board: Board, condition: int, second: int) -> None:
+def jcn(board: Board, condition: int, second_byte: int) -> None:
     """Jump conditional: bit 2 tests for ACC 0, bit 1 for a carry, bit 0 for TEST 0; bit 3 inverts the condition."""
-    holds = condition & 4 and board.acc == 0 or condition & 2 and board.cy == 1 or condition & 1 and board.test == 0
-    if bool(holds) != bool(condition & 8):
-        jump_on_page(board, second)
+    is_met = condition & 4 and board.acc == 0 or condition & 2 and board.cy == 1 or condition & 1 and board.test == 0
+    if bool(is_met) != bool(condition & 8):
+        jump_on_page(board, second_byte)
 
 
-def fim(board: Board, pair: int, second: int) -> None:
+def fim(board: Board, pair: int, second_byte: int) -> None:
     """Fetch immediate."""
-    board.set_pair(pair, second)
+    board.set_pair(pair, second_byte)
 
 
-def src(board: Board, pair: int, _second: int) -> None:
+def src(board: Board, pair: int, _second_byte: int) -> None:
     """Send register control."""
     board.chips.send_src(board.dcl, board.pair(pair))
 
 
-def fin(board: Board, pair: int, _second: int) -> None:
+def fin(board: Board, pair: int, _second_byte: int) -> None:
     """Fetch indirect through pair 0."""
     board.set_pair(pair, board.rom[board.pc & 0xF00 | board.pair(0)])
 
 
-def jin(board: Board, pair: int, _second: int) -> None:
+def jin(board: Board, pair: int, _second_byte: int) -> None:
     """Jump indirect."""
     jump_on_page(board, board.pair(pair))
 
 
-def jun(board: Board, high: int, second: int) -> None:
+def jun(board: Board, high: int, second_byte: int) -> None:
     """Jump unconditional."""
-    board.pc = 256 * high + second
+    board.pc = 256 * high + second_byte
 
 
-def jms(board: Board, high: int, second: int) -> None:
+def jms(board: Board, high: int, second_byte: int) -> None:
     """Jump to subroutine; the oldest of three return addresses is lost."""
     board.ret = [board.pc, *board.ret[:2]]
-    board.pc = 256 * high + second
+    board.pc = 256 * high + second_byte
 
 
-def inc(board: Board, k: int, _second: int) -> None:
+def inc(board: Board, k: int, _second_byte: int) -> None:
     """Increment a register."""
     board.r[k] = (board.r[k] + 1) % 16
 
 
-def isz(board: Board, k: int, second: int) -> None:
+def isz(board: Board, k: int, second_byte: int) -> None:
     """Increment, and skip the jump if the result is zero."""
-    inc(board, k, second)
+    inc(board, k, second_byte)
     if board.r[k]:
-        jump_on_page(board, second)
+        jump_on_page(board, second_byte)
 
 
-def add(board: Board, k: int, _second: int) -> None:
+def add(board: Board, k: int, _second_byte: int) -> None:
     """Add a register and the carry."""
-    board.put_sum(board.acc + board.r[k] + board.cy)
+    board.set_sum(board.acc + board.r[k] + board.cy)
 
 
-def sub(board: Board, k: int, _second: int) -> None:
+def sub(board: Board, k: int, _second_byte: int) -> None:
     """Subtract: adds the complements of the register and the carry."""
-    board.put_sum(board.acc + (15 - board.r[k]) + (1 - board.cy))
+    board.set_sum(board.acc + (15 - board.r[k]) + (1 - board.cy))
 
 
-def ld(board: Board, k: int, _second: int) -> None:
+def ld(board: Board, k: int, _second_byte: int) -> None:
     """Load a register."""
     board.acc = board.r[k]
 
 
-def xch(board: Board, k: int, _second: int) -> None:
+def xch(board: Board, k: int, _second_byte: int) -> None:
     """Exchange."""
     board.acc, board.r[k] = board.r[k], board.acc
 
 
-def bbl(board: Board, value: int, _second: int) -> None:
+def bbl(board: Board, value: int, _second_byte: int) -> None:
     """Branch back and load. The freed stack entry keeps the address after BBL."""
     board.acc = value
     board.pc, board.ret = board.ret[0], [*board.ret[1:], board.pc]
 
 
-def ldm(board: Board, value: int, _second: int) -> None:
+def ldm(board: Board, value: int, _second_byte: int) -> None:
     """Load immediate."""
     board.acc = value
 
 
-def wrm(board: Board, _low: int, _second: int) -> None:
+def wrm(board: Board, _low: int, _second_byte: int) -> None:
     """Write the RAM nibble."""
     board.chips.write_character(board.dcl, board.chips.bank_src[board.dcl], board.acc)
 
 
-def wmp(board: Board, _low: int, _second: int) -> None:
+def wmp(board: Board, _low: int, _second_byte: int) -> None:
     """Write the port of the RAM chip."""
     board.chips.write_ram_port(board.dcl, board.acc)
 
 
-def wrr(board: Board, _low: int, _second: int) -> None:
+def wrr(board: Board, _low: int, _second_byte: int) -> None:
     """Write the port of the ROM."""
     board.chips.write_rom_port(board.acc)
 
 
 def write_status(k: int) -> Callable[[Board, int, int], None]:
     """WR0 to WR3."""
-    return lambda board, _low, _second: board.chips.write_status(board.dcl, board.chips.bank_src[board.dcl] >> 4, k, board.acc)
+    return lambda board, _low, _second_byte: board.chips.write_status(board.dcl, board.chips.bank_src[board.dcl] >> 4, k, board.acc)
 
 
 def read_status(k: int) -> Callable[[Board, int, int], None]:
     """RD0 to RD3."""
-    def read(board: Board, _low: int, _second: int) -> None:
+    def execute(board: Board, _low: int, _second_byte: int) -> None:
         board.acc = board.chips.status[board.dcl][board.chips.bank_src[board.dcl] >> 4][k]
-    return read
+    return execute
 
 
-def sbm(board: Board, _low: int, _second: int) -> None:
+def sbm(board: Board, _low: int, _second_byte: int) -> None:
     """Subtract the RAM nibble."""
-    board.put_sum(board.acc + (15 - board.chips.character(board.dcl)) + (1 - board.cy))
+    board.set_sum(board.acc + (15 - board.chips.character(board.dcl)) + (1 - board.cy))
 
 
-def rdm(board: Board, _low: int, _second: int) -> None:
+def rdm(board: Board, _low: int, _second_byte: int) -> None:
     """Read the RAM nibble."""
     board.acc = board.chips.character(board.dcl)
 
 
-def rdr(board: Board, _low: int, _second: int) -> None:
+def rdr(board: Board, _low: int, _second_byte: int) -> None:
     """Read the port of the ROM."""
     board.acc = board.chips.read_port(board.chips.rom_src >> 4)
 
 
-def adm(board: Board, _low: int, _second: int) -> None:
+def adm(board: Board, _low: int, _second_byte: int) -> None:
     """Add the RAM nibble and the carry."""
-    board.put_sum(board.acc + board.chips.character(board.dcl) + board.cy)
+    board.set_sum(board.acc + board.chips.character(board.dcl) + board.cy)
 
 
-def accumulator(change: Callable[[int, int], tuple[int, int]]) -> Callable[[Board, int, int], None]:
-    """Returns an instruction that changes only the accumulator and the carry. `change` takes both, and returns the new carry and accumulator."""
-    def work(board: Board, _low: int, _second: int) -> None:
-        board.cy, board.acc = change(board.acc, board.cy)
-    return work
+def accumulator_operation(compute: Callable[[int, int], tuple[int, int]]) -> Callable[[Board, int, int], None]:
+    """Returns an instruction that changes only the accumulator and the carry. `compute` takes the accumulator and the carry, and returns the new
+    carry and the new accumulator."""
+    def execute(board: Board, _low: int, _second_byte: int) -> None:
+        board.cy, board.acc = compute(board.acc, board.cy)
+    return execute
 
 
-def dcl(board: Board, _low: int, _second: int) -> None:
+def dcl(board: Board, _low: int, _second_byte: int) -> None:
     """Designate command line: uses the lower three bits."""
     board.dcl = board.acc % 8
 
 
-WORK: dict[str, Callable[[Board, int, int], None]] = {
+OPERATIONS: dict[str, Callable[[Board, int, int], None]] = {
     "NOP": nop, "JCN": jcn, "FIM": fim, "SRC": src, "FIN": fin, "JIN": jin, "JUN": jun, "JMS": jms, "INC": inc, "ISZ": isz, "ADD": add,
     "SUB": sub, "LD": ld, "XCH": xch, "BBL": bbl, "LDM": ldm, "WRM": wrm, "WMP": wmp, "WRR": wrr, "SBM": sbm, "RDM": rdm, "RDR": rdr,
     "ADM": adm, "DCL": dcl, **{f"WR{k}": write_status(k) for k in range(4)}, **{f"RD{k}": read_status(k) for k in range(4)},
-    "CLB": accumulator(lambda acc, cy: (0, 0)),
-    "CLC": accumulator(lambda acc, cy: (0, acc)),
-    "IAC": accumulator(lambda acc, cy: divmod(acc + 1, 16)),
-    "CMC": accumulator(lambda acc, cy: (1 - cy, acc)),
-    "CMA": accumulator(lambda acc, cy: (cy, 15 - acc)),
-    "RAL": accumulator(lambda acc, cy: divmod(2 * acc + cy, 16)),
-    "RAR": accumulator(lambda acc, cy: (acc % 2, 8 * cy + acc // 2)),
-    "TCC": accumulator(lambda acc, cy: (0, cy)),
-    "DAC": accumulator(lambda acc, cy: divmod(acc + 15, 16)),
-    "TCS": accumulator(lambda acc, cy: (0, 9 + cy)),
-    "STC": accumulator(lambda acc, cy: (1, acc)),
+    "CLB": accumulator_operation(lambda acc, cy: (0, 0)),
+    "CLC": accumulator_operation(lambda acc, cy: (0, acc)),
+    "IAC": accumulator_operation(lambda acc, cy: divmod(acc + 1, 16)),
+    "CMC": accumulator_operation(lambda acc, cy: (1 - cy, acc)),
+    "CMA": accumulator_operation(lambda acc, cy: (cy, 15 - acc)),
+    "RAL": accumulator_operation(lambda acc, cy: divmod(2 * acc + cy, 16)),
+    "RAR": accumulator_operation(lambda acc, cy: (acc % 2, 8 * cy + acc // 2)),
+    "TCC": accumulator_operation(lambda acc, cy: (0, cy)),
+    "DAC": accumulator_operation(lambda acc, cy: divmod(acc + 15, 16)),
+    "TCS": accumulator_operation(lambda acc, cy: (0, 9 + cy)),
+    "STC": accumulator_operation(lambda acc, cy: (1, acc)),
     # The carry is set, never cleared.
-    "DAA": accumulator(lambda acc, cy: (cy | (acc + 6) // 16, (acc + 6) % 16) if cy or acc > 9 else (cy, acc)),
-    "KBP": accumulator(lambda acc, cy: (cy, {0: 0, 1: 1, 2: 2, 4: 3, 8: 4}.get(acc, 15))),
+    "DAA": accumulator_operation(lambda acc, cy: (cy | (acc + 6) // 16, (acc + 6) % 16) if cy or acc > 9 else (cy, acc)),
+    "KBP": accumulator_operation(lambda acc, cy: (cy, {0: 0, 1: 1, 2: 2, 4: 3, 8: 4}.get(acc, 15))),
 }

@@ -20,13 +20,13 @@ def numbers_of(name):
     """Returns the kind and numbers in a line's name, or None if the text is not a line's name."""
     if not isinstance(name, str):
         return None
-    found = re.fullmatch(r"(rom|ram|chain)(0|[1-9]\d?)\.(0|[1-9]\d?)(?:\.(0|[1-9]))?", name, re.ASCII)
-    if not found:
+    match = re.fullmatch(r"(rom|ram|chain)(0|[1-9]\d?)\.(0|[1-9]\d?)(?:\.(0|[1-9]))?", name, re.ASCII)
+    if not match:
         return None
-    kind, *numbers = found.groups()
+    kind, *numbers = match.groups()
     numbers = [int(number) for number in numbers if number is not None]
-    most = {"rom": [15, 3], "ram": [7, 3, 3], "chain": [3, 79]}[kind]
-    is_line = len(numbers) == len(most) and all(number <= last for number, last in zip(numbers, most))
+    maxima = {"rom": [15, 3], "ram": [7, 3, 3], "chain": [3, 79]}[kind]
+    is_line = len(numbers) == len(maxima) and all(number <= maximum for number, maximum in zip(numbers, maxima))
     return (kind, *numbers) if is_line else None
 
 
@@ -46,21 +46,21 @@ KEYS = {
 
 
 def longest_toml(lines, count):
-    """Returns the number of lines in the longest prefix (up to `count` lines) that is valid TOML, and its contents."""
+    """Returns the number of lines in the longest prefix (up to `count` lines) that is valid TOML, and the prefix's contents."""
     while True:
         try:
             return count, tomllib.loads("".join(f"{line}\n" for line in lines[:count]))
         except tomllib.TOMLDecodeError as error:
-            at = re.search(r"at line (\d+)", str(error))
-            count = min(count - 1, int(at[1]) if at else count)
+            position = re.search(r"at line (\d+)", str(error))
+            count = min(count - 1, int(position[1]) if position else count)
 
 
 def tables_of(document):
     """Yields each section's tables, with the section's name and the table's number from 1 (0 for the key matrix)."""
     for section in SECTIONS:
-        whole = document.get(section, [])
-        whole = [whole] if section == "keys" and "keys" in document else whole if isinstance(whole, list) else []
-        for index, table in enumerate(whole, 1):
+        section_tables = document.get(section, [])
+        section_tables = [section_tables] if section == "keys" and "keys" in document else section_tables if isinstance(section_tables, list) else []
+        for index, table in enumerate(section_tables, 1):
             yield section, 0 if section == "keys" else index, table
 
 
@@ -74,13 +74,13 @@ class BoardReading:
     def first_error(self):
         """Returns the first error: its number, the section, the number of the table, and the key; "" or 0 for a part that does not apply. Returns
         None if the board is valid."""
-        for find in (self.unknown_keys, self.missing_keys, self.badly_formed_values, self.excess_parts, self.repeated_numbers):
-            for part in find():
+        for find_errors in (self.unknown_key_errors, self.missing_key_errors, self.value_errors, self.excess_errors, self.repetition_errors):
+            for part in find_errors():
                 return part
-        found = list(self.wrong_lines())
-        return next((part for number in (25, 26) for part in found if part[0] == number), None)
+        line_errors = list(self.line_errors())
+        return next((part for number in (25, 26) for part in line_errors if part[0] == number), None)
 
-    def unknown_keys(self):
+    def unknown_key_errors(self):
         for key in sorted(self.document):
             if key not in SECTIONS:
                 yield 21, "", 0, key
@@ -90,14 +90,14 @@ class BoardReading:
                     if key not in KEYS[section]:
                         yield 21, section, index, key
 
-    def missing_keys(self):
+    def missing_key_errors(self):
         for section, index, table in self.tables:
             if isinstance(table, dict):
                 for key in KEYS[section]:
                     if key not in table:
                         yield 22, section, index, key
 
-    def badly_formed_values(self):
+    def value_errors(self):
         for section in SECTIONS:
             if section != "keys" and not isinstance(self.document.get(section, []), list):
                 yield 23, section, 0, None
@@ -109,7 +109,7 @@ class BoardReading:
                 if not fits(table[key]):
                     yield 23, section, index, key
 
-    def excess_parts(self):
+    def excess_errors(self):
         for section in SECTIONS:
             tables = [table for kind, _index, table in self.tables if kind == section]
             if section in MAX_TABLES and len(tables) > MAX_TABLES[section]:
@@ -117,46 +117,46 @@ class BoardReading:
             if section == "keys" and any(len(table["columns"]) > MAX_COLUMNS for table in tables):
                 yield 27, "keys", 0, "columns"
 
-    def repeated_numbers(self):
+    def repetition_errors(self):
         for section, key in NUMBERED_PARTS.items():
             seen = set()
-            for _section, index, table in (each for each in self.tables if each[0] == section):
+            for _section, index, table in (entry for entry in self.tables if entry[0] == section):
                 if table[key] in seen:
                     yield 24, section, index, key
                 seen.add(table[key])
 
     def direction(self, name):
         """Returns `i` for an input line, `o` for an output line, and `b` for a bit of a chain. Returns None if the board does not have the line."""
-        kind, number, *others = numbers_of(name)
+        kind, number, *other_numbers = numbers_of(name)
         for section, index, table in self.tables:
             if section == kind == "rom" and table["chip"] == number:
-                return "i" if table["port"][3 - others[0]] == "i" else "o"
-            if section == kind == "ram" and table["bank"] == number and others[0] < table["chips"]:
+                return "i" if table["port"][3 - other_numbers[0]] == "i" else "o"
+            if section == kind == "ram" and table["bank"] == number and other_numbers[0] < table["chips"]:
                 return "o"
-            if section == kind == "chain" and index == number + 1 and others[0] < BITS_PER_CHIP * table["chips"]:
+            if section == kind == "chain" and index == number + 1 and other_numbers[0] < BITS_PER_CHIP * table["chips"]:
                 return "b"
         return None
 
-    def wrong_lines(self):
+    def line_errors(self):
         chips = [table["chips"] for section, _index, table in self.tables if section == "chain"]
         for section, index, table in self.tables:
             if section == "chain":
                 for key in ("clock", "data"):
-                    yield from self.wrong_line(section, index, key, [table[key]], "o")
+                    yield from self.errors_of_lines(section, index, key, [table[key]], "o")
             if section == "keys":
                 if table["chain"] >= len(chips):
                     yield 25, "keys", 0, "chain"
                 elif table["first"] + table["rows"] > BITS_PER_CHIP * chips[table["chain"]]:
                     yield 25, "keys", 0, "rows"
-                yield from self.wrong_line("keys", 0, "columns", table["columns"], "i")
+                yield from self.errors_of_lines("keys", 0, "columns", table["columns"], "i")
             if section == "lamp":
-                yield from self.wrong_line(section, index, "line", [table["line"]], "ob")
+                yield from self.errors_of_lines(section, index, "line", [table["line"]], "ob")
 
-    def wrong_line(self, section, index, key, names, allowed):
-        found = [self.direction(name) for name in names]
-        if None in found:
+    def errors_of_lines(self, section, index, key, names, allowed):
+        directions = [self.direction(name) for name in names]
+        if None in directions:
             yield 25, section, index, key
-        if any(direction is not None and direction not in allowed for direction in found):
+        if any(direction is not None and direction not in allowed for direction in directions):
             yield 26, section, index, key
 
 
@@ -170,15 +170,15 @@ def has_part(document, section, index, key):
 def line_of(lines, part):
     """Returns the number of lines in the shortest prefix of the text that is valid TOML and contains a part, as BoardReading returns it."""
     _number, section, index, key = part
-    first, last = 0, len(lines)
-    while last - first > 1:
-        middle = (first + last) // 2
+    too_short, long_enough = 0, len(lines)
+    while long_enough - too_short > 1:
+        middle = (too_short + long_enough) // 2
         count, document = longest_toml(lines[:middle], middle)
         if has_part(document, section, index, key):
-            last = count
+            long_enough = count
         else:
-            first = middle
-    return last
+            too_short = middle
+    return long_enough
 
 
 def wiring_answer(lines):
@@ -186,12 +186,12 @@ def wiring_answer(lines):
     count, document = longest_toml(lines, len(lines))
     if count < len(lines):
         return f"no 20 line {count + 1}"
-    part = BoardReading(document).first_error()
-    if part is None:
+    error = BoardReading(document).first_error()
+    if error is None:
         return "wiring valid"
-    number, section, index, key = part
-    words = [f"no {number} line {line_of(lines, part)}"]
-    words += [section] if section else []
-    words += [str(index)] if index else []
-    words += [] if key is None else [f"key {key if re.fullmatch('[A-Za-z0-9_-]+', key) else '?'}"]
-    return " ".join(words)
+    number, section, index, key = error
+    answer_words = [f"no {number} line {line_of(lines, error)}"]
+    answer_words += [section] if section else []
+    answer_words += [str(index)] if index else []
+    answer_words += [] if key is None else [f"key {key if re.fullmatch('[A-Za-z0-9_-]+', key) else '?'}"]
+    return " ".join(answer_words)

@@ -1,6 +1,6 @@
 """Checks the lamps and keys view of the Visual Studio Code extension: `python3 board_view.py FOLDER`. FOLDER is the extension, unpacked from its
 .vsix. The view's page runs in Chromium with a stand-in for the editor's interface (acquireVsCodeApi). The extension's module runs in Node with the
-real debug adapter (board_view.mjs). Messages are passed between both. Prints `ok WORDS` or `fault: WORDS` for each check."""
+real debug adapter (board_view.mjs). The check passes messages between the page and the module. Prints `ok WORDS` or `fault: WORDS` for each check."""
 
 import json
 import pathlib
@@ -27,11 +27,11 @@ GET_KEYS = "return [...document.querySelectorAll('#keys button')].map((each) => 
 GET_KEYS_DOWN = "return [...document.querySelectorAll('#keys [aria-pressed=true]')].map((each) => each.textContent).join(' ')"
 GET_LAMPS = "return [...document.querySelectorAll('.bulb')].map((each) => each.getAttribute('aria-label')).join('; ')"
 GET_HIDDEN = "return [document.getElementById('front').hidden, document.getElementById('nothing').hidden]"
-WAIT = 60
+TIMEOUT_SECONDS = 60
 
 
-def verdict(found, wanted, what):
-    print(f"ok {what}" if found == wanted else f"fault: {what}: is {found!r}, must be {wanted!r}")
+def expect_equal(actual, expected, description):
+    print(f"ok {description}" if actual == expected else f"fault: {description}: is {actual!r}, must be {expected!r}")
 
 
 class Bridge:
@@ -42,16 +42,16 @@ class Bridge:
         self.child = subprocess.Popen(["node", LIB / "board_view.mjs", folder], stdin=subprocess.PIPE, stdout=subprocess.PIPE, text=True)
         self.lines = queue.Queue()
         threading.Thread(target=lambda: [self.lines.put(line) for line in self.child.stdout], daemon=True).start()
-        self.html = json.loads(self.lines.get(timeout=WAIT))["html"]
+        self.html = json.loads(self.lines.get(timeout=TIMEOUT_SECONDS))["html"]
         self.messages = []
 
     def send(self, **message):
         self.child.stdin.write(json.dumps(message) + "\n")
         self.child.stdin.flush()
 
-    def pump(self):
-        for said in self.browser.script(TAKE_MESSAGES):
-            self.send(said=said)
+    def pass_messages(self):
+        for posted in self.browser.script(TAKE_MESSAGES):
+            self.send(said=posted)
         while not self.lines.empty():
             message = json.loads(self.lines.get())
             if "post" in message:
@@ -59,27 +59,27 @@ class Bridge:
             else:
                 self.messages.append(message)
 
-    def until(self, code, wanted, what):
+    def expect_result(self, code, expected, description):
         """Waits until a script returns the expected value. Passes messages in the meantime."""
-        end = time.monotonic() + WAIT
-        found = None
-        while time.monotonic() < end:
-            self.pump()
-            found = self.browser.script(code)
-            if found == wanted:
+        deadline = time.monotonic() + TIMEOUT_SECONDS
+        result = None
+        while time.monotonic() < deadline:
+            self.pass_messages()
+            result = self.browser.script(code)
+            if result == expected:
                 break
             time.sleep(0.02)
-        verdict(found, wanted, what)
+        expect_equal(result, expected, description)
 
-    def ask(self, name, **words):
-        self.send(ask=name, args=words)
-        end = time.monotonic() + WAIT
-        while time.monotonic() < end:
-            self.pump()
-            found = next((each for each in self.messages if each.get("asked") == name), None)
-            if found:
-                self.messages.remove(found)
-                return found.get("body")
+    def request(self, name, **arguments):
+        self.send(ask=name, args=arguments)
+        deadline = time.monotonic() + TIMEOUT_SECONDS
+        while time.monotonic() < deadline:
+            self.pass_messages()
+            answer = next((message for message in self.messages if message.get("asked") == name), None)
+            if answer:
+                self.messages.remove(answer)
+                return answer.get("body")
             time.sleep(0.02)
         return None
 
@@ -94,28 +94,28 @@ def main():
             page = folder / "opened.html"
             page.write_text(bridge.html.replace('<link rel', '<script src="stub.js"></script>\n<link rel', 1))
             browser.go(page.as_uri())
-            bridge.until(GET_HIDDEN, [False, True], "the board stands there once a program is debugged")
-            verdict(browser.script(GET_KEYS), "1 2 3 4 5 6 7 8 9 * 0 #", "its keys by their names")
-            bridge.until(GET_LAMPS, "locked, dark; open, dark; alarm, dark", "its lamps")
+            bridge.expect_result(GET_HIDDEN, [False, True], "the view shows the board when debugging starts")
+            expect_equal(browser.script(GET_KEYS), "1 2 3 4 5 6 7 8 9 * 0 #", "the view shows the names of the keys")
+            bridge.expect_result(GET_LAMPS, "locked, dark; open, dark; alarm, dark", "the view shows the lamps")
             browser.click("#keys button:nth-child(5)")
-            bridge.until(GET_KEYS_DOWN, "5", "while time stands a key stays down")
-            state = bridge.ask("evaluate", expression="state", context="repl")["result"]
-            verdict(" keys 1.1 " in state, True, "and is down in the machine")
+            bridge.expect_result(GET_KEYS_DOWN, "5", "a click presses a key while the program is paused")
+            state = bridge.request("evaluate", expression="state", context="repl")["result"]
+            expect_equal(" keys 1.1 " in state, True, "the key is also down in the machine")
             browser.click("#keys button:nth-child(5)")
-            bridge.until(GET_KEYS_DOWN, "", "and goes up by another click")
-            bridge.ask("continue", threadId=1)
-            bridge.until(GET_LAMPS, "locked, lit; open, dark; alarm, dark", "while time runs the lamps are lit")
+            bridge.expect_result(GET_KEYS_DOWN, "", "another click releases the key")
+            bridge.request("continue", threadId=1)
+            bridge.expect_result(GET_LAMPS, "locked, lit; open, dark; alarm, dark", "the lamps are on while the program runs")
             browser.keys([*"4711#"])
-            bridge.until(GET_LAMPS, "locked, dark; open, lit; alarm, dark", "the keyboard presses the keys: the lock is open")
+            bridge.expect_result(GET_LAMPS, "locked, dark; open, lit; alarm, dark", "keys on the keyboard open the lock")
             if len(sys.argv) > 2:
                 pathlib.Path(sys.argv[2]).write_bytes(browser.picture())
-            bridge.until(GET_LAMPS, "locked, lit; open, dark; alarm, dark", "and is locked again after a while")
-            bridge.ask("pause", threadId=1)
-            verdict(browser.script("return window.broken"), [], "nothing that its policy forbids, and no fault")
+            bridge.expect_result(GET_LAMPS, "locked, lit; open, dark; alarm, dark", "the lock closes again after its time")
+            bridge.request("pause", threadId=1)
+            expect_equal(browser.script("return window.broken"), [], "the page breaks no security policy and has no error")
             bridge.send(end=True)
-            bridge.until(GET_HIDDEN, [True, False], "once nothing is debugged it says so")
-            bridge.child.wait(WAIT)
-            verdict([each for each in bridge.messages if "error" in each], [], "no fault is shown")
+            bridge.expect_result(GET_HIDDEN, [True, False], "the view says when nothing is being debugged")
+            bridge.child.wait(TIMEOUT_SECONDS)
+            expect_equal([message for message in bridge.messages if "error" in message], [], "the view shows no error")
         finally:
             browser.end()
 

@@ -18,8 +18,8 @@ def first_sentence(crate):
     """Returns the first sentence of the comment at the top of a crate's root file: `lib.rt`, or `main.rt` for a program."""
     sources = [TOP / "crates" / crate / "src" / name for name in ("lib.rt", "main.rt")]
     text = next(source for source in sources if source.exists()).read_text()
-    said = " ".join(line[4:] for line in text.splitlines() if line.startswith("//! "))
-    return re.split(r"(?<=[.])(?= |$)", said, maxsplit=1)[0]
+    comment = " ".join(line[4:] for line in text.splitlines() if line.startswith("//! "))
+    return re.split(r"(?<=[.])(?= |$)", comment, maxsplit=1)[0]
 
 
 def crates_by_heading():

@@ -26,14 +26,14 @@ def files_of(crate):
 def names_of_file(path):
     """Returns the names that a file defines."""
     text = path.read_text()
-    return {name for form in (IN_SOURCES if path.suffix == ".rt" else IN_SPECS) for name in re.findall(form, text, re.M)}
+    return {name for pattern in (IN_SOURCES if path.suffix == ".rt" else IN_SPECS) for name in re.findall(pattern, text, re.M)}
 
 
-def defined_in(crate, module=None):
+def names_defined_in(crate, module=None):
     """Returns the names that a crate defines, including the names of its modules. With `module`, returns only the names that this module defines."""
     files = [path for path in files_of(crate) if module in (None, path.stem)]
-    own = {path.stem for path in files} if module is None else set()
-    return own.union(*(names_of_file(path) for path in files))
+    module_names = {path.stem for path in files} if module is None else set()
+    return module_names.union(*(names_of_file(path) for path in files))
 
 
 def functions_of(crate, module=None):
@@ -53,10 +53,10 @@ def crate_files():
     return [path for folder in ("src", "specs", "proofs") for path in sorted(CRATES.glob(f"*/{folder}/**/*")) if path.suffix in (".rt", ".antt")]
 
 
-def unknown_in_comments():
-    """Yields the file, line and name of each name that is in backticks in a comment of the crates, but that no code contains."""
-    known = {word for path in crate_files() for line in path.read_text().splitlines() if not is_comment(line) for word in re.findall(r"\w+", line)}
+def unknown_names_in_comments():
+    """Yields each name that is in backticks in a comment of the crates but not in their code. Before the name are its file and its line."""
+    names_in_code = {word for path in crate_files() for line in path.read_text().splitlines() if not is_comment(line) for word in re.findall(r"\w+", line)}
     for path in crate_files():
         for number, line in enumerate(path.read_text().splitlines(), 1):
-            codes = re.findall(r"`([^`]+)`", line) if is_comment(line) else []
-            yield from ((path, number, name) for code in codes for name in re.findall(NAME, code) if name not in known)
+            quoted_codes = re.findall(r"`([^`]+)`", line) if is_comment(line) else []
+            yield from ((path, number, name) for code in quoted_codes for name in re.findall(NAME, code) if name not in names_in_code)

@@ -14,54 +14,54 @@ const element = document.querySelector(arguments[0]);
 return `${element.getBoundingClientRect().top} ${element.textContent}`"""
 
 
-class Fault(Exception):
+class DriverError(Exception):
     """Raised if the driver or the page returns an error instead of a value."""
 
 
-def matches(found, wanted):
+def matches(actual, expected):
     """Returns true if a value equals the expected value, or if it matches the expected pattern."""
-    return bool(wanted.search(str(found))) if isinstance(wanted, re.Pattern) else found == wanted
+    return bool(expected.search(str(actual))) if isinstance(expected, re.Pattern) else actual == expected
 
 
-class Driven:
+class BrowserDriver:
     # True if the driver can touch the page with several fingers.
-    has_fingers = True
+    can_multitouch = True
     # True if `document.hidden` is true for a page in a background tab.
-    hides_tabs = True
-    # True if the browser always calls a page's `pagehide` listeners when the user leaves the page.
-    runs_at_pagehide = True
-    # The seconds after a scroll until the page has been drawn again.
+    hides_background_tabs = True
+    # True if the browser calls a page's `pagehide` listeners every time the user leaves the page.
+    always_calls_pagehide = True
+    # The number of seconds after a scroll until the page has been drawn again.
     settle_seconds = 0
 
-    def show(self, selector):
+    def scroll_to(self, selector):
         """Scrolls an element to the middle, so that nothing covers it."""
         self.script("document.querySelector(arguments[0]).scrollIntoView({ block: 'center' })", selector)
 
     def click(self, selector):
-        self.show(selector)
+        self.scroll_to(selector)
         time.sleep(self.settle_seconds)
         self.click_element(self.find(selector))
 
     def click_at_rest(self, selector):
         """Waits until an element, such as a row of the disassembly, has not moved for a third of a second, and clicks it."""
-        self.show(selector)
-        seen = None
-        end = time.monotonic() + 10
-        while (now := self.script(GET_PLACE_AND_TEXT, selector)) != seen and time.monotonic() < end:
-            seen = now
+        self.scroll_to(selector)
+        last_state = None
+        deadline = time.monotonic() + 10
+        while (state := self.script(GET_PLACE_AND_TEXT, selector)) != last_state and time.monotonic() < deadline:
+            last_state = state
             time.sleep(0.3)
         self.click_element(self.find(selector))
 
-    def hold(self, selector, time_down):
+    def hold(self, selector, milliseconds_down):
         """Presses the mouse button on an element for a time in milliseconds."""
-        self.show(selector)
+        self.scroll_to(selector)
         time.sleep(self.settle_seconds)
         self.actions({
             "type": "pointer", "id": "mouse", "parameters": {"pointerType": "mouse"},
             "actions": [
                 {"type": "pointerMove", "duration": 0, "x": 0, "y": 0, "origin": {ELEMENT: self.find(selector)}},
                 {"type": "pointerDown", "button": 0},
-                {"type": "pause", "duration": time_down},
+                {"type": "pause", "duration": milliseconds_down},
                 {"type": "pointerUp", "button": 0},
             ],
         })
@@ -72,9 +72,9 @@ class Driven:
     def text(self, selector):
         return self.script("return document.querySelector(arguments[0]).textContent", selector)
 
-    def fingers(self, selectors, time_down):
+    def touch_together(self, selectors, milliseconds_down):
         """Touches several elements, one finger each. The fingers go down in sequence, stay down together for a time in milliseconds, and go up."""
-        self.show(selectors[0])
+        self.scroll_to(selectors[0])
         self.actions(*[{
             "type": "pointer", "id": f"finger{number}", "parameters": {"pointerType": "touch"},
             "actions": [
@@ -82,58 +82,58 @@ class Driven:
                 *[PAUSE] * number,
                 {"type": "pointerDown", "button": 0},
                 *[PAUSE] * (len(selectors) - 1 - number),
-                {"type": "pause", "duration": time_down},
+                {"type": "pause", "duration": milliseconds_down},
                 {"type": "pointerUp", "button": 0},
             ],
         } for number, selector in enumerate(selectors)])
 
-    def touch(self, selector, time_down):
+    def touch(self, selector, milliseconds_down):
         """Touches an element with one finger for a time in milliseconds. (For WebKit, whose driver cannot touch, a script dispatches the events.)"""
-        self.fingers([selector], time_down)
+        self.touch_together([selector], milliseconds_down)
 
     def click_secondary(self, x, y):
         """Clicks a point of the window with the secondary mouse button."""
         self.actions({"type": "pointer", "id": "mouse", "parameters": {"pointerType": "mouse"}, "actions": [
             {"type": "pointerMove", "duration": 0, "x": x, "y": y}, {"type": "pointerDown", "button": 2}, {"type": "pointerUp", "button": 2}]})
 
-    def keys(self, keys, time_down=70, time_up=60):
+    def keys(self, keys, milliseconds_down=70, milliseconds_up=60):
         """Types keys on the keyboard in sequence."""
         steps = []
         for key in keys:
-            steps += [{"type": "keyDown", "value": key}, {"type": "pause", "duration": time_down},
-                      {"type": "keyUp", "value": key}, {"type": "pause", "duration": time_up}]
+            steps += [{"type": "keyDown", "value": key}, {"type": "pause", "duration": milliseconds_down},
+                      {"type": "keyUp", "value": key}, {"type": "pause", "duration": milliseconds_up}]
         self.actions({"type": "key", "id": "keyboard", "actions": steps})
 
-    def chord(self, held, typed):
+    def press_chord(self, held_key, typed_key):
         """Types a key while another key is held."""
         self.actions({"type": "key", "id": "keyboard", "actions": [
-            {"type": "keyDown", "value": held}, {"type": "keyDown", "value": typed},
-            {"type": "keyUp", "value": typed}, {"type": "keyUp", "value": held}]})
+            {"type": "keyDown", "value": held_key}, {"type": "keyDown", "value": typed_key},
+            {"type": "keyUp", "value": typed_key}, {"type": "keyUp", "value": held_key}]})
 
     def resize(self, width, height, _mobile=False):
         """Sets the size of the page, independent of the window's borders."""
         for _ in range(20):
-            found = self.script("return [innerWidth, innerHeight]")
-            if found == [width, height]:
+            page_size = self.script("return [innerWidth, innerHeight]")
+            if page_size == [width, height]:
                 return
-            outer = self.window_size()
-            self.set_window_size(width + outer[0] - found[0], height + outer[1] - found[1])
+            window_size = self.window_size()
+            self.set_window_size(width + window_size[0] - page_size[0], height + window_size[1] - page_size[1])
             time.sleep(0.1)
-        raise Fault(f"the page has {found[0]} x {found[1]} pixels, not {width} x {height}")
+        raise DriverError(f"the page has {page_size[0]} x {page_size[1]} pixels, not {width} x {height}")
 
-    def resize_back(self):
+    def restore_size(self):
         self.set_window_size(1280, 900)
 
-    def until(self, code, wanted, seconds=30):
+    def until(self, code, expected, seconds=30):
         """Repeats a script until it returns the expected value, or a text that matches a pattern. Returns the last result. A script that fails is
         also repeated, because scripts fail while the browser leaves the page."""
-        end = time.monotonic() + seconds
+        deadline = time.monotonic() + seconds
         while True:
             try:
-                found = self.script(code)
-                if matches(found, wanted) or time.monotonic() > end:
-                    return found
-            except Fault:
-                if time.monotonic() > end:
+                result = self.script(code)
+                if matches(result, expected) or time.monotonic() > deadline:
+                    return result
+            except DriverError:
+                if time.monotonic() > deadline:
                     raise
             time.sleep(0.05)

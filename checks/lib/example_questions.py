@@ -27,32 +27,32 @@ def texts_of(props: str) -> tuple[list[str], list[str]]:
     name = path.stem.removesuffix("_bounces")
     lines = next(path.with_name(f"{name}.{kind}") for kind in ("txt", "mcsp") if path.with_name(f"{name}.{kind}").exists()).read_text().splitlines()
 
-    def text(word: str) -> list[str]:
-        begin = lines.index(word) + 1
-        return lines[begin:lines.index(".", begin)]
+    def text_after(word: str) -> list[str]:
+        start = lines.index(word) + 1
+        return lines[start:lines.index(".", start)]
 
-    return text("wire"), text("asm")
+    return text_after("wire"), text_after("asm")
 
 
-def comparisons_of(words: str, names: dict[str, int]) -> list[Comparison]:
+def comparisons_of(text: str, names: dict[str, int]) -> list[Comparison]:
     """Parses comparisons that are joined with `&`. `@label` becomes the comparison that the program counter is at that label, between two
     instructions."""
-    rows: list[Comparison] = []
-    for each in words.split(" & "):
-        if each.startswith("@"):
-            page, word = divmod(names[each[1:]], 256)
-            rows += [("in", "counter", index, "whole", number, number) for index, number in ((3, 0), (4, page), (5, word))]
+    comparisons: list[Comparison] = []
+    for term in text.split(" & "):
+        if term.startswith("@"):
+            page, word = divmod(names[term[1:]], 256)
+            comparisons += [("in", "counter", index, "whole", number, number) for index, number in ((3, 0), (4, page), (5, word))]
         else:
-            way, name, index, part, low, high = each.split()
-            rows.append((way, name, int(index), part, int(low), int(high)))
-    return rows
+            operator, name, index, part, low, high = term.split()
+            comparisons.append((operator, name, int(index), part, int(low), int(high)))
+    return comparisons
 
 
-def question_of(props: str, nevers: list[str], most: int, pause: int) -> Question:
+def question_of(props: str, conditions: list[str], max_states: int, pause: int) -> Question:
     """Returns a question about an example."""
     board, program = texts_of(props)
     names = assemble(program)[2]
-    return Question(board, program, [comparisons_of(never, names) for never in nevers], most, pause)
+    return Question(board, program, [comparisons_of(never, names) for never in conditions], max_states, pause)
 
 
 DIE_FACES = " & ".join(f"out ramport 0 whole {value} {value}" for value in (0, 1, 3, 7, 8, 9, 11))
@@ -67,14 +67,14 @@ class Example:
     props: str
     answer: str
     nevers: dict[str, str]
-    most: int = 1000000
+    max_states: int = 1000000
     pause: int = 1000000
 
 
 EXAMPLES = [
     Example("a_fault_to_find.props", "may fail after 1 values", {"lamp 8 on and lamp 2 on": "in ramport 0 line3 1 1 & in ramport 0 line1 1 1"}),
-    Example("counter.props", "too many", {never: DIGIT_COMPARISONS[never] for never in ("ram.0.0 > 9", "ram.0.64 > 9")}, most=20000),
-    # This question does not limit the duration of key presses, as the properties file does. So the property can fail.
+    Example("counter.props", "too many", {never: DIGIT_COMPARISONS[never] for never in ("ram.0.0 > 9", "ram.0.64 > 9")}, max_states=20000),
+    # Unlike the properties file, this question does not limit the duration of key presses. So the property can fail.
     Example("counter_bounces.props", "may fail after 113 values", {"@count": "@count"}),
     Example("die.props", "holds 13", {
         "not lamps ...*... and not lamps *.....* and not lamps *..*..* and not lamps **...** and not lamps **.*.** and not lamps ***.*** "
@@ -88,23 +88,23 @@ EXAMPLES = [
         "lamp green on and lamp amber on": f"{GREEN} & {AMBER}", "lamp stand on and lamp walk on": f"in ramport 1 line0 1 1 & {WALK}"}),
     Example("calculator/calculator.props", "too many", {
         "st.0.0.1 > 7": "in status 1 whole 8 15",
-        "lamp overflow on and lamp division_by_zero on": "in ramport 0 line1 1 1 & in ramport 0 line2 1 1"}, most=5000),
+        "lamp overflow on and lamp division_by_zero on": "in ramport 0 line1 1 1 & in ramport 0 line2 1 1"}, max_states=5000),
     Example("calculator/short_press.props", "may fail after 26 values", {"@act": "@act"}),
     Example("clock/clock.props", "too many", {
-        "r11 > 9": "in register 11 whole 10 15", **{f"ram0.0 out {value}": f"in ramport 0 whole {value} {value}" for value in (3, 5, 15)}}, most=500),
+        "r11 > 9": "in register 11 whole 10 15", **{f"ram0.0 out {value}": f"in ramport 0 whole {value} {value}" for value in (3, 5, 15)}}, max_states=500),
     Example("lock/lock.props", "holds 297692", {
         "lamp open on and lamp locked on": "in ramport 0 line1 1 1 & in ramport 0 line0 1 1",
         "lamp open on and lamp alarm on": "in ramport 0 line1 1 1 & in ramport 0 line2 1 1"}),
     Example("pictures/pictures.props", "holds 9", {"not ram0.2 out 0 and not ram0.3 out 0": "out ramport 2 whole 0 0 & out ramport 3 whole 0 0"}),
     Example("printing_calculator/printing_calculator.props", "too many", {
-        "st.0.0.0 > 12": "in status 0 whole 13 15", "st.0.0.1 > 1": "in status 1 whole 2 15"}, most=5000),
+        "st.0.0.0 > 12": "in status 0 whole 13 15", "st.0.0.1 > 1": "in status 1 whole 2 15"}, max_states=5000),
     Example("three_lamps/three_lamps.props", "holds 2", {
         "lamp left on and lamp right on": "in ramport 0 line2 1 1 & in ramport 0 line0 1 1",
         "lamp left on and lamp middle on": "in ramport 0 line2 1 1 & in ramport 0 line1 1 1",
         "lamp middle on and lamp right on": "in ramport 0 line1 1 1 & in ramport 0 line0 1 1"}),
 ]
 # The answers of longer searches, which need a gigabyte of memory. The search of the clock takes minutes.
-LONGER = {"counter.props": "holds 2240113"}
+LONGER_ANSWERS = {"counter.props": "holds 2240113"}
 # The values that each RAM port, by its index, can output in the examples that have mutants. The lock, the traffic light and the three lamps never
 # output other values, whatever is pressed.
 POSSIBLE_OUTPUTS = {
@@ -132,58 +132,58 @@ class TimeLimit:
     limit: int
     answer: str
     longest: int = -1
-    most: int = 1000000
+    max_states: int = 1000000
 
     def question(self) -> Question:
         """Returns the question."""
-        question = question_of(self.props, [], self.most, 1000000)
+        question = question_of(self.props, [], self.max_states, 1000000)
         names = assemble(question.program)[2]
         question.begins, question.ends = ([comparisons_of(row, names) for row in rows] for rows in (self.begins, self.ends))
         question.within = self.limit
         return question
 
 
-def duration_question(props: str, line: str, condition: str, limit: int, answer: str, longest: int = -1, most: int = 1000000) -> TimeLimit:
-    """Returns the question whether the comparisons of `condition` can all be true for longer than `limit` cycles. The stopwatch ends when any of them
-    becomes false."""
-    comparisons = [each.split(" ", 1) for each in condition.split(" & ")]
-    ends = [f"{'out' if word == 'in' else 'in'} {rest}" for word, rest in comparisons]
-    return TimeLimit(props, line, [condition], ends, limit, answer, longest, most)
+def duration_question(props: str, line: str, condition: str, limit: int, answer: str, longest: int = -1, max_states: int = 1000000) -> TimeLimit:
+    """Returns the question whether the comparisons of `condition` can all be true for longer than `limit` cycles. The stopwatch stops when any
+    comparison becomes false."""
+    comparisons = [comparison.split(" ", 1) for comparison in condition.split(" & ")]
+    ends = [f"{'out' if operator == 'in' else 'in'} {operands}" for operator, operands in comparisons]
+    return TimeLimit(props, line, [condition], ends, limit, answer, longest, max_states)
 
 
-def all_off(name: str, indexes: Iterable[int]) -> str:
-    """Returns the comparisons that are true if these cells of a list are 0."""
+def all_zero(name: str, indexes: Iterable[int]) -> str:
+    """Returns the comparisons that are true if these cells of the list `name` are 0."""
     return " & ".join(f"in {name} {index} whole 0 0" for index in indexes)
 
 
-CLOCK, STACKER, LOCK, PICTURES, THREE = (f"{name}/{name}.props" for name in ("clock", "stacker", "lock", "pictures", "three_lamps"))
+CLOCK, STACKER, LOCK, PICTURES, THREE_LAMPS = (f"{name}/{name}.props" for name in ("clock", "stacker", "lock", "pictures", "three_lamps"))
 TIME_LIMITS = [
-    TimeLimit("counter.props", "@count to @open within 53", ["@count"], ["@open"], 53, "too many", most=500),
-    duration_question("die.props", "never lamps none for 1 ms", all_off("ramport", [0]), 93, "holds 13", 16),
+    TimeLimit("counter.props", "@count to @open within 53", ["@count"], ["@open"], 53, "too many", max_states=500),
+    duration_question("die.props", "never lamps none for 1 ms", all_zero("ramport", [0]), 93, "holds 13", 16),
     TimeLimit("die.props", "@hold to @hold within 15", ["@hold"], ["@hold"], 15, "holds 13", 15),
     duration_question("lamps.props", "never lamp 0 off and lamp 1 on for 1 ms", "in chain0 0 whole 0 0 & in chain0 1 whole 1 1", 93, "holds 2", 0),
-    duration_question("running_light.props", "never lamps none for 1 ms", all_off("chain0", range(10)), 93, "holds 2", 9),
+    duration_question("running_light.props", "never lamps none for 1 ms", all_zero("chain0", range(10)), 93, "holds 2", 9),
     TimeLimit("running_light.props", "every 8747 @step", [AT_POWER_ON, "@step"], ["@step"], 8747, "holds 2", 8747),
     TimeLimit("stopwatch.props", "every 926 @wait", [AT_POWER_ON, "@wait"], ["@wait"], 926, "holds 20002", 926),
-    duration_question("traffic_light.props", "never lamps none for 1 ms", all_off("ramport", [0, 1]), 93, "holds 375558", 13),
+    duration_question("traffic_light.props", "never lamps none for 1 ms", all_zero("ramport", [0, 1]), 93, "holds 375558", 13),
     TimeLimit("traffic_light.props", "@stop to @light within 8.01 s", ["@stop"], ["@light"], 741667, "holds 375558", 740744),
-    duration_question(CLOCK, "never r8 > 2 for 10 ms", "in register 8 whole 3 15", 926, "too many", most=500),
-    duration_question(CLOCK, "never r10 > 5 for 10 ms", "in register 10 whole 6 15", 926, "too many", most=500),
-    duration_question(CLOCK, "never not ram0.0 out 1 for 8.4 ms", "out ramport 0 whole 1 1", 778, "too many", most=500),
-    duration_question(LOCK, "never lamps none for 1 ms", all_off("ramport", [0]), 93, "holds 297692", 11),
+    duration_question(CLOCK, "never r8 > 2 for 10 ms", "in register 8 whole 3 15", 926, "too many", max_states=500),
+    duration_question(CLOCK, "never r10 > 5 for 10 ms", "in register 10 whole 6 15", 926, "too many", max_states=500),
+    duration_question(CLOCK, "never not ram0.0 out 1 for 8.4 ms", "out ramport 0 whole 1 1", 778, "too many", max_states=500),
+    duration_question(LOCK, "never lamps none for 1 ms", all_zero("ramport", [0]), 93, "holds 297692", 11),
     duration_question(LOCK, "never lamp open on for 1.1 s", "in ramport 0 line1 1 1", 101852, "holds 297692", 96139),
     duration_question("music_box/music_box.props", "never lamp sound on for 5 ms", "in romport 0 line0 1 1", 463, "holds 2", 193),
     duration_question(PICTURES, "never r0 < 12 for 5 ms", "in register 0 whole 0 11", 463, "holds 9", 5),
     TimeLimit(PICTURES, "every 129 @row", [AT_POWER_ON, "@row"], ["@row"], 129, "holds 9", 129),
-    duration_question(STACKER, "never lamps none for 0.3 s", all_off("ramport", range(16)), 27778, "too many", most=500),
+    duration_question(STACKER, "never lamps none for 0.3 s", all_zero("ramport", range(16)), 27778, "too many", max_states=500),
     *(duration_question(STACKER, f"never lamp {above} on and lamp {below} off and not ram2.3 out 0 for 1 ms",
-              f"in ramport 13 line{line} 1 1 & in ramport 15 line{line} 0 0 & out ramport 11 whole 0 0", 93, "too many", most=500)
+              f"in ramport 13 line{line} 1 1 & in ramport 15 line{line} 0 0 & out ramport 11 whole 0 0", 93, "too many", max_states=500)
       for above, below, line in ((52, 60, 3), (53, 61, 2))),
-    duration_question(THREE, "never lamps none for 1 ms", all_off("ramport", [0]), 93, "holds 2", 7),
-    TimeLimit(THREE, "every 6 ms @next", [AT_POWER_ON, "@next"], ["@next"], 556, "holds 2", 538),
+    duration_question(THREE_LAMPS, "never lamps none for 1 ms", all_zero("ramport", [0]), 93, "holds 2", 7),
+    TimeLimit(THREE_LAMPS, "every 6 ms @next", [AT_POWER_ON, "@next"], ["@next"], 556, "holds 2", 538),
 ]
 # Lines with a time limit that are not tested, because their conditions need the digits of a display and their programs have too many states.
-NOT_TIMED = {"never display -0 and st.0.0.2 3 for 20 ms"}
+UNTESTED_LINES = {"never display -0 and st.0.0.2 3 for 20 ms"}
 
 
 @dataclass
@@ -197,43 +197,43 @@ class RequiredPresses:
     keys: list[tuple[int, int]]
     answer: str
 
-    def question(self, keys: list[tuple[int, int]], most: int = 3000000, pause: int = 1000000) -> Question:
+    def question(self, keys: list[tuple[int, int]], max_states: int = 3000000, pause: int = 1000000) -> Question:
         """Returns the question about these keys."""
-        question = question_of(self.props, [], most, pause)
+        question = question_of(self.props, [], max_states, pause)
         question.opens = [comparisons_of(self.opens, {})]
         question.marks = [(level, *key) for key in keys for level in ("up", "down")]
         return question
 
 
-PRESSED = [
+REQUIRED_PRESSES = [
     RequiredPresses(LOCK, "lamp open on only after press 4, press 7, press 1, press 1, press #", "in ramport 0 line1 1 1",
             [(1, 0), (2, 0), (0, 0), (0, 0), (3, 2)], "holds 2083023"),
 ]
 
 
-def pressed_in(props: str) -> list[str]:
+def press_lines(props: str) -> list[str]:
     """Returns the lines of a properties file that require key presses before a condition becomes true."""
     return [line for line in (EXAMPLE_FILES / props).read_text().splitlines() if " only after press " in line and not line.startswith("#")]
 
 
-def times_in(props: str) -> list[str]:
+def time_lines(props: str) -> list[str]:
     """Returns the lines of a properties file that limit a time, except the limits of key presses."""
     lines = (EXAMPLE_FILES / props).read_text().splitlines()
-    return [line for line in lines if re.match(r"never .* for \d|every |@\S+ to ", line) and line not in NOT_TIMED]
+    return [line for line in lines if re.match(r"never .* for \d|every |@\S+ to ", line) and line not in UNTESTED_LINES]
 
 
-def nevers_in(props: str) -> list[str]:
+def never_conditions(props: str) -> list[str]:
     """Returns the conditions of the `never` lines in a properties file, except those with a time or a guard."""
     lines = (EXAMPLE_FILES / props).read_text().splitlines()
     return [line.removeprefix("never ") for line in lines if line.startswith("never ") and " for " not in line]
 
 
 # The example programs that make mistakes, with their mistakes. lamps.txt runs on into a missing ROM chip, and its second WRR has no output line.
-MISTAKES_MADE = {"lamps.txt": ("rom", "wrr")}
+KNOWN_MISTAKES = {"lamps.txt": ("rom", "wrr")}
 PROGRAM_MAX_STATES, PROGRAM_PAUSE = 60, 1000
 
 
-def programs() -> list[str]:
+def example_names() -> list[str]:
     """Returns the names of the examples with a program, which are files or folders."""
     texts = [path.name for path in EXAMPLE_FILES.glob("*") if path.suffix in (".txt", ".mcsp") and "asm" in path.read_text().splitlines()]
     return sorted([*texts, *(path.parent.name for path in EXAMPLE_FILES.glob("*/board.toml"))])
@@ -249,22 +249,22 @@ def mistakes_of(name: str, mistakes: tuple[str, ...] = MISTAKES) -> Question:
 def program_of(image: dict[int, int]) -> list[str]:
     """Returns the text of a program that assembles to these bytes."""
     lines: list[str] = []
-    for at in sorted(image):
-        if at - 1 not in image or at % 16 == 0:
-            lines.append(f" ORG {at}")
-        lines.append(f" DB {image[at]}")
+    for address in sorted(image):
+        if address - 1 not in image or address % 16 == 0:
+            lines.append(f" ORG {address}")
+        lines.append(f" DB {image[address]}")
     return lines
 
 
 def mutant(seed: int) -> tuple[str, Question]:
     """Returns a question about an example with one instruction replaced by another one of the same size."""
-    chance = random.Random(seed)
-    props, ports = chance.choice([*POSSIBLE_OUTPUTS.items()])
-    others = [" & ".join(f"out ramport {port} whole {value} {value}" for value in values) for port, values in ports.items()]
-    question = question_of(props, others, MUTANT_MAX_STATES, MUTANT_PAUSE)
+    rng = random.Random(seed)
+    props, ports = rng.choice([*POSSIBLE_OUTPUTS.items()])
+    conditions = [" & ".join(f"out ramport {port} whole {value} {value}" for value in values) for port, values in ports.items()]
+    question = question_of(props, conditions, MUTANT_MAX_STATES, MUTANT_PAUSE)
     image, spans, _names = assemble(question.program)
-    at = chance.choice([at for at, size in spans if size in (1, 2) and image[at] in CODES])
-    is_long = CODES[image[at]][0] in TWO_WORDS
-    code = chance.choice([code for code in CODES if (CODES[code][0] in TWO_WORDS) == is_long and code != image[at]])
-    question.program = program_of({**image, at: code})
-    return f"{props} with {CODES[code][0]}, {code:02X}, at {at:03X}", question
+    address = rng.choice([address for address, size in spans if size in (1, 2) and image[address] in CODES])
+    is_long = CODES[image[address]][0] in TWO_WORDS
+    code = rng.choice([code for code in CODES if (CODES[code][0] in TWO_WORDS) == is_long and code != image[address]])
+    question.program = program_of({**image, address: code})
+    return f"{props} with {CODES[code][0]}, {code:02X}, at {address:03X}", question

@@ -19,20 +19,20 @@ def edit_phrases():
     """Yields the phrases about the must-fail edits, and about the crates without such edits."""
     by_crate = edits_by_crate()
     crates = sorted(path.parent.name for path in TOP.glob("crates/*/src"))
-    without = [crate for crate in crates if crate not in by_crate and not re.match("test_|mcs_fixtures", crate)]
-    without.sort(key=lambda crate: (not crate.startswith("mcs_"), crate))
+    crates_without_edits = [crate for crate in crates if crate not in by_crate and not re.match("test_|mcs_fixtures", crate)]
+    crates_without_edits.sort(key=lambda crate: (not crate.startswith("mcs_"), crate))
     yield f"There are {by_crate.total()} edits, at most {max(by_crate.values())} in a crate"
-    yield f"nor in {', '.join(without)} and the test crates"
+    yield f"nor in {', '.join(crates_without_edits)} and the test crates"
 
 
 def sweep_phrases():
-    """Yields the table rows that say how many cases a check tries in ./test, and how many in ./test long."""
-    words_of = {check.name: (check.words.split(), check.long.split()) for check in CHECKS if check.long}
-    for name, place, tried in (("locks", 0, "rounds"), ("assembler", 0, "seeded programs"), ("time", 0, "seeded boards and programs"),
+    """Yields the table rows with the number of cases that each check tries in ./test and in ./test long."""
+    arguments_of = {check.name: (check.words.split(), check.long.split()) for check in CHECKS if check.long}
+    for name, index, unit in (("locks", 0, "rounds"), ("assembler", 0, "seeded programs"), ("time", 0, "seeded boards and programs"),
                                ("time", 1, "sessions of tools"), ("prove", 0, "seeded questions"), ("calculator", 0, "seeded chains"),
                                ("explore", 0, "seconds"), ("page", 3, "seeded scripts")):
-        short, long = (f"{int(each[place]):,}" for each in words_of[name])
-        yield f"| `{name}` | {tried} | {short} | {long} |"
+        short_count, long_count = (f"{int(arguments[index]):,}" for arguments in arguments_of[name])
+        yield f"| `{name}` | {unit} | {short_count} | {long_count} |"
 
 
 def check_phrases():

@@ -7,124 +7,124 @@ import socket
 import subprocess
 import time
 
-from driven import BEFORE_SCRIPTS, ELEMENT, Driven, Fault
+from driven import BEFORE_SCRIPTS, ELEMENT, BrowserDriver, DriverError
 
 SECONDS_TO_START = 90
 SECONDS_TO_ANSWER = 120
 
 
-def preferences(downloads):
+def preferences(download_folder):
     """Returns the preferences of a profile, which select a free port and downloads without a dialog."""
     return {
         "marionette.port": 0,
         "browser.download.folderList": 2,
-        "browser.download.dir": downloads,
+        "browser.download.dir": download_folder,
         "browser.download.useDownloadDir": True,
         "browser.download.alwaysOpenPanel": False,
         "browser.helperApps.neverAsk.saveToDisk": "application/octet-stream",
     }
 
 
-class Firefox(Driven):
+class Firefox(BrowserDriver):
     name = "Firefox"
-    # Firefox 153 often calls no listeners at `pagehide`. It always sends `beforeunload` as well.
-    runs_at_pagehide = False
+    # Firefox 153 often calls no listeners of `pagehide`, but it always calls those of `beforeunload`.
+    always_calls_pagehide = False
     # With these settings, Firefox stores no site data.
     blocks_data = {"network.cookie.cookieBehavior": 2}
 
-    def __init__(self, folder, downloads, **settings):
+    def __init__(self, folder, download_folder, **settings):
         profile = pathlib.Path(folder)
         profile.mkdir(parents=True, exist_ok=True)
-        chosen = {**preferences(downloads), **settings}
-        lines = [f"user_pref({json.dumps(name)}, {json.dumps(value)});\n" for name, value in chosen.items()]
+        all_preferences = {**preferences(download_folder), **settings}
+        lines = [f"user_pref({json.dumps(name)}, {json.dumps(value)});\n" for name, value in all_preferences.items()]
         (profile / "user.js").write_text("".join(lines))
         self.program = subprocess.Popen(["firefox-esr", "--marionette", "--headless", "--no-remote", "--profile", profile],
                                         stdout=subprocess.DEVNULL, stderr=subprocess.DEVNULL)
         self.number = 0
-        self.line = self._connect(profile / "MarionetteActivePort")
-        self.version = self.do("WebDriver:NewSession")["capabilities"]["browserVersion"]
-        self.resize_back()
+        self.connection = self._connect(profile / "MarionetteActivePort")
+        self.version = self.send_command("WebDriver:NewSession")["capabilities"]["browserVersion"]
+        self.restore_size()
 
     def _connect(self, port_file):
-        end = time.monotonic() + SECONDS_TO_START
-        while time.monotonic() < end and self.program.poll() is None:
+        deadline = time.monotonic() + SECONDS_TO_START
+        while time.monotonic() < deadline and self.program.poll() is None:
             try:
-                line = socket.create_connection(("127.0.0.1", int(port_file.read_text())), SECONDS_TO_ANSWER)
-                self.read_from = line.makefile("rb")
+                connection = socket.create_connection(("127.0.0.1", int(port_file.read_text())), SECONDS_TO_ANSWER)
+                self.input = connection.makefile("rb")
                 self._read()
-                return line
+                return connection
             except (OSError, ValueError):
                 time.sleep(0.1)
         self.program.kill()
-        raise Fault("Firefox did not start")
+        raise DriverError("Firefox did not start")
 
     def _read(self):
-        """Reads the next message: its length in digits, a colon, and as many bytes of JSON."""
+        """Reads the next message: its length in digits, a colon, and its bytes in JSON."""
         digits = b""
-        while (digit := self.read_from.read(1)) not in (b":", b""):
+        while (digit := self.input.read(1)) not in (b":", b""):
             digits += digit
         if not digits:
-            raise Fault("Firefox has gone")
-        return json.loads(self.read_from.read(int(digits)))
+            raise DriverError("Firefox has gone")
+        return json.loads(self.input.read(int(digits)))
 
-    def do(self, command, **words):
+    def send_command(self, command, **parameters):
         self.number += 1
-        message = json.dumps([0, self.number, command, words]).encode()
-        self.line.sendall(b"%d:%s" % (len(message), message))
-        _, _, fault, result = self._read()
-        if fault:
-            raise Fault(f"{fault['error']}: {fault['message']}".split("\n")[0])
+        message = json.dumps([0, self.number, command, parameters]).encode()
+        self.connection.sendall(b"%d:%s" % (len(message), message))
+        _, _, error, result = self._read()
+        if error:
+            raise DriverError(f"{error['error']}: {error['message']}".split("\n")[0])
         return result["value"] if isinstance(result, dict) and list(result) == ["value"] else result
 
     def go(self, address):
-        self.do("WebDriver:Navigate", url=address)
+        self.send_command("WebDriver:Navigate", url=address)
 
     def reload(self):
-        self.do("WebDriver:Refresh")
+        self.send_command("WebDriver:Refresh")
 
     def back(self):
-        self.do("WebDriver:Back")
+        self.send_command("WebDriver:Back")
 
-    def script(self, code, *words):
-        return self.do("WebDriver:ExecuteScript", script=BEFORE_SCRIPTS + code, args=list(words))
+    def script(self, code, *arguments):
+        return self.send_command("WebDriver:ExecuteScript", script=BEFORE_SCRIPTS + code, args=list(arguments))
 
     def find(self, selector):
-        return self.do("WebDriver:FindElement", using="css selector", value=selector)[ELEMENT]
+        return self.send_command("WebDriver:FindElement", using="css selector", value=selector)[ELEMENT]
 
     def click_element(self, element):
-        self.do("WebDriver:ElementClick", id=element)
+        self.send_command("WebDriver:ElementClick", id=element)
 
     def send_to_element(self, element, text):
-        self.do("WebDriver:ElementSendKeys", id=element, text=text)
+        self.send_command("WebDriver:ElementSendKeys", id=element, text=text)
 
     def actions(self, *sources):
-        self.do("WebDriver:PerformActions", actions=list(sources))
+        self.send_command("WebDriver:PerformActions", actions=list(sources))
 
     def window_size(self):
-        rect = self.do("WebDriver:GetWindowRect")
-        return rect["width"], rect["height"]
+        window_rect = self.send_command("WebDriver:GetWindowRect")
+        return window_rect["width"], window_rect["height"]
 
     def set_window_size(self, width, height):
-        self.do("WebDriver:SetWindowRect", width=width, height=height)
+        self.send_command("WebDriver:SetWindowRect", width=width, height=height)
 
     def tab(self):
-        return self.do("WebDriver:GetWindowHandle")
+        return self.send_command("WebDriver:GetWindowHandle")
 
     def new_tab(self):
         """Opens a new tab in the foreground and switches to it."""
-        handle = self.do("WebDriver:NewWindow", type="tab", focus=True)["handle"]
+        handle = self.send_command("WebDriver:NewWindow", type="tab", focus=True)["handle"]
         self.show_tab(handle)
 
     def show_tab(self, handle):
-        self.do("WebDriver:SwitchToWindow", handle=handle, focus=True)
+        self.send_command("WebDriver:SwitchToWindow", handle=handle, focus=True)
 
     def close_tab(self, handle):
-        """Closes this tab and switches to the other one."""
-        self.do("WebDriver:CloseWindow")
+        """Closes the current tab and switches to the tab `handle`."""
+        self.send_command("WebDriver:CloseWindow")
         self.show_tab(handle)
 
     def picture(self):
-        return base64.b64decode(self.do("WebDriver:TakeScreenshot", full=False))
+        return base64.b64decode(self.send_command("WebDriver:TakeScreenshot", full=False))
 
     def process(self):
         """Returns the browser's process id."""
@@ -132,7 +132,7 @@ class Firefox(Driven):
 
     def end(self):
         try:
-            self.do("Marionette:Quit", flags=["eForceQuit"])
-        except (Fault, OSError):
+            self.send_command("Marionette:Quit", flags=["eForceQuit"])
+        except (DriverError, OSError):
             self.program.terminate()
         self.program.wait()

@@ -4,44 +4,44 @@ import pathlib
 import statistics
 import time
 
-PAGE = 4096
+PAGE_SIZE = 4096
 SECONDS_BETWEEN_SAMPLES = 2
 
 
-def tree(root):
+def process_tree(root):
     """Returns the ids of a process and all its descendants."""
     parents = {}
     for stat in pathlib.Path("/proc").glob("[0-9]*/stat"):
         try:
-            words = stat.read_text().rsplit(")", 1)[1].split()
+            fields = stat.read_text().rsplit(")", 1)[1].split()
         except (OSError, IndexError):
             continue
-        parents[int(stat.parent.name)] = int(words[1])
-    found = {root}
+        parents[int(stat.parent.name)] = int(fields[1])
+    members = {root}
     while True:
-        more = {each for each, parent in parents.items() if parent in found} - found
-        if not more:
-            return found
-        found |= more
+        children = {process for process, parent in parents.items() if parent in members} - members
+        if not children:
+            return members
+        members |= children
 
 
-def resident(root):
+def resident_bytes(root):
     """Returns the total resident bytes of a process and all its descendants. Shared bytes count once for each process."""
     total = 0
-    for each in tree(root):
+    for process in process_tree(root):
         try:
-            total += int(pathlib.Path(f"/proc/{each}/statm").read_text().split()[1]) * PAGE
+            total += int(pathlib.Path(f"/proc/{process}/statm").read_text().split()[1]) * PAGE_SIZE
         except (OSError, IndexError):
             continue
     return total
 
 
 def memory_growth(root, seconds):
-    """Measures the memory of a process tree for a number of seconds. Returns the ratio of the median in the last third to that in the first third."""
+    """Measures the memory of a process tree for a number of seconds. Returns the median of the last third divided by that of the first third."""
     sizes = []
-    end = time.monotonic() + seconds
-    while time.monotonic() < end:
-        sizes.append(resident(root))
+    deadline = time.monotonic() + seconds
+    while time.monotonic() < deadline:
+        sizes.append(resident_bytes(root))
         time.sleep(SECONDS_BETWEEN_SAMPLES)
-    third = max(1, len(sizes) // 3)
-    return statistics.median(sizes[-third:]) / statistics.median(sizes[:third])
+    third_count = max(1, len(sizes) // 3)
+    return statistics.median(sizes[-third_count:]) / statistics.median(sizes[:third_count])

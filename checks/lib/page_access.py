@@ -1,9 +1,9 @@
 """The part of checks/page about accessibility. Checks the names, roles and states that the browser reports to a screen reader (the accessibility
-tree), the order in which the Tab key reaches the controls, and the contrast of all letters, borders, marks and lamps in both colour schemes."""
+tree), the order in which the Tab key reaches the controls, and the contrast of all text, borders, marks and lamps in both colour schemes."""
 
 import re
 
-from page_in_browser import (ESCAPE, GET_TEXT_OF_EDITOR, IS_AT_COUNTER, PUT_INTO_EDITOR, TAB, choose_example, lines_answered, open_anew, show_text,
+from page_in_browser import (ESCAPE, GET_TEXT_OF_EDITOR, IS_AT_COUNTER, PUT_INTO_EDITOR, TAB, choose_example, send_lines, reopen_page, show_text,
                              step_with_marks, stop_time)
 from verdicts import eventually, verdict
 from web_driver import Chromium
@@ -13,12 +13,12 @@ CONTROL_ROLES = {"button", "textbox", "searchbox", "combobox", "checkbox", "slid
             "radio", "switch"}
 # The roles of regions and groups, which need a name so that a user of a screen reader can tell them apart.
 NAMED_ROLES = {"region", "group", "tablist", "tabpanel", "dialog", "table", "log", "complementary", "image", "alertdialog"}
-# Symbols that a screen reader does not read aloud in a meaningful way.
-UNSPOKEN_SIGNS = re.compile("[\u25b2-\u25cf\u2713]")
+# Symbols for which a screen reader says nothing useful.
+UNSPOKEN_SYMBOLS = re.compile("[\u25b2-\u25cf\u2713]")
 
 
 def check(browser, page, _folder, _mcs4):
-    open_anew(browser, page)
+    reopen_page(browser, page)
     check_answers_announced(browser)
     check_tab_key(browser)
     if isinstance(browser, Chromium):
@@ -26,14 +26,14 @@ def check(browser, page, _folder, _mcs4):
 
 
 def check_answers_announced(browser):
-    """Checks that a screen reader announces the answer to a sent line, and an error with its message, but not the changes while time is running."""
+    """Checks that a screen reader announces the answer to a sent line, and an error with its message."""
     choose_example(browser, "three lamps")
     stop_time(browser)
-    status = "return document.getElementById('answer-status').textContent"
-    lines_answered(browser, "poke acc 5")
-    eventually(browser, "an answer is said", status, re.compile(r"^ok \d+$"))
-    lines_answered(browser, "poke acc 77")
-    eventually(browser, "and a refusal in words", status, re.compile(r"^no \d+.*: [a-z]"))
+    get_status = "return document.getElementById('answer-status').textContent"
+    send_lines(browser, "poke acc 5")
+    eventually(browser, "an answer is said", get_status, re.compile(r"^ok \d+$"))
+    send_lines(browser, "poke acc 77")
+    eventually(browser, "and a refusal in words", get_status, re.compile(r"^no \d+.*: [a-z]"))
 
 
 # The panels in the order in which the Tab key reaches them, starting at the session's name. Escape and then Tab leave an editor.
@@ -42,38 +42,38 @@ const at = document.activeElement;
 const place = at.closest("#session-bar, #clock, #tools, #front, #texts, #dock, #side > section, #statusbar, #notice, .splitter");
 return place ? place.id : at.id"""
 IS_FOCUS_IN_EDITOR = "return document.activeElement.closest('.cm-editor') !== null"
-# In Firefox, a scrollable column is a tab stop of its own, because the arrow keys scroll it.
-SCROLLED = "side"
-SIDE = ["processor", "calls", "watched", "breakpoints", "memory", "ports"]
-ORDER = ["session-bar", "clock", "tools", "front", "front-splitter", "texts", "dock-splitter", "dock", "side-splitter",
-         *[place for name in SIDE for place in (name, f"{name}-splitter")], "history", "statusbar"]
+# The column that is a tab stop in Firefox, because the arrow keys scroll it.
+SCROLLABLE_COLUMN = "side"
+SIDE_PANELS = ["processor", "calls", "watched", "breakpoints", "memory", "ports"]
+TAB_ORDER = ["session-bar", "clock", "tools", "front", "front-splitter", "texts", "dock-splitter", "dock", "side-splitter",
+         *[place for name in SIDE_PANELS for place in (name, f"{name}-splitter")], "history", "statusbar"]
 
 
 def check_tab_key(browser):
     """Checks that Tab goes through the panels in order and is never trapped."""
     show_text(browser, "program")
     browser.script("document.getElementById('name').focus()")
-    seen = []
-    stops = 0
-    while stops < 110 and (place := browser.script(DESCRIBE_FOCUS)) in (*ORDER, SCROLLED):
-        if place != SCROLLED and place not in seen[-1:]:
-            seen.append(place)
-        if place == "statusbar":
+    visited = []
+    tab_count = 0
+    while tab_count < 110 and (panel := browser.script(DESCRIBE_FOCUS)) in (*TAB_ORDER, SCROLLABLE_COLUMN):
+        if panel != SCROLLABLE_COLUMN and panel not in visited[-1:]:
+            visited.append(panel)
+        if panel == "statusbar":
             break
         browser.keys([ESCAPE, TAB] if browser.script(IS_FOCUS_IN_EDITOR) else [TAB], 1, 1)
-        stops += 1
-    verdict("Tab goes through the panels in their order", seen, ORDER)
-    verdict("in few stops", stops < 80, True)
+        tab_count += 1
+    verdict("Tab goes through the panels in their order", visited, TAB_ORDER)
+    verdict("in few stops", tab_count < 80, True)
     browser.script("document.querySelector('#program-editor .cm-editor').lineEditor.focus()")
-    before = browser.script(GET_TEXT_OF_EDITOR, "#program-editor")
+    text_before = browser.script(GET_TEXT_OF_EDITOR, "#program-editor")
     browser.keys([ESCAPE, TAB])
     verdict("Escape and then Tab leaves a text", browser.script(IS_FOCUS_IN_EDITOR), False)
-    verdict("which is as it was", browser.script(GET_TEXT_OF_EDITOR, "#program-editor"), before)
+    verdict("which is as it was", browser.script(GET_TEXT_OF_EDITOR, "#program-editor"), text_before)
 
 
 # --- the accessibility tree and colours, through Chromium's driver ---
 
-def value(node, key):
+def value_of(node, key):
     return (node.get(key) or {}).get("value", "")
 
 
@@ -82,19 +82,19 @@ def nodes_of(browser):
     nodes = browser.command("Accessibility.getFullAXTree")["nodes"]
     for node in nodes:
         if not node.get("ignored"):
-            properties = {each["name"]: each["value"].get("value") for each in node.get("properties", [])}
-            yield value(node, "role"), str(value(node, "name")).strip(), properties
+            properties = {entry["name"]: entry["value"].get("value") for entry in node.get("properties", [])}
+            yield value_of(node, "role"), str(value_of(node, "name")).strip(), properties
 
 
 def check_names(browser, view):
     """Checks that each control, region and group has a name that consists of words."""
     nodes = list(nodes_of(browser))
-    without = [role for role, name, _ in nodes if role in CONTROL_ROLES and not name]
-    verdict(f"{view}: all that can be used has a name", without, [])
-    without = [role for role, name, properties in nodes if role in NAMED_ROLES and not name and role != "group"]
-    verdict(f"{view}: so has each place", without, [])
-    signs = [name for role, name, _ in nodes if role in CONTROL_ROLES | NAMED_ROLES | {"heading"} and UNSPOKEN_SIGNS.search(name)]
-    verdict(f"{view}: names are words", signs, [])
+    unnamed = [role for role, name, _ in nodes if role in CONTROL_ROLES and not name]
+    verdict(f"{view}: all that can be used has a name", unnamed, [])
+    unnamed = [role for role, name, properties in nodes if role in NAMED_ROLES and not name and role != "group"]
+    verdict(f"{view}: so has each place", unnamed, [])
+    unspoken_names = [name for role, name, _ in nodes if role in CONTROL_ROLES | NAMED_ROLES | {"heading"} and UNSPOKEN_SYMBOLS.search(name)]
+    verdict(f"{view}: names are words", unspoken_names, [])
     return nodes
 
 
@@ -106,13 +106,13 @@ def check_contrast(browser, view):
     browser.command("Emulation.setEmulatedMedia", features=[])
 
 
-def look_at(browser, view):
+def check_view(browser, view):
     nodes = check_names(browser, view)
     check_contrast(browser, view)
     return nodes
 
 
-OPEN_ALL = "for (const each of document.querySelectorAll(`${arguments[0]} details`)) each.open = true"
+EXPAND_ALL = "for (const each of document.querySelectorAll(`${arguments[0]} details`)) each.open = true"
 
 
 def check_views(browser):
@@ -133,9 +133,9 @@ def check_board(browser):
     eventually(browser, "a breakpoint is said as pressed", "return document.querySelector('#lines-of-program .next').getAttribute('aria-pressed')", "true")
     verdict("the line that comes next is said as the current one",
             browser.script("return document.querySelector('#lines-of-program [aria-current]').classList.contains('next')"), True)
-    nodes = look_at(browser, "the board and the source")
+    nodes = check_view(browser, "the board and the source")
     roles = [role for role, *_ in nodes]
-    verdict("there is one main part, one banner and one foot", [roles.count(each) for each in ("main", "banner", "contentinfo")], [1, 1, 1])
+    verdict("there is one main part, one banner and one foot", [roles.count(role_name) for role_name in ("main", "banner", "contentinfo")], [1, 1, 1])
     levels = [properties.get("level") for role, _, properties in nodes if role == "heading"]
     verdict("one heading is the page's, all others are of its parts", (levels[0], set(levels[1:])), (1, {2}))
     folds = [properties for role, name, properties in nodes if role == "button" and name in ("Registers", "RAM")]
@@ -150,18 +150,18 @@ def check_other_views(browser):
     stop_time(browser)
     for name in ("board", "wiring"):
         show_text(browser, name)
-        browser.script(OPEN_ALL, "#wiring")
-        look_at(browser, f"the view {name}")
+        browser.script(EXPAND_ALL, "#wiring")
+        check_view(browser, f"the view {name}")
     check_tests(browser)
     show_text(browser, "program")
     browser.type_into("#step-count", "x\ue007")
-    wrong = [name for role, name, properties in nodes_of(browser) if properties.get("invalid") == "true"]
-    verdict("a field with a wrong value says so", wrong, ["How many instructions to step"])
+    invalid_fields = [name for role, name, properties in nodes_of(browser) if properties.get("invalid") == "true"]
+    verdict("a field with a wrong value says so", invalid_fields, ["How many instructions to step"])
     show_text(browser, "waves")
     browser.click("#record")
     eventually(browser, "waves are there", "return document.getElementById('waves').hidden", False)
-    browser.script(OPEN_ALL, "#scope")
-    look_at(browser, "the waves")
+    browser.script(EXPAND_ALL, "#scope")
+    check_view(browser, "the waves")
     show_text(browser, "program")
 
 
@@ -171,13 +171,13 @@ def check_tests(browser):
     browser.script(PUT_INTO_EDITOR, "#tests-editor", "test it is dark\n  expect display 0\n  keys 5\n  expect display 6\n")
     browser.click("#tests-editor .send")
     eventually(browser, "a test fails", "return document.querySelectorAll('#test-list .not-ok').length", 1)
-    browser.script(OPEN_ALL, "#test-results")
-    look_at(browser, "the tests")
+    browser.script(EXPAND_ALL, "#test-results")
+    check_view(browser, "the tests")
     check_properties(browser)
     show_text(browser, "program")
     browser.script("document.querySelector('#program-editor .cm-editor').lineEditor.scrollIntoView({ line: 480, ch: 0 }, 0)")
     eventually(browser, "counts stand beside the source", "return document.querySelectorAll('.at-lacking .mark-counts').length > 0", True)
-    look_at(browser, "the source with its counts")
+    check_view(browser, "the source with its counts")
 
 
 def check_properties(browser):
@@ -187,26 +187,26 @@ def check_properties(browser):
     browser.script("document.getElementById('explore-seconds').value = '60'")
     browser.click("#explore")
     eventually(browser, "a property is broken", "return document.querySelectorAll('#property-list details').length > 0", True)
-    look_at(browser, "properties while they are looked at")
+    check_view(browser, "properties while they are looked at")
     browser.click("#explore")
     eventually(browser, "the search ends", "return document.getElementById('explore').textContent", "Search")
-    browser.script(OPEN_ALL, "#explore-results")
-    look_at(browser, "the properties")
+    browser.script(EXPAND_ALL, "#explore-results")
+    check_view(browser, "the properties")
 
 
 def check_dialogs(browser):
     browser.click("#help-button")
-    browser.script(OPEN_ALL, "#help")
-    look_at(browser, "the help")
+    browser.script(EXPAND_ALL, "#help")
+    check_view(browser, "the help")
     browser.click("#help-close")
     browser.click("#sessions-button")
     eventually(browser, "the dialog of sessions is there", "return document.getElementById('sessions').open", True)
-    nodes = look_at(browser, "the dialog of sessions")
+    nodes = check_view(browser, "the dialog of sessions")
     verdict("it is modal", [properties.get("modal") for role, _, properties in nodes if role == "dialog"], [True])
     browser.click("#close-sessions")
     browser.click("#from-rom")
     eventually(browser, "a question is asked", "return document.querySelectorAll('#ask[open]').length", 1)
-    look_at(browser, "a question")
+    check_view(browser, "a question")
     browser.keys([ESCAPE])
     eventually(browser, "Escape leaves it", "return document.querySelectorAll('#ask[open]').length", 0)
 

@@ -1,5 +1,5 @@
-"""Copies the built page and adds scripts before its own. These scripts remove a browser feature, or make the module or the worker fail on request.
-The page's content security policy is changed to allow them."""
+"""Copies the built page and adds scripts before the page's own. The added scripts remove a browser feature, or make the module or the worker fail on
+request. The copy's content security policy allows them."""
 
 import base64
 import hashlib
@@ -15,7 +15,7 @@ window.Worker = function (...words) {
   return window.benchWorker;
 };"""
 
-# Code for the worker: a message selects a fault, which occurs at the next call of the module, or at once for faults that need no call.
+# Code for the worker. A message selects a fault. It occurs at the next call of the module, or at once for "die" and "hang".
 INSTALL_FAULTS = """
 (() => {
   const made = WebAssembly.Instance;
@@ -48,22 +48,22 @@ INSTALL_FAULTS = """
   };
 })();"""
 
-CAUSE_FAULT = "window.benchWorker.postMessage({ fault: arguments[0] })"
+REQUEST_FAULT = "window.benchWorker.postMessage({ fault: arguments[0] })"
 
 
 def hash_of(script):
     return "'sha256-" + base64.b64encode(hashlib.sha256(script.encode()).digest()).decode() + "'"
 
 
-def altered(page, folder, code="", worker="", replaced=()):
-    """Writes a copy of a page with `code` before the page's script, `worker` before the worker's script, and some texts replaced. Returns the file.
-    """
+def write_altered_page(page, folder, page_code="", worker_code="", replacements=()):
+    """Writes a copy of a page with `page_code` before the page's script, `worker_code` before the worker's script, and some texts replaced. Returns
+    the copy's path."""
     text = page.read_text()
-    if code:
-        text = text.replace("<body>", f"<body><script>{code}</script>", 1)
-    if worker:
-        text = with_worker_code(text, worker)
-    for old, new in replaced:
+    if page_code:
+        text = text.replace("<body>", f"<body><script>{page_code}</script>", 1)
+    if worker_code:
+        text = with_worker_code(text, worker_code)
+    for old, new in replacements:
         if old not in text:
             raise ValueError(f"the page has no {old}")
         text = text.replace(old, new, 1)

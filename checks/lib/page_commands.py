@@ -1,11 +1,11 @@
-"""The part of checks/page about the page's commands: the palette, which reaches all of them, their keys, the toolbar with its menus and tooltips, the
+"""The part of checks/page about the page's commands: the palette, which lists all commands, their keys, the toolbar with its menus and tooltips, the
 theme, the notes on examples, and the first visit with its cards and its tour."""
 
 import re
 
 from driven import ELEMENT
-from page_access import look_at
-from page_in_browser import DOWN, ENTER, ESCAPE, GET_STATUS, IS_READY, STEPPED, TAB, TOP, choose_example, open_anew, show_text, stop_time, until_ready
+from page_access import check_view
+from page_in_browser import DOWN, ENTER, ESCAPE, GET_STATUS, IS_READY, STEPPED, TAB, TOP, choose_example, reopen_page, show_text, stop_time, until_ready
 from verdicts import eventually, verdict
 from web_driver import Chromium
 
@@ -15,7 +15,7 @@ F1, F5, F8, F9, F10, F11 = "\ue031", "\ue035", "\ue038", "\ue039", "\ue03a", "\u
 STEPPED_OVER = re.compile(f"{STEPPED.pattern}|^Returned to [0-9A-F]{{3}}, after ")
 STEPPED_OUT = re.compile("^Returned to |no call is open here")
 IS_PALETTE_OPEN = "const palette = document.getElementById('palette'); return palette !== null && palette.open"
-GET_PALETTE_WORDS = "return [...document.querySelectorAll('#palette-list li .grow')].map((each) => each.textContent)"
+GET_PALETTE_ITEMS = "return [...document.querySelectorAll('#palette-list li .grow')].map((each) => each.textContent)"
 GET_FIRST_COMMAND = "return document.querySelector('#palette-list li').textContent"
 GET_ACTIVE_OPTION = """
 const field = document.querySelector('#palette input');
@@ -34,67 +34,67 @@ BUTTONS_WITHOUT_COMMAND = {
 }
 
 
-def chord(browser, *keys):
-    """Presses keys one after the other, then releases them all."""
+def press_chord(browser, *keys):
+    """Presses keys one after the other, then releases them in reverse order."""
     browser.actions({"type": "key", "id": "keyboard", "actions": [
-        *({"type": "keyDown", "value": each} for each in keys), *({"type": "keyUp", "value": each} for each in reversed(keys))]})
+        *({"type": "keyDown", "value": key} for key in keys), *({"type": "keyUp", "value": key} for key in reversed(keys))]})
 
 
-def open_palette(browser, words=""):
-    chord(browser, CONTROL, "k")
+def open_palette(browser, query=""):
+    press_chord(browser, CONTROL, "k")
     browser.until(IS_PALETTE_OPEN, True)
-    if words:
-        browser.type_into("#palette input", words)
+    if query:
+        browser.type_into("#palette input", query)
 
 
-def do(browser, words):
+def execute_command(browser, query):
     """Executes the first command that the palette finds for a query."""
-    open_palette(browser, words)
+    open_palette(browser, query)
     browser.keys([ENTER])
     browser.until(IS_PALETTE_OPEN, False)
 
 
-def check_reach(browser):
+def check_palette_contents(browser):
     """Checks that the palette lists every command, and that every button of the page has a command."""
     choose_example(browser, "calculator")
     stop_time(browser)
     open_palette(browser)
-    listed = set(browser.script(GET_PALETTE_WORDS))
+    listed_commands = set(browser.script(GET_PALETTE_ITEMS))
     source = (TOP / "js/words/page_commands.js").read_text()
     table = re.search(r"export const COMMANDS = \{(.*?)\n\};", source, re.S).group(1)
-    names = dict(re.findall(r'^  "([\w.]+)": "(.*)",$', table, re.M))
-    # This is the run button's label while time is running, not a command of its own.
-    names.pop("time.pause")
-    verdict("the palette has each command", sorted(set(names.values()) - listed), [])
+    command_names = dict(re.findall(r'^  "([\w.]+)": "(.*)",$', table, re.M))
+    # This is only the run button's label while time is running. It is not a separate command.
+    command_names.pop("time.pause")
+    verdict("the palette has each command", sorted(set(command_names.values()) - listed_commands), [])
     verdict("and each text, panel, theme, speed and example", {"Show Source", "Show RAM", "Theme: dark", "Speed: full speed",
-                                                              "Open the example three lamps", "Press C"} - listed, set())
+                                                              "Open the example three lamps", "Press C"} - listed_commands, set())
     browser.keys([ESCAPE])
     browser.until(IS_PALETTE_OPEN, False)
     commands = (TOP / "js/page/commands/command_table.js").read_text()
     bench = (TOP / "page/bench.html").read_text()
     buttons = set(re.findall(r'<button[^>]* id="([\w-]+)"', bench)) 
     tabs = set(re.findall(r'<button[^>]* role="tab" id="([\w-]+)"', bench))
-    regions = {each for each in buttons if each.startswith("region-")} | {"drawer-button"}
-    without = {each for each in buttons - tabs - regions - set(BUTTONS_WITHOUT_COMMAND) if f'"{each}"' not in commands}
-    done_otherwise = {"back-stop", "back-breakpoint", "forward"}
-    verdict("each button of the page has a command", sorted(without - done_otherwise), [])
+    regions = {button for button in buttons if button.startswith("region-")} | {"drawer-button"}
+    buttons_without_command = {button for button in buttons - tabs - regions - set(BUTTONS_WITHOUT_COMMAND) if f'"{button}"' not in commands}
+    exempt_buttons = {"back-stop", "back-breakpoint", "forward"}
+    verdict("each button of the page has a command", sorted(buttons_without_command - exempt_buttons), [])
 
 
 def check_listbox(browser):
     """Checks the ARIA combobox pattern: the field keeps the focus and names the active option."""
     browser.script("document.getElementById('name').focus()")
-    chord(browser, CONTROL, SHIFT, "p")
+    press_chord(browser, CONTROL, SHIFT, "p")
     eventually(browser, "Control, Shift and P open the palette", IS_PALETTE_OPEN, True)
-    roles = "return ['input', 'ul', 'li'].map((each) => document.querySelector(`#palette ${each}`).getAttribute('role'))"
-    verdict("its roles", browser.script(roles), ["combobox", "listbox", "option"])
-    named = "return ['', ' input', ' ul'].map((each) => document.querySelector(`#palette${each}`).getAttribute('aria-label'))"
-    verdict("its names", browser.script(named), ["Commands", "Type a command", "Commands"])
+    get_roles = "return ['input', 'ul', 'li'].map((each) => document.querySelector(`#palette ${each}`).getAttribute('role'))"
+    verdict("its roles", browser.script(get_roles), ["combobox", "listbox", "option"])
+    get_labels = "return ['', ' input', ' ul'].map((each) => document.querySelector(`#palette${each}`).getAttribute('aria-label'))"
+    verdict("its names", browser.script(get_labels), ["Commands", "Type a command", "Commands"])
     verdict("the first one is chosen", browser.script(GET_ACTIVE_OPTION), 0)
     browser.keys([DOWN, DOWN, UP])
     verdict("arrows choose another one", browser.script(GET_ACTIVE_OPTION), 1)
     browser.keys([UP, UP])
-    last = "return document.querySelectorAll('#palette-list li').length - 1"
-    verdict("and go round at the ends", browser.script(GET_ACTIVE_OPTION), browser.script(last))
+    get_last_index = "return document.querySelectorAll('#palette-list li').length - 1"
+    verdict("and go round at the ends", browser.script(GET_ACTIVE_OPTION), browser.script(get_last_index))
     browser.type_into("#palette input", "step ov")
     eventually(browser, "words find a command, which shows its key", GET_FIRST_COMMAND, "Step overTimeF10")
     verdict("the field has the focus", browser.script("return document.activeElement.getAttribute('role')"), "combobox")
@@ -124,21 +124,21 @@ def check_keys(browser):
     eventually(browser, "F5 pauses", GET_STATUS, re.compile("^Paused"))
     browser.keys([F11])
     eventually(browser, "F11 steps", GET_STATUS, STEPPED)
-    stepped = browser.script(GET_STATUS)
-    chord(browser, CONTROL, F11)
-    eventually(browser, "Control and F11 step back", f"return document.getElementById('status').textContent !== {stepped!r}", True)
+    status_after_step = browser.script(GET_STATUS)
+    press_chord(browser, CONTROL, F11)
+    eventually(browser, "Control and F11 step back", f"return document.getElementById('status').textContent !== {status_after_step!r}", True)
     browser.keys([F10])
     eventually(browser, "F10 steps over", GET_STATUS, STEPPED_OVER)
-    chord(browser, SHIFT, F11)
+    press_chord(browser, SHIFT, F11)
     eventually(browser, "Shift and F11 step out, or say that no call waits for its return", GET_STATUS, STEPPED_OUT)
     show_text(browser, "program")
     browser.script("document.querySelector('#program-editor .cm-editor').lineEditor.setCursor({ line: 12, ch: 0 })")
     browser.script("document.activeElement.blur()")
     browser.keys([F9])
-    breakpoints = "return document.querySelectorAll('#breakpoint-list li').length"
-    eventually(browser, "F9 sets a breakpoint at the caret", breakpoints, 1)
+    count_breakpoints = "return document.querySelectorAll('#breakpoint-list li').length"
+    eventually(browser, "F9 sets a breakpoint at the caret", count_breakpoints, 1)
     browser.keys([F9])
-    eventually(browser, "and clears it", breakpoints, 0)
+    eventually(browser, "and clears it", count_breakpoints, 0)
     browser.keys([F5])
     eventually(browser, "F5 continues", GET_STATUS, re.compile("^Running"))
     browser.keys([F8])
@@ -149,24 +149,24 @@ def check_keys(browser):
 
 
 def check_places(browser):
-    """Checks that Ctrl+P finds labels, addresses, lines, texts and examples, and that choosing one goes there."""
-    chord(browser, CONTROL, "p")
+    """Checks that Ctrl+P opens the palette for places, and that a text, a line or an address chosen there is shown."""
+    press_chord(browser, CONTROL, "p")
     eventually(browser, "Control and P open the palette for places", IS_PALETTE_OPEN, True)
     verdict("its name", browser.script("return document.getElementById('palette').getAttribute('aria-label')"), "Go to")
     browser.type_into("#palette input", "wiring" + ENTER)
     eventually(browser, "a text comes to the front", GET_FRONT_TAB, "wiring-tab")
-    chord(browser, CONTROL, "p")
+    press_chord(browser, CONTROL, "p")
     browser.until(IS_PALETTE_OPEN, True)
     browser.type_into("#palette input", ":3" + ENTER)
     eventually(browser, "a line of the source", GET_FRONT_TAB, "program-tab")
-    line = "return document.querySelector('#program-editor .cm-editor').lineEditor.getCursor().line"
-    eventually(browser, "has the caret", line, 2)
+    get_caret_line = "return document.querySelector('#program-editor .cm-editor').lineEditor.getCursor().line"
+    eventually(browser, "has the caret", get_caret_line, 2)
     browser.script("document.activeElement.blur()")
-    chord(browser, CONTROL, "p")
+    press_chord(browser, CONTROL, "p")
     browser.until(IS_PALETTE_OPEN, True)
     browser.type_into("#palette input", "00C" + ENTER)
     eventually(browser, "an address is shown in the listing", "return document.getElementById('lines-of-program').textContent", re.compile("00C"))
-    chord(browser, CONTROL, "p")
+    press_chord(browser, CONTROL, "p")
     browser.until(IS_PALETTE_OPEN, True)
     browser.type_into("#palette input", ">stop")
     eventually(browser, "> changes to commands", "return document.getElementById('palette').getAttribute('aria-label')", "Commands")
@@ -177,31 +177,31 @@ IS_WATCH_SHOWN = "return isShown(document.getElementById('watched'))"
 GET_KEY_ROWS = "return [...document.querySelectorAll('#help-sections tr')].map((each) => each.textContent).join('|')"
 
 
-def check_acts(browser):
+def check_command_effects(browser):
     """Executes one command of each kind through the palette, and checks its effect."""
-    do(browser, "show tests")
+    execute_command(browser, "show tests")
     eventually(browser, "a text is shown", GET_FRONT_TAB, "tests-tab")
-    size = "return document.getElementById('texts').style.getPropertyValue('--text-size')"
-    before = browser.script(size)
-    do(browser, "larger text")
-    eventually(browser, "a button of a panel is pressed", f"{size} !== {before!r}", True)
-    do(browser, "smaller text")
-    do(browser, "find in the text")
+    get_text_size = "return document.getElementById('texts').style.getPropertyValue('--text-size')"
+    size_before = browser.script(get_text_size)
+    execute_command(browser, "larger text")
+    eventually(browser, "a button of a panel is pressed", f"{get_text_size} !== {size_before!r}", True)
+    execute_command(browser, "smaller text")
+    execute_command(browser, "find in the text")
     eventually(browser, "something is done in the text in front", "return document.activeElement.closest('#tests-editor') !== null", True)
-    do(browser, "add a watch")
+    execute_command(browser, "add a watch")
     eventually(browser, "a field has the caret", GET_FOCUSED_ID, "watched-field")
-    do(browser, "speed 1/100")
+    execute_command(browser, "speed 1/100")
     speed = browser.script("return document.getElementById('speed').value")
     verdict("a speed is chosen", speed in ("hundredth", "thousandth"), True)
-    do(browser, "speed real time")
-    do(browser, "close or reopen watch")
+    execute_command(browser, "speed real time")
+    execute_command(browser, "close or reopen watch")
     eventually(browser, "a panel is closed", IS_WATCH_SHOWN, False)
-    do(browser, "close or reopen watch")
+    execute_command(browser, "close or reopen watch")
     eventually(browser, "and opened again", IS_WATCH_SHOWN, True)
-    do(browser, "list of keys")
+    execute_command(browser, "list of keys")
     eventually(browser, "the help lists the keys", GET_KEY_ROWS, re.compile(r"F5, F8Continue\|F10Step over.*Ctrl\+Shift\+P, Ctrl\+KShow all commands"))
     browser.keys([ESCAPE])
-    do(browser, "open the example stopwatch")
+    execute_command(browser, "open the example stopwatch")
     eventually(browser, "an example is opened", "return document.title", re.compile("^stopwatch"))
     stop_time(browser)
 
@@ -212,18 +212,18 @@ GET_PAGE_COLOUR = "return getComputedStyle(document.body).backgroundColor"
 def check_theme(browser):
     """Checks that the user's choice of a theme survives a reload, and that the theme follows the system by default."""
     light = browser.script(GET_PAGE_COLOUR)
-    do(browser, "theme dark")
+    execute_command(browser, "theme dark")
     eventually(browser, "the theme is dark", f"{GET_PAGE_COLOUR} !== {light!r}", True)
     dark = browser.script(GET_PAGE_COLOUR)
-    scheme = "return getComputedStyle(document.documentElement).colorScheme"
-    verdict("so are the browser's own parts", browser.script(scheme), "dark")
+    get_scheme = "return getComputedStyle(document.documentElement).colorScheme"
+    verdict("so are the browser's own parts", browser.script(get_scheme), "dark")
     browser.reload()
     until_ready(browser)
     eventually(browser, "it is kept", GET_PAGE_COLOUR, dark)
     browser.command("Emulation.setEmulatedMedia", features=[{"name": "prefers-color-scheme", "value": "dark"}])
-    do(browser, "theme light")
+    execute_command(browser, "theme light")
     eventually(browser, "the theme is light where the system is dark", GET_PAGE_COLOUR, light)
-    do(browser, "theme system")
+    execute_command(browser, "theme system")
     eventually(browser, "as the system", GET_PAGE_COLOUR, dark)
     browser.command("Emulation.setEmulatedMedia", features=[])
     eventually(browser, "it follows the system", GET_PAGE_COLOUR, light)
@@ -240,15 +240,15 @@ def check_tooltips(browser):
     browser.keys([ESCAPE])
     eventually(browser, "Escape takes it away", GET_TOOLTIP, "")
     browser.script("document.activeElement.blur()")
-    over = {"type": "pointerMove", "duration": 0, "x": 0, "y": 0, "origin": {ELEMENT: browser.find("#step")}}
-    browser.actions({**HOVER, "actions": [over]})
+    move_to_step = {"type": "pointerMove", "duration": 0, "x": 0, "y": 0, "origin": {ELEMENT: browser.find("#step")}}
+    browser.actions({**HOVER, "actions": [move_to_step]})
     eventually(browser, "where the pointer rests", GET_TOOLTIP, re.compile("^Step into.* F11$"))
     browser.actions({**HOVER, "actions": [{"type": "pointerMove", "duration": 0, "x": 300, "y": 300}]})
     eventually(browser, "not once it has gone", GET_TOOLTIP, "")
-    before = browser.script(GET_STATUS)
+    status_before = browser.script(GET_STATUS)
     browser.touch("#out", 900)
     eventually(browser, "and where a finger stays", GET_TOOLTIP, re.compile("^Step out.* Shift\\+F11$"))
-    verdict("which does nothing else", browser.script(GET_STATUS), before)
+    verdict("which does nothing else", browser.script(GET_STATUS), status_before)
     eventually(browser, "it leaves after the finger", GET_TOOLTIP, "")
 
 
@@ -269,16 +269,16 @@ def check_toolbar(browser):
     keyboard opens the menus."""
     verdict("the toolbar is one row", browser.script("return document.getElementById('toolbar').offsetHeight"), 44)
     tools = browser.script(MEASURE_TOOLS)
-    verdict("each button has an icon", [each["id"] for each in tools if each["icons"] == 0 and each["id"] != "test"], [])
-    verdict("and a name", [each["id"] for each in tools if not each["name"].strip()], [])
-    verdict("and room for a finger's tip", [each["id"] for each in tools if each["size"] < 24], [])
+    verdict("each button has an icon", [tool["id"] for tool in tools if tool["icons"] == 0 and tool["id"] != "test"], [])
+    verdict("and a name", [tool["id"] for tool in tools if not tool["name"].strip()], [])
+    verdict("and room for a finger's tip", [tool["id"] for tool in tools if tool["size"] < 24], [])
     verdict("exactly one button is filled", browser.script(GET_PRIMARY_BUTTONS), 1)
     browser.script("document.getElementById('menu-button').focus()")
     browser.keys([ENTER])
     eventually(browser, "Enter opens the menu of files", IS_MENU_EXPANDED, "true")
     verdict("at its first item", browser.script(GET_FOCUSED_ID), "open-button")
-    roles = "return [...document.querySelectorAll('#menu button')].map((each) => each.getAttribute('role')).join(' ')"
-    verdict("its items' roles", set(browser.script(roles).split()), {"menuitem"})
+    get_roles = "return [...document.querySelectorAll('#menu button')].map((each) => each.getAttribute('role')).join(' ')"
+    verdict("its items' roles", set(browser.script(get_roles).split()), {"menuitem"})
     browser.keys([UP])
     verdict("the arrow goes round", browser.script(GET_FOCUSED_ID), "projects-button")
     browser.keys([ESCAPE])
@@ -286,45 +286,45 @@ def check_toolbar(browser):
     verdict("and the focus is at its button", browser.script(GET_FOCUSED_ID), "menu-button")
     browser.script("document.activeElement.blur()")
     browser.click("#theme-button")
-    checked = "return [...document.querySelectorAll('#theme-menu button')].map((each) => each.getAttribute('aria-checked'))"
-    eventually(browser, "the menu of themes shows the one that is chosen", checked, ["true", "false", "false"])
+    get_checked = "return [...document.querySelectorAll('#theme-menu button')].map((each) => each.getAttribute('aria-checked'))"
+    eventually(browser, "the menu of themes shows the one that is chosen", get_checked, ["true", "false", "false"])
     browser.click("#front h2")
     verdict("a click beside a menu closes it", browser.script("return document.getElementById('theme-menu').hidden"), True)
     browser.click("#front h2")
 
 
-def check_looks(browser):
+def check_accessibility(browser):
     """Checks the names, roles and contrast of the palette, a menu and the welcome cards, in light and dark."""
     browser.command("Accessibility.enable")
     open_palette(browser)
-    look_at(browser, "the palette")
+    check_view(browser, "the palette")
     browser.keys([ESCAPE])
     browser.click("#menu-button")
-    look_at(browser, "the menu of files")
+    check_view(browser, "the menu of files")
     browser.keys([ESCAPE])
-    do(browser, "first steps")
-    look_at(browser, "the first steps")
+    execute_command(browser, "first steps")
+    check_view(browser, "the first steps")
     browser.keys([ESCAPE])
     browser.command("Accessibility.disable")
 
 
 GET_WELCOME_CARDS = "return [...document.querySelectorAll('#welcome b')].map((each) => each.textContent)"
-COUNT_LAMPS_LIT = "return document.querySelectorAll('.bulb.lit').length"
+COUNT_LAMPS_ON = "return document.querySelectorAll('.bulb.lit').length"
 
 
 def check_first_visit(browser, page):
-    """Checks that a browser without stored data shows six cards, that the first card turns a lamp on with three clicks, and that the cards do not
-    appear again."""
+    """Checks that a browser without stored data shows six cards, that the first card's tour turns a lamp on with three clicks, and that the cards do
+    not appear again."""
     browser.script("localStorage.clear()")
     browser.go("about:blank")
     browser.go(page.as_uri())
     eventually(browser, "the page is ready", IS_READY, True, 90)
     if browser.script("return indexedDB.databases === undefined"):
         return
-    do_without_cards = "return document.getElementById('welcome').open"
-    if not browser.script(do_without_cards):
+    is_welcome_open = "return document.getElementById('welcome').open"
+    if not browser.script(is_welcome_open):
         # Earlier checks have stored sessions, so a command must show the cards.
-        do(browser, "first steps")
+        execute_command(browser, "first steps")
     cards = browser.script(GET_WELCOME_CARDS)
     verdict("six cards", len(cards), 6)
     verdict("the first of them", cards[0], "Light a lamp (3 clicks)")
@@ -334,7 +334,7 @@ def check_first_visit(browser, page):
     browser.click("#tour-put")
     eventually(browser, "then at the one that assembles it", DESCRIBE_TOUR_RING, "send")
     browser.click("#program-editor .send")
-    eventually(browser, "after three clicks a lamp is lit", COUNT_LAMPS_LIT, 1)
+    eventually(browser, "after three clicks a lamp is lit", COUNT_LAMPS_ON, 1)
     eventually(browser, "then at what goes on", DESCRIBE_TOUR_RING, "tour-next")
     for number in range(4):
         browser.script("document.getElementById('tour-next').click()")
@@ -345,7 +345,7 @@ def check_first_visit(browser, page):
     browser.go("about:blank")
     browser.go(page.as_uri())
     until_ready(browser)
-    verdict("the cards were seen", browser.script(do_without_cards), False)
+    verdict("the cards were seen", browser.script(is_welcome_open), False)
 
 
 # Describes the element that the tour's ring surrounds.
@@ -360,7 +360,7 @@ MEASURE_RAM_IN_RING = """
 const ring = document.getElementById('tour-ring').getBoundingClientRect();
 const cell = document.querySelector('#banks .ram button').getBoundingClientRect();
 return Math.abs(ring.left + 4 - cell.left) < 2 && Math.abs(ring.top + 4 - cell.top) < 2 && cell.bottom <= innerHeight && cell.top >= 0"""
-COUNT_EXAMPLES_TO_DO = "return [...document.querySelectorAll('#examples li .grow')].filter((each) => each.textContent.split('. ').length < 2).length"
+COUNT_EXAMPLES_WITHOUT_NOTE = "return [...document.querySelectorAll('#examples li .grow')].filter((each) => each.textContent.split('. ').length < 2).length"
 
 
 IS_EMPTY_NOTE_SHOWN = "return isShown(document.querySelector('#watched-list + .empty'))"
@@ -374,31 +374,31 @@ def check_empty(browser):
     eventually(browser, "and its button enters the field", GET_FOCUSED_ID, "watched-field")
     browser.type_into("#watched-field", "R5" + ENTER)
     eventually(browser, "which fills it", IS_EMPTY_NOTE_SHOWN, False)
-    words = "return [...document.querySelectorAll('.empty')].filter((each) => each.querySelectorAll('button').length !== 1).length"
-    verdict("each empty panel offers one action", browser.script(words), 0)
+    count_other_panels = "return [...document.querySelectorAll('.empty')].filter((each) => each.querySelectorAll('button').length !== 1).length"
+    verdict("each empty panel offers one action", browser.script(count_other_panels), 0)
 
 
 def check_examples(browser):
     browser.click("#sessions-button")
-    eventually(browser, "each example says what to do with it", COUNT_EXAMPLES_TO_DO, 0)
-    first = "return document.querySelector('#examples li:nth-child(2) button').getAttribute('aria-label')"
-    verdict("the short ones stand first", browser.script(first), "new session: three lamps")
+    eventually(browser, "each example says what to do with it", COUNT_EXAMPLES_WITHOUT_NOTE, 0)
+    get_first_label = "return document.querySelector('#examples li:nth-child(2) button').getAttribute('aria-label')"
+    verdict("the short ones stand first", browser.script(get_first_label), "new session: three lamps")
     browser.click("#close-sessions")
 
 
 def check(browser, page, _folder, _mcs4):
-    open_anew(browser, page)
-    check_reach(browser)
+    reopen_page(browser, page)
+    check_palette_contents(browser)
     check_listbox(browser)
     check_disabled(browser)
     check_keys(browser)
     check_places(browser)
-    check_acts(browser)
+    check_command_effects(browser)
     check_toolbar(browser)
     check_tooltips(browser)
     check_examples(browser)
     check_empty(browser)
     if isinstance(browser, Chromium):
         check_theme(browser)
-        check_looks(browser)
+        check_accessibility(browser)
     check_first_visit(browser, page)

@@ -1,15 +1,15 @@
 """The debugger on the page: breakpoints that stay at their lines while the source is edited, conditions, hit counts, log messages, saving, and
 the speed.
 
-An earlier version of the page moved breakpoints of the program below away from their lines. The addresses of its lines were counted manually.
+An earlier version of the page moved breakpoints of the program below away from their lines. The addresses in this check were counted manually.
 """
 
 import re
 import time
 
-from page_in_browser import ENTER, ESCAPE, GET_NOTICE, GET_STATUS, GET_WHOLE_STATUS, TAB, choose_example, lines_answered, until_ready
+from page_in_browser import ENTER, ESCAPE, GET_NOTICE, GET_STATUS, GET_WHOLE_STATUS, TAB, choose_example, send_lines, until_ready
 from page_names import CLICK_MARGIN, GET_BREAKPOINT_LINES
-from page_texts import UNDO
+from page_texts import UNDO_BUTTON
 from verdicts import eventually, verdict
 
 PROGRAM = """        LDM 3
@@ -29,7 +29,7 @@ wait:   INC R9
         BBL 0
 """
 LINES = PROGRAM.split("\n")
-JUN, WMP, INC = (LINES.index(next(line for line in LINES if text in line)) + 1 for text in ("JUN loop", "WMP", "INC R9"))
+JUN_LINE, WMP_LINE, INC_LINE = (LINES.index(next(line for line in LINES if text in line)) + 1 for text in ("JUN loop", "WMP", "INC R9"))
 
 SET_PROGRAM = """
 document.querySelector("#program-editor .cm-editor").lineEditor.setValue(arguments[0])"""
@@ -41,15 +41,15 @@ GET_BREAKPOINTS = """
 return [...document.querySelectorAll("#breakpoint-list li")].map((row) =>
   `${row.querySelector("i").textContent} ${row.querySelector(".place").textContent}`).join("; ")"""
 GET_HITS = "return [...document.querySelectorAll('#breakpoint-list .hits')].map((each) => each.textContent).join('; ')"
-GET_FAULTS = "return [...document.querySelectorAll('#breakpoint-list .fault')].map((each) => each.textContent).join('')"
+GET_BREAKPOINT_ERRORS = "return [...document.querySelectorAll('#breakpoint-list .fault')].map((each) => each.textContent).join('')"
 GET_NOTES = "return [...document.querySelectorAll('#breakpoint-notes p')].map((each) => each.textContent).slice(0, 3).join('; ')"
-GET_BREAKPOINT_WORDS = 'return [...document.querySelectorAll("#breakpoint-list .words")].map((each) => each.textContent).join("; ")'
+GET_BREAKPOINT_DETAILS = 'return [...document.querySelectorAll("#breakpoint-list .words")].map((each) => each.textContent).join("; ")'
 # The source lines that have a breakpoint in the margin, including lines that are out of view.
 GET_LINES_IN_MARGIN = """
 return document.querySelector("#program-editor .cm-editor").lineEditor.marksIn("breakpoints").map((line) => line + 1).join(" ")"""
 UNDO_EDIT = "document.querySelector('#program-editor .cm-editor').lineEditor.undo()"
 # The form below a line that edits its breakpoint: its error and its contents.
-GET_ROW_FAULT = "const shown = document.querySelector('.breakpoint-row .fault'); return shown ? shown.textContent : 'no row'"
+GET_ROW_ERROR = "const shown = document.querySelector('.breakpoint-row .fault'); return shown ? shown.textContent : 'no row'"
 GET_ROW_VALUES = "return [...document.querySelectorAll('.breakpoint-row input')].map((each) => each.value).join('; ')"
 # Fills in the condition, hit count or log message of the first breakpoint in the list.
 FILL_ROW = """
@@ -57,8 +57,8 @@ document.querySelector("#breakpoint-list .edit").click();
 const row = document.querySelector(".breakpoint-row");
 row.querySelectorAll("input")[arguments[0]].value = arguments[1];
 row.requestSubmit()"""
-CONDITION, FROM, NOTE = range(3)
-# Changes the condition of the first breakpoint three times and starts time, without letting the page run in between.
+CONDITION, HIT_COUNT, LOG_MESSAGE = range(3)
+# Changes the condition of the first breakpoint to each argument and starts time, without letting the page run in between.
 CHANGE_AND_RUN = """
 for (const words of arguments) {
   document.querySelector("#breakpoint-list .edit").click();
@@ -83,138 +83,138 @@ const number = [...document.querySelectorAll("#program-editor .cm-lineNumbers .c
 const { x, y } = number.getBoundingClientRect();
 number.dispatchEvent(new MouseEvent("contextmenu", { bubbles: true, cancelable: true, clientX: x + 4, clientY: y + 4 }))"""
 BACKSPACE, UP, DOWN, SHIFT, F9, F10 = "\ue003", "\ue013", "\ue015", "\ue008", "\ue039", "\ue03a"
-GET_RUN_WORD = "return document.getElementById('run').textContent"
+GET_RUN_LABEL = "return document.getElementById('run').textContent"
 GET_POPUP = "return document.querySelector('.popup-message').textContent"
-SEND = "#program-editor .send"
+SEND_BUTTON = "#program-editor .send"
 
 
-def begin(browser):
+def load_program(browser):
     """Loads the program on the first board and pauses time."""
     choose_example(browser, "empty bench")
     browser.click("#first-board")
     browser.until("return document.querySelectorAll('#keys button').length", 2)
     browser.script(SET_PROGRAM, PROGRAM)
-    browser.click(SEND)
+    browser.click(SEND_BUTTON)
     browser.until(GET_STATUS, re.compile("^Running"))
     browser.click("#run")
-    browser.until(GET_RUN_WORD, "Continue")
+    browser.until(GET_RUN_LABEL, "Continue")
 
 
-def check_holds(browser):
+def check_moves_with_line(browser):
     """Checks that a breakpoint stays at its line when one or two bytes are inserted before it, and that a run stops there after each assembly."""
-    browser.script(CLICK_MARGIN, JUN)
-    eventually(browser, "a breakpoint in the margin", GET_BREAKPOINT_LINES, str(JUN))
+    browser.script(CLICK_MARGIN, JUN_LINE)
+    eventually(browser, "a breakpoint in the margin", GET_BREAKPOINT_LINES, str(JUN_LINE))
     browser.script(INSERT_LINE, 2, "NOP")
-    eventually(browser, "it moves with its line", GET_BREAKPOINT_LINES, str(JUN + 1))
-    browser.click(SEND)
+    eventually(browser, "it moves with its line", GET_BREAKPOINT_LINES, str(JUN_LINE + 1))
+    browser.click(SEND_BUTTON)
     eventually(browser, "assembled anew it stops there, reported by name and line", GET_WHOLE_STATUS,
-               f"Paused at 010 (loop + 7, line {JUN + 1}), at a breakpoint.")
-    verdict("and is no other one", lines_answered(browser, "breaks"), re.compile("breaks 010$"))
-    browser.script(CLICK_MARGIN, WMP + 1)
-    browser.script(CLICK_MARGIN, JUN + 1)
-    eventually(browser, "another one in its place", GET_BREAKPOINT_LINES, str(WMP + 1))
+               f"Paused at 010 (loop + 7, line {JUN_LINE + 1}), at a breakpoint.")
+    verdict("and is no other one", send_lines(browser, "breaks"), re.compile("breaks 010$"))
+    browser.script(CLICK_MARGIN, WMP_LINE + 1)
+    browser.script(CLICK_MARGIN, JUN_LINE + 1)
+    eventually(browser, "another one in its place", GET_BREAKPOINT_LINES, str(WMP_LINE + 1))
     browser.script(INSERT_LINE, 3, "FIM P2, 0")
-    browser.click(SEND)
-    eventually(browser, "two bytes more before it: it stays at WMP", GET_WHOLE_STATUS, f"Paused at 00F (loop + 4, line {WMP + 2}), at a breakpoint.")
-    verdict("the list has it by name and line", browser.script(GET_BREAKPOINTS), f"\u25cf 00F (loop + 4, line {WMP + 2})")
+    browser.click(SEND_BUTTON)
+    eventually(browser, "two bytes more before it: it stays at WMP", GET_WHOLE_STATUS, f"Paused at 00F (loop + 4, line {WMP_LINE + 2}), at a breakpoint.")
+    verdict("the list has it by name and line", browser.script(GET_BREAKPOINTS), f"\u25cf 00F (loop + 4, line {WMP_LINE + 2})")
     browser.script(INSERT_LINE, 1, "")
-    eventually(browser, "while the source differs from ROM its mark stays", GET_BREAKPOINT_LINES, str(WMP + 3))
+    eventually(browser, "while the source differs from ROM its mark stays", GET_BREAKPOINT_LINES, str(WMP_LINE + 3))
     browser.script(UNDO_EDIT)
-    eventually(browser, "undone it is where it was", GET_BREAKPOINT_LINES, str(WMP + 2))
+    eventually(browser, "undone it is where it was", GET_BREAKPOINT_LINES, str(WMP_LINE + 2))
 
 
 def check_no_instruction(browser):
     """Checks that a breakpoint at a line without bytes, or inside an instruction, moves to the next instruction, and that a message says so."""
-    begin(browser)
-    browser.script(INSERT_LINE, JUN, "; what comes next")
-    browser.click(SEND)
+    load_program(browser)
+    browser.script(INSERT_LINE, JUN_LINE, "; what comes next")
+    browser.click(SEND_BUTTON)
     browser.until(GET_STATUS, re.compile("^Running"))
-    browser.script(CLICK_MARGIN, JUN)
+    browser.script(CLICK_MARGIN, JUN_LINE)
     eventually(browser, "a line without bytes", GET_POPUP,
-               f"Line {JUN} puts no bytes into ROM: its breakpoint is at the next instruction, line {JUN + 1}.")
-    eventually(browser, "it is at the next instruction", GET_BREAKPOINT_LINES, str(JUN + 1))
+               f"Line {JUN_LINE} puts no bytes into ROM: its breakpoint is at the next instruction, line {JUN_LINE + 1}.")
+    eventually(browser, "it is at the next instruction", GET_BREAKPOINT_LINES, str(JUN_LINE + 1))
     eventually(browser, "which stops the time that runs", GET_STATUS, "Paused at 00F, at a breakpoint.")
     browser.click("#breakpoint-list .bar button[title='removes it']")
     eventually(browser, "it is taken away in the list", GET_BREAKPOINT_LINES, "")
-    lines_answered(browser, "break 0x010")
-    eventually(browser, "one inside an instruction goes to the next one", GET_BREAKPOINT_LINES, str(JUN + 2))
+    send_lines(browser, "break 0x010")
+    eventually(browser, "one inside an instruction goes to the next one", GET_BREAKPOINT_LINES, str(JUN_LINE + 2))
     verdict("and says so", browser.script(GET_POPUP),
-            f"010 is inside the instruction of line {JUN + 1}: its breakpoint is at the next one, line {JUN + 2}.")
+            f"010 is inside the instruction of line {JUN_LINE + 1}: its breakpoint is at the next one, line {JUN_LINE + 2}.")
     eventually(browser, "in the bench, too", "return [...document.querySelectorAll('#breakpoint-list .place')].map((each) => each.textContent).join()",
-               f"011 (wait, line {JUN + 2})")
+               f"011 (wait, line {JUN_LINE + 2})")
 
 
 def check_condition(browser):
     """Checks a condition, a hit count, a log message, a breakpoint with an error, and a disabled breakpoint."""
-    begin(browser)
-    browser.script(OPEN_CONDITION_ROW, INC - 1)
+    load_program(browser)
+    browser.script(OPEN_CONDITION_ROW, INC_LINE - 1)
     eventually(browser, "Shift and F9 sets one, and the caret is in its condition, below the line", GET_LINE_ABOVE_FOCUSED_ROW, ROW_LINE)
-    verdict("at its line", browser.script(GET_BREAKPOINT_LINES), str(INC))
+    verdict("at its line", browser.script(GET_BREAKPOINT_LINES), str(INC_LINE))
     browser.keys([*"r9 = 9", ENTER])
     eventually(browser, "one with a condition has a mark of its own", GET_BREAKPOINTS, re.compile("^\u25c6 "))
     browser.click("#run")
     eventually(browser, "it stops where its condition holds", GET_STATUS, "Paused at 011, at a breakpoint, when r9 = 9.")
-    verdict("as the bench says", lines_answered(browser, "regs"), re.compile(" r .{9}9.{6} "))
-    check_back(browser)
-    verdict("it is none of the session's file", lines_answered(browser, "breaks"), re.compile("breaks -$"))
-    check_typed(browser)
+    verdict("as the bench says", send_lines(browser, "regs"), re.compile(" r .{9}9.{6} "))
+    check_going_back(browser)
+    verdict("it is none of the session's file", send_lines(browser, "breaks"), re.compile("breaks -$"))
+    check_console_run(browser)
     browser.script(FILL_ROW, CONDITION, "r44 = 9")
-    eventually(browser, "a condition that cannot be read says why, in its place", GET_FAULTS,
+    eventually(browser, "a condition that cannot be read says why, in its place", GET_BREAKPOINT_ERRORS,
                "It stops every time, because of an error: r44: no such place; the registers are r0 to r15 (column 1).")
     browser.click("#run")
     eventually(browser, "and stops every time", GET_STATUS,
                "Paused at 011, at a breakpoint that has an error, r44: no such place; the registers are r0 to r15 (column 1).")
     browser.script(FILL_ROW, CONDITION, "R9 == 3 || (r9 >= 0xF && lamp 1 on)")
-    eventually(browser, "once it is mended it is as any other", GET_FAULTS, "")
+    eventually(browser, "once it is mended it is as any other", GET_BREAKPOINT_ERRORS, "")
     browser.script(FILL_ROW, CONDITION, "rom3 in 1")
-    eventually(browser, "one that names what the board lacks", GET_FAULTS,
+    eventually(browser, "one that names what the board lacks", GET_BREAKPOINT_ERRORS,
                "It stops every time, because of an error: the board has no ROM 3 (column 1).")
     browser.script(CHANGE_AND_RUN, "r9 = 7", "", "r9 = 5")
     eventually(browser, "a run right after a change goes by the new condition", GET_STATUS, "Paused at 011, at a breakpoint, when r9 = 5.")
     browser.script(FILL_ROW, CONDITION, "")
     eventually(browser, "none: it is a plain one again", GET_BREAKPOINTS, re.compile("^\u25cf "))
     browser.click("#breakpoints-hits")
-    browser.script(FILL_ROW, FROM, "50")
+    browser.script(FILL_ROW, HIT_COUNT, "50")
     browser.click("#reset")
     browser.until(GET_STATUS, re.compile("^The board was reset"))
     browser.click("#run")
     eventually(browser, "from the fiftieth hit on", GET_HITS, "50 hits")
     eventually(browser, "it stops", GET_STATUS, "Paused at 011, at a breakpoint, at hit 50.")
-    verdict("R9 was counted on 49 times", lines_answered(browser, "regs"), re.compile(" r .{9}1.{6} "))
-    browser.script(FILL_ROW, FROM, "")
-    browser.script(FILL_ROW, NOTE, "R9 is {r9}, {lamps}")
+    verdict("R9 was counted on 49 times", send_lines(browser, "regs"), re.compile(" r .{9}1.{6} "))
+    browser.script(FILL_ROW, HIT_COUNT, "")
+    browser.script(FILL_ROW, LOG_MESSAGE, "R9 is {r9}, {lamps}")
     eventually(browser, "one with a note has a mark of its own", GET_BREAKPOINTS, re.compile("^\u25b8 "))
     browser.click("#reset")
     browser.until(GET_STATUS, re.compile("^The board was reset"))
     browser.click("#run")
     eventually(browser, "the note is logged in place of a stop", GET_NOTES, re.compile(r"^011 \(wait, line \d+\) R9 is [0-9A-F], [*.]{4}; "))
-    verdict("time runs", browser.script(GET_RUN_WORD), "Pause")
+    verdict("time runs", browser.script(GET_RUN_LABEL), "Pause")
     browser.click("#breakpoints-off")
     eventually(browser, "switched off it is kept", GET_BREAKPOINTS, re.compile("^\u25cb "))
     browser.click("#run")
-    browser.until(GET_RUN_WORD, "Continue")
+    browser.until(GET_RUN_LABEL, "Continue")
 
 
-def check_typed(browser):
+def check_console_run(browser):
     """Checks that a `run` typed at the console also stops at a breakpoint, with a message."""
     browser.script(FILL_ROW, CONDITION, "r9 = 9")
-    lines_answered(browser, "reset")
-    verdict("a line's run ends where the condition holds", lines_answered(browser, "run 100000"), re.compile(r"run (\d+)ok \d+ ran \1 end$"))
+    send_lines(browser, "reset")
+    verdict("a line's run ends where the condition holds", send_lines(browser, "run 100000"), re.compile(r"run (\d+)ok \d+ ran \1 end$"))
     eventually(browser, "and the status says so", GET_WHOLE_STATUS,
                "Paused at 011 (wait, line 14), at a breakpoint, when r9 = 9. The line run 100000 ended there.")
-    verdict("the bench stands there", lines_answered(browser, "regs"), re.compile(" r .{9}9.{6} "))
+    verdict("the bench stands there", send_lines(browser, "regs"), re.compile(" r .{9}9.{6} "))
 
 
-def check_back(browser):
-    """Checks that going back leads to the last arrival at which a condition was true, or to the beginning if there is none. The result must not
-    depend on how time was run."""
+def check_going_back(browser):
+    """Checks that going back leads to the last arrival at which a condition was true, or to the start of the history if there is none. The result
+    must not depend on the lengths of the runs."""
     # Runs past the next arrival at which the condition is true. That takes 16 increments of R9, one every 11 cycles.
     for cycles in (150, 26, 77):
-        lines_answered(browser, f"run {cycles}")
+        send_lines(browser, f"run {cycles}")
     browser.click("#back-breakpoint")
     eventually(browser, "back to the arrival where its condition holds", GET_STATUS,
                re.compile(r"^Back at 011, 77 cycles, .* earlier, at a breakpoint, when r9 = 9\.$"))
-    verdict("R9 is what it was", lines_answered(browser, "regs"), re.compile(" r .{9}9.{6} "))
+    verdict("R9 is what it was", send_lines(browser, "regs"), re.compile(" r .{9}9.{6} "))
     browser.click("#forward")
     browser.until(GET_STATUS, re.compile("^Forward again"))
     browser.click("#back-breakpoint")
@@ -229,49 +229,49 @@ def check_back(browser):
     eventually(browser, "and forward again", GET_STATUS, re.compile("^Forward again to 011"))
 
 
-def check_kept(browser):
+def check_reload(browser):
     """Checks that a reload keeps all breakpoints with their details."""
-    listed = browser.script(GET_BREAKPOINTS)
+    list_before = browser.script(GET_BREAKPOINTS)
     browser.script(FILL_ROW, CONDITION, "at wait")
     time.sleep(0.3)
     browser.reload()
     until_ready(browser)
-    eventually(browser, "a reload keeps the list", GET_BREAKPOINTS, listed)
-    verdict("and their words", browser.script(GET_BREAKPOINT_WORDS), 'if at wait: logs "R9 is {r9}, {lamps}" and continues')
+    eventually(browser, "a reload keeps the list", GET_BREAKPOINTS, list_before)
+    verdict("and their words", browser.script(GET_BREAKPOINT_DETAILS), 'if at wait: logs "R9 is {r9}, {lamps}" and continues')
     browser.click("#breakpoint-list .edit")
     browser.keys([*"r9 ="])
     browser.until(GET_ROW_VALUES, "r9 =; ; R9 is {r9}, {lamps}")
     browser.reload()
     until_ready(browser)
-    eventually(browser, "and a condition that is typed and not entered", GET_BREAKPOINT_WORDS, re.compile('^if r9 =: logs "R9 is'))
+    eventually(browser, "and a condition that is typed and not entered", GET_BREAKPOINT_DETAILS, re.compile('^if r9 =: logs "R9 is'))
     browser.click("#breakpoints-remove")
     eventually(browser, "all are taken away", GET_BREAKPOINT_LINES, "")
 
 
 def check_replaced(browser, folder):
     """Checks that restoring a replaced source also restores its breakpoints with their details, through the notice and through Ctrl+Z."""
-    begin(browser)
-    browser.script(OPEN_CONDITION_ROW, INC - 1)
+    load_program(browser)
+    browser.script(OPEN_CONDITION_ROW, INC_LINE - 1)
     browser.until(GET_LINE_ABOVE_FOCUSED_ROW, ROW_LINE)
     browser.keys([*"r9 = 9", ENTER])
-    browser.script(CLICK_MARGIN, WMP)
-    both = f"{WMP} {INC}"
-    browser.until(GET_LINES_IN_MARGIN, both)
-    listed = browser.script(GET_BREAKPOINTS), browser.script(GET_BREAKPOINT_WORDS)
+    browser.script(CLICK_MARGIN, WMP_LINE)
+    both_lines = f"{WMP_LINE} {INC_LINE}"
+    browser.until(GET_LINES_IN_MARGIN, both_lines)
+    list_before = browser.script(GET_BREAKPOINTS), browser.script(GET_BREAKPOINT_DETAILS)
     for length, text in (("short", "; a\n NOP\n"), ("long", "; a\n" + " NOP\n" * 40)):
         other = folder / f"{length}.asm"
         other.write_text(text)
-        for what, undo in (("Undo", lambda: browser.click(UNDO)), ("Control and Z", lambda: browser.script(UNDO_EDIT))):
+        for action, undo in (("Undo", lambda: browser.click(UNDO_BUTTON)), ("Control and Z", lambda: browser.script(UNDO_EDIT))):
             browser.type_into("#file", str(other))
             browser.until(GET_NOTICE, re.compile(f"{length}.asm"))
             eventually(browser, f"a {length} source has none of the breakpoints of the one before it", GET_LINES_IN_MARGIN, "")
             undo()
-            eventually(browser, f"{what} brings back the lines of the breakpoints", GET_LINES_IN_MARGIN, both)
-            eventually(browser, "and the list", GET_BREAKPOINTS, listed[0])
-            verdict("with its words", browser.script(GET_BREAKPOINT_WORDS), listed[1])
+            eventually(browser, f"{action} brings back the lines of the breakpoints", GET_LINES_IN_MARGIN, both_lines)
+            eventually(browser, "and the list", GET_BREAKPOINTS, list_before[0])
+            verdict("with its words", browser.script(GET_BREAKPOINT_DETAILS), list_before[1])
     browser.script("for (const each of document.querySelectorAll('#notice .dismiss')) each.click()")
-    browser.script(CLICK_MARGIN, WMP)
-    browser.until(GET_LINES_IN_MARGIN, str(INC))
+    browser.script(CLICK_MARGIN, WMP_LINE)
+    browser.until(GET_LINES_IN_MARGIN, str(INC_LINE))
     browser.click("#reset")
     browser.until(GET_STATUS, re.compile("^The board was reset"))
     browser.click("#run")
@@ -279,73 +279,73 @@ def check_replaced(browser, folder):
     time.sleep(1)
     browser.reload()
     until_ready(browser)
-    eventually(browser, "a reload keeps it", GET_BREAKPOINT_WORDS, "if r9 = 9")
+    eventually(browser, "a reload keeps it", GET_BREAKPOINT_DETAILS, "if r9 = 9")
 
 
 def check_row(browser):
     """Checks that a breakpoint's details are edited below its line. Enter applies them, Escape cancels, and an error stays at its field."""
-    begin(browser)
-    browser.script(OPEN_CONDITION_ROW, INC - 1)
+    load_program(browser)
+    browser.script(OPEN_CONDITION_ROW, INC_LINE - 1)
     browser.until(GET_LINE_ABOVE_FOCUSED_ROW, ROW_LINE)
     browser.keys([*"r44 = 9", ENTER])
-    eventually(browser, "an error is said in the row, in the words of conditions", GET_ROW_FAULT,
+    eventually(browser, "an error is said in the row, in the words of conditions", GET_ROW_ERROR,
                "It stops every time, because of an error: r44: no such place; the registers are r0 to r15 (column 1).")
     verdict("where the caret stays", browser.script(GET_LINE_ABOVE_FOCUSED_ROW), ROW_LINE)
     browser.keys([*[BACKSPACE] * 7, *"r9 = 9", TAB, *"0", ENTER])
     eventually(browser, "a count that is none is marked", "return document.activeElement.getAttribute('aria-invalid')", "true")
-    verdict("and nothing is applied", browser.script(GET_BREAKPOINT_WORDS), "if r44 = 9")
+    verdict("and nothing is applied", browser.script(GET_BREAKPOINT_DETAILS), "if r44 = 9")
     browser.keys([BACKSPACE, "2", ENTER])
-    eventually(browser, "Enter applies all that is typed", GET_BREAKPOINT_WORDS, "if r9 = 9 from hit 2 on")
+    eventually(browser, "Enter applies all that is typed", GET_BREAKPOINT_DETAILS, "if r9 = 9 from hit 2 on")
     verdict("the row goes", browser.script(GET_ROW_VALUES), "")
     verdict("the keyboard is the text's again", browser.script(IS_FOCUS_IN_SOURCE), True)
-    browser.chord(SHIFT, F9)
+    browser.press_chord(SHIFT, F9)
     eventually(browser, "with the caret in the line that it had", GET_ROW_VALUES, "r9 = 9; 2; ")
     browser.keys([*"at loop", TAB, TAB, *"seen"])
-    verdict("a field that is left counts for itself not yet", browser.script(GET_BREAKPOINT_WORDS), "if r9 = 9 from hit 2 on")
+    verdict("a field that is left counts for itself not yet", browser.script(GET_BREAKPOINT_DETAILS), "if r9 = 9 from hit 2 on")
     browser.keys([F10, F10])
     eventually(browser, "steps leave the caret where it is", GET_ROW_VALUES, "at loop; 2; seen")
     verdict("in the row", browser.script(GET_LINE_ABOVE_FOCUSED_ROW), ROW_LINE)
     browser.keys([ESCAPE])
     eventually(browser, "Escape leaves it", GET_ROW_VALUES, "")
-    verdict("with the words that it had", browser.script(GET_BREAKPOINT_WORDS), "if r9 = 9 from hit 2 on")
-    browser.script(OPEN_CONDITION_ROW, INC - 1)
+    verdict("with the words that it had", browser.script(GET_BREAKPOINT_DETAILS), "if r9 = 9 from hit 2 on")
+    browser.script(OPEN_CONDITION_ROW, INC_LINE - 1)
     browser.until(GET_LINE_ABOVE_FOCUSED_ROW, ROW_LINE)
     browser.keys([*"at wait"])
     browser.click("#step")
-    eventually(browser, "what is typed counts where the row is left otherwise", GET_BREAKPOINT_WORDS, "if at wait from hit 2 on")
-    browser.script("document.querySelector('#program-editor .cm-editor').lineEditor.replaceRange('\\n NOP', { line: arguments[0], ch: Infinity })", INC - 1)
+    eventually(browser, "what is typed counts where the row is left otherwise", GET_BREAKPOINT_DETAILS, "if at wait from hit 2 on")
+    browser.script("document.querySelector('#program-editor .cm-editor').lineEditor.replaceRange('\\n NOP', { line: arguments[0], ch: Infinity })", INC_LINE - 1)
     eventually(browser, "a line that begins at its end goes below the row", GET_LINE_ABOVE_ROW, ROW_LINE)
     browser.script(INSERT_LINE, 1, "NOP")
     eventually(browser, "and it goes with its line", GET_LINE_ABOVE_ROW, ROW_LINE)
-    browser.script("document.querySelector('#program-editor .cm-editor').lineEditor.replaceRange('', { line: arguments[0], ch: 0 }, { line: arguments[0] + 1, ch: 0 })", INC)
+    browser.script("document.querySelector('#program-editor .cm-editor').lineEditor.replaceRange('', { line: arguments[0], ch: 0 }, { line: arguments[0] + 1, ch: 0 })", INC_LINE)
     eventually(browser, "with its line it goes for good", GET_LINE_ABOVE_ROW, "")
 
 
 def check_menu(browser):
     """Checks the margin menu of a line, and that a breakpoint without a line is edited in the list."""
-    begin(browser)
-    browser.script(OPEN_MARGIN_MENU, INC)
+    load_program(browser)
+    browser.script(OPEN_MARGIN_MENU, INC_LINE)
     eventually(browser, "the menu of the margin has the keyboard", GET_FOCUSED_TEXT, "Add breakpointF9")
     browser.keys([DOWN, DOWN, DOWN, ENTER])
     eventually(browser, "Log message sets a breakpoint and edits it", GET_LINE_ABOVE_FOCUSED_ROW, ROW_LINE)
     browser.keys([*"R9 is {r9}", ENTER])
-    eventually(browser, "it logs", GET_BREAKPOINT_WORDS, 'logs "R9 is {r9}" and continues')
-    browser.script(OPEN_MARGIN_MENU, INC)
+    eventually(browser, "it logs", GET_BREAKPOINT_DETAILS, 'logs "R9 is {r9}" and continues')
+    browser.script(OPEN_MARGIN_MENU, INC_LINE)
     browser.until(GET_FOCUSED_TEXT, "Remove breakpointF9")
     browser.keys([UP, UP, ENTER])
     eventually(browser, "Disable breakpoint keeps it", GET_BREAKPOINTS, re.compile("^\u25cb "))
     verdict("the menu is closed", browser.script("return document.getElementById('margin-menu').hidden"), True)
-    browser.script(OPEN_MARGIN_MENU, INC)
+    browser.script(OPEN_MARGIN_MENU, INC_LINE)
     browser.until(GET_FOCUSED_TEXT, "Remove breakpointF9")
     browser.keys([ESCAPE])
     eventually(browser, "Escape leaves the menu, and the keyboard is the text's", IS_FOCUS_IN_SOURCE, True)
     browser.click("#breakpoints-remove")
-    lines_answered(browser, "break 0x200")
+    send_lines(browser, "break 0x200")
     browser.until(GET_BREAKPOINTS, re.compile("200"))
     browser.click("#breakpoint-list .edit")
     eventually(browser, "one without a line is edited in the list", "return document.activeElement.closest('#breakpoint-list .breakpoint-row') !== null", True)
     browser.keys([*"r9 = 1", ENTER])
-    eventually(browser, "and applied", GET_BREAKPOINT_WORDS, "if r9 = 1")
+    eventually(browser, "and applied", GET_BREAKPOINT_DETAILS, "if r9 = 1")
     eventually(browser, "the keyboard is at its button", GET_FOCUSED_TEXT, "Edit")
     choose_example(browser, "three lamps")
     eventually(browser, "another session has no row", GET_ROW_VALUES, "")
@@ -354,11 +354,11 @@ def check_menu(browser):
 def check(browser, page, folder, *_):
     browser.go(page.as_uri())
     until_ready(browser)
-    begin(browser)
-    check_holds(browser)
+    load_program(browser)
+    check_moves_with_line(browser)
     check_no_instruction(browser)
     check_condition(browser)
-    check_kept(browser)
+    check_reload(browser)
     check_row(browser)
     check_menu(browser)
     check_replaced(browser, folder)

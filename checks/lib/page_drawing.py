@@ -4,7 +4,7 @@ Each action edits the board's text and can be undone like any edit. Also checks 
 import re
 import time
 
-from page_in_browser import (ENTER, ESCAPE, GET_NOTICE, GET_STATUS, GET_TEXT_OF_EDITOR, PUT_INTO_EDITOR, TAB, choose_example, focused, show_text,
+from page_in_browser import (ENTER, ESCAPE, GET_NOTICE, GET_STATUS, GET_TEXT_OF_EDITOR, PUT_INTO_EDITOR, TAB, choose_example, move_focus_until, show_text,
                              until_ready)
 from verdicts import eventually, verdict
 
@@ -16,7 +16,7 @@ GET_BULBS = "return [...document.querySelectorAll('#front .bulb')].map((bulb) =>
 COUNT_KEYS = "return document.querySelectorAll('#keys .key').length"
 COUNT_HIGH = "return document.querySelectorAll('#wiring-picture .high').length"
 # The label of the buzzer's sound button, or "" if there is none.
-GET_SOUND_WORD = "return document.getElementById('sound').hidden ? '' : document.getElementById('sound-button').textContent"
+GET_SOUND_LABEL = "return document.getElementById('sound').hidden ? '' : document.getElementById('sound-button').textContent"
 GET_FOCUSED_LABEL = "return document.activeElement.getAttribute('aria-label')"
 GET_TITLE = "return document.querySelector('#chosen > b').textContent"
 GET_OFFERED_ENDS = "return [...document.querySelectorAll('#wiring-picture .can-end')].map((each) => each.getAttribute('aria-label'))"
@@ -24,10 +24,10 @@ INSERT = "Insert code that scans these keys"
 GET_PIN_NUMBERS = "return [...document.querySelectorAll('#wiring-picture [aria-label^=\"ROM 0\"] .number')].map((each) => each.textContent).join(' ')"
 GET_SOURCE = "return document.querySelector('#program-editor .cm-editor').lineEditor.getValue()"
 GET_DISABLED_BUTTONS = "return [...document.querySelectorAll('#shelf button:disabled')].map((each) => `${each.textContent}: ${each.title}`)"
-GET_PLACE_OF_KEYS = """
+GET_POSITION_OF_KEYS = """
 const box = document.querySelector("#wiring-picture .of-keys rect");
 return [box.getAttribute("x"), box.getAttribute("y")].map(Number)"""
-GET_MIDDLE = "const box = document.querySelector(arguments[0]).getBoundingClientRect(); return [box.x + box.width / 2, box.y + box.height / 2]"
+GET_CENTRE = "const box = document.querySelector(arguments[0]).getBoundingClientRect(); return [box.x + box.width / 2, box.y + box.height / 2]"
 # The descriptions of the parts and wires in the picture.
 GET_WIRING_LINES = "return [...document.querySelectorAll('#wiring-words li')].map((each) => each.textContent).join(' ')"
 # A program whose lamps show which keys are down.
@@ -88,25 +88,25 @@ def text_of(browser):
     return browser.script(GET_TEXT_OF_EDITOR, BOARD)
 
 
-def drag(browser, one, other, kind="mouse"):
+def drag(browser, from_selector, target, kind="mouse"):
     """Drags from the centre of one element to the centre of another, or by a distance in pixels."""
-    browser.show("#wiring-picture")
+    browser.scroll_to("#wiring-picture")
     time.sleep(browser.settle_seconds)
-    begin = browser.script(GET_MIDDLE, one)
-    end = browser.script(GET_MIDDLE, other) if isinstance(other, str) else [begin[0] + other[0], begin[1] + other[1]]
-    places = [[round(begin[each] + part * (end[each] - begin[each])) for each in (0, 1)] for part in (0, 0.5, 1)]
-    first, *way = [{"type": "pointerMove", "duration": 80, "x": x, "y": y} for x, y in places]
+    start = browser.script(GET_CENTRE, from_selector)
+    end = browser.script(GET_CENTRE, target) if isinstance(target, str) else [start[0] + target[0], start[1] + target[1]]
+    places = [[round(start[axis] + fraction * (end[axis] - start[axis])) for axis in (0, 1)] for fraction in (0, 0.5, 1)]
+    first_move, *other_moves = [{"type": "pointerMove", "duration": 80, "x": x, "y": y} for x, y in places]
     browser.actions({"type": "pointer", "id": f"drawing {kind}", "parameters": {"pointerType": kind}, "actions": [
-        first, {"type": "pointerDown", "button": 0}, *way, {"type": "pointerUp", "button": 0}]})
+        first_move, {"type": "pointerDown", "button": 0}, *other_moves, {"type": "pointerUp", "button": 0}]})
 
 
 def press(browser, selector):
-    """Clicks at the centre of an element. (A driver's click would require that the element is the topmost one there.)"""
+    """Clicks at the centre of an element. (A driver's click fails if another element covers the centre.)"""
     drag(browser, selector, (0, 0))
 
 
 def check_by_mouse(browser):
-    """Checks drawing from an empty bench to a running program without writing TOML."""
+    """Checks that a user can draw a board on an empty bench, without writing TOML, and run a program on it."""
     choose_example(browser, "empty bench")
     browser.click("#first-drawing")
     eventually(browser, "an empty bench leads to the shelf", "return isShown(document.getElementById('shelf'))", True)
@@ -146,11 +146,11 @@ def check_wires(browser):
     """Checks wires that are drawn by dragging and by clicks, and wires that are not possible."""
     choose_example(browser, "lock")
     show_text(browser, "wiring")
-    before = text_of(browser)
+    text_before = text_of(browser)
     eventually(browser, "lines at 1 are coloured", "return document.querySelectorAll('#wiring-picture .high').length > 0", True)
     drag(browser, f"{pin('ROM 0 · 4001, out 2')} circle", f"{pin('Lamps · 3, open')} circle")
     eventually(browser, "a wire is dragged from pin to pin", GET_DRAWING_STATUS, "Line rom0.2 is wired to lamp 1.")
-    verdict("it is one word of the text", text_of(browser), before.replace('"ram0.0.1"', '"rom0.2"'))
+    verdict("it is one word of the text", text_of(browser), text_before.replace('"ram0.0.1"', '"rom0.2"'))
     eventually(browser, "the picture has it", GET_WIRING_LINES, re.compile("open is at rom0.2"))
     verdict("levels of a board that is not wired are not shown", browser.script(COUNT_HIGH) <= 1, True)
     drag(browser, f"{pin('ROM 1 · 4001, in 0')} circle", f"{pin('Chain 0 · 1 × 4003, clock')} circle")
@@ -163,12 +163,12 @@ def check_wires(browser):
     eventually(browser, "it is undone", GET_DRAWING_STATUS, "Undone.")
     browser.click("#drawing-undo")
     eventually(browser, "and the one before it", GET_WIRING_LINES, re.compile("open is at ram0.0.1"))
-    verdict("the text is as it was", text_of(browser), before)
+    verdict("the text is as it was", text_of(browser), text_before)
     browser.click("#drawing-redo")
     eventually(browser, "and done again", GET_WIRING_LINES, re.compile("open is at rom0.2"))
     browser.click("#shelf-ram")
     eventually(browser, "after a click on the shelf", GET_WIRING_LINES, re.compile("RAM 0.1"))
-    browser.chord(CONTROL, "z")
+    browser.press_chord(CONTROL, "z")
     eventually(browser, "Ctrl Z undoes it, too", GET_DRAWING_STATUS, "Undone.")
     verdict("and nothing else", browser.script(GET_WIRING_LINES), re.compile("open is at rom0.2"))
     check_part_is_dragged(browser)
@@ -179,7 +179,7 @@ def check_buzzer(browser):
     """Checks that a buzzer can be added by mouse, wired, named, deleted and restored by undo, also by keyboard and by touch."""
     choose_example(browser, "empty bench")
     show_text(browser, "wiring")
-    verdict("a board without a buzzer has no sound", browser.script(GET_SOUND_WORD), "")
+    verdict("a board without a buzzer has no sound", browser.script(GET_SOUND_LABEL), "")
     browser.click("#shelf-buzzer")
     eventually(browser, "a buzzer comes with what it needs", GET_DRAWING_STATUS, "The buzzer was added, with ROM 0.")
     verdict("as a line of the face", text_of(browser).split("\n")[0], "# buzzer rom0.0: buzzer")
@@ -192,66 +192,66 @@ def check_buzzer(browser):
     eventually(browser, "it is named", GET_DRAWING_STATUS, "The buzzer is called the horn.")
     verdict("in the same line", text_of(browser).split("\n")[0], "# buzzer rom0.3: the horn")
     browser.click("#drawing-wire")
-    eventually(browser, "it is wired, and can be heard", GET_SOUND_WORD, "Sound of the horn")
+    eventually(browser, "it is wired, and can be heard", GET_SOUND_LABEL, "Sound of the horn")
     browser.until(GET_DRAWING_STATUS, "Board applied.")
     browser.script("document.querySelector('#wiring-picture .of-buzzer').focus()")
     browser.keys([DELETE])
     eventually(browser, "the Delete key deletes it", GET_DRAWING_STATUS, "The buzzer was deleted.")
-    browser.chord(CONTROL, "z")
+    browser.press_chord(CONTROL, "z")
     eventually(browser, "Ctrl Z brings it back", GET_WIRING_LINES, re.compile("the horn sounds the edges of rom0.3"))
     browser.script("document.querySelector(arguments[0]).focus()", pin("Buzzer, the horn"))
     browser.keys([ENTER])
     eventually(browser, "Enter begins a wire at it", GET_DRAWING_STATUS, "Wire from the buzzer: it can end at 3 pins.")
     browser.keys([UP, ENTER])
     eventually(browser, "and ends it at another line", GET_DRAWING_STATUS, "Line rom0.2 is wired to the buzzer.")
-    if browser.has_fingers:
-        browser.fingers([f"{pin('ROM 0 · 4001, out 1')} circle"], 60)
-        browser.fingers([f"{pin('Buzzer, the horn')} circle"], 60)
+    if browser.can_multitouch:
+        browser.touch_together([f"{pin('ROM 0 · 4001, out 1')} circle"], 60)
+        browser.touch_together([f"{pin('Buzzer, the horn')} circle"], 60)
         eventually(browser, "fingers wire it, too", GET_DRAWING_STATUS, "Line rom0.1 is wired to the buzzer.")
 
 
 def check_part_is_dragged(browser):
-    before = browser.script(GET_PLACE_OF_KEYS)
+    position_before = browser.script(GET_POSITION_OF_KEYS)
     drag(browser, "#wiring-picture .of-keys .title", (-30, 90))
-    eventually(browser, "a part is dragged", f"{GET_PLACE_OF_KEYS}[1] > {before[1] + 40}", True)
-    there = browser.script(GET_PLACE_OF_KEYS)
+    eventually(browser, "a part is dragged", f"{GET_POSITION_OF_KEYS}[1] > {position_before[1] + 40}", True)
+    new_position = browser.script(GET_POSITION_OF_KEYS)
     time.sleep(1)
     browser.reload()
     until_ready(browser)
-    eventually(browser, "and stands there after a reload", GET_PLACE_OF_KEYS, there)
+    eventually(browser, "and stands there after a reload", GET_POSITION_OF_KEYS, new_position)
     browser.click("#drawing-tidy")
-    eventually(browser, "until it is tidied", GET_PLACE_OF_KEYS, before)
+    eventually(browser, "until it is tidied", GET_POSITION_OF_KEYS, position_before)
 
 
 def check_chain_keeps_its_place(browser):
-    """Checks that deleting a chain changes the numbers of the later chains, but not their positions in the picture while their text is the same."""
+    """Checks that deleting a chain leaves the later chain at its position in the picture."""
     choose_example(browser, "calculator")
     show_text(browser, "wiring")
     eventually(browser, "a board has two chains", GET_WIRING_LINES, re.compile("Chain 0 .*Chain 1 "))
-    chains = "return [...document.querySelectorAll('#wiring-picture .of-chain rect')].map((box) => Number(box.getAttribute('y')))"
-    first, second = browser.script(chains)
+    get_chain_positions = "return [...document.querySelectorAll('#wiring-picture .of-chain rect')].map((box) => Number(box.getAttribute('y')))"
+    first_position, second_position = browser.script(get_chain_positions)
     browser.script("document.querySelectorAll('#wiring-picture .of-chain')[1].focus()")
     for _ in range(5):
-        browser.chord(SHIFT, DOWN)
-    eventually(browser, "Shift and arrows move the second chain", f"{chains}[1] > {second}", True)
-    _, moved = browser.script(chains)
+        browser.press_chord(SHIFT, DOWN)
+    eventually(browser, "Shift and arrows move the second chain", f"{get_chain_positions}[1] > {second_position}", True)
+    _, moved_position = browser.script(get_chain_positions)
     browser.script("document.querySelector('#wiring-picture .of-chain').focus()")
     browser.keys([DELETE])
     eventually(browser, "the first one is deleted", GET_DRAWING_STATUS, re.compile("^Chain 0 was deleted"))
-    eventually(browser, "and the second one stays where it is", chains, [moved])
+    eventually(browser, "and the second one stays where it is", get_chain_positions, [moved_position])
     browser.click("#drawing-undo")
-    eventually(browser, "undone, both stand where they stood", chains, [first, moved])
+    eventually(browser, "undone, both stand where they stood", get_chain_positions, [first_position, moved_position])
 
 
 def check_by_keyboard(browser):
     """Checks that the keyboard alone suffices to add a part, begin and end a wire, delete, and undo."""
     choose_example(browser, "lock")
     browser.script("document.getElementById('wiring-tab').click(); document.getElementById('wiring-tab').focus()")
-    before = text_of(browser)
-    verdict("Tab comes to the shelf", focused(browser, TAB, "e.id === 'shelf-lamp'", 14), True)
+    text_before = text_of(browser)
+    verdict("Tab comes to the shelf", move_focus_until(browser, TAB, "e.id === 'shelf-lamp'", 14), True)
     browser.keys([ENTER])
     eventually(browser, "Enter adds a lamp", GET_DRAWING_STATUS, "Lamp 3 was added.")
-    verdict("Tab comes to the picture", focused(browser, TAB, "e.closest('#wiring-picture') !== null", 20), True)
+    verdict("Tab comes to the picture", move_focus_until(browser, TAB, "e.closest('#wiring-picture') !== null", 20), True)
     eventually(browser, "at the lamp that is chosen", GET_FOCUSED_LABEL, re.compile("^Lamps · 4, lamp 3"))
     browser.keys([UP, UP, UP, UP])
     eventually(browser, "arrows go from pin to part", GET_FOCUSED_LABEL, re.compile("^Lamps · 4: locked is at"))
@@ -274,22 +274,22 @@ def check_by_keyboard(browser):
     eventually(browser, "and left by Escape", GET_DRAWING_STATUS, "No wire was drawn.")
     browser.keys([DELETE])
     eventually(browser, "a line cannot be deleted", GET_DRAWING_STATUS, re.compile("is deleted only with its chip"))
-    browser.chord(CONTROL, "z")
+    browser.press_chord(CONTROL, "z")
     eventually(browser, "Ctrl Z takes the wire back", GET_DRAWING_STATUS, "Undone.")
-    browser.chord(CONTROL, "z")
+    browser.press_chord(CONTROL, "z")
     eventually(browser, "and the lamp", GET_WIRING_LINES, re.compile("Lamps · 3"))
-    verdict("the text is as it was", text_of(browser), before)
+    verdict("the text is as it was", text_of(browser), text_before)
     browser.script("document.querySelector('#wiring-picture .of-chain').focus()")
     browser.keys([DELETE])
     eventually(browser, "what hangs on a part goes with it", GET_DRAWING_STATUS, "Chain 0 was deleted, and with it the keys.")
-    browser.chord(CONTROL, "z")
+    browser.press_chord(CONTROL, "z")
     eventually(browser, "and comes back with it", GET_WIRING_LINES, re.compile("Keys · 4 × 3"))
-    verdict("nothing is lost", text_of(browser), before)
+    verdict("nothing is lost", text_of(browser), text_before)
 
 
 GET_WIDTH = "return Math.round(document.querySelector('#wiring-picture svg').getBoundingClientRect().width)"
 GET_ZOOM_BOUNDS = "return ['picture-smaller', 'picture-larger'].map((id) => document.getElementById(id).getAttribute('aria-disabled'))"
-IS_ALL_IN_VIEW = """
+IS_WHOLE_PICTURE_IN_VIEW = """
 const root = document.getElementById("wiring-picture");
 return root.scrollWidth <= root.clientWidth && root.scrollHeight <= root.clientHeight"""
 TURN_WHEEL = """
@@ -298,7 +298,7 @@ const { left, top } = picture.getBoundingClientRect();
 const turn = { ctrlKey: arguments[1], deltaY: arguments[0], clientX: left + 50, clientY: top + 40, bubbles: true, cancelable: true };
 return picture.dispatchEvent(new WheelEvent("wheel", turn))"""
 # The part that the picture shows at a point of the panel.
-GET_PART_AT_PLACE = """
+GET_PART_AT_POINT = """
 const { left, top } = document.getElementById("wiring-picture").getBoundingClientRect();
 const found = document.elementFromPoint(left + arguments[0], top + arguments[1]).closest(".part");
 return found && found.getAttribute("class")"""
@@ -309,21 +309,21 @@ def check_zoom(browser):
     be drawn."""
     choose_example(browser, "lock")
     browser.script("document.getElementById('wiring-tab').click()")
-    browser.show("#wiring-picture")
-    before = browser.script(GET_WIDTH)
+    browser.scroll_to("#wiring-picture")
+    width_before = browser.script(GET_WIDTH)
     browser.click("#picture-larger")
-    verdict("a button makes it larger", abs(browser.script(GET_WIDTH) - before * 1.25) <= 1, True)
+    verdict("a button makes it larger", abs(browser.script(GET_WIDTH) - width_before * 1.25) <= 1, True)
     for _ in range(30):
         browser.click("#picture-larger")
     largest = browser.script(GET_WIDTH)
     browser.click("#picture-larger")
-    verdict("up to a size", (browser.script(GET_WIDTH), largest > before * 2), (largest, True))
+    verdict("up to a size", (browser.script(GET_WIDTH), largest > width_before * 2), (largest, True))
     verdict("which the button says", browser.script(GET_ZOOM_BOUNDS), ["false", "true"])
     browser.click("#picture-fit")
-    verdict("and as it was", browser.script(GET_WIDTH), before)
+    verdict("and as it was", browser.script(GET_WIDTH), width_before)
     browser.script("document.querySelector('#wiring-picture .of-rom').focus()")
     browser.keys("--")
-    verdict("keys make it smaller", abs(browser.script(GET_WIDTH) - before / 1.25 ** 2) <= 1, True)
+    verdict("keys make it smaller", abs(browser.script(GET_WIDTH) - width_before / 1.25 ** 2) <= 1, True)
     drag(browser, f"{pin('RAM 0.0 · 4002, out 3')} circle", f"{pin('Lamps · 3, alarm')} circle")
     eventually(browser, "a wire is drawn all the same", GET_DRAWING_STATUS, "Line ram0.0.3 is wired to lamp 2.")
     browser.click("#drawing-undo")
@@ -333,7 +333,7 @@ def check_zoom(browser):
     smallest = browser.script(GET_WIDTH)
     browser.keys("-", 2, 2)
     verdict("down to a size", (browser.script(GET_WIDTH), browser.script(GET_ZOOM_BOUNDS)), (smallest, ["true", "false"]))
-    verdict("at which all of it is seen, and can be read", (browser.script(IS_ALL_IN_VIEW), smallest >= before / 3), (True, True))
+    verdict("at which all of it is seen, and can be read", (browser.script(IS_WHOLE_PICTURE_IN_VIEW), smallest >= width_before / 3), (True, True))
     browser.script("document.getElementById('picture-smaller').focus()")
     browser.keys([ENTER])
     verdict("nor does the button, which keeps the focus", (browser.script(GET_WIDTH), browser.script("return document.activeElement.id")),
@@ -342,31 +342,32 @@ def check_zoom(browser):
     browser.keys("+" * 20, 2, 2)
     verdict("keys make it larger up to the same size", browser.script(GET_WIDTH), largest)
     browser.keys("0")
-    verdict("and 0 as it was", browser.script(GET_WIDTH), before)
+    verdict("and 0 as it was", browser.script(GET_WIDTH), width_before)
     browser.script("document.getElementById('picture-fit').click()")
-    seen = browser.script(GET_PART_AT_PLACE, 50, 40)
+    part_under_pointer = browser.script(GET_PART_AT_POINT, 50, 40)
     verdict("the wheel alone scrolls", browser.script(TURN_WHEEL, -100, False), True)
     verdict("with Ctrl it zooms, and the page does not", browser.script(TURN_WHEEL, -100, True), False)
-    verdict("where the pointer is", (browser.script(GET_WIDTH) > before, browser.script(GET_PART_AT_PLACE, 50, 40)), (True, seen))
+    verdict("where the pointer is", (browser.script(GET_WIDTH) > width_before, browser.script(GET_PART_AT_POINT, 50, 40)), (True, part_under_pointer))
     browser.click("#picture-fit")
 
 
-def check_by_fingers(browser):
+def check_by_touch(browser):
     """Checks that touching one pin and then another draws a wire."""
-    browser.fingers([f"{pin('RAM 0.0 · 4002, out 3')} circle"], 60)
+    browser.touch_together([f"{pin('RAM 0.0 · 4002, out 3')} circle"], 60)
     eventually(browser, "a finger begins a wire", GET_DRAWING_STATUS, re.compile("^Wire from line ram0.0.3"))
-    browser.fingers([f"{pin('Lamps · 3, alarm')} circle"], 60)
+    browser.touch_together([f"{pin('Lamps · 3, alarm')} circle"], 60)
     eventually(browser, "and another touch ends it", GET_DRAWING_STATUS, "Line ram0.0.3 is wired to lamp 2.")
-    browser.fingers(["#drawing-undo"], 60)
+    browser.touch_together(["#drawing-undo"], 60)
     eventually(browser, "a button undoes it", GET_DRAWING_STATUS, "Undone.")
 
 
-# GET_PLACE_ON_SHEET converts a point of the window to coordinates of the drawing. GET_HEAD_PLACE returns the centre of a part's heading in them.
-GET_PLACE_ON_SHEET = """
+# GET_POINT_ON_SHEET converts a point of the window to coordinates of the drawing. GET_HEADING_CENTRE returns the centre of a part's heading in the
+# drawing's coordinates.
+GET_POINT_ON_SHEET = """
 const [x, y] = arguments;
 const at = new DOMPoint(x, y).matrixTransform(document.querySelector("#wiring-picture svg").getScreenCTM().inverse());
 return [at.x, at.y]"""
-GET_HEAD_PLACE = """
+GET_HEADING_CENTRE = """
 const box = document.querySelector(`#wiring-picture .part[aria-label^='${arguments[0]}'] rect`);
 if (!box) return null;
 const [x, y, width] = ["x", "y", "width"].map((name) => Number(box.getAttribute(name)));
@@ -374,63 +375,63 @@ return [x + width / 2, y + 13]"""
 GET_SHEET_CORNER = "const { left, top } = document.getElementById('wiring-picture').getBoundingClientRect(); return [Math.round(left), Math.round(top)]"
 
 
-def pull(browser, part, place, kind="mouse", key=""):
+def drag_from_shelf(browser, part, target, kind="mouse", key=""):
     """Drags a part from the shelf to a point of the window. Can press a key before the drop."""
-    begin = [round(each) for each in browser.script(GET_MIDDLE, f"#shelf-{part}")]
-    places = [[round(begin[each] + step * (place[each] - begin[each])) for each in (0, 1)] for step in (0, 0.3, 0.7, 1)]
-    first, *way = [{"type": "pointerMove", "duration": 60, "x": x, "y": y} for x, y in places]
+    start = [round(axis) for axis in browser.script(GET_CENTRE, f"#shelf-{part}")]
+    places = [[round(start[axis] + fraction * (target[axis] - start[axis])) for axis in (0, 1)] for fraction in (0, 0.3, 0.7, 1)]
+    first_move, *other_moves = [{"type": "pointerMove", "duration": 60, "x": x, "y": y} for x, y in places]
     pause = {"type": "pause", "duration": 60}
     keys = [{"type": "key", "id": "while dragged", "actions": [
         *[pause] * 5, {"type": "keyDown", "value": key}, {"type": "keyUp", "value": key}]}] if key else []
     browser.actions({"type": "pointer", "id": f"shelf {kind}", "parameters": {"pointerType": kind}, "actions": [
-        first, {"type": "pointerDown", "button": 0}, *way, *[pause] * (4 if key else 0), {"type": "pointerUp", "button": 0}]}, *keys)
+        first_move, {"type": "pointerDown", "button": 0}, *other_moves, *[pause] * (4 if key else 0), {"type": "pointerUp", "button": 0}]}, *keys)
 
 
-def is_near(one, other):
-    return one is not None and all(abs(a - b) < 2 for a, b in zip(one, other))
+def is_near(point, expected):
+    return point is not None and all(abs(coordinate - expected_coordinate) < 2 for coordinate, expected_coordinate in zip(point, expected))
 
 
-def check_pulled(browser, kind):
+def check_drag_from_shelf(browser, kind):
     choose_example(browser, "empty bench")
     show_text(browser, "wiring")
     eventually(browser, "the shelf offers all", GET_DISABLED_BUTTONS, [])
     left, top = browser.script(GET_SHEET_CORNER)
-    place = [left + 330, top + 20]
-    wanted = browser.script(GET_PLACE_ON_SHEET, *place)
-    pull(browser, "rom", place, kind)
+    target = [left + 330, top + 20]
+    expected = browser.script(GET_POINT_ON_SHEET, *target)
+    drag_from_shelf(browser, "rom", target, kind)
     eventually(browser, f"a {kind} drags a chip onto the sheet", GET_DRAWING_STATUS, "ROM 0 was added.")
-    verdict("where it was dropped", is_near(browser.script(GET_HEAD_PLACE, "ROM 0"), wanted), True)
+    verdict("where it was dropped", is_near(browser.script(GET_HEADING_CENTRE, "ROM 0"), expected), True)
     verdict("once", text_of(browser), '[[rom]]\nchip = 0\nport = "0000"\n')
-    pull(browser, "lamp", [round(each) for each in browser.script(GET_MIDDLE, f"{pin('ROM 0 · 4001, out 3')} circle")], kind)
+    drag_from_shelf(browser, "lamp", [round(each) for each in browser.script(GET_CENTRE, f"{pin('ROM 0 · 4001, out 3')} circle")], kind)
     eventually(browser, "a lamp that is dropped on a pin is wired to it", GET_WIRING_LINES, re.compile("lamp 0 is at rom0.3"))
     browser.click("#drawing-undo")
     eventually(browser, "undone in one step", GET_DRAWING_STATUS, "Undone.")
     verdict("the chip is as before", text_of(browser), '[[rom]]\nchip = 0\nport = "0000"\n')
     if kind == "mouse":
-        pull(browser, "ram", place, kind, ESCAPE)
+        drag_from_shelf(browser, "ram", target, kind, ESCAPE)
         verdict("Escape drops nothing", "ram" in text_of(browser), False)
-    left, top = (round(each) for each in browser.script(GET_MIDDLE, "#text-tabs"))
-    pull(browser, "ram", [left, top], kind)
+    left, top = (round(each) for each in browser.script(GET_CENTRE, "#text-tabs"))
+    drag_from_shelf(browser, "ram", [left, top], kind)
     verdict("nor does one that is dropped elsewhere", "ram" in text_of(browser), False)
     browser.click("#shelf-ram")
     eventually(browser, "a click adds one, as ever", GET_DRAWING_STATUS, "RAM 0.0 was added.")
 
 
 def check_shelf(browser):
-    """Checks that a part that is dragged from the shelf by mouse or touch is added where it is dropped, and that the keyboard can add one, too."""
-    for kind in ("mouse", "touch") if browser.has_fingers else ("mouse",):
-        check_pulled(browser, kind)
+    """Checks that a part dragged from the shelf by mouse or touch is added where it is dropped, and that the keyboard can also add a part."""
+    for kind in ("mouse", "touch") if browser.can_multitouch else ("mouse",):
+        check_drag_from_shelf(browser, kind)
     browser.script("document.getElementById('shelf-chain').focus()")
-    browser.chord(SHIFT, ENTER)
+    browser.press_chord(SHIFT, ENTER)
     eventually(browser, "Shift and Enter add a part", GET_DRAWING_STATUS, re.compile("^Chain 0 was added"))
     eventually(browser, "and go to it on the sheet", GET_FOCUSED_LABEL, re.compile("^Chain 0"))
-    before = browser.script(GET_HEAD_PLACE, "Chain 0")
-    browser.chord(SHIFT, DOWN)
-    eventually(browser, "where arrows move it", f"return ((...arguments) => {{{GET_HEAD_PLACE}}})('Chain 0')[1] > {before[1] + 6}", True)
+    position_before = browser.script(GET_HEADING_CENTRE, "Chain 0")
+    browser.press_chord(SHIFT, DOWN)
+    eventually(browser, "where arrows move it", f"return ((...arguments) => {{{GET_HEADING_CENTRE}}})('Chain 0')[1] > {position_before[1] + 6}", True)
 
 
 def check_scan_at_caret(browser):
-    """Checks that the routine that scans the keys is inserted after the caret's line, if the source has the caret, and that one undo removes it."""
+    """Checks that the routine that scans the keys is inserted after the caret's line if the caret is in the source, and that one undo removes it."""
     choose_example(browser, "lock")
     source = browser.script(GET_SOURCE)
     show_text(browser, "program")
@@ -443,7 +444,7 @@ def check_scan_at_caret(browser):
                "A routine that scans the keys is at line 4 of the source.")
     lines = browser.script(GET_SOURCE).split("\n")
     verdict("between what was before and after it", lines[:3] + lines[-9:], [*source.split("\n")[:2], "", *source.split("\n")[-9:]])
-    browser.chord(CONTROL, "z")
+    browser.press_chord(CONTROL, "z")
     eventually(browser, "one step undoes it", GET_SOURCE, source)
 
 
@@ -471,7 +472,7 @@ def check_scan(browser):
     verdict("behind the first one", browser.script(GET_SOURCE).startswith(source.rstrip()), True)
 
 
-def check_faults(browser):
+def check_text_with_errors(browser):
     """Checks that the picture stays unchanged while the board's text has errors, and is updated when they are corrected."""
     text = text_of(browser)
     browser.script(PUT_INTO_EDITOR, BOARD, f"{text}\n[[lamp]]\n")
@@ -487,10 +488,10 @@ def check_faults(browser):
 
 def check_other_boards(browser):
     """Checks that the user can switch to sessions with more or fewer chips while the picture is visible."""
-    for example, parts in (("calculator", "ROM 3 · 4001"), ("die", "ROM 0 · 4001"), ("calculator", "ROM 3 · 4001"), ("lock", "Keys · 4 × 3")):
+    for example, part in (("calculator", "ROM 3 · 4001"), ("die", "ROM 0 · 4001"), ("calculator", "ROM 3 · 4001"), ("lock", "Keys · 4 × 3")):
         choose_example(browser, example)
         verdict(f"{example} is opened", "No session was made" in browser.script(GET_NOTICE), False)
-        eventually(browser, f"the picture is that of {example}", GET_WIRING_LINES, re.compile(parts))
+        eventually(browser, f"the picture is that of {example}", GET_WIRING_LINES, re.compile(part))
 
 
 def check(browser, page, _folder, _mcs4):
@@ -501,9 +502,9 @@ def check(browser, page, _folder, _mcs4):
     check_wires(browser)
     check_by_keyboard(browser)
     check_zoom(browser)
-    if browser.has_fingers:
-        check_by_fingers(browser)
-    check_faults(browser)
+    if browser.can_multitouch:
+        check_by_touch(browser)
+    check_text_with_errors(browser)
     check_other_boards(browser)
     check_shelf(browser)
     check_scan(browser)

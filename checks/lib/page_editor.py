@@ -3,26 +3,27 @@
 import re
 import time
 
-from page_in_browser import GET_ALL_NOTICES, GET_STATUS, GET_TEXT_OF_EDITOR, PUT_INTO_EDITOR, STEPPED, choose_example, open_anew, show_text, stop_time
+from page_in_browser import GET_ALL_NOTICES, GET_STATUS, GET_TEXT_OF_EDITOR, PUT_INTO_EDITOR, STEPPED, choose_example, reopen_page, show_text, stop_time
 from verdicts import eventually, verdict
 
 CONTROL, SHIFT, ALT, ENTER, ESCAPE, TAB = "\ue009", "\ue008", "\ue00a", "\ue007", "\ue00c", "\ue004"
 END, DOWN, F2, F9, F12, BACKSPACE = "\ue010", "\ue015", "\ue032", "\ue039", "\ue03c", "\ue003"
 PROGRAM, BOARD = "#program-editor", "#board-editor"
 # A text at the limit: 16,381 bytes without comments and indentation, 36,497 bytes with them.
-LONGEST = "; a line of a comment, with words in it, and then some more of them\n" * 240 + "\tNOP\n" * 4035 + ";\n"
+LONGEST_TEXT = "; a line of a comment, with words in it, and then some more of them\n" * 240 + "\tNOP\n" * 4035 + ";\n"
 
 GET_SCROLL_TOP = "return document.querySelector('#program-editor .cm-editor').lineEditor.getScrollInfo().top"
 FIND_EDITOR = "const editor = document.querySelector(`${arguments[0]} .cm-editor`).lineEditor; "
 GET_CARET = f"{FIND_EDITOR}const at = editor.getCursor(); return [at.line, at.ch, editor.getSelection()]"
 SET_CARET = f"{FIND_EDITOR}editor.setCursor({{ line: arguments[1], ch: arguments[2] }}); editor.focus()"
-GET_FAULTS = "return [...document.querySelectorAll('{} .fault-list li')].map((each) => each.textContent).join('|')"
+GET_ERRORS = "return [...document.querySelectorAll('{} .fault-list li')].map((each) => each.textContent).join('|')"
 GET_UNDERLINED = "return [...document.querySelectorAll('{} .fault')].map((each) => each.textContent).join(' ')"
 GET_STATUS_OF = "return document.querySelector('{} .status-text').textContent"
-GET_MEANING = "return document.querySelector('{} .meaning').textContent"
+GET_EXPLANATION = "return document.querySelector('{} .meaning').textContent"
 GET_LISTING = "return document.querySelector('#lines-of-program').textContent"
 IS_FOCUS_IN_PAPER = "return document.activeElement.closest('.paper') !== null"
-# Returns the vertical distances between the visible line numbers and their lines, after scrolling to the end of a text that is wider than its box.
+# Scrolls to the end of a text. Returns the last line number, whether the text is wider than its box, and whether each visible line number is beside
+# a line.
 GET_LINE_NUMBERS = f"""{FIND_EDITOR}
 editor.scrollTo(1e6);
 editor.view.scrollDOM.scrollLeft = 1000;
@@ -32,7 +33,7 @@ const numbers = shown(".cm-lineNumbers .cm-gutterElement");
 const apart = numbers.map((number) => Math.min(...lines.map((line) => Math.abs(number.getBoundingClientRect().top - line))));
 const last = numbers[numbers.length - 1].textContent;
 return [last, editor.getScrollInfo().width > editor.getScrollInfo().clientWidth, Math.max(...apart) < 2]"""
-# Measures the time from a key event to the end of all the work that it causes. The result is the median of several keys.
+# Measures the time that the editor needs for each of 100 typed characters. Returns the median in milliseconds.
 MEASURE_KEY_TIMES = f"""{FIND_EDITOR}
 editor.setCursor({{ line: arguments[1], ch: 0 }});
 const times = [];
@@ -44,7 +45,7 @@ for (let key = 0; key < 100; key++) {{
 editor.undo();
 times.sort((one, other) => one - other);
 return times[50]"""
-# Measures how much other work on the machine slows the browser down: the mean time of many short loops, divided by the shortest time.
+# Measures how much other programs on the machine slow the browser down: the mean time of 200 short loops, divided by the shortest time.
 MEASURE_SLOWNESS = """
 const times = [];
 let sum = 0;
@@ -63,28 +64,28 @@ const paste = new Event("paste", { bubbles: true, cancelable: true });
 Object.defineProperty(paste, "clipboardData", { value: data });
 input.dispatchEvent(paste)"""
 
-FAULTY = """start:  LDX 5           ; für
+FAULTY_PROGRAM = """start:  LDX 5           ; für
         FIM R0, 5
         JMP start
         LDM
 loop:   NOP
 loop:   NOP
 """
-WORDS = re.compile(r"^line 1: LDX is not an instruction; .*\|line 2: FIM takes a pair, P0 to P7\|line 3: JMP is not an instruction; JUN\?"
+ERROR_MESSAGES = re.compile(r"^line 1: LDX is not an instruction; .*\|line 2: FIM takes a pair, P0 to P7\|line 3: JMP is not an instruction; JUN\?"
                    r"\|line 4: LDM takes a value, 0 to 15\|line 6: loop is already defined in line 5$")
 
 
-def put(browser, editor, text):
+def set_text(browser, editor, text):
     browser.script(PUT_INTO_EDITOR, editor, text)
 
 
-def check_faults(browser):
+def check_errors(browser):
     """Checks that the editor shows all errors of a program while the user types."""
-    put(browser, PROGRAM, "")
+    set_text(browser, PROGRAM, "")
     browser.script(SET_CARET, PROGRAM, 0, 0)
-    put(browser, PROGRAM, FAULTY)
+    set_text(browser, PROGRAM, FAULTY_PROGRAM)
     browser.script(SET_CARET, PROGRAM, 1, 3)
-    eventually(browser, "all faults of a program, in words", GET_FAULTS.format(PROGRAM), WORDS)
+    eventually(browser, "all faults of a program, in words", GET_ERRORS.format(PROGRAM), ERROR_MESSAGES)
     verdict("with the words at fault underlined", browser.script(GET_UNDERLINED.format(PROGRAM)), "LDX R0 JMP LDM loop")
     verdict("the caret stays, and nothing is selected", browser.script(GET_CARET, PROGRAM), [1, 3, ""])
     verdict("each fault is in the margin of its line",
@@ -94,34 +95,34 @@ def check_faults(browser):
     eventually(browser, "a program with faults is not assembled", GET_STATUS_OF.format(PROGRAM), re.compile("^line 1: LDX is not an instruction.*4 more$"))
     browser.click(f"{PROGRAM} .fault-list li:nth-child(3) button")
     verdict("a fault in the list leads to its word", browser.script(GET_CARET, PROGRAM), [2, 8, ""])
-    mended = FAULTY.replace("LDM\n", "LDM 1\t; caf\u00e9\n").replace("LDX", "LDM").replace("R0", "P0").replace("JMP", "JUN")
-    mended = mended.replace("loop:   NOP\nloop:", "loop:   NOP\nmore:")
-    put(browser, PROGRAM, mended.replace("start\n", "strat\n").replace("LDM 1\t", "LDM 16\t"))
-    eventually(browser, "errors of values come when each line has a form", GET_FAULTS.format(PROGRAM),
+    corrected = FAULTY_PROGRAM.replace("LDM\n", "LDM 1\t; caf\u00e9\n").replace("LDX", "LDM").replace("R0", "P0").replace("JMP", "JUN")
+    corrected = corrected.replace("loop:   NOP\nloop:", "loop:   NOP\nmore:")
+    set_text(browser, PROGRAM, corrected.replace("start\n", "strat\n").replace("LDM 1\t", "LDM 16\t"))
+    eventually(browser, "errors of values come when each line has a form", GET_ERRORS.format(PROGRAM),
           "line 3: strat is not defined; start?|line 4: LDM takes a value, 0 to 15")
-    put(browser, PROGRAM, mended)
-    eventually(browser, "mended, no fault is left", GET_FAULTS.format(PROGRAM), "")
+    set_text(browser, PROGRAM, corrected)
+    eventually(browser, "mended, no fault is left", GET_ERRORS.format(PROGRAM), "")
 
 
 def check_typing(browser):
     """Checks Tab, completion, help, search and undo."""
-    put(browser, PROGRAM, "loop:\tNOP\n")
+    set_text(browser, PROGRAM, "loop:\tNOP\n")
     browser.script(SET_CARET, PROGRAM, 1, 0)
     # Type a key first, so that Tab indents.
     browser.keys([DOWN, TAB, "l", "d"], 5, 5)
-    browser.chord(CONTROL, " ")
+    browser.press_chord(CONTROL, " ")
     eventually(browser, "what begins so can be chosen", "return [...document.querySelectorAll('.cm-tooltip-autocomplete li')]"
                ".map((each) => each.textContent.slice(0, 3)).join()", "LD ,LDM")
     browser.keys([DOWN, ENTER, " ", "5", ENTER, "J", "U", "N", " ", "l", "o"], 5, 5)
-    browser.chord(CONTROL, " ")
+    browser.press_chord(CONTROL, " ")
     browser.until("return document.querySelectorAll('.cm-tooltip-autocomplete li').length", 1)
     browser.keys([ENTER], 5, 5)
     eventually(browser, "Tab indents, and what was chosen is there", GET_TEXT_OF_EDITOR.replace("arguments[0]", f"'{PROGRAM}'"),
                "loop:\tNOP\n\tLDM 5\n\tJUN loop")
     browser.script(SET_CARET, PROGRAM, 1, 2)
-    eventually(browser, "the instruction at the caret is explained", GET_MEANING.format(PROGRAM),
+    eventually(browser, "the instruction at the caret is explained", GET_EXPLANATION.format(PROGRAM),
                re.compile(r"^(acc 0, cy 0\. )?LDM d: 1 word, 1 cycle\. Load immediate: d into ACC\. The carry stays\.$"))
-    browser.chord(CONTROL, "f")
+    browser.press_chord(CONTROL, "f")
     browser.keys([*"jun", ENTER, ESCAPE], 5, 5)
     eventually(browser, "what is sought is selected", GET_CARET.replace("arguments[0]", f"'{PROGRAM}'"), [2, 4, "JUN"])
     browser.keys([ESCAPE, TAB], 5, 5)
@@ -131,41 +132,41 @@ def check_typing(browser):
 
 def check_names(browser):
     """Checks going to a name's definition, finding its references, renaming, going to a line, replacing, and commenting."""
-    text = GET_TEXT_OF_EDITOR.replace("arguments[0]", f"'{PROGRAM}'")
-    caret = GET_CARET.replace("arguments[0]", f"'{PROGRAM}'")
-    put(browser, PROGRAM, "loop:\tNOP ; loop\n\tFIM P0, loop\n\tJUN loop")
+    get_text = GET_TEXT_OF_EDITOR.replace("arguments[0]", f"'{PROGRAM}'")
+    get_caret = GET_CARET.replace("arguments[0]", f"'{PROGRAM}'")
+    set_text(browser, PROGRAM, "loop:\tNOP ; loop\n\tFIM P0, loop\n\tJUN loop")
     browser.script(SET_CARET, PROGRAM, 2, 7)
     browser.keys([F12], 5, 5)
-    eventually(browser, "F12 leads to where a name is defined", caret, [0, 4, "loop"])
-    browser.chord(SHIFT, F12)
+    eventually(browser, "F12 leads to where a name is defined", get_caret, [0, 4, "loop"])
+    browser.press_chord(SHIFT, F12)
     eventually(browser, "its places are listed", "return [...document.querySelectorAll('#program-editor .places li')].map((each) => each.textContent).join('|')",
                "loop is at 3 places Close|line 1, where it is defined loop:\tNOP ; loop|line 2 FIM P0, loop|line 3 JUN loop")
     browser.click(f"{PROGRAM} .places li:nth-child(3) button")
-    eventually(browser, "one of them is shown", caret, [1, 13, "loop"])
+    eventually(browser, "one of them is shown", get_caret, [1, 13, "loop"])
     browser.keys([F2], 5, 5)
     browser.keys([*"jun", ENTER], 5, 5)
     eventually(browser, "a name that is none is refused in words", "return document.querySelector('#program-editor .search:not([hidden]) p').textContent",
                "jun is an instruction.")
     browser.keys([BACKSPACE, BACKSPACE, BACKSPACE, *"again", ENTER], 5, 5)
-    eventually(browser, "another name stands at all places", text, "again:\tNOP ; loop\n\tFIM P0, again\n\tJUN again")
-    browser.chord(CONTROL, "g")
+    eventually(browser, "another name stands at all places", get_text, "again:\tNOP ; loop\n\tFIM P0, again\n\tJUN again")
+    browser.press_chord(CONTROL, "g")
     browser.keys(["3", ENTER], 5, 5)
-    eventually(browser, "a line is gone to by its number", caret, [2, 0, ""])
-    browser.chord(CONTROL, "/")
-    eventually(browser, "a line becomes a comment", text, "again:\tNOP ; loop\n\tFIM P0, again\n; \tJUN again")
-    browser.chord(CONTROL, "/")
-    eventually(browser, "and a line again", text, "again:\tNOP ; loop\n\tFIM P0, again\n\tJUN again")
+    eventually(browser, "a line is gone to by its number", get_caret, [2, 0, ""])
+    browser.press_chord(CONTROL, "/")
+    eventually(browser, "a line becomes a comment", get_text, "again:\tNOP ; loop\n\tFIM P0, again\n; \tJUN again")
+    browser.press_chord(CONTROL, "/")
+    eventually(browser, "and a line again", get_text, "again:\tNOP ; loop\n\tFIM P0, again\n\tJUN again")
     browser.script(SET_CARET, PROGRAM, 0, 0)
-    browser.chord(CONTROL, "h")
+    browser.press_chord(CONTROL, "h")
     browser.keys([*"again"], 5, 5)
     browser.script(f"document.querySelector('{PROGRAM} [aria-label=\"Replace with\"]').value = 'loop'")
     browser.script(f"[...document.querySelectorAll('{PROGRAM} .search button')].find((each) => each.textContent === 'Replace all').click()")
-    eventually(browser, "all are replaced", text, "loop:\tNOP ; loop\n\tFIM P0, loop\n\tJUN loop")
+    eventually(browser, "all are replaced", get_text, "loop:\tNOP ; loop\n\tFIM P0, loop\n\tJUN loop")
     browser.keys([ESCAPE], 5, 5)
 
 
 GET_FOLDED = "return [...document.querySelectorAll('#program-editor .folded-lines')].map((each) => each.textContent).join()"
-FOLDING = """; two lines
+FOLDABLE_PROGRAM = """; two lines
 ; of comment
 
 start:  LDM 0
@@ -180,7 +181,7 @@ other:  NOP
 def check_folding(browser):
     """Checks that parts of the source can be folded by mouse and by keyboard, that folding loses no text, and that a part unfolds when it must be
     visible."""
-    put(browser, PROGRAM, FOLDING)
+    set_text(browser, PROGRAM, FOLDABLE_PROGRAM)
     browser.until("return document.querySelectorAll('#program-editor .fold-open').length", 4)
     browser.click(f"{PROGRAM} .fold-open")
     eventually(browser, "a click in the margin folds lines", GET_FOLDED, "\u2026 1 line")
@@ -191,7 +192,7 @@ def check_folding(browser):
         *[{"type": "keyDown", "value": key} for key in keys], *[{"type": "keyUp", "value": key} for key in reversed(keys)]]})
     eventually(browser, "the keys fold the part that the caret is in", GET_FOLDED, "\u2026 1 line,\u2026 1 line")
     verdict("the innermost one, whose first line the caret is in", browser.script(GET_CARET, PROGRAM)[:1], [4])
-    verdict("the text is what it was", browser.script(GET_TEXT_OF_EDITOR, PROGRAM), FOLDING)
+    verdict("the text is what it was", browser.script(GET_TEXT_OF_EDITOR, PROGRAM), FOLDABLE_PROGRAM)
     browser.script(SET_CARET, PROGRAM, 7, 2)
     keys = [CONTROL, SHIFT, ALT, "["]
     browser.actions({"type": "key", "id": "keyboard", "actions": [
@@ -204,19 +205,19 @@ def check_folding(browser):
     # On a busy machine, time can be paused before the first instruction, whose line is not folded.
     browser.click("#step")
     browser.until(GET_STATUS, STEPPED)
-    # Time is paused either at the loop's label, so that the line below it stays folded, or at the next line.
+    # Time is paused either at the loop's label, so that the line below the label stays folded, or at that line.
     eventually(browser, "and the line at which time stands still is unfolded", GET_FOLDED, re.compile("^\u2026 1 line(,\u2026 1 line){1,2}$"))
 
 
 def check_numbers(browser):
-    put(browser, PROGRAM, "\tNOP\n" * 200 + "; " + "a long line " * 40 + "\n\tNOP")
+    set_text(browser, PROGRAM, "\tNOP\n" * 200 + "; " + "a long line " * 40 + "\n\tNOP")
     time.sleep(0.3)
     browser.script(GET_LINE_NUMBERS, PROGRAM)
     time.sleep(0.3)
     verdict("at the end of a wide text each number stands beside its line", browser.script(GET_LINE_NUMBERS, PROGRAM), ["202", True, True])
 
 
-def check_hidden(browser):
+def check_hidden_text(browser):
     browser.script(FIND_EDITOR + "editor.scrollTo(2500)", "#program-editor")
     eventually(browser, "the source is scrolled", GET_SCROLL_TOP, 2500)
     for name in ("board", "program"):
@@ -225,9 +226,9 @@ def check_hidden(browser):
     verdict("a text that was hidden comes back where it was", browser.script(GET_SCROLL_TOP), 2500)
 
 
-def check_opened(browser, page):
+def check_opened_text(browser, page):
     """Checks that an opened text is shown from its first line, even if the previous text was scrolled, and that its visible part is coloured."""
-    open_anew(browser, page)
+    reopen_page(browser, page)
     choose_example(browser, "calculator")
     show_text(browser, "program")
     browser.script(FIND_EDITOR + "editor.scrollTo(4000)", PROGRAM)
@@ -235,19 +236,19 @@ def check_opened(browser, page):
     choose_example(browser, "calculator")
     time.sleep(0.5)
     verdict("a text that is opened begins at its first line", browser.script(GET_SCROLL_TOP), 0)
-    coloured = """const lines = [...document.querySelectorAll('#program-editor .cm-line')].filter((line) => line.textContent.trim() !== "");
+    are_lines_coloured = """const lines = [...document.querySelectorAll('#program-editor .cm-line')].filter((line) => line.textContent.trim() !== "");
 return lines.length > 20 && lines.every((line) => line.querySelector('span') !== null)"""
-    verdict("and its words have their colours", browser.script(coloured), True)
+    verdict("and its words have their colours", browser.script(are_lines_coloured), True)
 
 
 def check_limits(browser):
     """Checks that typing stays fast in a text of maximum length, and that a longer text is rejected with a message."""
-    put(browser, PROGRAM, LONGEST)
+    set_text(browser, PROGRAM, LONGEST_TEXT)
     eventually(browser, "the counter", f"return document.querySelector('{PROGRAM} .size').textContent", "16,381 of 16,384 bytes")
-    time_of_key, slowness = browser.script(MEASURE_KEY_TIMES, PROGRAM, 120), browser.script(MEASURE_SLOWNESS)
-    print(f"a key at the longest text takes {time_of_key:.1f} ms in {browser.name}, which others make {slowness:.1f} times as slow meanwhile")
-    verdict("a key takes less than 16 ms", time_of_key / slowness < 16, True)
-    put(browser, PROGRAM, "\tNOP\n")
+    key_time, slowness = browser.script(MEASURE_KEY_TIMES, PROGRAM, 120), browser.script(MEASURE_SLOWNESS)
+    print(f"a key at the longest text takes {key_time:.1f} ms in {browser.name}, which others make {slowness:.1f} times as slow meanwhile")
+    verdict("a key takes less than 16 ms", key_time / slowness < 16, True)
+    set_text(browser, PROGRAM, "\tNOP\n")
     browser.script(SET_CARET, PROGRAM, 1, 0)
     browser.script(PASTE_TEXT, PROGRAM, "\tNOP\n", 1_000_000)
     eventually(browser, "5 MB pasted are refused in words", GET_STATUS_OF.format(PROGRAM), re.compile("^It was not inserted: the text would have 5,000,005 characters"))
@@ -257,28 +258,28 @@ def check_limits(browser):
 def check_sessions(browser):
     """Checks that each session has its own undo history for its texts."""
     choose_example(browser, "die")
-    before = browser.script(GET_TEXT_OF_EDITOR, PROGRAM)
+    text_before = browser.script(GET_TEXT_OF_EDITOR, PROGRAM)
     browser.click("#from-rom")
     browser.until("return document.getElementById('ask').open", True)
     browser.click("#ask .bar button:first-child")
     time.sleep(0.5)
     browser.script(SET_CARET, PROGRAM, 0, 0)
-    browser.chord(CONTROL, "z")
-    eventually(browser, "what was taken from ROM is undone by one step", GET_TEXT_OF_EDITOR.replace("arguments[0]", f"'{PROGRAM}'"), before)
-    browser.chord(CONTROL, "z")
-    verdict("and there is no step before that", browser.script(GET_TEXT_OF_EDITOR, PROGRAM), before)
+    browser.press_chord(CONTROL, "z")
+    eventually(browser, "what was taken from ROM is undone by one step", GET_TEXT_OF_EDITOR.replace("arguments[0]", f"'{PROGRAM}'"), text_before)
+    browser.press_chord(CONTROL, "z")
+    verdict("and there is no step before that", browser.script(GET_TEXT_OF_EDITOR, PROGRAM), text_before)
 
 
 def check_running(browser):
-    """Checks that one button assembles the source and runs it, and that the message after assembling alone says what it leaves unchanged."""
+    """Checks that Ctrl+Enter assembles the source and runs it, and that the message of the button "assemble only" says what stays unchanged."""
     choose_example(browser, "traffic light")
     browser.until(GET_STATUS, re.compile("^Running"))
-    put(browser, PROGRAM, "\tLDM 7\nstop:\tJUN stop\n")
+    set_text(browser, PROGRAM, "\tLDM 7\nstop:\tJUN stop\n")
     browser.click("#assemble-only")
     eventually(browser, "assembling alone says what it leaves", GET_STATUS_OF.format(PROGRAM), re.compile(
         r"^3 bytes assembled\. \d+ bytes from before stay in ROM, from 0x0..?\. The counter stays at ..., nothing was reset\.$".replace(", n", "; n")))
     browser.script(SET_CARET, PROGRAM, 0, 0)
-    browser.chord(CONTROL, ENTER)
+    browser.press_chord(CONTROL, ENTER)
     eventually(browser, "Control and Enter assemble and run", GET_STATUS_OF.format(PROGRAM), "Assembled 3 bytes; running from 000.")
     eventually(browser, "time runs", GET_STATUS, re.compile("^Running"))
     browser.until("return document.querySelector('#registers').textContent", re.compile("^acc7"))
@@ -295,15 +296,15 @@ def check_running(browser):
 def check_empty(browser):
     """Checks that an empty bench offers a board, and that a line that needs a missing ROM chip has an error."""
     choose_example(browser, "empty bench")
-    put(browser, PROGRAM, "; nothing yet\n\tLDM 1\n")
-    eventually(browser, "a ROM that is lacking is reported at its line", GET_FAULTS.format(PROGRAM), re.compile(r"^line 2: this line is at 000, and the board has no ROM 0: wire a \[\[rom\]\]"))
+    set_text(browser, PROGRAM, "; nothing yet\n\tLDM 1\n")
+    eventually(browser, "a ROM that is lacking is reported at its line", GET_ERRORS.format(PROGRAM), re.compile(r"^line 2: this line is at 000, and the board has no ROM 0: wire a \[\[rom\]\]"))
     show_text(browser, "board")
     browser.click("#first-board")
     eventually(browser, "an empty bench gets a board", GET_STATUS_OF.format(BOARD), "Board applied.")
     verdict("with lamps", browser.script("return document.querySelectorAll('#lamps li').length"), 4)
     verdict("and it is not offered again", browser.script("return document.getElementById('board-offer').hidden"), True)
     show_text(browser, "program")
-    eventually(browser, "then the program has no fault", GET_FAULTS.format(PROGRAM), "")
+    eventually(browser, "then the program has no fault", GET_ERRORS.format(PROGRAM), "")
 
 
 FAULTY_BOARD = """[[rom]]
@@ -314,8 +315,8 @@ size = 3
 [[lamp]]
 lime = "rom0.0"
 """
-# The corrections in order: the text to replace, the new text, the error before that, and the text that is underlined.
-MENDED_BOARD = [("size = 3\n", "", "line 4: size is not a key of rom, which has chip, port", "size"),
+# The corrections in order: the text to replace, the new text, the error before the correction, and the text that is underlined.
+BOARD_CORRECTIONS = [("size = 3\n", "", "line 4: size is not a key of rom, which has chip, port", "size"),
                 ("lime", "line", "line 6: lime is not a key of lamp; line?", "lime"),
                 ("77", "7", "line 2: chip must be a unique number from 0 to 15", "77")]
 
@@ -324,78 +325,80 @@ def check_board(browser):
     """Checks that the editor shows the error in a board's text while the user types."""
     show_text(browser, "board")
     text = FAULTY_BOARD
-    for wrong, right, words, underlined in MENDED_BOARD:
-        put(browser, BOARD, text)
-        eventually(browser, "the error of a board, in words", GET_FAULTS.format(BOARD), words)
+    for wrong_text, corrected_text, message, underlined in BOARD_CORRECTIONS:
+        set_text(browser, BOARD, text)
+        eventually(browser, "the error of a board, in words", GET_ERRORS.format(BOARD), message)
         verdict("with what is wrong underlined", browser.script(GET_UNDERLINED.format(BOARD)), underlined)
-        text = text.replace(wrong, right)
-    put(browser, BOARD, text)
-    eventually(browser, "a lamp at a ROM that the board lacks", GET_FAULTS.format(BOARD), "line 6: the board has no line rom0.0: no [[rom]] has chip = 0")
-    put(browser, BOARD, "")
+        text = text.replace(wrong_text, corrected_text)
+    set_text(browser, BOARD, text)
+    eventually(browser, "a lamp at a ROM that the board lacks", GET_ERRORS.format(BOARD), "line 6: the board has no line rom0.0: no [[rom]] has chip = 0")
+    set_text(browser, BOARD, "")
     browser.script(SET_CARET, BOARD, 0, 0)
     for text in ("[[rom]]\nchip = 0\nport = \"0000\"", "[[lamp]]\nline = \"rom0.0\""):
-        browser.chord(CONTROL, " ")
+        browser.press_chord(CONTROL, " ")
         browser.until("return document.querySelectorAll('.cm-tooltip-autocomplete li').length", 5)
         browser.script("[...document.querySelectorAll('.cm-tooltip-autocomplete li')].find((each) => each.textContent.startsWith(arguments[0]))"
                        ".dispatchEvent(new MouseEvent('mousedown', { bubbles: true, cancelable: true }))",
                        text.split("\n")[0])
         verdict("an empty line becomes a part", browser.script(GET_TEXT_OF_EDITOR, BOARD).endswith(text), True)
         browser.keys([ENTER])
-    eventually(browser, "and a board of such parts has no fault", GET_FAULTS.format(BOARD), "")
-    put(browser, BOARD, "[[rom]]\nchip = 0\nport = 0000\n")
-    eventually(browser, "what is no TOML", GET_FAULTS.format(BOARD), 'line 3: a number has no leading zero; write a text in quotes: "0000"')
+    eventually(browser, "and a board of such parts has no fault", GET_ERRORS.format(BOARD), "")
+    set_text(browser, BOARD, "[[rom]]\nchip = 0\nport = 0000\n")
+    eventually(browser, "what is no TOML", GET_ERRORS.format(BOARD), 'line 3: a number has no leading zero; write a text in quotes: "0000"')
     show_text(browser, "program")
 
 
-def compose(browser, *words, replacing=None):
-    """Enters words as a phone's keyboard does: as a composition that grows letter by letter. It replaces existing text if `replacing` is given."""
-    place = {"replacementStart": replacing[0], "replacementEnd": replacing[1]} if replacing else {}
+def compose(browser, *words, replaced_range=None):
+    """Enters words as a phone's keyboard does: as one composition that takes the value of each word in turn. The composition replaces the text in
+    `replaced_range`, from the first offset to the second, if there is one."""
+    range_parameters = {"replacementStart": replaced_range[0], "replacementEnd": replaced_range[1]} if replaced_range else {}
     for word in words:
-        browser.command("Input.imeSetComposition", text=word, selectionStart=len(word), selectionEnd=len(word), **place)
+        browser.command("Input.imeSetComposition", text=word, selectionStart=len(word), selectionEnd=len(word), **range_parameters)
         # The editor marks errors during this time.
         time.sleep(0.4)
     browser.command("Input.insertText", text=words[-1])
 
 
 def check_phone(browser, page):
-    """Checks words that a phone's keyboard composes and corrects while errors are marked, and typing over lines. Uses Chromium's driver."""
-    open_anew(browser, page)
+    """Checks words that a phone's keyboard composes and corrects while the editor marks errors, and typing over selected lines. Needs Chromium's
+    driver."""
+    reopen_page(browser, page)
     choose_example(browser, "calculator")
     show_text(browser, "program")
-    text = GET_TEXT_OF_EDITOR.replace("arguments[0]", f"'{PROGRAM}'")
-    put(browser, PROGRAM, "\tLDM \n\tJUN nowhere\n")
+    get_text = GET_TEXT_OF_EDITOR.replace("arguments[0]", f"'{PROGRAM}'")
+    set_text(browser, PROGRAM, "\tLDM \n\tJUN nowhere\n")
     browser.script(SET_CARET, PROGRAM, 0, 5)
     compose(browser, "w", "wo", "wor", "word")
-    eventually(browser, "a word that is composed while faults are marked is there", text, "\tLDM word\n\tJUN nowhere\n")
-    eventually(browser, "with its fault", GET_FAULTS.format(PROGRAM), re.compile("^line 1: .*word"))
-    put(browser, PROGRAM, "lable:\tNOP\n")
+    eventually(browser, "a word that is composed while faults are marked is there", get_text, "\tLDM word\n\tJUN nowhere\n")
+    eventually(browser, "with its fault", GET_ERRORS.format(PROGRAM), re.compile("^line 1: .*word"))
+    set_text(browser, PROGRAM, "lable:\tNOP\n")
     browser.script(SET_CARET, PROGRAM, 0, 5)
-    compose(browser, "label", replacing=(0, 5))
-    eventually(browser, "a word that the keyboard puts right stands once", text, "label:\tNOP\n")
-    put(browser, PROGRAM, "one:\tNOP\ntwo:\tNOP\n\tNOP\n")
+    compose(browser, "label", replaced_range=(0, 5))
+    eventually(browser, "a word that the keyboard puts right stands once", get_text, "label:\tNOP\n")
+    set_text(browser, PROGRAM, "one:\tNOP\ntwo:\tNOP\n\tNOP\n")
     browser.script(f"{FIND_EDITOR}editor.focus(); editor.setSelection({{ line: 0, ch: 5 }}, {{ line: 1, ch: 8 }})", PROGRAM)
     browser.command("Input.insertText", text="I")
-    eventually(browser, "what is typed over lines takes their place", text, "one:\tI\n\tNOP\n")
+    eventually(browser, "what is typed over lines takes their place", get_text, "one:\tI\n\tNOP\n")
 
 
 def check_editor(browser, page, _folder, _mcs4):
-    check_opened(browser, page)
-    open_anew(browser, page)
+    check_opened_text(browser, page)
+    reopen_page(browser, page)
     browser.script("for (const each of document.querySelectorAll('#notice .dismiss')) each.click()")
-    before = len(browser.script(GET_ALL_NOTICES))
+    notice_count_before = len(browser.script(GET_ALL_NOTICES))
     choose_example(browser, "calculator")
     show_text(browser, "program")
-    check_faults(browser)
+    check_errors(browser)
     check_typing(browser)
     check_names(browser)
     check_folding(browser)
     check_numbers(browser)
-    check_hidden(browser)
+    check_hidden_text(browser)
     check_limits(browser)
     check_sessions(browser)
     check_running(browser)
     check_board(browser)
     check_empty(browser)
     notices = browser.script(GET_ALL_NOTICES)
-    done = [words for words in notices[:len(notices) - before] if not words.endswith("is saved.")]
-    verdict("no notice but what was done", done, ["The source was disassembled from ROM."])
+    unexpected = [words for words in notices[:len(notices) - notice_count_before] if not words.endswith("is saved.")]
+    verdict("no notice but what was done", unexpected, ["The source was disassembled from ROM."])

@@ -1,104 +1,104 @@
 """The part of checks/page about the search for counterexamples to properties.
 
-The page finds an error that was put into an example's program. The counterexample is the same as that of `mcs4 explore` with the same seed, and the
-session keeps running during the search. The counterexample opens as a session in the state that it describes. Its test can be added to the tests,
-where it fails. A search can be stopped. Errors in properties, seconds and boards are reported. Also: a program with so few states that its properties
-are proved, a search from a state that a test saves, the keyboard, a phone's width, and saving the text with the session and in a project."""
+The check puts an error into an example's program, and the page must find it. The counterexample must be the same as that of `mcs4 explore` with the
+same seed, and the session must keep running during the search. The counterexample opens as a session. Its test can be added to the tests, where it
+fails. A search can be stopped. Errors in properties, seconds and boards are reported. The check also covers a program with so few states that its
+properties are proved, a search from a saved state, the keyboard, a phone's width, and saving the text with the session and in a project."""
 
 import os
 import re
 import subprocess
 import time
 
-from page_in_browser import (GET_NOTICE, GET_TEXT_OF_EDITOR, IS_READY, PUT_INTO_EDITOR, TOP, choose_example, lines_answered, of_file_menu,
-                             open_anew, show_text)
-from page_layout import MEASURE_OVERFLOW, at_size
-from page_tests import GET_FAULTS as GET_TESTS_FAULTS
+from page_in_browser import (GET_NOTICE, GET_TEXT_OF_EDITOR, IS_READY, PUT_INTO_EDITOR, TOP, choose_example, send_lines, choose_from_file_menu,
+                             reopen_page, show_text)
+from page_layout import MEASURE_OVERFLOW, set_size
+from page_tests import GET_ERRORS as GET_TESTS_FAULTS
 from page_tests import GET_TESTS_STATUS
-from page_tests import GET_WRONG
-from page_texts import GET_NAME, kept_download, rename
+from page_tests import GET_FAILURES
+from page_texts import GET_NAME, wait_for_download, rename
 from verdicts import eventually, verdict
 from web_driver import Chromium
 
 EDITOR = "#properties-editor"
 GET_PROPERTIES_STATUS = "return document.querySelector('#properties-editor .status-text').textContent"
-GET_BUTTON_WORD = "return document.getElementById('explore').textContent"
+GET_BUTTON_LABEL = "return document.getElementById('explore').textContent"
 GET_ROWS = """return [...document.querySelectorAll('#property-list > li')].map((each) => [...each.querySelector('p').children]
   .map((child) => child.textContent).filter(Boolean).join(' | '))"""
 GET_MARK = "return document.querySelector('#properties-tab .mark').textContent"
-GET_FAULTS = GET_TESTS_FAULTS.replace("tests", "properties")
+GET_ERRORS = GET_TESTS_FAULTS.replace("tests", "properties")
 GET_FIGURES = "return document.getElementById('explore-figures').textContent"
 GET_CYCLES = "return Number(document.getElementById('cycles').textContent.match(/[\\d,]+/)[0].replace(/,/g, ''))"
 GET_COUNTEREXAMPLE_TEST = "return document.querySelector('#property-list pre').textContent"
 CONTROL, ENTER = "\ue009", "\ue007"
 LOCK = TOP / "examples/lock"
-# The seconds for a search. They must be the same for the page and the tool, because a fifth of the time is for minimising a counterexample.
-SECONDS = 10
+# The seconds for a search. Page and tool must have the same number, because each uses a fifth of the time to minimise a counterexample.
+SEARCH_SECONDS = 10
 
 
 def text_of(browser, name):
     return browser.script(GET_TEXT_OF_EDITOR, f"#{name}-editor")
 
 
-def put(browser, name, text):
+def set_text(browser, name, text):
     browser.script(PUT_INTO_EDITOR, f"#{name}-editor", text)
 
 
-def ask_for(browser, seconds, seed=1):
+def set_limits(browser, seconds, seed=1):
     """Fills in the number fields of the tab."""
-    for name, number in (("seconds", seconds), ("seed", seed)):
-        browser.script("document.getElementById(arguments[0]).value = arguments[1]", f"explore-{name}", str(number))
+    for name, value in (("seconds", seconds), ("seed", seed)):
+        browser.script("document.getElementById(arguments[0]).value = arguments[1]", f"explore-{name}", str(value))
 
 
 def explore(browser, seconds, seed=1):
     show_text(browser, "properties")
-    ask_for(browser, seconds, seed)
+    set_limits(browser, seconds, seed)
     browser.click("#explore")
 
 
-def planted():
-    """Returns the lock's program with an error that the check puts into it: it accepts any digit for one digit of the code."""
+def faulty_program():
+    """Returns the lock's program with an error: the lock accepts any digit for one digit of the code."""
     program = (LOCK / "lock.asm").read_text()
-    changed = re.sub(r"^        JCN nonzero, wrong$", "        NOP", program, flags=re.M)
-    verdict("the fault is put into the program", changed == program, False)
-    return changed
+    faulty = re.sub(r"^        JCN nonzero, wrong$", "        NOP", program, flags=re.M)
+    verdict("the fault is put into the program", faulty == program, False)
+    return faulty
 
 
-def found_by_tool(folder, program, mcs4):
+def start_tool(folder, program, mcs4):
     """Starts mcs4 explore on the same texts. Returns the process."""
     path = folder / "planted.asm"
     path.write_text(program)
-    command = ["./mcs4", "explore", LOCK / "board.toml", path, LOCK / "lock.props", "--seconds", str(SECONDS), "--out", folder / "finds.test"]
+    command = ["./mcs4", "explore", LOCK / "board.toml", path, LOCK / "lock.props", "--seconds", str(SEARCH_SECONDS), "--out", folder / "finds.test"]
     return subprocess.Popen(command, cwd=TOP, env=dict(os.environ, MCS4=str(mcs4)), stdout=subprocess.PIPE, stderr=subprocess.DEVNULL, text=True)
 
 
-def check_found(browser, folder, mcs4):
-    program = planted()
+def check_counterexample(browser, folder, mcs4):
+    program = faulty_program()
     choose_example(browser, "lock")
     verdict("properties come with their example", text_of(browser, "properties"), (LOCK / "lock.props").read_text())
-    put(browser, "program", program)
-    explore(browser, SECONDS)
-    eventually(browser, "the button stops it", GET_BUTTON_WORD, "Stop")
+    set_text(browser, "program", program)
+    explore(browser, SEARCH_SECONDS)
+    eventually(browser, "the button stops it", GET_BUTTON_LABEL, "Stop")
     eventually(browser, "steps are counted", GET_FIGURES, re.compile("^[1-9][0-9,]* steps"))
-    before = browser.script(GET_CYCLES)
+    cycles_before = browser.script(GET_CYCLES)
     eventually(browser, "what is broken is reported while it looks on", GET_PROPERTIES_STATUS, "1 property is broken so far.")
     verdict("the tab says so", browser.script(GET_MARK), "1 broken")
-    eventually(browser, "the session's time goes on meanwhile", f"{GET_CYCLES.replace('return ', 'return (')}) > {before}", True)
-    eventually(browser, "it comes to its end", GET_BUTTON_WORD, "Search", SECONDS + 30)
+    eventually(browser, "the session's time goes on meanwhile", f"{GET_CYCLES.replace('return ', 'return (')}) > {cycles_before}", True)
+    eventually(browser, "it comes to its end", GET_BUTTON_LABEL, "Search", SEARCH_SECONDS + 30)
     verdict("what was found is reported", browser.script(GET_PROPERTIES_STATUS), "1 property is broken.")
-    tool = found_by_tool(folder, program, mcs4)
+    tool = start_tool(folder, program, mcs4)
     output, _ = tool.communicate()
     rows = browser.script(GET_ROWS)
     verdict("each property has its row", len(rows), 8)
     verdict("with how it is broken", rows[0], re.compile(r"^not ok \| lamp open on only after press 4, .* \| broken by \d+ steps?, [\d,]+ cycles"))
     verdict("the others hold", rows[1:3], ["ok | never lamp open on and lamp locked on", "ok | never lamp open on and lamp alarm on"])
     verdict("the tool has found the same one alone", re.findall("^not ok (.*) - ", output, re.M), ["1"])
-    finds = (folder / "finds.test").read_text()
-    verdict("by the same test, with the same seed", browser.script(GET_COUNTEREXAMPLE_TEST), finds[finds.index("\ntest ") + 1:].rstrip("\n"))
+    tests_of_tool = (folder / "finds.test").read_text()
+    verdict("by the same test, with the same seed", browser.script(GET_COUNTEREXAMPLE_TEST), tests_of_tool[tests_of_tool.index("\ntest ") + 1:].rstrip("\n"))
     verdict("what was run is reported", browser.text("#explored-instructions"), re.compile(r"1\d\d of 125 instructions were run"))
 
 
-def check_left(browser):
+def check_line_never_run(browser):
     """Checks that a line that never ran is selected in the source."""
     line = browser.script("return Number(document.querySelector('#never-run button').textContent)")
     browser.click("#never-run button")
@@ -108,30 +108,30 @@ return [isShown(editor.view.dom), editor.getCursor('from').line + 1]"""), [True,
     show_text(browser, "properties")
 
 
-def check_added(browser):
+def check_test_added(browser):
     """Checks that the counterexample's test is added to the tests once, that it fails there, and that it can be removed again."""
-    add = "#property-list .bar button:nth-of-type(2)"
-    before = text_of(browser, "tests")
+    add_button = "#property-list .bar button:nth-of-type(2)"
+    tests_before = text_of(browser, "tests")
     test = browser.script(GET_COUNTEREXAMPLE_TEST)
-    browser.click(add)
+    browser.click(add_button)
     verdict("the test is added", browser.script(GET_PROPERTIES_STATUS), "It is at the end of Tests, where Run tests runs it.")
-    verdict("behind those of before", text_of(browser, "tests"), f"{before.rstrip()}\n\n{test}\n")
-    browser.click(add)
+    verdict("behind those of before", text_of(browser, "tests"), f"{tests_before.rstrip()}\n\n{test}\n")
+    browser.click(add_button)
     verdict("once", (browser.script(GET_PROPERTIES_STATUS), text_of(browser, "tests").count(test)), ("Tests has it already.", 1))
-    put(browser, "tests", test)
+    set_text(browser, "tests", test)
     show_text(browser, "tests")
     browser.click("#tests-editor .send")
     eventually(browser, "it is run there", GET_TESTS_STATUS, re.compile("failed|passed"))
-    verdict("and fails as it has to", browser.script(GET_WRONG), re.compile(r"^\['line \d+ expect not lamp open on: [^']*'\]$"))
+    verdict("and fails as it has to", browser.script(GET_FAILURES), re.compile(r"^\['line \d+ expect not lamp open on: [^']*'\]$"))
     show_text(browser, "properties")
 
 
-def check_opened(browser):
+def check_counterexample_opened(browser):
     browser.click("#property-list .bar button:nth-of-type(1)")
     eventually(browser, "the find is opened as a session", GET_NAME, re.compile("^lamp open on only after press 4"))
     eventually(browser, "the way back is offered", GET_NOTICE, re.compile('"lock" is saved'))
-    verdict("the lamp is lit there", "lamps .*." in lines_answered(browser, "lamps"), True)
-    verdict("its texts are there", (text_of(browser, "properties"), text_of(browser, "program") == planted()),
+    verdict("the lamp is lit there", "lamps .*." in send_lines(browser, "lamps"), True)
+    verdict("its texts are there", (text_of(browser, "properties"), text_of(browser, "program") == faulty_program()),
             ((LOCK / "lock.props").read_text(), True))
     verdict("nothing was looked for in it yet", browser.script("return isShown(document.getElementById('explore-results'))"), False)
     browser.click("#sessions-button")
@@ -141,47 +141,47 @@ def check_opened(browser):
     eventually(browser, "what was found in it is there", GET_ROWS, re.compile("^.'not ok . lamp open on only after"))
 
 
-def check_stopped(browser):
+def check_stop_button(browser):
     """Checks that a search of ten minutes can be stopped immediately, also by keyboard."""
     explore(browser, 600)
     # The page first attempts a proof, for a tenth of the time.
     eventually(browser, "it looks", GET_FIGURES, re.compile("^[1-9][0-9,]* steps"), 120)
     start = time.monotonic()
     browser.hold("#explore", 400)
-    eventually(browser, "it stops", GET_BUTTON_WORD, "Search", 5)
+    eventually(browser, "it stops", GET_BUTTON_LABEL, "Search", 5)
     verdict("at once", time.monotonic() - start < 3, True)
     verdict("and says so", browser.script(GET_PROPERTIES_STATUS), re.compile("^Stopped. "))
     browser.script("document.querySelector('#properties-editor .cm-editor').lineEditor.focus()")
-    browser.chord(CONTROL, ENTER)
-    eventually(browser, "Ctrl and Enter begins it", GET_BUTTON_WORD, "Stop")
+    browser.press_chord(CONTROL, ENTER)
+    eventually(browser, "Ctrl and Enter begins it", GET_BUTTON_LABEL, "Stop")
     eventually(browser, "and it looks", GET_FIGURES, re.compile("^[1-9][0-9,]* steps"), 120)
     browser.script("document.getElementById('explore').focus()")
     browser.keys([ENTER])
-    eventually(browser, "Enter on the button stops it", GET_BUTTON_WORD, "Search", 5)
+    eventually(browser, "Enter on the button stops it", GET_BUTTON_LABEL, "Search", 5)
     verdict("and the button keeps the focus", browser.script("return document.activeElement.id"), "explore")
     browser.click("#clear-finds")
     verdict("what was found is cleared", browser.script("return isShown(document.getElementById('explore-results'))"), False)
 
 
-def check_faults(browser):
-    put(browser, "properties", "wait 0 to 5\nnever lamp purple on\npress A\n")
+def check_errors(browser):
+    set_text(browser, "properties", "wait 0 to 5\nnever lamp purple on\npress A\n")
     show_text(browser, "properties")
-    eventually(browser, "faults are reported while one types", GET_FAULTS,
+    eventually(browser, "faults are reported while one types", GET_ERRORS,
                ["line 1: write `wait TIME to TIME`, from 1 cycle to 100,000 (1.08 s), as in: wait 1 ms to 20 ms",
                 "line 2: the board has no lamp purple; it has: locked open alarm (column 7)",
                 "line 3: the board has no key A; it has: 1 2 3 4 5 6 7 8 9 * 0 #"])
     verdict("the tab shows how many", browser.script(GET_MARK), "3 faults")
     browser.click("#explore")
     eventually(browser, "nothing is looked for then", GET_PROPERTIES_STATUS, re.compile("^Nothing was run: Properties, line 1: write .* and 2 more.$"))
-    for seconds, seed, words in ((0, 1, "Seconds must be a number from 1 to 86,400."), ("x", -1, re.compile("^Seconds .* The seed must be a number"))):
+    for seconds, seed, message in ((0, 1, "Seconds must be a number from 1 to 86,400."), ("x", -1, re.compile("^Seconds .* The seed must be a number"))):
         explore(browser, seconds, seed)
-        verdict(f"{seconds} seconds are refused", browser.script(GET_PROPERTIES_STATUS), words)
+        verdict(f"{seconds} seconds are refused", browser.script(GET_PROPERTIES_STATUS), message)
     board = text_of(browser, "board")
-    put(browser, "board", f"{board}[rom]\n")
+    set_text(browser, "board", f"{board}[rom]\n")
     explore(browser, 5)
     eventually(browser, "a board that is refused is reported", GET_PROPERTIES_STATUS, re.compile("^Nothing was run: Board: no 20: the text is not TOML"))
-    put(browser, "board", board)
-    put(browser, "properties", "")
+    set_text(browser, "board", board)
+    set_text(browser, "properties", "")
     eventually(browser, "a text to begin with is offered", "return isShown(document.getElementById('first-properties'))", True)
     browser.click("#first-properties")
     explore(browser, 3)
@@ -198,53 +198,53 @@ def check_proof_first(browser):
     choose_example(browser, "empty bench")
     explore(browser, 5)
     eventually(browser, "without a board nothing may change", GET_PROPERTIES_STATUS, re.compile("^Nothing was run: Properties, line 1: nothing may change"))
-    put(browser, "board", BOARD)
-    put(browser, "program", PROGRAM)
-    put(browser, "properties", "test\nwait 1 to 20\nnever lamp 1 on\nnever lamp 0 on\nreach lamp 1 on\n")
+    set_text(browser, "board", BOARD)
+    set_text(browser, "program", PROGRAM)
+    set_text(browser, "properties", "test\nwait 1 to 20\nnever lamp 1 on\nnever lamp 0 on\nreach lamp 1 on\n")
     explore(browser, 5)
     eventually(browser, "it ends where nothing is left to be looked for", GET_PROPERTIES_STATUS, "1 property is broken. 1 goal was not reached.", 20)
     verdict("what is proved is reported", [row for row in browser.script(GET_ROWS) if "states" in row][:2],
             ["ok | never lamp 1 on | proved for all inputs (2 states)", "not ok | reach lamp 1 on | never reached, for all inputs (2 states)"])
 
 
-def check_from_a_state(browser):
-    """Checks a search that begins at a state that a test saves: the counterexample begins with the lines of that test."""
-    put(browser, "tests", "test it is lit\n  set test 1\n  run 40\n  save lit\n")
-    put(browser, "properties", "from lit\ntest\nwait 1 to 20\nnever lamp 0 on\nfrom dark\n")
+def check_search_from_state(browser):
+    """Checks a search that starts in a state that a test saves. The counterexample must begin with the lines of that test."""
+    set_text(browser, "tests", "test it is lit\n  set test 1\n  run 40\n  save lit\n")
+    set_text(browser, "properties", "from lit\ntest\nwait 1 to 20\nnever lamp 0 on\nfrom dark\n")
     show_text(browser, "properties")
-    eventually(browser, "a second state is a fault", GET_FAULTS, ["line 5: an earlier line already says from which state it begins"])
-    put(browser, "properties", "from dark\ntest\nnever lamp 0 on\n")
-    eventually(browser, "and one that no test saves", GET_FAULTS, ["line 1: no test saves a state dark; there is: lit"])
-    put(browser, "properties", "from lit\ntest\nwait 1 to 20\nnever lamp 0 on\n")
+    eventually(browser, "a second state is a fault", GET_ERRORS, ["line 5: an earlier line already says from which state it begins"])
+    set_text(browser, "properties", "from dark\ntest\nnever lamp 0 on\n")
+    eventually(browser, "and one that no test saves", GET_ERRORS, ["line 1: no test saves a state dark; there is: lit"])
+    set_text(browser, "properties", "from lit\ntest\nwait 1 to 20\nnever lamp 0 on\n")
     explore(browser, 5)
     eventually(browser, "a find from a state", GET_PROPERTIES_STATUS, "1 property is broken.", 20)
     verdict("has its lines", browser.script(GET_COUNTEREXAMPLE_TEST), re.compile("^test never lamp 0 on\n  set test 1\n  run 40\n"))
 
 
 def check_phone(browser):
-    at_size(browser, 390, 844, True)
+    set_size(browser, 390, 844, True)
     verdict("on a phone nothing scrolls sideways", browser.script(MEASURE_OVERFLOW), 0)
     explore(browser, 5)
-    eventually(browser, "it looks there, too", GET_BUTTON_WORD, "Search", 20)
+    eventually(browser, "it looks there, too", GET_BUTTON_LABEL, "Search", 20)
     eventually(browser, "with its rows", GET_ROWS, re.compile("never lamp 0 on"))
     verdict("which fit into its width", browser.script("""return [...document.querySelectorAll('#explore-results *')]
       .filter((each) => isShown(each) && each.getBoundingClientRect().right > innerWidth).length"""), 0)
     verdict("and nothing scrolls sideways", browser.script(MEASURE_OVERFLOW), 0)
-    browser.resize_back()
+    browser.restore_size()
 
 
-def check_kept(browser, folder):
+def check_saving(browser, folder):
     """Checks that the properties text is saved with its session, is in a project, and can be read from a file."""
-    put(browser, "properties", "never lamp 1 on")
+    set_text(browser, "properties", "never lamp 1 on")
     time.sleep(1)
     browser.reload()
     browser.until(IS_READY, True)
     show_text(browser, "properties")
     eventually(browser, "the text is there after a reload", GET_TEXT_OF_EDITOR.replace("arguments[0]", f"'{EDITOR}'"), "never lamp 1 on")
     rename(browser, "with properties")
-    of_file_menu(browser, "#save-button")
-    saved = kept_download(folder, "with properties.mcsp")
-    text = saved.read_text()
+    choose_from_file_menu(browser, "#save-button")
+    project_file = wait_for_download(folder, "with properties.mcsp")
+    text = project_file.read_text()
     verdict("a project has it", "\nunended properties\n" in text and "\nproperties\nnever lamp 1 on\n.\n" in text, True)
     browser.click("#sessions-button")
     browser.type_into("#file", str(LOCK / "lock.props"))
@@ -254,15 +254,15 @@ def check_kept(browser, folder):
 
 
 def check(browser, page, folder, mcs4):
-    open_anew(browser, page)
-    check_found(browser, folder, mcs4)
-    check_left(browser)
-    check_added(browser)
-    check_opened(browser)
-    check_stopped(browser)
-    check_faults(browser)
+    reopen_page(browser, page)
+    check_counterexample(browser, folder, mcs4)
+    check_line_never_run(browser)
+    check_test_added(browser)
+    check_counterexample_opened(browser)
+    check_stop_button(browser)
+    check_errors(browser)
     check_proof_first(browser)
-    check_from_a_state(browser)
+    check_search_from_state(browser)
     if isinstance(browser, Chromium):
         check_phone(browser)
-    check_kept(browser, folder)
+    check_saving(browser, folder)

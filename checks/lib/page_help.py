@@ -3,7 +3,7 @@
 import re
 import time
 
-from page_in_browser import ENTER, ESCAPE, GET_STATUS, choose_example, key, lines_answered, show_text, until_ready
+from page_in_browser import ENTER, ESCAPE, GET_STATUS, choose_example, key, send_lines, show_text, until_ready
 from verdicts import eventually, verdict
 
 F1, UP, DOWN, CONTROL = "\ue031", "\ue013", "\ue015", "\ue009"
@@ -47,7 +47,7 @@ def check_lines(browser):
     browser.keys([DOWN])
     eventually(browser, "and at the end what was being typed", GET_LINES, "")
     browser.type_into("#lines", "unb")
-    browser.chord(CONTROL, " ")
+    browser.press_chord(CONTROL, " ")
     eventually(browser, "Control and the space bar complete a word", GET_LINES, "unbreak ")
     browser.script("document.getElementById('lines').value = ''")
     browser.type_into("#lines", "help watch" + ENTER)
@@ -101,26 +101,26 @@ def check_tour(browser):
     verdict("a step begins undone", browser.script(GET_TOUR_STATUS), "")
     run_program(browser)
     time.sleep(0.3)
-    browser.fingers([key("right")], 400)
+    browser.touch_together([key("right")], 400)
     eventually(browser, "the key is seen", GET_TOUR_STATUS, "Done.")
     browser.click("#tour-next")
-    lines_answered(browser, "break 0x006")
+    send_lines(browser, "break 0x006")
     eventually(browser, "the breakpoint is seen", GET_TOUR_STATUS, "Done.")
-    lines_answered(browser, "unbreak 0x006")
+    send_lines(browser, "unbreak 0x006")
     browser.click("#tour-next")
     run_program(browser)
     browser.click(".ram button")
     time.sleep(0.3)
-    browser.fingers([key("left")], 300)
+    browser.touch_together([key("left")], 300)
     eventually(browser, "the watch is seen", GET_TOUR_STATUS, re.compile("^Done: that was the last step"))
     browser.click("#tour-next")
     eventually(browser, "and it ends", "return document.getElementById('tour').hidden", True)
 
 
 def check_hints(browser):
-    titles = "return [...document.querySelectorAll('#processor [title], #calls [title], #ports [title]')].map((each) => each.title).join('; ')"
-    for words in ("the accumulator", "in the middle of an instruction of two cycles", "the return addresses, the newest first", "what WRR has written"):
-        eventually(browser, f"a cell says what it shows: {words}", titles, re.compile(words))
+    get_titles = "return [...document.querySelectorAll('#processor [title], #calls [title], #ports [title]')].map((each) => each.title).join('; ')"
+    for description in ("the accumulator", "in the middle of an instruction of two cycles", "the return addresses, the newest first", "what WRR has written"):
+        eventually(browser, f"a cell says what it shows: {description}", get_titles, re.compile(description))
 
 
 def check(browser, page, _folder, _mcs4):

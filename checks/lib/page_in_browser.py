@@ -6,7 +6,7 @@ import re
 import subprocess
 import time
 
-from driven import Fault
+from driven import DriverError
 from page_module import module_of_page
 from picture import write_picture
 from verdicts import eventually, verdict
@@ -35,13 +35,13 @@ field.value = arguments[0];
 field.dispatchEvent(new Event("change"))"""
 ENTER, ESCAPE, TAB, DOWN = "\ue007", "\ue00c", "\ue004", "\ue015"
 
-# The number of controls without an accessible name.
-GET_CONTROLS_WITHOUT_NAMES = """
+# Returns the number of controls without an accessible name.
+COUNT_UNNAMED_CONTROLS = """
 return [...document.querySelectorAll("button, input, select, textarea")].filter((each) => !each.textContent.trim()
   && !each.getAttribute("aria-label") && !each.labels?.length && !each.getAttribute("aria-labelledby")).length"""
 
-# Records several copies of the saved session: while the page is hidden, and when the page is shown again.
-WATCH_HIDDEN = """
+# Records the saved session one second after the page is hidden, and again when the page is shown.
+RECORD_SAVED_SESSIONS = """
 window.keptWhenHidden = [];
 const id = location.hash.slice("#session=".length);
 indexedDB.open("fethsaim", 1).onsuccess = (opened) => {
@@ -51,7 +51,7 @@ indexedDB.open("fethsaim", 1).onsuccess = (opened) => {
   };
   document.addEventListener("visibilitychange", () => (document.hidden ? setTimeout(note, 1000) : note()));
 }"""
-GET_KEPT_WHEN_HIDDEN = "const kept = window.keptWhenHidden; return [kept.length, new Set(kept).size]"
+COUNT_SAVED_SESSIONS = "const kept = window.keptWhenHidden; return [kept.length, new Set(kept).size]"
 
 # The text of an editor, and its replacement. Each editor's element has a LineEditor (js/page/text/line_editor.js).
 GET_TEXT_OF_EDITOR = "return document.querySelector(`${arguments[0]} .cm-editor`).lineEditor.getValue()"
@@ -66,7 +66,7 @@ return next !== null && next.textContent.includes(document.getElementById('value
 
 GET_RATE = "return Number(document.getElementById('rate').textContent.replace(/\\D/g, ''))"
 
-# Tries the actions that the page's content security policy forbids. An event reports each of them.
+# Tries the actions that the page's content security policy forbids. The browser reports each violation with an event.
 TRY_FORBIDDEN = """
 window.violations = new Set();
 document.addEventListener("securitypolicyviolation", (event) => window.violations.add(event.effectiveDirective));
@@ -91,7 +91,7 @@ def until_ready(browser):
     browser.script(CLOSE_CARDS)
 
 
-def open_anew(browser, page):
+def reopen_page(browser, page):
     """Opens a blank page, and then the page again."""
     browser.go("about:blank")
     browser.go(page.as_uri())
@@ -104,7 +104,7 @@ def stop_time(browser):
     browser.until(GET_STATUS, re.compile("^Paused"))
 
 
-def of_file_menu(browser, selector):
+def choose_from_file_menu(browser, selector):
     """Chooses an entry of the File menu."""
     browser.click("#menu-button")
     browser.click(selector)
@@ -123,7 +123,7 @@ def choose_example(browser, name):
 
 
 def step_with_marks(browser):
-    """Checks with the traffic light which lamps are on, that time can be paused, and that a step marks what it changed."""
+    """Checks with the traffic light that a lamp is on, that time can be paused, and that a step marks the values that it changed."""
     choose_example(browser, "traffic light")
     eventually(browser, "a lamp is lit", "return document.querySelectorAll('.bulb.lit').length > 0", True)
     stop_time(browser)
@@ -134,7 +134,7 @@ def step_with_marks(browser):
 def check_calculator(browser):
     choose_example(browser, "calculator")
     for legend in "12+30=":
-        browser.fingers([key(legend)], 60)
+        browser.touch_together([key(legend)], 60)
         time.sleep(0.08)
     eventually(browser, "1 2 + 3 0 = by the pointer", GET_DIGITS, "42")
     browser.reload()
@@ -154,12 +154,12 @@ def check_two_keys(browser):
     browser.script("window.both = 0; new MutationObserver(() => { window.both = Math.max(window.both, "
                    "document.querySelectorAll(\"#keys [aria-pressed='true']\").length); }).observe(document.getElementById('keys'), "
                    "{ subtree: true, attributes: true, attributeFilter: ['aria-pressed'] })")
-    browser.fingers([key("C"), key("S"), key("0")], 400)
+    browser.touch_together([key("C"), key("S"), key("0")], 400)
     eventually(browser, "three keys at once", "return window.both", 3)
     eventually(browser, "and all up again", COUNT_KEYS_DOWN, 0)
 
 
-def lamps_of(mcs4, file, keys):
+def display_of(mcs4, file, keys):
     """Returns the program's display text for a session file after some keys."""
     board = TOP / "examples/calculator/board.toml"
     environment = dict(os.environ, MCS4=str(mcs4))
@@ -173,8 +173,8 @@ def as_version_1(file):
     slot = 16 if file[8] % 2 == 0 else 81936
     length = int.from_bytes(file[slot:slot + 4], "big")
     snapshot = file[slot + 4:slot + 4 + length]
-    old = (length - 2).to_bytes(4, "big") + snapshot[:4] + snapshot[5:-1]
-    return file[:slot] + old + file[slot + len(old):]
+    old_snapshot = (length - 2).to_bytes(4, "big") + snapshot[:4] + snapshot[5:-1]
+    return file[:slot] + old_snapshot + file[slot + len(old_snapshot):]
 
 
 def check_files(browser, folder, mcs4):
@@ -183,33 +183,33 @@ def check_files(browser, folder, mcs4):
     # Waits until no key is down, because a key that is down when time is paused is also down in the file.
     browser.until(COUNT_KEYS_DOWN, 0)
     stop_time(browser)
-    of_file_menu(browser, "#save-session-button")
-    saved = folder / "downloads/calculator.mcs"
-    end = time.monotonic() + 20
+    choose_from_file_menu(browser, "#save-session-button")
+    saved_file = folder / "downloads/calculator.mcs"
+    deadline = time.monotonic() + 20
     # Some browsers first create an empty file.
-    while not (saved.exists() and saved.stat().st_size > 0) and time.monotonic() < end:
+    while not (saved_file.exists() and saved_file.stat().st_size > 0) and time.monotonic() < deadline:
         time.sleep(0.05)
-    old = folder / "old.mcs"
-    old.write_bytes(as_version_1(saved.read_bytes()))
-    browser.type_into("#file", str(old))
+    old_file = folder / "old.mcs"
+    old_file.write_bytes(as_version_1(saved_file.read_bytes()))
+    browser.type_into("#file", str(old_file))
     eventually(browser, "a file of version 1 is carried over", "return document.getElementById('name').value", "old")
     verdict("and shows the same", browser.script(GET_DIGITS), "42")
-    verdict("the saved file, gone on with by the program", lamps_of(mcs4, saved, "/8="), "5.25")
-    browser.type_into("#file", str(saved))
+    verdict("the saved file, gone on with by the program", display_of(mcs4, saved_file, "/8="), "5.25")
+    browser.type_into("#file", str(saved_file))
     eventually(browser, "the program's file, opened by the page", GET_DIGITS, "5.25")
     verdict("its keys have their names", browser.text("#keys"), "789/456*123-0.~+CCEcS=")
     source = browser.script(GET_TEXT_OF_EDITOR, "#program-editor")
     verdict("its program has its text", source, (TOP / "examples/calculator/calculator.asm").read_text())
-    rubbish = folder / "rubbish.mcs"
-    rubbish.write_bytes(b"no session")
-    browser.type_into("#file", str(rubbish))
+    foreign_file = folder / "rubbish.mcs"
+    foreign_file.write_bytes(b"no session")
+    browser.type_into("#file", str(foreign_file))
     eventually(browser, "rubbish is refused in words", GET_NOTICE, re.compile(r"Cannot open rubbish\.mcs: no 50: not a session file"))
-    damaged = folder / "damaged.mcs"
-    bytes_of = bytearray(saved.read_bytes())
-    bytes_of[16:20] = b"\xff" * 4
-    bytes_of[81936:81940] = b"\xff" * 4
-    damaged.write_bytes(bytes_of)
-    browser.type_into("#file", str(damaged))
+    damaged_file = folder / "damaged.mcs"
+    damaged_bytes = bytearray(saved_file.read_bytes())
+    damaged_bytes[16:20] = b"\xff" * 4
+    damaged_bytes[81936:81940] = b"\xff" * 4
+    damaged_file.write_bytes(damaged_bytes)
+    browser.type_into("#file", str(damaged_file))
     eventually(browser, "a damaged file is refused in words", GET_NOTICE, re.compile("no 51: the session file is damaged"))
     verdict("the session is as it was", browser.script(GET_DIGITS), "5.25")
     browser.click("#notice .dismiss")
@@ -218,21 +218,21 @@ def check_files(browser, folder, mcs4):
 def check_stops(browser):
     browser.click("#step")
     browser.until(GET_STATUS, STEPPED)
-    line = "#lines-of-program button.next"
+    next_row = "#lines-of-program button.next"
     eventually(browser, "the listing is at the counter", IS_AT_COUNTER, True)
-    address = browser.text(f"{line} span")[:3]
-    browser.click_at_rest(line)
-    eventually(browser, "a breakpoint by a click", f"return document.querySelector('{line}').getAttribute('aria-pressed')", "true")
+    address = browser.text(f"{next_row} span")[:3]
+    browser.click_at_rest(next_row)
+    eventually(browser, "a breakpoint by a click", f"return document.querySelector('{next_row}').getAttribute('aria-pressed')", "true")
     browser.click("#run")
     eventually(browser, "the run stops there", GET_STATUS, f"Paused at {address}, at a breakpoint.")
-    eventually(browser, "the listing shows it", f"return document.querySelector('{line} span').textContent.slice(0, 3)", address)
-    browser.click_at_rest(line)
-    eventually(browser, "the breakpoint is gone", f"return document.querySelector('{line}').getAttribute('aria-pressed')", "false")
+    eventually(browser, "the listing shows it", f"return document.querySelector('{next_row} span').textContent.slice(0, 3)", address)
+    browser.click_at_rest(next_row)
+    eventually(browser, "the breakpoint is gone", f"return document.querySelector('{next_row}').getAttribute('aria-pressed')", "false")
     browser.click(".ram button")
     eventually(browser, "a watch by a click", "return document.querySelector('.ram button').getAttribute('aria-pressed')", "true")
     browser.script(SET_SPEED, "full")
     browser.click("#run")
-    browser.fingers([key("C")], 60)
+    browser.touch_together([key("C")], 60)
     eventually(browser, "a run at full speed stops where the character changes", GET_STATUS,
                re.compile("^Paused at ..., after a watched nibble changed.$"))
     browser.script(SET_SPEED, "real")
@@ -241,9 +241,9 @@ def check_stops(browser):
     browser.until("return document.querySelector('.ram button').getAttribute('aria-pressed')", "false")
 
 
-def focused(browser, key, code, most=40):
-    """Presses a key until a script about the focused element returns true. Returns false if it never does."""
-    for _ in range(most):
+def move_focus_until(browser, key, code, max_presses=40):
+    """Presses a key until a script about the focused element `e` returns true. Returns false if the script returns false after every press."""
+    for _ in range(max_presses):
         browser.keys([key], 1, 1)
         if browser.script(f"const e = document.activeElement; return {code}"):
             return True
@@ -253,21 +253,21 @@ def focused(browser, key, code, most=40):
 def check_keyboard_alone(browser):
     # After the page's last element, the focus moves to the browser.
     browser.script("document.getElementById('name').focus()")
-    verdict("Tab comes to Step", focused(browser, TAB, "e.id === 'step'"), True)
+    verdict("Tab comes to Step", move_focus_until(browser, TAB, "e.id === 'step'"), True)
     browser.keys([ENTER])
     eventually(browser, "Enter steps", GET_STATUS, STEPPED)
-    verdict("Tab comes to the listing", focused(browser, TAB, "e.closest('#lines-of-program') !== null"), True)
+    verdict("Tab comes to the listing", move_focus_until(browser, TAB, "e.closest('#lines-of-program') !== null"), True)
     browser.keys([DOWN, DOWN, ENTER])
     eventually(browser, "arrows and Enter set a breakpoint", "return document.activeElement.getAttribute('aria-pressed')", "true")
     browser.keys([ENTER])
     eventually(browser, "and clear it", "return document.activeElement.getAttribute('aria-pressed')", "false")
-    verdict("all that can be used has a name", browser.script(GET_CONTROLS_WITHOUT_NAMES), 0)
+    verdict("all that can be used has a name", browser.script(COUNT_UNNAMED_CONTROLS), 0)
 
 
 def check_narrow(browser):
     browser.command("Emulation.setDeviceMetricsOverride", width=360, height=740, deviceScaleFactor=1, mobile=True)
     eventually(browser, "a phone shows the page without scrolling sideways", "return document.documentElement.scrollWidth <= 360", True)
-    browser.resize_back()
+    browser.restore_size()
 
 
 def check_hidden(browser):
@@ -275,14 +275,14 @@ def check_hidden(browser):
     # Presses a key, because an example is saved only after the user has done something.
     browser.keys([ESCAPE])
     browser.until("return location.hash", re.compile("#session="))
-    browser.script(WATCH_HIDDEN)
-    shown = browser.tab()
+    browser.script(RECORD_SAVED_SESSIONS)
+    shown_tab = browser.tab()
     browser.new_tab()
     time.sleep(2.5)
-    browser.close_tab(shown)
+    browser.close_tab(shown_tab)
     eventually(browser, "a page that was hidden says for how long it stood still", GET_STATUS,
                re.compile(r"^Running\. Paused for \d+ seconds while the page was hidden\.$"))
-    eventually(browser, "what is kept did not change meanwhile", GET_KEPT_WHEN_HIDDEN, [2, 1])
+    eventually(browser, "what is kept did not change meanwhile", COUNT_SAVED_SESSIONS, [2, 1])
     eventually(browser, "and it runs on as fast as it should", GET_RATE, re.compile("^9[0-4]...$"))
     browser.script(BLOCK_PAGE, 1500)
     eventually(browser, "the same where the browser did not run the page", GET_STATUS,
@@ -295,11 +295,11 @@ def check_hidden_at_full_speed(browser):
     browser.script(SET_SPEED, "full")
     eventually(browser, "full speed is faster", GET_RATE, re.compile("[1-9]......"))
     browser.script("window.keptWhenHidden = []")
-    shown = browser.tab()
+    shown_tab = browser.tab()
     browser.new_tab()
     time.sleep(6)
-    browser.close_tab(shown)
-    eventually(browser, "at full speed what is kept goes on while hidden", GET_KEPT_WHEN_HIDDEN, [2, 2])
+    browser.close_tab(shown_tab)
+    eventually(browser, "at full speed what is kept goes on while hidden", COUNT_SAVED_SESSIONS, [2, 2])
     verdict("and nothing stood still", browser.script(GET_STATUS), re.compile("^Running"))
     browser.script(SET_SPEED, "real")
     eventually(browser, "and real time is held again", GET_RATE, re.compile("^9[0-4]...$"))
@@ -307,31 +307,31 @@ def check_hidden_at_full_speed(browser):
 
 def check_speed_field(browser):
     """Checks that time runs at the speed that the speed field shows. Some browsers restore this field after a reload, others when the user returns to
-    the page. (The driver goes back. If a script did, Chromium would skip a page without user input.)"""
-    for what, come_again in {"a reload": lambda: browser.script("setTimeout(() => location.reload(), 50)"),
+    the page. (The driver goes back, not a script, because Chromium lets a script skip pages without user input.)"""
+    for action, return_to_page in {"a reload": lambda: browser.script("setTimeout(() => location.reload(), 50)"),
                              "coming back": lambda: (browser.go("about:blank"), browser.back())}.items():
         browser.type_into("#speed", "full")
         # A page from the browser's cache is ready as soon as it is shown again.
         browser.script("const { dataset } = document.body; delete dataset.ready; addEventListener('pageshow', () => { dataset.ready = 'again'; })")
-        come_again()
+        return_to_page()
         until_ready(browser)
         is_full = browser.until("const field = document.getElementById('speed'); return field ? field.value : ''", re.compile("^(full|real)$")) == "full"
         # The first rate reported at full speed can still be low.
-        eventually(browser, f"the speed after {what} is the one in its field", GET_RATE, re.compile("^[2-9].{5}$|^.{7,}$" if is_full else "^[1-9].{4}$"))
+        eventually(browser, f"the speed after {action} is the one in its field", GET_RATE, re.compile("^[2-9].{5}$|^.{7,}$" if is_full else "^[1-9].{4}$"))
     browser.script(SET_SPEED, "real")
 
 
 def show_text(browser, name):
     """Selects a tab of the texts (`program`, `board`, `wiring`) or of the dock (`console`, `disassembly`). Clicks again if the page has moved the tab
     away from the pointer, which can happen on a slow machine."""
-    selected = f"return document.getElementById('{name}-tab').getAttribute('aria-selected')"
-    end = time.monotonic() + 30
-    while time.monotonic() < end:
+    get_selected = f"return document.getElementById('{name}-tab').getAttribute('aria-selected')"
+    deadline = time.monotonic() + 30
+    while time.monotonic() < deadline:
         browser.click(f"#{name}-tab")
-        if browser.script(selected) == "true":
+        if browser.script(get_selected) == "true":
             return
         time.sleep(0.2)
-    raise Fault(f"the tab {name} does not come to the front")
+    raise DriverError(f"the tab {name} does not come to the front")
 
 
 def status_of(browser, editor, text):
@@ -352,25 +352,25 @@ def check_texts(browser):
     verdict("a line that the board lacks", status_of(browser, "#board-editor", f'{rom}\n[[lamp]]\nline = "ram0.0.0"\n'),
             "line 6: the board has no line ram0.0.0: no [[ram]] has bank = 0")
     verdict("the board is as it was", browser.script(GET_DIGITS) != "", True)
-    verdict("lines and their answers", lines_answered(browser, "poke r5 9\nfoo\nseq"),
+    verdict("lines and their answers", send_lines(browser, "poke r5 9\nfoo\nseq"),
             re.compile(r"poke r5 9ok \d+foono 10: not a command.*seqseq \d+$"))
-    three = (TOP / "examples/three_lamps/board.toml").read_text()
-    verdict("a board that is wired", status_of(browser, "#board-editor", three), "Board applied.")
+    three_lamps_board = (TOP / "examples/three_lamps/board.toml").read_text()
+    verdict("a board that is wired", status_of(browser, "#board-editor", three_lamps_board), "Board applied.")
     verdict("has three lamps", browser.script("return document.querySelectorAll('#lamps li').length"), 3)
 
 
-def lines_answered(browser, lines):
+def send_lines(browser, lines):
     browser.script("document.getElementById('lines').value = arguments[0]", lines)
-    before = len(browser.text("#log"))
+    log_length = len(browser.text("#log"))
     # Click through a script, because a notice can cover the button.
     browser.script("document.getElementById('send').click()")
     browser.until("return document.getElementById('lines').value", "")
-    return browser.text("#log")[before:]
+    return browser.text("#log")[log_length:]
 
 
 def check_two_tabs(browser):
     address = browser.script("return location.href")
-    first = browser.tab()
+    first_tab = browser.tab()
     browser.new_tab()
     browser.go(address)
     until_ready(browser)
@@ -380,16 +380,16 @@ def check_two_tabs(browser):
     browser.click("#notice button[aria-label^='Open a copy']")
     eventually(browser, "a copy of the first one can be opened there", "return document.getElementById('name').value", re.compile(", a copy$"))
     verdict("which is none of the session that was shown", browser.script("return document.getElementById('name').value") != f"{name}, a copy", True)
-    browser.close_tab(first)
+    browser.close_tab(first_tab)
 
 
-def check_use(browser, page, folder, mcs4):
+def check_basic_use(browser, page, folder, mcs4):
     """Checks the basic use of the page in a browser that has all features that the page needs."""
     browser.go(page.as_uri())
     until_ready(browser)
     verdict("without a notice", browser.script(GET_NOTICE), "")
     check_calculator(browser)
-    if browser.has_fingers:
+    if browser.can_multitouch:
         check_two_keys(browser)
     check_files(browser, folder, mcs4)
     check_stops(browser)
@@ -397,7 +397,7 @@ def check_use(browser, page, folder, mcs4):
     check_texts(browser)
     check_two_tabs(browser)
     choose_example(browser, "calculator")
-    if browser.hides_tabs:
+    if browser.hides_background_tabs:
         check_hidden(browser)
     check_speed_field(browser)
 
@@ -407,9 +407,9 @@ def check_by_chromium(browser, page):
     browser.go(page.as_uri())
     until_ready(browser)
     check_narrow(browser)
-    # The scripts that wait for a result can fail until the result exists. These errors are not errors of the page.
-    own = ("javascript ", "Script error", "favicon")
-    verdict("no fault in the browser's log", [line for line in browser.log() if not any(word in line for word in own)], [])
+    # The check's own scripts can fail until the result for which they wait exists. These are not errors of the page.
+    expected_words = ("javascript ", "Script error", "favicon")
+    verdict("no fault in the browser's log", [line for line in browser.log() if not any(word in line for word in expected_words)], [])
 
 
 def check_policy(browser, page):
@@ -419,11 +419,11 @@ def check_policy(browser, page):
     eventually(browser, "what the policy forbids", GET_VIOLATIONS, "base-uri form-action img-src script-src-elem style-src-elem")
 
 
-def figures(browser, page):
-    """Returns the sizes of the page and its startup time, for the documents."""
-    open_anew(browser, page)
-    start = browser.script("return Number(document.body.dataset.ready)")
-    return f"the page has {page.stat().st_size} bytes, its module {len(module_of_page(page))}; it starts in {start} ms in {browser.name}"
+def page_figures(browser, page):
+    """Returns a sentence with the sizes of the page and of its module, and the startup time, for the documents."""
+    reopen_page(browser, page)
+    startup_time = browser.script("return Number(document.body.dataset.ready)")
+    return f"the page has {page.stat().st_size} bytes, its module {len(module_of_page(page))}; it starts in {startup_time} ms in {browser.name}"
 
 
 def take_picture(browser, page, path):
@@ -433,7 +433,7 @@ def take_picture(browser, page, path):
     show_text(browser, "program")
     browser.command("Emulation.setDeviceMetricsOverride", width=1280, height=800, deviceScaleFactor=1, mobile=False)
     for legend in "22/7=":
-        browser.fingers([key(legend)], 60)
+        browser.touch_together([key(legend)], 60)
         time.sleep(0.1)
     browser.until(GET_DIGITS, "3.1428571")
     browser.click("#run")
@@ -444,4 +444,4 @@ def take_picture(browser, page, path):
     browser.until("return document.querySelectorAll('#lines-of-program [aria-pressed=true], .ram [aria-pressed=true]').length", 2)
     browser.script("scrollTo(0, 0)")
     write_picture(browser.picture(), path)
-    browser.resize_back()
+    browser.restore_size()

@@ -3,20 +3,20 @@
 import re
 import time
 
-from page_altered import CAUSE_FAULT, EXPOSE_WORKER, INSTALL_FAULTS, altered
+from page_altered import REQUEST_FAULT, EXPOSE_WORKER, INSTALL_FAULTS, write_altered_page
 from page_in_browser import (ENTER, ESCAPE, GET_DIGITS, GET_NOTICE, GET_STATUS, GET_TEXT_OF_EDITOR, IS_READY, PUT_INTO_EDITOR, choose_example,
-                             lines_answered, open_anew, stop_time, until_ready)
+                             send_lines, reopen_page, stop_time, until_ready)
 from verdicts import eventually, verdict
 from web_driver import Chromium
 
 # Scripts that make the store of sessions (IndexedDB) unusable. Each key names one way in which a browser can lack this store.
-NO_STORE = {
+SCRIPTS_WITHOUT_STORE = {
     "no IndexedDB": "Object.defineProperty(window, 'indexedDB', { value: undefined })",
     "IndexedDB and locks are refused": "IDBFactory.prototype.open = () => { throw new DOMException('', 'SecurityError'); };"
                                        "LockManager.prototype.request = async () => { throw new DOMException('', 'SecurityError'); }",
     "a store that does not answer": "IDBFactory.prototype.open = () => ({})",
 }
-NO_READING = "IDBObjectStore.prototype.getAll = () => { throw new DOMException('', 'UnknownError'); }"
+FAIL_READING = "IDBObjectStore.prototype.getAll = () => { throw new DOMException('', 'UnknownError'); }"
 
 # Makes every write to the browser's store fail, as if the store were full.
 FILL_STORE = """
@@ -29,8 +29,8 @@ return [...document.querySelectorAll("button, input, select, textarea")].filter(
   .map((each) => each.textContent)"""
 
 
-def fail(browser, fault):
-    browser.script(CAUSE_FAULT, fault)
+def cause_fault(browser, fault):
+    browser.script(REQUEST_FAULT, fault)
 
 
 def dismiss(browser):
@@ -39,24 +39,24 @@ def dismiss(browser):
 
 def check_failures(browser, page, folder):
     """Checks that the session survives a trap in the module, a lack of memory, a worker that dies or hangs, and a full store."""
-    browser.go(altered(page, folder, EXPOSE_WORKER, INSTALL_FAULTS).as_uri())
+    browser.go(write_altered_page(page, folder, EXPOSE_WORKER, INSTALL_FAULTS).as_uri())
     until_ready(browser)
     choose_example(browser, "calculator")
     browser.keys([ESCAPE, "1", "2"])
     browser.until(GET_DIGITS, "12")
-    fail(browser, "trap")
+    cause_fault(browser, "trap")
     eventually(browser, "a trap is reported", GET_NOTICE, re.compile("the module stopped inside a call .unreachable. and was started again"))
     verdict("the session is as it was", browser.script(GET_DIGITS), "12")
     dismiss(browser)
     browser.click("#run")
     browser.keys(["3"])
     eventually(browser, "and goes on", GET_DIGITS, "123")
-    fail(browser, "no memory")
+    cause_fault(browser, "no memory")
     eventually(browser, "lack of memory is reported", GET_NOTICE, re.compile("no 90: there was no memory"))
     eventually(browser, "the session is as it was then, too", GET_DIGITS, "123")
     dismiss(browser)
     check_full_store(browser)
-    fail(browser, "trap without room")
+    cause_fault(browser, "trap without room")
     browser.click("#step")
     eventually(browser, "no memory for the module after a trap is reported", GET_NOTICE, re.compile("no 90: there was no memory"))
     verdict("and the session is as it was", browser.script(GET_DIGITS), "123")
@@ -66,10 +66,10 @@ def check_failures(browser, page, folder):
 
 def check_full_store(browser):
     browser.script(FILL_STORE)
-    verdict("an answer that is not kept says so", lines_answered(browser, "poke r5 9"), re.compile("not kept: "))
+    verdict("an answer that is not kept says so", send_lines(browser, "poke r5 9"), re.compile("not kept: "))
     verdict("a full store is reported", browser.script(GET_NOTICE), re.compile("This session is not kept: the browser has no more space"))
     browser.script("IDBObjectStore.prototype.put = window.put")
-    lines_answered(browser, "seq")
+    send_lines(browser, "seq")
     verdict("once it is kept the notice goes", browser.script(GET_NOTICE), "")
 
 
@@ -77,7 +77,7 @@ def check_worker(browser):
     """Checks a worker that dies while time is running, and a worker that hangs when its work is cancelled."""
     browser.click("#run")
     browser.until(GET_STATUS, re.compile("^Running \""))
-    fail(browser, "die")
+    cause_fault(browser, "die")
     eventually(browser, "a worker that died is reported", GET_NOTICE, re.compile("worker stopped and was restarted.*session is unchanged"), 40)
     eventually(browser, "and the session is as it was", GET_DIGITS, "123")
     dismiss(browser)
@@ -85,19 +85,19 @@ def check_worker(browser):
     browser.keys(["4"])
     eventually(browser, "and goes on in another worker", GET_DIGITS, "1234")
     stop_time(browser)
-    before = lines_answered(browser, "seq")
-    fail(browser, "hang")
+    answer_before = send_lines(browser, "seq")
+    cause_fault(browser, "hang")
     browser.script("document.getElementById('lines').value = 'poke r5 9'")
     browser.script("document.getElementById('send').click()")
     eventually(browser, "work that hangs can be cancelled", "return document.getElementById('work').hidden", False)
     browser.click("#cancel")
     eventually(browser, "then its worker is ended", GET_NOTICE, re.compile("worker stopped and was restarted"), 20)
     browser.script("document.getElementById('lines').value = ''")
-    verdict("and the session is as it was then, too", lines_answered(browser, "seq"), before)
+    verdict("and the session is as it was then, too", send_lines(browser, "seq"), answer_before)
     dismiss(browser)
 
 
-# Puts 20,000,000 bytes of lines, which take long to serve, into the console's field. After a cancellation, none of the lines may have been executed.
+# Puts 20,000,000 bytes of slow lines into the console's field. After a cancellation, none of the lines may have been executed.
 # The field is hidden, because a browser would need minutes for its layout. `longest` becomes the longest time for which the page was blocked.
 START_LONG_WORK = """
 document.getElementById("lines").style.display = "none";
@@ -124,36 +124,36 @@ if (location.search === "?hang") {
 }"""
 COUNT_FLAGS = "return Object.keys(localStorage).filter((key) => key.startsWith('fethsaim.opening')).length"
 AGE_FLAGS = "for (const key of Object.keys(localStorage)) if (key.startsWith('fethsaim.opening')) localStorage.setItem(key, '1')"
-# Pages that the user left while they were busy can have left some flags.
+# A busy page that the user left can have left its flag behind.
 REMOVE_FLAGS = "for (const key of Object.keys(localStorage)) if (key.startsWith('fethsaim.opening')) localStorage.removeItem(key)"
-UNENDED = 'The session "die" was not opened automatically: the last time, opening it did not finish.'
+UNFINISHED_NOTICE = 'The session "die" was not opened automatically: the last time, opening it did not finish.'
 GET_LAST_ENTRY = "return document.getElementById('log').lastElementChild.textContent"
 HAS_PROGRESS = "return document.querySelector('#work progress').value > 0"
-GET_LONGEST = "clearInterval(window.ticking); return window.longest"
+GET_LONGEST_BLOCK = "clearInterval(window.ticking); return window.longest"
 
 
 def check_long_work(browser, page):
     """Checks that long work shows its progress and does not block the page, and that a cancellation undoes all of it."""
-    open_anew(browser, page)
+    reopen_page(browser, page)
     choose_example(browser, "calculator")
     stop_time(browser)
     # Sends a line, so that the entry about the runs so far is in the log before the long work begins.
-    lines_answered(browser, "seq")
-    before = lines_answered(browser, "seq")
+    send_lines(browser, "seq")
+    answer_before = send_lines(browser, "seq")
     browser.script(START_LONG_WORK)
     browser.script("document.getElementById('send').click()")
     eventually(browser, "long work shows how far it is", HAS_PROGRESS, True, 60)
     browser.click("#cancel")
     eventually(browser, "it can be cancelled", GET_NOTICE, re.compile("It was cancelled. The session is as it was before."), 30)
-    print(f"beside long work the page answers at least every {browser.script(GET_LONGEST):.0f} ms in {browser.name}")
+    print(f"beside long work the page answers at least every {browser.script(GET_LONGEST_BLOCK):.0f} ms in {browser.name}")
     browser.script("const area = document.getElementById('lines'); area.value = ''; area.style.display = ''")
-    verdict("and nothing of it is done", lines_answered(browser, "seq"), before)
+    verdict("and nothing of it is done", send_lines(browser, "seq"), answer_before)
     dismiss(browser)
     browser.script("document.getElementById('lines').value = 'step\\n'.repeat(20000)")
     browser.script("document.getElementById('send').click()")
     eventually(browser, "work in pieces is done whole", "return document.getElementById('lines').value", "", 60)
-    lines_answered(browser, "seq")
-    verdict("each line of it once", browser.script(GET_LAST_ENTRY), f"seqseq {int(before.rsplit(' ', 1)[1]) + 20000}")
+    send_lines(browser, "seq")
+    verdict("each line of it once", browser.script(GET_LAST_ENTRY), f"seqseq {int(answer_before.rsplit(' ', 1)[1]) + 20000}")
 
 
 SHORTEN_WAIT = """
@@ -163,61 +163,61 @@ window.setTimeout = (act, time, ...rest) => wait(act, time === 10000 ? 300 : tim
 
 
 def page_without_feature(page, folder, code):
-    """Returns a copy of the page in which `code` takes a feature of the browser away. The copy waits only 0.3 seconds for a store, instead of ten."""
-    return altered(page, folder, f"{SHORTEN_WAIT}{code}")
+    """Returns a copy of the page in which `code` removes a feature of the browser. The copy waits for a store for 0.3 seconds instead of ten."""
+    return write_altered_page(page, folder, f"{SHORTEN_WAIT}{code}")
 
 
-def notice_at_start(browser, page, code=GET_NOTICE, wanted=re.compile(".")):
+def notice_after_reopening(browser, page, code=GET_NOTICE, expected=re.compile(".")):
     browser.go("about:blank")
     browser.go(page.as_uri())
-    return browser.until(code, wanted)
+    return browser.until(code, expected)
 
 
-def check_works(browser, what):
-    eventually(browser, what, IS_READY, True)
+def check_works(browser, description):
+    eventually(browser, description, IS_READY, True)
     browser.keys([ESCAPE, "6", "*", "7", ENTER])
     eventually(browser, "and the bench works all the same", GET_DIGITS, "42")
 
 
 def check_poor_browsers(browser, page, folder):
-    verdict("no bulk memory", notice_at_start(browser, page_without_feature(page, folder, "WebAssembly.validate = () => false")),
+    verdict("no bulk memory", notice_after_reopening(browser, page_without_feature(page, folder, "WebAssembly.validate = () => false")),
             re.compile(r"This browser has no WebAssembly with bulk memory.*97.*102.*16"))
     verdict("no button without a use", browser.script(GET_SHOWN_CONTROLS), ["Dismiss"])
-    for lack, code in NO_STORE.items():
-        verdict(lack, notice_at_start(browser, page_without_feature(page, folder, code)), re.compile("stores nothing"))
-        check_works(browser, lack)
-        verdict("a line is answered", lines_answered(browser, "poke r5 9"), re.compile(r"poke r5 9ok \d+"))
+    for description, code in SCRIPTS_WITHOUT_STORE.items():
+        verdict(description, notice_after_reopening(browser, page_without_feature(page, folder, code)), re.compile("stores nothing"))
+        check_works(browser, description)
+        verdict("a line is answered", send_lines(browser, "poke r5 9"), re.compile(r"poke r5 9ok \d+"))
         browser.click("#sessions-button")
         eventually(browser, "the sessions of this page are shown", "return document.querySelectorAll('#kept li').length", 1)
         browser.click("#close-sessions")
-    verdict("a store that cannot be read", notice_at_start(browser, page_without_feature(page, folder, NO_READING)), re.compile("could not be read"))
+    verdict("a store that cannot be read", notice_after_reopening(browser, page_without_feature(page, folder, FAIL_READING)), re.compile("could not be read"))
     check_works(browser, "a store that cannot be read")
     check_no_locks(browser, page, folder)
 
 
 def check_no_locks(browser, page, folder):
     """Checks that in a browser without locks, two tabs with the same session do not overwrite each other's changes."""
-    notice_at_start(browser, altered(page, folder, "Object.defineProperty(Navigator.prototype, 'locks', { value: undefined })"), IS_READY, True)
+    notice_after_reopening(browser, write_altered_page(page, folder, "Object.defineProperty(Navigator.prototype, 'locks', { value: undefined })"), IS_READY, True)
     address = browser.script("return location.href")
-    first = browser.tab()
+    first_tab = browser.tab()
     stop_time(browser)
     browser.new_tab()
     browser.go(address)
     until_ready(browser)
-    verdict("the second tab keeps its line", lines_answered(browser, "poke r5 9"), re.compile(r"poke r5 9ok \d+"))
-    browser.close_tab(first)
-    verdict("the first one is reported", lines_answered(browser, "poke r5 3"), re.compile("not kept: another tab has changed"))
+    verdict("the second tab keeps its line", send_lines(browser, "poke r5 9"), re.compile(r"poke r5 9ok \d+"))
+    browser.close_tab(first_tab)
+    verdict("the first one is reported", send_lines(browser, "poke r5 3"), re.compile("not kept: another tab has changed"))
     browser.reload()
     until_ready(browser)
-    verdict("and what the second one wrote is there", lines_answered(browser, "regs"), re.compile(" r .{5}9"))
+    verdict("and what the second one wrote is there", send_lines(browser, "regs"), re.compile(" r .{5}9"))
     verdict("a page that was left holds up no other", reopen(browser, page.as_uri()), "")
 
 
-def check_blocked(kind, page, folder):
+def check_blocked(browser_class, page, folder):
     """Checks the page in a browser whose settings block all site data."""
-    browser = kind(folder / f"blocked{kind.name}", str(folder / "downloads"), **kind.blocks_data)
+    browser = browser_class(folder / f"blocked{browser_class.name}", str(folder / "downloads"), **browser_class.blocks_data)
     try:
-        verdict("blocked data of sites", notice_at_start(browser, page), re.compile("blocked by the settings"))
+        verdict("blocked data of sites", notice_after_reopening(browser, page), re.compile("blocked by the settings"))
         check_works(browser, "blocked data of sites")
     finally:
         browser.end()
@@ -231,12 +231,12 @@ def check_little_memory(page, folder):
         until_ready(browser)
         stop_time(browser)
         # The log can get an entry about runs in the meantime.
-        before = lines_answered(browser, "seq").split()[-1]
+        number_before = send_lines(browser, "seq").split()[-1]
         browser.script("document.getElementById('lines').value = 'poke r5 9\\nasm\\n' + '; a comment of so many letters\\n'.repeat(150000)")
         browser.script("document.getElementById('send').click()")
         eventually(browser, "lack of memory in the module is reported", GET_NOTICE, re.compile("no 90: there was no memory.*The session is as it was"), 30)
         browser.script("document.getElementById('lines').value = ''")
-        verdict("and the session is as it was", lines_answered(browser, "seq").split()[-1], before)
+        verdict("and the session is as it was", send_lines(browser, "seq").split()[-1], number_before)
     finally:
         browser.end()
 
@@ -257,9 +257,9 @@ def hang(browser, address):
     browser.script(AGE_FLAGS)
 
 
-def check_left_soon(browser, address, session):
+def check_leaving_early(browser, address, session):
     """Checks that a page that the user leaves within a second does not count as hung, whichever event reports to the page that the user leaves."""
-    for query in ("", *(["?deaf=beforeunload"] if browser.runs_at_pagehide else []), "?deaf=pagehide"):
+    for query in ("", *(["?deaf=beforeunload"] if browser.always_calls_pagehide else []), "?deaf=pagehide"):
         browser.go("about:blank")
         browser.go(address.replace(".html", f".html{query}") + session)
         until_ready(browser)
@@ -273,10 +273,10 @@ def check_left_soon(browser, address, session):
         verdict("with what was typed last", browser.script(GET_TEXT_OF_EDITOR, "#program-editor"), text)
 
 
-def check_unended(browser, page, folder):
+def check_unfinished_opening(browser, page, folder):
     """Checks that the page does not open a session automatically if the page hung when it opened this session the last time. A message reports that,
     and the user can open or delete the session."""
-    hanging = altered(page, folder, MAKE_DEAF).as_uri()
+    hanging = write_altered_page(page, folder, MAKE_DEAF).as_uri()
     reopen(browser, hanging)
     browser.script(REMOVE_FLAGS)
     choose_example(browser, "die")
@@ -287,14 +287,14 @@ def check_unended(browser, page, folder):
     browser.until(COUNT_FLAGS, 0)
     hang(browser, hanging + session)
     for address in (hanging, hanging + session):
-        verdict("one whose opening did not is reported", reopen(browser, address), UNENDED)
+        verdict("one whose opening did not is reported", reopen(browser, address), UNFINISHED_NOTICE)
         verdict("and is not opened by itself", browser.script("return location.hash") != session, True)
     browser.click("#notice button[aria-label^='Open it']")
     eventually(browser, "it can be opened", "return location.hash", session)
     eventually(browser, "and is well again then", COUNT_FLAGS, 0)
     verdict("at the next start, too", [reopen(browser, hanging), browser.script("return location.hash")], ["", session])
     browser.until(COUNT_FLAGS, 0)
-    check_left_soon(browser, hanging, session)
+    check_leaving_early(browser, hanging, session)
     browser.until(COUNT_FLAGS, 0)
     hang(browser, hanging + session)
     reopen(browser, hanging)
@@ -303,9 +303,9 @@ def check_unended(browser, page, folder):
     verdict("and is not reported any more", reopen(browser, hanging), "")
 
 
-def check_lacks(browser, page, folder):
+def check_failures_and_missing_features(browser, page, folder):
     """Runs the checks of failures and of missing features."""
     check_long_work(browser, page)
-    check_unended(browser, page, folder)
+    check_unfinished_opening(browser, page, folder)
     check_failures(browser, page, folder)
     check_poor_browsers(browser, page, folder)

@@ -4,10 +4,10 @@ changes, cells that are edited in place, printing, and accessible names."""
 import re
 import time
 
-from page_in_browser import (ENTER, ESCAPE, GET_STATUS, IS_AT_COUNTER, STEPPED, choose_example, key, lines_answered, open_anew, show_text,
+from page_in_browser import (ENTER, ESCAPE, GET_STATUS, IS_AT_COUNTER, STEPPED, choose_example, key, send_lines, reopen_page, show_text,
                              step_with_marks, stop_time, until_ready)
-from page_workbench import (check_arrangement, check_by_finger, check_first_glance, check_narrow_things, check_newcomer, check_shifts,
-                            check_small_things)
+from page_workbench import (check_arrangement, check_touch_targets, check_first_glance, check_phone_details, check_first_tasks, check_shifts,
+                            check_details)
 from page_waves import record
 from verdicts import eventually, verdict
 from web_driver import Chromium
@@ -17,9 +17,9 @@ F2 = "\ue032"
 
 
 def check(browser, page, _folder, _mcs4):
-    open_anew(browser, page)
+    reopen_page(browser, page)
     choose_example(browser, "calculator")
-    check_pressed(browser)
+    check_click_on_changing_text(browser)
     check_tabs(browser)
     check_folds(browser)
     check_arrangement(browser)
@@ -30,15 +30,15 @@ def check(browser, page, _folder, _mcs4):
     check_refusals(browser)
     check_names(browser)
     check_swipe(browser)
-    check_letters(browser)
-    check_first_glance(browser, page, at_size)
-    check_small_things(browser, at_size)
-    check_newcomer(browser)
+    check_text_sizes(browser)
+    check_first_glance(browser, page, set_size)
+    check_details(browser, set_size)
+    check_first_tasks(browser)
     check_sizes(browser)
     if isinstance(browser, Chromium):
-        check_narrow_things(browser, at_size)
-        check_by_finger(browser, at_size)
-        check_shifts(browser, page, at_size)
+        check_phone_details(browser, set_size)
+        check_touch_targets(browser, set_size)
+        check_shifts(browser, page, set_size)
         check_narrow_sizes(browser)
         check_controls(browser)
         check_phone(browser)
@@ -68,17 +68,17 @@ def check_tabs(browser):
 
 def check_folds(browser):
     browser.click("#memory .fold")
-    folded = "return document.querySelector('#memory .fold').getAttribute('aria-expanded') + isShown(document.getElementById('banks'))"
-    verdict("a panel folds", browser.script(folded), "falsefalse")
+    get_fold_state = "return document.querySelector('#memory .fold').getAttribute('aria-expanded') + isShown(document.getElementById('banks'))"
+    verdict("a panel folds", browser.script(get_fold_state), "falsefalse")
     show_text(browser, "board")
     show_text(browser, "console")
     browser.reload()
     until_ready(browser)
-    verdict("and is folded after a reload", browser.script(folded), "falsefalse")
+    verdict("and is folded after a reload", browser.script(get_fold_state), "falsefalse")
     verdict("the tab is kept, too", browser.script(GET_FRONT_TAB), "board-tab")
     verdict("and that of the dock", browser.script("return isShown(document.getElementById('talk'))"), True)
     browser.click("#memory .fold")
-    verdict("it unfolds", browser.script(folded), "truetrue")
+    verdict("it unfolds", browser.script(get_fold_state), "truetrue")
     show_text(browser, "program")
     show_text(browser, "disassembly")
 
@@ -91,12 +91,12 @@ GET_LAST_ROW = GET_ROWS.replace("return", "return (") + ").pop().replace(/\\W/g,
 GET_SCROLL_TOP = "return document.getElementById('lines-of-program').scrollTop"
 
 
-def addresses(browser):
+def shown_addresses(browser):
     return [re.sub(r"\W", "", line)[:3] for line in browser.script(GET_ROWS)]
 
 
-def focus_row(browser, at):
-    browser.script("document.querySelectorAll('#lines-of-program button')[arguments[0]].focus()", at)
+def focus_row(browser, index):
+    browser.script("document.querySelectorAll('#lines-of-program button')[arguments[0]].focus()", index)
 
 
 def check_listing(browser):
@@ -106,22 +106,22 @@ def check_listing(browser):
     browser.keys([HOME])
     eventually(browser, "Home goes to 000", GET_FOCUSED_ROW, "000")
     verdict("follow is off then", browser.script("return document.getElementById('follow').checked"), False)
-    shown = addresses(browser)
+    first_addresses = shown_addresses(browser)
     browser.keys([DOWN])
-    eventually(browser, "an arrow goes to the next line", GET_FOCUSED_ROW, shown[1])
+    eventually(browser, "an arrow goes to the next line", GET_FOCUSED_ROW, first_addresses[1])
     browser.keys([UP, UP])
     eventually(browser, "and stays at the first one", GET_FOCUSED_ROW, "000")
-    seen = set(shown)
+    seen_addresses = set(first_addresses)
     for _ in range(200):
-        before = addresses(browser)[-1]
+        last_address = shown_addresses(browser)[-1]
         browser.keys([PAGE_DOWN], 1, 1)
         browser.until(GET_FOCUSED_ROW, re.compile("."))
-        browser.until(GET_LAST_ROW, re.compile(f"^(?!{before})"), 5)
-        rows = addresses(browser)
-        seen.update(rows)
-        if before > "2FF":
+        browser.until(GET_LAST_ROW, re.compile(f"^(?!{last_address})"), 5)
+        rows = shown_addresses(browser)
+        seen_addresses.update(rows)
+        if last_address > "2FF":
             break
-    verdict("page by page each line of the program is shown", lines_of_program(browser) - seen, set())
+    verdict("page by page each line of the program is shown", program_addresses(browser) - seen_addresses, set())
     focus_row(browser, 3)
     browser.keys([END])
     eventually(browser, "End goes to FFF", GET_FOCUSED_ROW, re.compile("FF[EF]"))
@@ -133,10 +133,10 @@ def check_listing(browser):
     check_scroll_bar(browser)
 
 
-def lines_of_program(browser):
-    """Returns the addresses up to 2FF at which instructions begin, as `list` shows them from 000."""
-    answers = lines_answered(browser, "list 0 256\nlist 0x100 256\nlist 0x200 256")
-    return {found for found in re.findall(r"(?<![0-9A-F])([0-2][0-9A-F]{2}) (?:[0-9A-F]{2} ){1,2}", answers) if found <= "23F"} - {"list"}
+def program_addresses(browser):
+    """Returns the addresses up to 23F, the end of the program, at which instructions begin, as `list` shows them from 000."""
+    answers = send_lines(browser, "list 0 256\nlist 0x100 256\nlist 0x200 256")
+    return {address for address in re.findall(r"(?<![0-9A-F])([0-2][0-9A-F]{2}) (?:[0-9A-F]{2} ){1,2}", answers) if address <= "23F"} - {"list"}
 
 
 def check_scroll_bar(browser):
@@ -154,15 +154,15 @@ GET_NEXT_LINE = "const next = document.querySelector('#lines-of-program .next');
 
 def check_follow(browser):
     browser.click("#step")
-    before = addresses(browser)
+    value_before = shown_addresses(browser)
     browser.click("#step")
-    verdict("without follow the listing stays", addresses(browser), before)
+    verdict("without follow the listing stays", shown_addresses(browser), value_before)
     browser.click("#follow")
     eventually(browser, "with follow it shows the counter", GET_NEXT_LINE, re.compile("."))
     for _ in range(5):
-        before = text_of(browser, "pc")
+        value_before = text_of(browser, "pc")
         browser.click("#step")
-        eventually(browser, "a step goes on", f"return document.getElementById('value-pc').textContent !== '{before}'", True)
+        eventually(browser, "a step goes on", f"return document.getElementById('value-pc').textContent !== '{value_before}'", True)
         eventually(browser, "a line begins at the counter at each step", IS_AT_COUNTER, True)
     browser.click("#run")
     eventually(browser, "while time runs it follows, too", GET_NEXT_LINE, re.compile("."))
@@ -180,7 +180,7 @@ COUNT_MARKS = """
 window.marks = 0;
 new MutationObserver((all) => { window.marks += all.filter((each) => each.target.classList.contains("changed")).length; })
   .observe(document.body, { subtree: true, attributes: true, attributeFilter: ["class"] })"""
-# A program that sets R5 and then waits for about two seconds.
+# A program that sets R5 and then waits for about 1.5 seconds.
 SLOW_PROGRAM = "FIM P0, 0x00\\nLDM 7\\nXCH R5\\nwait: ISZ R0, wait\\nISZ R1, wait\\nISZ R2, wait\\nISZ R3, wait\\nend: IAC\\nJUN end\\n"
 
 
@@ -188,7 +188,7 @@ def check_marks(browser):
     """Checks that after a pause, everything that differs from the previous pause is marked, even if it changed long before."""
     choose_example(browser, "three lamps")
     stop_time(browser)
-    lines_answered(browser, f"asm\n{SLOW_PROGRAM}.\nreset\nbreak 12".replace("\\n", "\n"))
+    send_lines(browser, f"asm\n{SLOW_PROGRAM}.\nreset\nbreak 12".replace("\\n", "\n"))
     eventually(browser, "after a reset the status is true", GET_STATUS, "The board was reset; it is at 000.")
     browser.script(COUNT_MARKS)
     browser.click("#run")
@@ -207,49 +207,49 @@ GET_EDITED_CELL = "return document.getElementById('cell-editor').hidden ? '' : d
 GET_CELL_STATUS = "return document.getElementById('cell-status').textContent"
 
 
-def edit(browser, cell, opening, typed):
+def edit_cell(browser, cell, opening_key, typed_keys):
     browser.script("document.querySelector(arguments[0]).focus()", cell)
-    browser.keys([opening])
+    browser.keys([opening_key])
     browser.until(GET_EDITED_CELL, re.compile("."))
-    browser.keys([*typed])
+    browser.keys([*typed_keys])
 
 
 def double_click(browser, selector):
-    browser.show(selector)
+    browser.scroll_to(selector)
     browser.script("const cell = document.querySelector(arguments[0]); for (const [kind, detail] of [['click', 1], ['click', 2], "
                    "['dblclick', 2]]) cell.dispatchEvent(new MouseEvent(kind, { bubbles: true, detail }))", selector)
 
 
 def check_cells(browser):
     """Checks that registers and RAM are edited in place, that an error appears at the cell, and that a read-only cell shows a message."""
-    edit(browser, "#value-R5", F2, ["b", ENTER])
+    edit_cell(browser, "#value-R5", F2, ["b", ENTER])
     eventually(browser, "F2 and a digit poke a register", "return document.getElementById('value-R5').textContent", "B")
     verdict("the focus is back at the cell", browser.script("return document.activeElement.id"), "value-R5")
-    edit(browser, "#value-pc", ENTER, ["0", "1", "0", ENTER])
+    edit_cell(browser, "#value-pc", ENTER, ["0", "1", "0", ENTER])
     eventually(browser, "the counter is written as it is shown", "return document.getElementById('value-pc').textContent", "010")
-    edit(browser, "#value-cy", ENTER, ["2", ENTER])
+    edit_cell(browser, "#value-cy", ENTER, ["2", ENTER])
     eventually(browser, "a value out of range is refused at the cell", GET_CELL_STATUS, re.compile("."))
     verdict("in words of the bench", browser.script(GET_CELL_STATUS), re.compile("value|range|number", re.I))
     browser.keys([ESCAPE])
     eventually(browser, "Escape leaves", GET_EDITED_CELL, "")
     verdict("and the value is as it was", text_of(browser, "cy"), "0")
-    edit(browser, "#value-acc", ENTER, ["x", ENTER])
+    edit_cell(browser, "#value-acc", ENTER, ["x", ENTER])
     eventually(browser, "what is no digit is refused", GET_CELL_STATUS, re.compile("hexadecimal"))
     browser.keys([ESCAPE])
-    character = ".ram button:nth-child(3)"
-    double_click(browser, character)
+    nibble = ".ram button:nth-child(3)"
+    double_click(browser, nibble)
     eventually(browser, "a double click opens a character of RAM", GET_EDITED_CELL, re.compile(r"bank 0, chip 0, register 0, character 2: SRC byte 02"))
     browser.keys(["9", ENTER])
-    eventually(browser, "and Enter pokes it", f"return document.querySelector('{character}').textContent", "9")
-    verdict("it is not watched", browser.script(f"return document.querySelector('{character}').getAttribute('aria-pressed')"), "false")
+    eventually(browser, "and Enter pokes it", f"return document.querySelector('{nibble}').textContent", "9")
+    verdict("it is not watched", browser.script(f"return document.querySelector('{nibble}').getAttribute('aria-pressed')"), "false")
     verdict("the log has its line", "poke ram.0.0x02 0x9" in browser.text("#log"), True)
-    edit(browser, ".ram button.status", F2, ["4", ENTER])
+    edit_cell(browser, ".ram button.status", F2, ["4", ENTER])
     eventually(browser, "a status character, too", "return document.querySelector('.ram button.status').textContent", "4")
     double_click(browser, ".ram .port span")
     eventually(browser, "a port says why it cannot be poked", GET_POPUP, re.compile("WMP"))
 
 
-def check_pressed(browser):
+def check_click_on_changing_text(browser):
     """Checks that a click on an element works even if its text changes during the click. (WebKit loses the click if the text node is replaced.)"""
     browser.until(GET_STATUS, re.compile("^Running"))
     browser.script("window.pressed = 0; document.getElementById('value-acc').addEventListener('click', () => { window.pressed++; })")
@@ -262,16 +262,16 @@ GET_POPUP = "const shown = document.querySelector('.popup-message'); return show
 
 def check_refusals(browser):
     """Checks that the errors about a ninth watch and a thirty-third breakpoint appear at the clicked element."""
-    lines_answered(browser, "\n".join(f"watch 7 {at}" for at in range(8)))
+    send_lines(browser, "\n".join(f"watch 7 {address}" for address in range(8)))
     browser.click(".ram button:nth-child(5)")
     eventually(browser, "a watch too many is refused at its cell", GET_POPUP, re.compile("8 characters"))
-    near = "const [a, b] = [arguments[0], '.popup-message'].map((each) => document.querySelector(each).getBoundingClientRect()); " \
+    is_popup_near = "const [a, b] = [arguments[0], '.popup-message'].map((each) => document.querySelector(each).getBoundingClientRect()); " \
         "return Math.abs(a.left - b.left) + Math.abs(a.bottom - b.top) < 260"
-    verdict("near it", browser.script(near, ".ram button:nth-child(5)"), True)
-    lines_answered(browser, "\n".join([*(f"unwatch 7 {at}" for at in range(8)), *(f"break {0x300 + at}" for at in range(32))]))
+    verdict("near it", browser.script(is_popup_near, ".ram button:nth-child(5)"), True)
+    send_lines(browser, "\n".join([*(f"unwatch 7 {address}" for address in range(8)), *(f"break {0x300 + address}" for address in range(32))]))
     browser.click("#lines-of-program button:nth-child(2)")
     eventually(browser, "a breakpoint too many is refused at its line", GET_POPUP, re.compile("32 breakpoints"))
-    lines_answered(browser, "\n".join(f"unbreak {0x300 + at}" for at in range(32)))
+    send_lines(browser, "\n".join(f"unbreak {0x300 + address}" for address in range(32)))
 
 
 # --- accessibility ---
@@ -279,7 +279,7 @@ def check_refusals(browser):
 GET_WRONGLY_NAMED_CELLS = """
 return [...document.querySelectorAll(".ram button")].filter((each) => !/^[0-9A-F]$/.test(each.textContent)
   || each.getAttribute("aria-label") || !/bank \\d, chip \\d, register \\d, (character \\d+: SRC byte [0-9A-F]{2}|status character \\d)/.test(each.title)).length"""
-# Counts the changes in ARIA live regions within a number of seconds. A screen reader would announce these changes.
+# Counts the changes in ARIA live regions from now on. A screen reader would announce these changes.
 COUNT_ANNOUNCEMENTS = """
 window.said = 0;
 const places = [...document.querySelectorAll("output, [aria-live], [role=status], [role=alert], [role=log]")];
@@ -313,18 +313,18 @@ def check_swipe(browser):
     """Checks that a fast or slow swipe that begins on a key leaves no key down, while time is running and while it is paused."""
     choose_example(browser, "calculator")
     browser.until(GET_STATUS, re.compile("^Running"))
-    before = lines_answered(browser, "seq")
+    answer_before = send_lines(browser, "seq")
     verdict("keys let a finger scroll", browser.script("return getComputedStyle(document.querySelector('.key')).touchAction"), "pan-y")
-    for what, wait in (("quick", 20), ("slow", 200)):
-        browser.script(SWIPE_KEY, key("7"), wait)
+    for speed, milliseconds in (("quick", 20), ("slow", 200)):
+        browser.script(SWIPE_KEY, key("7"), milliseconds)
         time.sleep(0.5)
-        eventually(browser, f"after a {what} swipe no key is down", COUNT_KEYS_DOWN, 0)
+        eventually(browser, f"after a {speed} swipe no key is down", COUNT_KEYS_DOWN, 0)
     stop_time(browser)
-    for what, wait in (("quick", 20), ("slow", 200)):
-        browser.script(SWIPE_KEY, key("7"), wait)
+    for speed, milliseconds in (("quick", 20), ("slow", 200)):
+        browser.script(SWIPE_KEY, key("7"), milliseconds)
         time.sleep(0.5)
-        eventually(browser, f"after a {what} swipe while time stands still no key is down", COUNT_KEYS_DOWN, 0)
-    verdict("the bench has served lines meanwhile", lines_answered(browser, "seq") != before, True)
+        eventually(browser, f"after a {speed} swipe while time stands still no key is down", COUNT_KEYS_DOWN, 0)
+    verdict("the bench has served lines meanwhile", send_lines(browser, "seq") != answer_before, True)
 
 
 FIND_SMALL_TEXT = """
@@ -339,7 +339,7 @@ for (let node = walker.nextNode(); node; node = walker.nextNode()) {
 return [...small].join("; ")"""
 
 
-def check_letters(browser):
+def check_text_sizes(browser):
     verdict("no letters below 11 pixels", browser.script(FIND_SMALL_TEXT), "")
     show_text(browser, "board")
     verdict("nor with the board's text", browser.script(FIND_SMALL_TEXT), "")
@@ -348,7 +348,7 @@ def check_letters(browser):
 
 # --- sizes, print and colours, through Chromium's driver ---
 
-def at_size(browser, width, height, mobile=False):
+def set_size(browser, width, height, mobile=False):
     browser.resize(width, height, mobile)
     time.sleep(0.3)
     browser.script("scrollTo(0, 0)")
@@ -363,7 +363,7 @@ return Object.fromEntries(ids.map((id) => {
   return [id, isShown(element) ? { left: box.left, right: box.right, top: box.top, bottom: box.bottom } : null];
 }))"""
 # The toolbar controls that overlap.
-FIND_COVERED = """
+FIND_OVERLAPS = """
 const shown = [...document.querySelectorAll("#toolbar :is(button, input, select, h1):not([role=menu] *)")].filter(isShown);
 const boxes = shown.map((each) => [each.id, each.getBoundingClientRect()]);
 return boxes.flatMap(([id, a], k) => boxes.slice(k + 1)
@@ -377,7 +377,7 @@ return [...document.querySelectorAll("#toolbar :is(button, input, select):not([r
   return left < Math.max(0, room.left) || right > Math.min(innerWidth, room.right);
 }).map(({ id }) => id)"""
 MEASURE_OVERFLOW = "return document.documentElement.scrollWidth - document.documentElement.clientWidth"
-# The distances by which the page itself can scroll, vertically and horizontally.
+# Returns the pixels by which the page itself is too wide and too high, and those by which a script can scroll it to the right and down.
 TRY_TO_SCROLL = """
 const { scrollHeight, clientHeight, scrollWidth, clientWidth } = document.documentElement;
 scrollTo(1000, 1000);
@@ -390,11 +390,11 @@ def check_sizes(browser):
     """Checks that the page itself never scrolls. From 1,000 pixels, the front panel, the texts and the debugger's panels are side by side."""
     choose_example(browser, "traffic light")
     for width, height in ((1024, 640), (1200, 720), (1280, 720), (1440, 900), (1920, 1080)):
-        at_size(browser, width, height)
+        set_size(browser, width, height)
         boxes = browser.script(GET_BOXES)
         verdict(f"the page does not scroll at {width}", browser.script(TRY_TO_SCROLL), [0, 0, 0, 0])
         verdict(f"the toolbar is one row at {width}", boxes["toolbar"]["bottom"] - boxes["toolbar"]["top"], 44)
-        verdict(f"no control of the toolbar covers another one at {width}", browser.script(FIND_COVERED), [])
+        verdict(f"no control of the toolbar covers another one at {width}", browser.script(FIND_OVERLAPS), [])
         verdict(f"and each one is whole at {width}", browser.script(FIND_OUTSIDE), [])
         verdict(f"three columns are side by side at {width}",
                 boxes["front"]["right"] <= boxes["texts"]["left"] and boxes["texts"]["right"] <= boxes["side"]["left"], True)
@@ -405,20 +405,20 @@ def check_sizes(browser):
         verdict(f"the width is used at {width}", (boxes["front"]["left"], boxes["side"]["right"]), (0, width))
     check_not_covered(browser, 999, 820, 700)
     check_drawer(browser)
-    browser.resize_back()
+    browser.restore_size()
 
 
 def check_narrow_sizes(browser):
-    """Checks widths that are too small for a browser window. The driver sets them for the page alone."""
+    """Checks widths that are too small for a browser window. The driver sets the width of the page without resizing the window."""
     check_not_covered(browser, 699, 320)
-    browser.resize_back()
+    browser.restore_size()
 
 
 def check_not_covered(browser, *widths):
     for width in widths:
-        at_size(browser, width, 800)
+        set_size(browser, width, 800)
         verdict(f"the page does not scroll at {width}", browser.script(TRY_TO_SCROLL), [0, 0, 0, 0])
-        verdict(f"no control of the toolbar covers another one at {width}", browser.script(FIND_COVERED), [])
+        verdict(f"no control of the toolbar covers another one at {width}", browser.script(FIND_OVERLAPS), [])
         verdict(f"and each one is whole at {width}", browser.script(FIND_OUTSIDE), [])
 
 
@@ -443,7 +443,7 @@ def check_controls(browser):
     show_text(browser, "waves")
     record(browser, 20000)
     for width, height in ((1279, 720), (1024, 640), (820, 1180), (390, 844)):
-        at_size(browser, width, height, width < 700)
+        set_size(browser, width, height, width < 700)
         browser.command("Emulation.setTouchEmulationEnabled", enabled=width < 700)
         for tab in ("program", "board", "wiring", "tests", "properties", "waves"):
             if width < 700:
@@ -451,7 +451,7 @@ def check_controls(browser):
             show_text(browser, tab)
             verdict(f"the controls of {tab} are whole at {width}", browser.script(FIND_WRONG_CONTROLS), [])
     browser.command("Emulation.setTouchEmulationEnabled", enabled=False)
-    browser.resize_back()
+    browser.restore_size()
 
 
 IS_DRAWER_SHOWN = "return isShown(document.getElementById('processor'))"
@@ -459,7 +459,7 @@ IS_DRAWER_SHOWN = "return isShown(document.getElementById('processor'))"
 
 def check_drawer(browser):
     """Checks that in a narrow window the debugger's panels are a drawer."""
-    at_size(browser, 820, 1180)
+    set_size(browser, 820, 1180)
     verdict("the drawer is shut", browser.script(IS_DRAWER_SHOWN), False)
     browser.click("#drawer-button")
     verdict("its button opens it", browser.script(IS_DRAWER_SHOWN), True)
@@ -474,7 +474,7 @@ return box.top >= -1 && box.bottom <= innerHeight + 1 && box.height > 0"""
 
 
 def swipe_up(browser, x, y):
-    """Swipes up by 180 pixels at the browser's own pace of scrolling."""
+    """Swipes up by 180 pixels, in ten steps of 16 milliseconds."""
     moves = [{"type": "pointerMove", "duration": 16, "x": int(x), "y": int(y) - 18 * step} for step in range(11)]
     browser.actions({"type": "pointer", "id": "swipe", "parameters": {"pointerType": "touch"},
                      "actions": [moves[0], {"type": "pointerDown", "button": 0}, *moves[1:], {"type": "pointerUp", "button": 0}]})
@@ -499,8 +499,8 @@ def check_menu(browser):
     browser.click("#help-close")
     browser.click("#menu-button")
     browser.click("#examples-narrow")
-    wide = "const box = document.getElementById('sessions'); return box.open && box.scrollWidth - box.clientWidth"
-    eventually(browser, "the dialog of sessions does not scroll sideways", wide, 0)
+    measure_overflow = "const box = document.getElementById('sessions'); return box.open && box.scrollWidth - box.clientWidth"
+    eventually(browser, "the dialog of sessions does not scroll sideways", measure_overflow, 0)
     browser.click("#close-sessions")
 
 
@@ -510,13 +510,13 @@ GET_PHONE_PANELS = "return ['front', 'texts', 'side', 'dock'].filter((id) => isS
 def check_phone(browser):
     """Checks that a phone shows one region at a time, selected with the tabs at the bottom, and that a swipe that begins on a key scrolls."""
     choose_example(browser, "calculator")
-    at_size(browser, 375, 667, True)
+    set_size(browser, 375, 667, True)
     browser.command("Emulation.setTouchEmulationEnabled", enabled=True)
     browser.reload()
     until_ready(browser)
     check_menu(browser)
     for width, height in ((390, 844), (360, 640), (320, 640), (375, 667)):
-        at_size(browser, width, height, True)
+        set_size(browser, width, height, True)
         boxes = browser.script(GET_BOXES)
         verdict(f"at {width} a phone's page does not scroll", browser.script(TRY_TO_SCROLL), [0, 0, 0, 0])
         verdict(f"the tabs are at the bottom at {width}", boxes["regions"]["bottom"], height)
@@ -527,21 +527,21 @@ def check_phone(browser):
     browser.click("#region-debug")
     verdict("RAM does not scroll sideways", browser.script("const box = document.getElementById('banks'); return box.scrollWidth - box.clientWidth"), 0)
     browser.click("#region-board")
-    for what in (".bulb", ".key", "#run"):
-        verdict(f"{what} is in view on a phone", browser.script(IS_IN_VIEW, what), True)
+    for selector in (".bulb", ".key", "#run"):
+        verdict(f"{selector} is in view on a phone", browser.script(IS_IN_VIEW, selector), True)
     stop_time(browser)
-    at_size(browser, 375, 420, True)
+    set_size(browser, 375, 420, True)
     box = browser.script("const box = document.querySelector('.key').getBoundingClientRect(); return [box.x + 20, box.y + 15]")
     swipe_up(browser, *box)
     eventually(browser, "a swipe that begins on a key scrolls the front panel", "return document.getElementById('front').scrollTop > 50", True)
     eventually(browser, "and presses nothing that stays down", COUNT_KEYS_DOWN, 0)
     browser.command("Emulation.setTouchEmulationEnabled", enabled=False)
-    browser.resize_back()
+    browser.restore_size()
 
 
 def emulate(browser, media="", **features):
-    named = [{"name": name.replace("_", "-"), "value": value} for name, value in features.items()]
-    browser.command("Emulation.setEmulatedMedia", media=media, features=named)
+    media_features = [{"name": name.replace("_", "-"), "value": value} for name, value in features.items()]
+    browser.command("Emulation.setEmulatedMedia", media=media, features=media_features)
     time.sleep(0.2)
 
 
@@ -555,8 +555,8 @@ def check_forced_colours(browser):
     step_with_marks(browser)
     emulate(browser, forced_colors="active")
     verdict("where the system forces colours a lit lamp is full", browser.script(ARE_LAMPS_DISTINCT), True)
-    outlined = "return getComputedStyle(document.querySelector('.changed')).outlineStyle"
-    verdict("and marks have a line", browser.script(outlined), "solid")
+    get_outline = "return getComputedStyle(document.querySelector('.changed')).outlineStyle"
+    verdict("and marks have a line", browser.script(get_outline), "solid")
     emulate(browser)
 
 
@@ -566,12 +566,12 @@ return [...document.querySelectorAll("#bench *")].filter((each) => isShown(each)
 
 
 def check_print(browser):
-    board = browser.script("return document.querySelector('#board-title') !== null")
+    has_board = browser.script("return document.querySelector('#board-title') !== null")
     emulate(browser, media="print")
     eventually(browser, "print has the texts", "return document.querySelectorAll('#print h2').length", 2)
-    printed = browser.text("#print")
-    verdict("the source whole", "JMS" in printed or "JUN" in printed, True)
-    verdict("and the board", board and "lamp = [" in printed and "[[rom]]" in printed, True)
+    printed_text = browser.text("#print")
+    verdict("the source whole", "JMS" in printed_text or "JUN" in printed_text, True)
+    verdict("and the board", has_board and "lamp = [" in printed_text and "[[rom]]" in printed_text, True)
     verdict("lamps are printed", browser.script("return isShown(document.querySelector('.bulb'))"), True)
     verdict("and no buttons, fields or editors", browser.script(COUNT_PRINTED_CONTROLS), 0)
     emulate(browser)

@@ -1,7 +1,7 @@
 """Scripts that measure a page from outside without changing its own scripts."""
 
 # A script to insert before the page's own. For each real-time frame, it stores the milliseconds of work on the main thread and in the worker in
-# `frames`. The work of a handler continues in its promises, so the script waits for some of them.
+# `frames`. A handler's work continues in promises, so the script waits for eight more promises before it stops the time.
 INSTALL_PAGE_METER = """
 window.frames = [];
 let spent = 0;
@@ -28,7 +28,7 @@ Worker.prototype.addEventListener = function (kind, act) {
 };"""
 GET_FRAMES = "return window.frames"
 
-# A script to insert before the worker's own. It adds the milliseconds since the request to each reply.
+# A script to insert before the worker's own. It adds to each reply the milliseconds since the request.
 INSTALL_WORKER_METER = """
 let begun = 0;
 addEventListener("message", () => { begun = performance.now(); });
@@ -59,7 +59,7 @@ INSTALL_MODULE_METER = """
   };
 })();"""
 # A script to insert before the page's own. It stores the fractions that INSTALL_MODULE_METER reports in `parts`.
-INSTALL_PARTS_METER = """
+INSTALL_FRACTION_METER = """
 window.parts = [];
 const listen = Worker.prototype.addEventListener;
 Worker.prototype.addEventListener = function (kind, act) {
@@ -68,10 +68,10 @@ Worker.prototype.addEventListener = function (kind, act) {
     else act(event);
   });
 };"""
-GET_PARTS = "return window.parts"
+GET_MODULE_FRACTIONS = "return window.parts"
 
 # Starts another worker with the page's module, for RUN_MODULE_ALONE.
-RUN_MODULE_BESIDE = """
+START_SEPARATE_WORKER = """
 const work = `
 let instance, file, size, input, room, answers, report;
 const serve = (lines) => {
@@ -138,4 +138,4 @@ new MutationObserver((_, own) => {
   window.searched = (cycles / (performance.now() - begun)) * 1000;
 }).observe(status, { childList: true, characterData: true, subtree: true });
 document.getElementById(arguments[0]).click();"""
-GET_SEARCH_TIME = "return window.searched"
+GET_SEARCH_SPEED = "return window.searched"

@@ -12,16 +12,16 @@ def part_of_page(text, name):
 
 def module_of_page(page):
     """Returns the page's WebAssembly module."""
-    stored = base64.b64decode(part_of_page(page.read_text(), "module"))
-    # Older pages contain it uncompressed.
-    return stored if stored.startswith(b"\0asm") else zlib.decompress(stored, -15)
+    data = base64.b64decode(part_of_page(page.read_text(), "module"))
+    # Older pages contain an uncompressed module.
+    return data if data.startswith(b"\0asm") else zlib.decompress(data, -15)
 
 
 def with_worker_code(text, code):
     """Returns a page's text with `code` before the worker's script. (In older pages, that script is not compressed.)"""
-    stored = part_of_page(text, "worker")
-    if not re.fullmatch("[A-Za-z0-9+/=]+", stored):
-        return text.replace(stored, code + stored, 1)
-    packer = zlib.compressobj(wbits=-15)
-    packed = packer.compress(code.encode() + zlib.decompress(base64.b64decode(stored), -15)) + packer.flush()
-    return text.replace(stored, base64.b64encode(packed).decode(), 1)
+    encoded = part_of_page(text, "worker")
+    if not re.fullmatch("[A-Za-z0-9+/=]+", encoded):
+        return text.replace(encoded, code + encoded, 1)
+    compressor = zlib.compressobj(wbits=-15)
+    compressed = compressor.compress(code.encode() + zlib.decompress(base64.b64decode(encoded), -15)) + compressor.flush()
+    return text.replace(encoded, base64.b64encode(compressed).decode(), 1)

@@ -5,7 +5,7 @@ import pathlib
 import re
 import subprocess
 
-from page_in_browser import ENTER, GET_NOTICE, GET_STATUS, PUT_INTO_EDITOR, choose_example, lines_answered, show_text, stop_time, until_ready
+from page_in_browser import ENTER, GET_NOTICE, GET_STATUS, PUT_INTO_EDITOR, choose_example, send_lines, show_text, stop_time, until_ready
 from verdicts import eventually, verdict
 
 TOP = pathlib.Path(__file__).resolve().parent.parent.parent
@@ -17,7 +17,7 @@ GET_POPUP = "const shown = document.querySelector('.popup-message'); return show
 GET_GO_TO_STATUS = "return document.getElementById('go-to-status').textContent"
 IS_FOLLOW_CHECKED = "return document.getElementById('follow').checked"
 GET_STACK = "return [...document.querySelectorAll('.stack button')].map((row) => [...row.children].map((part) => part.textContent).join(' '))"
-# The addresses in the disassembly, and the source lines with a breakpoint in the margin.
+# The addresses in the disassembly.
 GET_ADDRESSES = "return [...document.querySelectorAll('#lines-of-program button:not([hidden])')].map((row) => row.textContent.match(/[0-9A-F]{3}/)[0])"
 # The breakpoint marks in the source's margin and in the disassembly.
 GET_MARKS = """
@@ -30,7 +30,7 @@ return document.querySelector("#program-editor .cm-editor").lineEditor.marksIn("
 
 # Steps several times. Returns for each step the counter, and the marked visible source line with its number.
 STEP_THROUGH = """
-// What a line has changed stands behind it, and is no part of it.
+// Omits the values that the page shows after a line, which are not a part of the line.
 const textOf = (line) => {
   const copy = line.cloneNode(true);
   for (const values of copy.querySelectorAll(".line-values")) values.remove();
@@ -67,7 +67,7 @@ const numbers = [...document.querySelectorAll("#program-editor .cm-lineNumbers .
 const node = numbers.find((each) => each.textContent === String(arguments[0]));
 node.scrollIntoView({ block: "center" });
 """
-# Clicks on that number like a pointer.
+# Scrolls a line's number into view, and clicks it.
 CLICK_MARGIN = SHOW_MARGIN + """
 const { left, top, width, height } = node.getBoundingClientRect();
 const at = { clientX: left + width / 2, clientY: top + height / 2, button: 0, buttons: 1, bubbles: true, cancelable: true, detail: 1 };
@@ -83,15 +83,15 @@ editor.view.dom.scrollIntoView({ block: "center" });
 const at = editor.getLine(line - 1).indexOf(word);
 const { left, top, bottom } = editor.view.coordsAtPos(editor.offset({ line: line - 1, ch: at + 1 }));
 return [left, (top + bottom) / 2]"""
-GET_MEANING = "return document.querySelector('#program-editor .meaning').textContent"
+GET_EXPLANATION = "return document.querySelector('#program-editor .meaning').textContent"
 
 
-def listing_of(mcs4, *words):
+def listing_of(mcs4, *options):
     environment = dict(os.environ, MCS4=str(mcs4))
-    return subprocess.run([TOP / "mcs4", "listing", *words, PROGRAM], stdout=subprocess.PIPE, text=True, check=True, env=environment).stdout
+    return subprocess.run([TOP / "mcs4", "listing", *options, PROGRAM], stdout=subprocess.PIPE, text=True, check=True, env=environment).stdout
 
 
-def listed(mcs4):
+def read_listing(mcs4):
     """Reads the output of `mcs4 listing`. Returns the number and text of the source line that begins at each address, and the values of the names."""
     listing = listing_of(mcs4).splitlines()
     # Continuation rows of a line have no text.
@@ -100,7 +100,7 @@ def listed(mcs4):
     return lines, dict(line.split() for line in listing_of(mcs4, "--names").splitlines())
 
 
-def words_of(text):
+def with_single_spaces(text):
     return " ".join(text.split())
 
 
@@ -111,14 +111,14 @@ def go_to(browser, text):
 
 def check_steps(browser, source):
     stop_time(browser)
-    lines_answered(browser, "reset")
+    send_lines(browser, "reset")
     rows = []
     for chunk in range(STEPS // STEPS_AT_ONCE):
         rows += browser.script(STEP_THROUGH, STEPS_AT_ONCE)
         # Start each chunk in another routine.
-        lines_answered(browser, f"run {20 + 61 * chunk}")
-    wanted = [[counter, words_of("{} {}".format(*source[counter]))] for counter, _ in rows]
-    verdict(f"the source line at each of {STEPS} steps", [[counter, words_of(line)] for counter, line in rows], wanted)
+        send_lines(browser, f"run {20 + 61 * chunk}")
+    expected = [[counter, with_single_spaces("{} {}".format(*source[counter]))] for counter, _ in rows]
+    verdict(f"the source line at each of {STEPS} steps", [[counter, with_single_spaces(line)] for counter, line in rows], expected)
     verdict("they go through several routines", len({counter for counter, _ in rows}) > STEPS // 3, True)
 
 
@@ -140,37 +140,37 @@ def check_breakpoint_at_name(browser, source, values, lines):
 
 
 def check_margin(browser, source, values):
-    show = source[values["show"]][0]
-    browser.script(CLICK_MARGIN, show)
-    eventually(browser, "a breakpoint by a click in the margin", GET_BREAKPOINT_LINES, str(show))
+    show_line = source[values["show"]][0]
+    browser.script(CLICK_MARGIN, show_line)
+    eventually(browser, "a breakpoint by a click in the margin", GET_BREAKPOINT_LINES, str(show_line))
     browser.click("#reset")
     browser.click("#run")
     eventually(browser, "a run stops at that line", GET_STATUS, f"Paused at {values['show']}, at a breakpoint.")
-    browser.script(CLICK_MARGIN, show)
+    browser.script(CLICK_MARGIN, show_line)
     eventually(browser, "another click clears it", GET_BREAKPOINT_LINES, "")
     browser.script(CLICK_MARGIN, 1)
     eventually(browser, "at a line without bytes it goes to the next instruction, in words", GET_POPUP,
                re.compile("^Line 1 puts no bytes into ROM: its breakpoint is at the next instruction, line "))
-    first = browser.until(GET_BREAKPOINT_LINES, re.compile("[0-9]"))
-    browser.script(CLICK_MARGIN, int(first))
+    breakpoint_line = browser.until(GET_BREAKPOINT_LINES, re.compile("[0-9]"))
+    browser.script(CLICK_MARGIN, int(breakpoint_line))
     eventually(browser, "which a click there takes away", GET_BREAKPOINT_LINES, "")
 
 
 def check_inside(browser, source, values, lines):
     """Checks that a breakpoint inside an instruction moves to the next instruction, and that a run stops there."""
     call = next(number for number, text in enumerate(lines, 1) if "JMS scan" in text.expandtabs(1))
-    address = next(place for place, (number, _) in source.items() if number == call)
-    inside, behind = (f"{int(address, 16) + more:03X}" for more in (1, 2))
+    address = next(candidate for candidate, (number, _) in source.items() if number == call)
+    second_address, next_address = (f"{int(address, 16) + offset:03X}" for offset in (1, 2))
     go_to(browser, address)
-    lines_answered(browser, f"break 0x{inside}")
+    send_lines(browser, f"break 0x{second_address}")
     browser.script(SHOW_MARGIN, call)
-    eventually(browser, "a breakpoint inside an instruction goes to the next one", GET_BREAKPOINT_LINES, str(source[behind][0]))
+    eventually(browser, "a breakpoint inside an instruction goes to the next one", GET_BREAKPOINT_LINES, str(source[next_address][0]))
     eventually(browser, "in the listing, too", GET_MARKS, ["\u25cf breakpoint", "\u25cf"])
-    verdict("and in the bench", lines_answered(browser, "breaks"), re.compile(f"breaks {behind}$"))
-    browser.script(CLICK_MARGIN, source[behind][0])
+    verdict("and in the bench", send_lines(browser, "breaks"), re.compile(f"breaks {next_address}$"))
+    browser.script(CLICK_MARGIN, source[next_address][0])
     eventually(browser, "a click in the margin clears it", GET_BREAKPOINT_LINES, "")
-    verdict("no breakpoint is left", lines_answered(browser, "breaks"), re.compile("breaks -$"))
-    lines_answered(browser, f"break 0x{address}")
+    verdict("no breakpoint is left", send_lines(browser, "breaks"), re.compile("breaks -$"))
+    send_lines(browser, f"break 0x{address}")
     browser.until(GET_BREAKPOINT_LINES, str(call))
     browser.script("document.querySelector('#lines-of-program button[aria-pressed=true]').click()")
     eventually(browser, "and so does one on its row of the listing", GET_BREAKPOINT_LINES, "")
@@ -187,30 +187,30 @@ def check_pointing(browser, source, values, lines):
     """Checks the description of the word under the pointer: a label's address and line, a named number's value, an instruction, a register."""
     line_of = {word: next(number for number, text in enumerate(lines, 1) if re.search(pattern, text)) for word, pattern in {
         "scan": r"JMS scan\b", "nonzero": r"^nonzero\s*=", "JMS": r"JMS scan\b", "P1": r"FIM P1,"}.items()}
-    for word, words in {
+    for word, expected in {
         "scan": f"scan: address 0x{values['scan']}, line {source[values['scan']][0]}",
         "JMS": re.compile(r"^JMS t: 2 words, 2 cycles\. .*The carry stays\.$"),
         "nonzero": re.compile(f"^nonzero = 0x{values['nonzero'][-2:]}, {int(values['nonzero'], 16)}(, {int(values['nonzero'], 16):04b})?$"),
         "P1": re.compile(r"^(?:P1 = ([0-9A-F])([0-9A-F]): R2 \1, R3 \2\. )?P1: the pair of R2 \(upper four bits\) and R3 \(lower four bits\)\.$"),
     }.items():
         point_at(browser, line_of[word], word)
-        eventually(browser, f"the pointer on {word} shows what it is", GET_MEANING, words)
+        eventually(browser, f"the pointer on {word} shows what it is", GET_EXPLANATION, expected)
 
 
 def check_go_to(browser):
     for text, address in (("01E", "01E"), ("0x11E", "11E"), ("30", "01E"), ("100", "100")):
         go_to(browser, text)
         eventually(browser, f"go to {text}", f"{GET_ADDRESSES}.includes('{address}')", True)
-    for text, words in (("nosuch", "^nosuch is neither a name of the program nor an address"), ("4096", "^4096 is not an address")):
+    for text, pattern in (("nosuch", "^nosuch is neither a name of the program nor an address"), ("4096", "^4096 is not an address")):
         go_to(browser, text)
-        eventually(browser, f"{text} is no address, in words", GET_GO_TO_STATUS, re.compile(words))
+        eventually(browser, f"{text} is no address, in words", GET_GO_TO_STATUS, re.compile(pattern))
         verdict("and the field is marked", browser.script("return document.getElementById('go-to').getAttribute('aria-invalid')"), "true")
     go_to(browser, "scan")
     eventually(browser, "an address takes the words away", GET_GO_TO_STATUS, "")
 
 
 def check_names_in_lines(browser, values):
-    verdict("a name in a line", lines_answered(browser, "list @scan 1"), re.compile(rf"^list 0x{values['scan']} 1{values['scan']} "))
+    verdict("a name in a line", send_lines(browser, "list @scan 1"), re.compile(rf"^list 0x{values['scan']} 1{values['scan']} "))
     show_text(browser, "console")
     browser.type_into("#lines", "break @nosuch" + ENTER)
     eventually(browser, "one that the program lacks, in words", GET_NOTICE, "@nosuch: the program has no such name.")
@@ -220,37 +220,37 @@ def check_names_in_lines(browser, values):
     show_text(browser, "disassembly")
 
 
-def put(browser, text):
+def set_source(browser, text):
     show_text(browser, "program")
     browser.script(PUT_INTO_EDITOR, "#program-editor", text)
 
 
 def check_difference(browser, source, lines):
     line = source["106"][0]
-    changed = [*lines[:line - 1], "\tLDM 3", *lines[line:]]
-    put(browser, "\n".join(["; one line more", *changed]) + "\n")
-    differs = f"Source and ROM differ from line {line + 1} (0x106). Assemble to update."
-    eventually(browser, "a text that is not in ROM says where it differs", GET_SOURCE_STATUS, differs)
+    changed_lines = [*lines[:line - 1], "\tLDM 3", *lines[line:]]
+    set_source(browser, "\n".join(["; one line more", *changed_lines]) + "\n")
+    message = f"Source and ROM differ from line {line + 1} (0x106). Assemble to update."
+    eventually(browser, "a text that is not in ROM says where it differs", GET_SOURCE_STATUS, message)
     eventually(browser, "and names nothing", GET_LABELS, "")
     browser.script(CLICK_MARGIN, line)
-    eventually(browser, "a breakpoint in it stops nothing yet, in words", GET_POPUP, f"{differs} Until then this breakpoint stops nothing.")
+    eventually(browser, "a breakpoint in it stops nothing yet, in words", GET_POPUP, f"{message} Until then this breakpoint stops nothing.")
     browser.script(CLICK_MARGIN, line)
     eventually(browser, "a second click takes it away", GET_BREAKPOINT_LINES, "")
-    put(browser, "\n".join(["; one line more", *lines]) + "\n")
+    set_source(browser, "\n".join(["; one line more", *lines]) + "\n")
     eventually(browser, "another comment alone makes no difference", GET_SOURCE_STATUS, "")
     eventually(browser, "and names are there", GET_LABELS, re.compile("scan:"))
-    lines_answered(browser, "poke rom.0x106 0xD3")
-    eventually(browser, "nor is it in ROM where a byte was poked", GET_SOURCE_STATUS, differs)
-    lines_answered(browser, "poke rom.0x106 0xD2")
+    send_lines(browser, "poke rom.0x106 0xD3")
+    eventually(browser, "nor is it in ROM where a byte was poked", GET_SOURCE_STATUS, message)
+    send_lines(browser, "poke rom.0x106 0xD2")
     eventually(browser, "as long as it is there", GET_SOURCE_STATUS, "")
-    put(browser, "\tLDM 3\n\tJUN nowhere\n")
+    set_source(browser, "\tLDM 3\n\tJUN nowhere\n")
     eventually(browser, "a text with a fault says so", GET_SOURCE_STATUS, re.compile("^The source has an error in line 2: no 32"))
-    put(browser, "\tORG 0xF00\n\tNOP\n")
+    set_source(browser, "\tORG 0xF00\n\tNOP\n")
     eventually(browser, "and one that has no ROM", GET_SOURCE_STATUS, "The board has no ROM at 0xF00, where line 2 of the source goes.")
 
 
 def check(browser, page, _folder, mcs4):
-    source, values = listed(mcs4)
+    source, values = read_listing(mcs4)
     lines = PROGRAM.read_text().splitlines()
     browser.go(page.as_uri())
     until_ready(browser)

@@ -4,13 +4,13 @@ a reload right after an edit. No input may become an element or a script, and th
 import base64
 import re
 
-from page_in_browser import (ENTER, ESCAPE, GET_NOTICE, GET_STATUS, GET_TEXT_OF_EDITOR, PUT_INTO_EDITOR, choose_example, open_anew, show_text,
+from page_in_browser import (ENTER, ESCAPE, GET_NOTICE, GET_STATUS, GET_TEXT_OF_EDITOR, PUT_INTO_EDITOR, choose_example, reopen_page, show_text,
                              until_ready)
 from verdicts import eventually, verdict
 
-MARKUP = "<img src=x onerror=\"window.injected=1\"><script>window.injected=1</script>"
+INJECTED_MARKUP = "<img src=x onerror=\"window.injected=1\"><script>window.injected=1</script>"
 # Markup without spaces and quotes, for use as a name.
-NAME = "<img/src=x/onerror=injected=1>"
+INJECTED_NAME = "<img/src=x/onerror=injected=1>"
 # The editor's own images have no address.
 IS_HARMLESS = "return !window.injected && document.querySelectorAll('img[src], body script[src], iframe, object').length === 0"
 IS_DIALOG_OPEN = "const box = document.getElementById('ask'); return box !== null && box.open"
@@ -37,7 +37,7 @@ PROGRAM = " NOP\n JUN 0\n"
 BOARD = '[[rom]]\nchip = 0\nport = "0000"\n'
 
 
-def check_alive(browser, what):
+def check_alive(browser, description):
     """Checks that the bench answers, and that the input has not become an element or a script."""
     if browser.script(IS_DIALOG_OPEN):
         browser.script("document.getElementById('ask').close('')")
@@ -45,20 +45,20 @@ def check_alive(browser, what):
         browser.script(SEND_SEQ)
         if browser.until(IS_SEQ_ANSWERED, True, 10):
             break
-    verdict(f"the bench answers after {what}", browser.script(IS_SEQ_ANSWERED), True)
-    verdict(f"{what} makes no element and no script", browser.script(IS_HARMLESS), True)
+    verdict(f"the bench answers after {description}", browser.script(IS_SEQ_ANSWERED), True)
+    verdict(f"{description} makes no element and no script", browser.script(IS_HARMLESS), True)
 
 
 def check_fields(browser):
     choose_example(browser, "empty bench")
-    browser.script(SET_FIELD, "name", MARKUP)
-    face = f"# title: {MARKUP}\n# row 0: {NAME} b\n# lamp 0: {NAME}\n# port rom0: {MARKUP}\n# test: button {NAME}\n"
-    browser.script(PUT_INTO_EDITOR, "#board-editor", face + BOARD)
+    browser.script(SET_FIELD, "name", INJECTED_MARKUP)
+    front_panel = f"# title: {INJECTED_MARKUP}\n# row 0: {INJECTED_NAME} b\n# lamp 0: {INJECTED_NAME}\n# port rom0: {INJECTED_MARKUP}\n# test: button {INJECTED_NAME}\n"
+    browser.script(PUT_INTO_EDITOR, "#board-editor", front_panel + BOARD)
     show_text(browser, "board")
     browser.click("#board-editor .send")
     check_alive(browser, "a board of markup")
-    texts = {"program": f"{NAME}: NOP ; {MARKUP}\nx = \"{MARKUP}\n{MARKUP}\n", "tests": f"test {MARKUP}\n  expect lamp {NAME} on\n",
-             "properties": f"test {MARKUP}\nnever {MARKUP}\n"}
+    texts = {"program": f"{INJECTED_NAME}: NOP ; {INJECTED_MARKUP}\nx = \"{INJECTED_MARKUP}\n{INJECTED_MARKUP}\n", "tests": f"test {INJECTED_MARKUP}\n  expect lamp {INJECTED_NAME} on\n",
+             "properties": f"test {INJECTED_MARKUP}\nnever {INJECTED_MARKUP}\n"}
     for name, text in texts.items():
         show_text(browser, name)
         browser.script(PUT_INTO_EDITOR, f"#{name}-editor", text)
@@ -70,43 +70,43 @@ def check_fields(browser):
         browser.script("document.getElementById(arguments[0]).closest('section, [role=tabpanel]').hidden = false", field)
     show_text(browser, "disassembly")
     for field in ("watched-field", "go-to", "change-place", "step-count"):
-        browser.type_into(f"#{field}", MARKUP + ENTER)
+        browser.type_into(f"#{field}", INJECTED_MARKUP + ENTER)
         check_alive(browser, f"markup in {field}")
     show_text(browser, "waves")
-    browser.script(SET_FIELD, "trigger", MARKUP)
-    browser.script(SET_FIELD, "signal-search", MARKUP)
+    browser.script(SET_FIELD, "trigger", INJECTED_MARKUP)
+    browser.script(SET_FIELD, "signal-search", INJECTED_MARKUP)
     browser.click("#record")
     check_alive(browser, "markup in the trigger")
     show_text(browser, "console")
-    browser.script("document.getElementById('lines').value = arguments[0]; document.getElementById('send').click()", MARKUP)
+    browser.script("document.getElementById('lines').value = arguments[0]; document.getElementById('send').click()", INJECTED_MARKUP)
     check_alive(browser, "a line of markup")
 
 
-def files():
-    """Returns unusual files by description, each with a name and its bytes."""
-    one = {
-        "page.html": b"<!doctype html>" + MARKUP.encode(), "picture.png": b"\x89PNG\r\n\x1a\n" + bytes(200), "empty.asm": b"", "none": b"",
+def file_drops():
+    """Returns sets of unusual files. Each set, which maps names to bytes, is dropped onto the page at once."""
+    single_files = {
+        "page.html": b"<!doctype html>" + INJECTED_MARKUP.encode(), "picture.png": b"\x89PNG\r\n\x1a\n" + bytes(200), "empty.asm": b"", "none": b"",
         "bad.mcs": b"MCS4" + bytes(5000), "cut.mcsp": b"project 1\n", "open.mcsp": b"project 1 x\nboard\n", "empty.hex": b"",
         "bad.hex": b":zz\n", "long.bin": bytes(70000), "short.bin": bytes(256), "nul.asm": b" NOP\0\n", "wide.asm": " NOP\n".encode("utf-16"),
         "latin.asm": b"; caf\xe9\n NOP\n", "crlf.asm": b" NOP\r\n JUN 0\r\n", "large.asm": b" NOP\n" * 60000, "full.asm": b" NOP\n" * 13000,
-        f"{NAME[1:-1].replace('/', ' ')}.asm": PROGRAM.encode(), "<b>.mcsp": b"x",
+        f"{INJECTED_NAME[1:-1].replace('/', ' ')}.asm": PROGRAM.encode(), "<b>.mcsp": b"x",
     }
-    many = {f"{number}.asm": PROGRAM.encode() for number in range(60)}
-    kinds = {"a.asm": PROGRAM.encode(), "b.toml": BOARD.encode(), "c.hex": b"", "d.mcsp": b"x"}
-    return [*({name: data} for name, data in one.items()), kinds, many]
+    many_files = {f"{number}.asm": PROGRAM.encode() for number in range(60)}
+    files_of_each_kind = {"a.asm": PROGRAM.encode(), "b.toml": BOARD.encode(), "c.hex": b"", "d.mcsp": b"x"}
+    return [*({name: data} for name, data in single_files.items()), files_of_each_kind, many_files]
 
 
 def check_files(browser):
     choose_example(browser, "three lamps")
-    for each in files():
+    for drop in file_drops():
         browser.script(CLOSE_ALL)
         browser.until(GET_NOTICE, "")
-        browser.script(DROP_FILES, [[name, base64.b64encode(data).decode()] for name, data in each.items()])
-        what = " and ".join([*each][:2]) + (" .." if len(each) > 2 else "")
-        eventually(browser, f"{what} is opened, asked for or refused in words",
+        browser.script(DROP_FILES, [[name, base64.b64encode(data).decode()] for name, data in drop.items()])
+        description = " and ".join([*drop][:2]) + (" .." if len(drop) > 2 else "")
+        eventually(browser, f"{description} is opened, asked for or refused in words",
               f"{IS_DIALOG_OPEN.replace('return', 'const asks =')}; {GET_NOTICE.replace('return', 'const text =')}; return asks || text !== ''", True)
-        check_alive(browser, what)
-    # The last drop has 60 programs, which the page reads one after another. The last of them closes any dialog that is open by then.
+        check_alive(browser, description)
+    # The last drop has 60 programs, which the page reads one after another. The last program closes any dialog that is still open.
     browser.until(GET_NOTICE, re.compile(r"^59\.asm is in Source"))
     until_ready(browser)
     browser.script(CLOSE_ALL)
@@ -161,7 +161,7 @@ def check_reload(browser):
 
 
 def check(browser, page, _folder, _mcs4):
-    open_anew(browser, page)
+    reopen_page(browser, page)
     check_fields(browser)
     browser.keys([ESCAPE])
     check_files(browser)

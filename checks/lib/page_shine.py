@@ -1,21 +1,21 @@
 """The part of checks/page about the brightness of lamps. While time is running, the brightness corresponds to the fraction of time for which a lamp
-is on, as `trace` reports it. While time is paused, a lamp is either on or off. A display that is rewritten in each iteration of the main loop always
-shows its number. A display that is shifted in after a key press shows its number when the shifting is complete."""
+is on, as `trace` reports it. While time is paused, a lamp is either on or off. A display that the program's main loop rewrites in each iteration
+always shows its number. A display that the program shifts in after a key press shows its number when the shifting is complete."""
 
 import re
 
-from page_in_browser import GET_DIGITS, GET_STATUS, SET_SPEED, TOP, choose_example, lines_answered, status_of, until_ready
+from page_in_browser import GET_DIGITS, GET_STATUS, SET_SPEED, TOP, choose_example, send_lines, status_of, until_ready
 from verdicts import eventually, verdict
 
 ROM = '[[rom]]\nchip = 0\nport = "0000"\n'
 PULSES_BOARD = ROM + "".join(f'[[lamp]]\nline = "rom0.{line}"\n' for line in range(4))
 # In each iteration, lamp 0 is on for 3 cycles and lamp 1 for the other cycles. Lamp 2 is always on, lamp 3 never.
-PULSES = "FIM P0, 0\nSRC P0\nloop: LDM 5\nWRR\nNOP\nLDM 6\nWRR\nFIM P1, 0\nwait: ISZ R2, wait\nJUN loop\n"
+PULSES_PROGRAM = "FIM P0, 0\nSRC P0\nloop: LDM 5\nWRR\nNOP\nLDM 6\nWRR\nFIM P1, 0\nwait: ISZ R2, wait\nJUN loop\n"
 # A board with a display, and a program that shifts the number 42 into it again and again, segment by segment.
-REFRESHED_BOARD, REFRESHED = ((TOP / f"js/test/two_digits.{kind}").read_text() for kind in ("toml", "asm"))
+REFRESHED_BOARD, REFRESHED_PROGRAM = ((TOP / f"js/test/two_digits.{kind}").read_text() for kind in ("toml", "asm"))
 GET_BRIGHTNESS_STATUS = "return document.getElementById('brightness-status').textContent"
 # Records in each frame the brightness of each lamp and the text of the display.
-WATCH_SHINES = """
+RECORD_BRIGHTNESS = """
 window.shines = [];
 window.numbers = [];
 const begun = performance.now();
@@ -28,67 +28,67 @@ const look = () => {
 window.watched = false;
 requestAnimationFrame(look);
 """
-GET_SHINES = "return [...document.querySelectorAll('#front .bulb')].map((bulb) => Number(bulb.style.getPropertyValue('--shine')))"
+GET_BRIGHTNESS = "return [...document.querySelectorAll('#front .bulb')].map((bulb) => Number(bulb.style.getPropertyValue('--shine')))"
 
 
-def parts_lit(answer):
+def lit_fractions(answer):
     """Returns the fraction of time for which each lamp is on, from an answer to `trace n lamps` in the log."""
     head = re.search(r"trace ran (\d+) end lines \d+ ([.*]+)", answer)
     rows = re.findall(r"(\d+) [0-9A-F]{3} ([.*]+)", answer[head.end():])
-    total, marks, since = int(head.group(1)), head.group(2), 0
-    lit = [0] * len(marks)
-    for end, after in [*((int(cycles) + 1, after) for cycles, after in rows), (total, "")]:
-        lit = [each + (end - since if mark == "*" else 0) for each, mark in zip(lit, marks)]
-        marks, since = after, end
-    return [each / total for each in lit]
+    total, marks, start = int(head.group(1)), head.group(2), 0
+    cycles_on = [0] * len(marks)
+    for end, next_marks in [*((int(cycles) + 1, next_marks) for cycles, next_marks in rows), (total, "")]:
+        cycles_on = [count + (end - start if mark == "*" else 0) for count, mark in zip(cycles_on, marks)]
+        marks, start = next_marks, end
+    return [count / total for count in cycles_on]
 
 
-def watched(browser, milliseconds):
-    browser.script(WATCH_SHINES, milliseconds)
+def record_brightness(browser, milliseconds):
+    browser.script(RECORD_BRIGHTNESS, milliseconds)
     browser.until("return window.watched", True)
 
 
-def parts_seen(browser):
+def shown_fractions(browser):
     """Returns the minimum and maximum brightness of each lamp, converted to the fraction of time for which the lamp is on."""
     frames = browser.script("return window.shines")
-    return [(min(each) ** 2.2, max(each) ** 2.2) for each in zip(*frames)]
+    return [(min(values) ** 2.2, max(values) ** 2.2) for values in zip(*frames)]
 
 
 def check_pulses(browser, speed):
     browser.script(SET_SPEED, speed)
     eventually(browser, f"at {speed} speed lamps are as an eye sees them", GET_BRIGHTNESS_STATUS, re.compile("averaged over 30 ms"))
-    watched(browser, 500)
-    watched(browser, 1500)
-    seen = parts_seen(browser)
-    wanted = parts_lit(lines_answered(browser, "trace 4100 lamps"))
-    verdict(f"at {speed} speed each lamp shines as trace reports it, to 2 %: {seen} of {wanted}",
-            all(abs(each - part) < 0.02 for pair, part in zip(seen, wanted) for each in pair), True)
+    record_brightness(browser, 500)
+    record_brightness(browser, 1500)
+    ranges = shown_fractions(browser)
+    expected = lit_fractions(send_lines(browser, "trace 4100 lamps"))
+    verdict(f"at {speed} speed each lamp shines as trace reports it, to 2 %: {ranges} of {expected}",
+            all(abs(bound - fraction) < 0.02 for limits, fraction in zip(ranges, expected) for bound in limits), True)
 
 
 def check_instant(browser):
     browser.click("#run")
     eventually(browser, "time stands still", GET_STATUS, re.compile("^Paused"))
-    marks = re.search(r"lamps ([.*]+)", lines_answered(browser, "lamps")).group(1)
-    verdict("then lamps are as they are at this instant", browser.script(GET_SHINES), [1 if mark == "*" else 0 for mark in marks])
+    marks = re.search(r"lamps ([.*]+)", send_lines(browser, "lamps")).group(1)
+    verdict("then lamps are as they are at this instant", browser.script(GET_BRIGHTNESS), [1 if mark == "*" else 0 for mark in marks])
     verdict("and that is reported", browser.script(GET_BRIGHTNESS_STATUS), "Paused: lamps show this instant.")
     browser.click("#run")
 
 
 def check_refreshed(browser):
     status_of(browser, "#board-editor", REFRESHED_BOARD)
-    status_of(browser, "#program-editor", REFRESHED)
+    status_of(browser, "#program-editor", REFRESHED_PROGRAM)
     eventually(browser, "a display that is written anew all the time shows its number", GET_DIGITS, "42")
-    watched(browser, 2000)
+    record_brightness(browser, 2000)
     verdict("in each frame", browser.script("return [...new Set(window.numbers)].join(' ')"), "42")
-    lit = "return [...document.querySelectorAll('#glass svg')].map((digit) => digit.querySelectorAll('.lit').length).join(' ')"
-    verdict("and its segments have outlines", [browser.script(lit), browser.script("return document.querySelectorAll('.smeared').length")],
+    count_lit_segments = "return [...document.querySelectorAll('#glass svg')].map((digit) => digit.querySelectorAll('.lit').length).join(' ')"
+    verdict("and its segments have outlines", [browser.script(count_lit_segments), browser.script("return document.querySelectorAll('.smeared').length")],
             ["4 5", 2])
 
 
 def check_shifted(browser):
     choose_example(browser, "calculator")
     eventually(browser, "a calculator shows 0", GET_DIGITS, "0")
-    browser.script(WATCH_SHINES, 2000)
+    browser.script(RECORD_BRIGHTNESS, 2000)
     browser.keys(["1", "2", "3"], 40, 60)
     browser.until("return window.watched", True)
     verdict("digits that are shifted in are shown when they stand, and nothing between",
@@ -98,37 +98,37 @@ def check_shifted(browser):
 def check_clock(browser):
     choose_example(browser, "clock")
     eventually(browser, "four digits that are lit by turns show a time", GET_DIGITS, re.compile(r"^12\.?00$"))
-    watched(browser, 1500)
+    record_brightness(browser, 1500)
     verdict("in each frame, with its point or without", browser.script("return [...new Set(window.numbers)].sort().join(' ')"), "12.00 1200")
     browser.script(SET_SPEED, "full")
     eventually(browser, "at full speed, too", GET_DIGITS, re.compile(r"^(1[2-9]|[02][0-9])\.?[0-5][0-9]$"))
     browser.script(SET_SPEED, "real")
     browser.click("#run")
     eventually(browser, "time stands still", GET_STATUS, re.compile("^Paused"))
-    digits = "return [...document.querySelectorAll('#glass svg')].filter((digit) => digit.querySelector('.lit')).length"
-    verdict("at an instant at most one digit is lit", browser.script(digits) <= 1, True)
+    count_lit_digits = "return [...document.querySelectorAll('#glass svg')].filter((digit) => digit.querySelector('.lit')).length"
+    verdict("at an instant at most one digit is lit", browser.script(count_lit_digits) <= 1, True)
 
 
 def check_pictures(browser):
     choose_example(browser, "pictures")
-    rows = ("const bulbs = [...document.querySelectorAll('.matrix .bulb')].map((bulb) => (bulb.classList.contains('lit') ? '*' : '.'));"
+    get_rows = ("const bulbs = [...document.querySelectorAll('.matrix .bulb')].map((bulb) => (bulb.classList.contains('lit') ? '*' : '.'));"
             "return Array.from({ length: 8 }, (_, row) => bulbs.slice(8 * row, 8 * row + 8).join('')).join(' ')")
-    eventually(browser, "a matrix whose rows are lit by turns shows a heart", rows,
+    eventually(browser, "a matrix whose rows are lit by turns shows a heart", get_rows,
                "........ .**..**. ******** ******** .******. ..****.. ...**... ........")
     verdict("each lamp names both of its lines", browser.script("return document.querySelectorAll('.matrix .bulb')[13].title"),
             "ram0.1.2 and ram0.2.1")
     browser.keys(["n"], 100)
-    eventually(browser, "NEXT brings another picture", rows, "..****.. .*....*. *.*..*.* *......* *.*..*.* *..**..* .*....*. ..****..")
+    eventually(browser, "NEXT brings another picture", get_rows, "..****.. .*....*. *.*..*.* *......* *.*..*.* *..**..* .*....*. ..****..")
     browser.click("#run")
     eventually(browser, "time stands still", GET_STATUS, re.compile("^Paused"))
-    verdict("at an instant at most one row is lit", sum("*" in row for row in browser.script(rows).split()) <= 1, True)
+    verdict("at an instant at most one row is lit", sum("*" in row for row in browser.script(get_rows).split()) <= 1, True)
 
 
 def check(browser, page, _folder, _mcs4):
     browser.go(page.as_uri() + "#example=empty%20bench")
     until_ready(browser)
     status_of(browser, "#board-editor", PULSES_BOARD)
-    status_of(browser, "#program-editor", PULSES)
+    status_of(browser, "#program-editor", PULSES_PROGRAM)
     for speed in ("real", "tenth", "full"):
         check_pulses(browser, speed)
     browser.script(SET_SPEED, "real")

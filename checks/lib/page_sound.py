@@ -8,9 +8,9 @@ from page_in_browser import SET_SPEED, choose_example, status_of, until_ready
 from verdicts import eventually, verdict
 
 BOARD = '# buzzer rom0.0: the buzzer\n[[rom]]\nchip = 0\nport = "0000"\n'
-# The frequency of a wave of 198 cycles.
-PITCH = 92593 / 198
-TONE = """
+# The frequency in hertz of a wave of 198 cycles.
+EXPECTED_PITCH = 92593 / 198
+TONE_PROGRAM = """
         FIM P0, 0
         SRC P0
 loop:   LD R4
@@ -27,7 +27,7 @@ wait:   ISZ R3, wait
 # was too busy.
 MAX_BLOCK_INTERVAL = 0.1
 # Records each block of samples that is played: its start by the audio clock, its arrival by the audio clock and by the page's clock, and its edges.
-WATCH_SOUND = """
+RECORD_SOUND = """
 window.played = [];
 const start = AudioBufferSourceNode.prototype.start;
 AudioBufferSourceNode.prototype.start = function (when) {
@@ -40,7 +40,7 @@ AudioBufferSourceNode.prototype.start = function (when) {
 };
 """
 # Replaces the audio clock with the page's clock. Without an audio device, the audio clock stays at 0 in some browsers.
-CLOCK = """
+REPLACE_CLOCK = """
 const begun = performance.now();
 Object.defineProperty(BaseAudioContext.prototype, "currentTime", { get: () => (performance.now() - begun) / 1000 });
 """
@@ -49,47 +49,47 @@ IS_SOUND_PRESSED = "return document.getElementById('sound-button').getAttribute(
 GET_SOUND_STATUS = "return document.getElementById('sound-status').textContent"
 COUNT_PLAYED = "return window.played.length"
 # The first block must arrive at least EARLY seconds before it is heard, in at least one of TRIES attempts.
-EARLY, TRIES = 0.08, 5
+MIN_LEAD_SECONDS, MAX_ATTEMPTS = 0.08, 5
 
 
-def begins_later(browser, first):
+def is_first_block_early(browser, block):
     """Returns true if the first block is sent early enough. Makes several attempts, because other work on the machine can delay the page."""
-    for _ in range(TRIES):
-        if first["when"] - first["now"] > EARLY:
+    for _ in range(MAX_ATTEMPTS):
+        if block["when"] - block["now"] > MIN_LEAD_SECONDS:
             return True
         browser.click("#sound-button")
         browser.script("window.played = []")
         browser.click("#sound-button")
         browser.until(COUNT_PLAYED, re.compile("^[1-9]"))
-        first = browser.script("return window.played[0]")
-    return first["when"] - first["now"] > EARLY
+        block = browser.script("return window.played[0]")
+    return block["when"] - block["now"] > MIN_LEAD_SECONDS
 
 
 def check_tone(browser):
     status_of(browser, "#board-editor", BOARD)
-    status_of(browser, "#program-editor", TONE)
+    status_of(browser, "#program-editor", TONE_PROGRAM)
     eventually(browser, "a board with a buzzer has a button for it", "return document.getElementById('sound').hidden", False)
     verdict("with its name, and it is muted", [browser.text("#sound-button"), browser.script(IS_SOUND_PRESSED)], ["Sound of the buzzer", "false"])
-    browser.script(WATCH_SOUND)
+    browser.script(RECORD_SOUND)
     browser.click("#sound-button")
     eventually(browser, "it is heard once that is asked for", COUNT_PLAYED, re.compile("^[5-9]$|^..$"))
     if browser.script(IS_TIME_PAUSED):
         browser.click("#sound-button")
-        browser.script(CLOCK + "window.played = [];")
+        browser.script(REPLACE_CLOCK + "window.played = [];")
         browser.click("#sound-button")
         eventually(browser, "with a clock it is heard, too", COUNT_PLAYED, re.compile("^[5-9]$|^..$"))
     time.sleep(1)
     played = browser.script("return window.played")
-    lengths = [each["count"] / each["rate"] for each in played]
-    edges = sum(len(each["edges"]) for each in played)
+    lengths = [block["count"] / block["rate"] for block in played]
+    edges = sum(len(block["edges"]) for block in played)
     pitch = edges / 2 / sum(lengths)
-    verdict(f"its pitch is right to 1 %: {pitch:.1f} Hz", abs(pitch - PITCH) < PITCH / 100, True)
-    verdict("a sample is a cycle", sorted({each["rate"] for each in played}), [92593])
-    verdict("the first one begins so much later that the next one comes in time", begins_later(browser, played[0]), True)
-    gaps = [(one, other) for one, other, length in zip(played, played[1:], lengths) if abs(one["when"] + length - other["when"]) > 1e-6]
-    gap_words = [f"{other['at'] - one['at']:.3f} s" for one, other in gaps]
-    verdict(f"{len(played)} pieces follow each other without a gap, but where the host held one up: {gap_words}",
-            all(other["at"] - one["at"] > MAX_BLOCK_INTERVAL for one, other in gaps), True)
+    verdict(f"its pitch is right to 1 %: {pitch:.1f} Hz", abs(pitch - EXPECTED_PITCH) < EXPECTED_PITCH / 100, True)
+    verdict("a sample is a cycle", sorted({block["rate"] for block in played}), [92593])
+    verdict("the first one begins so much later that the next one comes in time", is_first_block_early(browser, played[0]), True)
+    gaps = [(previous, following) for previous, following, length in zip(played, played[1:], lengths) if abs(previous["when"] + length - following["when"]) > 1e-6]
+    intervals = [f"{following['at'] - previous['at']:.3f} s" for previous, following in gaps]
+    verdict(f"{len(played)} pieces follow each other without a gap, but where the host held one up: {intervals}",
+            all(following["at"] - previous["at"] > MAX_BLOCK_INTERVAL for previous, following in gaps), True)
     verdict("and most of them follow", 2 * len(gaps) < len(played), True)
 
 

@@ -1,14 +1,14 @@
 """The part of checks/page that acts like a first-time user, by keyboard alone. It gives an empty bench a board. It types a program, which is
-rejected, and corrects, runs, pauses and steps it. It loses and restores the program, saves it, and opens it again with the same bytes. Then it opens
-the example that is a project, whose session is in the state that its texts describe."""
+rejected, and corrects, runs, pauses and steps it. It replaces and restores the program, saves it, and opens it again with the same bytes. Then it
+opens an example that is a project, and corrects the error in the example's program."""
 
 import re
 import time
 
-from page_editor import GET_CARET, GET_FAULTS, GET_STATUS_OF, PROGRAM, SET_CARET
-from page_in_browser import DOWN, ENTER, ESCAPE, GET_NOTICE, GET_STATUS, GET_TEXT_OF_EDITOR, STEPPED, TAB, focused, lines_answered, until_ready
+from page_editor import GET_CARET, GET_ERRORS, GET_STATUS_OF, PROGRAM, SET_CARET
+from page_in_browser import DOWN, ENTER, ESCAPE, GET_NOTICE, GET_STATUS, GET_TEXT_OF_EDITOR, STEPPED, TAB, move_focus_until, send_lines, until_ready
 from page_names import GET_BREAKPOINT_LINES, GET_SOURCE_STATUS
-from page_texts import GET_NAME, GET_PROGRAM_TEXT, GET_QUESTION, GET_TEXTS, kept_download
+from page_texts import GET_NAME, GET_PROGRAM_TEXT, GET_QUESTION, GET_TEXTS, wait_for_download
 from verdicts import eventually, verdict
 
 CONTROL, BACKSPACE, END, HOME, UP = "\ue009", "\ue003", "\ue010", "\ue011", "\ue013"
@@ -17,19 +17,19 @@ GET_LAMPS = "return [...document.querySelectorAll('.bulb')].map((each) => (each.
 GET_KEYS_DOWN = "return [...document.querySelectorAll(\"#keys [aria-pressed='true']\")].map((each) => each.textContent).join(' ')"
 IS_BOARD_OFFERED = "return document.getElementById('board-offer').checkVisibility()"
 IS_SESSIONS_OPEN = "return document.getElementById('sessions').open"
-IN_SOURCE = "e.closest('#program-editor .cm-editor') !== null"
+IS_IN_SOURCE = "e.closest('#program-editor .cm-editor') !== null"
 GET_REGISTERS = "return document.getElementById('registers').textContent"
 # A program whose lamps show which keys are down. Its comment distinguishes it from a source that is disassembled from ROM.
-TYPED = ["; my first program", "LDM 3", "WRR", "read: RDR", "WMQ", "JUN read"]
-FAULT = "line 5: WMQ is not an instruction; WMP?"
+TYPED_LINES = ["; my first program", "LDM 3", "WRR", "read: RDR", "WMQ", "JUN read"]
+ERROR_MESSAGE = "line 5: WMQ is not an instruction; WMP?"
 DROP_FILE = """
 const data = new DataTransfer();
 data.items.add(new File([arguments[1]], arguments[0]));
 document.body.dispatchEvent(new DragEvent("drop", { dataTransfer: data, bubbles: true, cancelable: true }))"""
 
 
-def go_by_tab(browser, what, code, most=90):
-    verdict(f"Tab comes to {what}", focused(browser, TAB, code, most), True)
+def go_by_tab(browser, description, code, max_presses=90):
+    verdict(f"Tab comes to {description}", move_focus_until(browser, TAB, code, max_presses), True)
 
 
 def type_keys(browser, text):
@@ -39,7 +39,7 @@ def type_keys(browser, text):
 def choose_by_keyboard(browser, name):
     """Chooses an example by keyboard alone."""
     browser.script("document.getElementById('name').focus()")
-    focused(browser, TAB, "e.id === 'sessions-button'", 5)
+    move_focus_until(browser, TAB, "e.id === 'sessions-button'", 5)
     browser.keys([ENTER])
     browser.until(IS_SESSIONS_OPEN, True)
     go_by_tab(browser, f"the example {name}", f"e.getAttribute('aria-label') === 'new session: {name}'")
@@ -51,7 +51,7 @@ def choose_by_keyboard(browser, name):
 def go_to_source(browser):
     browser.script("document.querySelector('#text-tabs [aria-selected=true]').focus()")
     browser.keys([HOME], 5, 5)
-    go_by_tab(browser, "the source", IN_SOURCE)
+    go_by_tab(browser, "the source", IS_IN_SOURCE)
 
 
 def check_board(browser):
@@ -68,17 +68,17 @@ def check_board(browser):
 def check_program(browser):
     """Checks that a program can be typed, is rejected, corrected, and run."""
     go_to_source(browser)
-    for line in TYPED:
+    for line in TYPED_LINES:
         type_keys(browser, line)
         browser.keys([ENTER], 2, 2)
-    eventually(browser, "a fault is reported while one types", GET_FAULTS.format(PROGRAM), FAULT)
-    before = browser.script(GET_CARET, PROGRAM)
-    browser.chord(CONTROL, ENTER)
-    eventually(browser, "Control and Enter assemble nothing then", GET_STATUS_OF.format(PROGRAM), FAULT)
-    verdict("and the caret stays", browser.script(GET_CARET, PROGRAM), before)
+    eventually(browser, "a fault is reported while one types", GET_ERRORS.format(PROGRAM), ERROR_MESSAGE)
+    caret_before = browser.script(GET_CARET, PROGRAM)
+    browser.press_chord(CONTROL, ENTER)
+    eventually(browser, "Control and Enter assemble nothing then", GET_STATUS_OF.format(PROGRAM), ERROR_MESSAGE)
+    verdict("and the caret stays", browser.script(GET_CARET, PROGRAM), caret_before)
     browser.keys([UP, UP, END, BACKSPACE, "P"], 5, 5)
-    eventually(browser, "mended, it has no fault", GET_FAULTS.format(PROGRAM), "")
-    browser.chord(CONTROL, ENTER)
+    eventually(browser, "mended, it has no fault", GET_ERRORS.format(PROGRAM), "")
+    browser.press_chord(CONTROL, ENTER)
     eventually(browser, "and is assembled and run", GET_STATUS_OF.format(PROGRAM), "Assembled 6 bytes; running from 000.")
     eventually(browser, "time runs", GET_STATUS, re.compile("^Running"))
     eventually(browser, "the source is what is in ROM", GET_SOURCE_STATUS, "")
@@ -87,7 +87,7 @@ def check_program(browser):
 def check_keys(browser):
     """Checks the board's keys through the keyboard. The lamps show the keys."""
     browser.keys([ESCAPE, TAB], 5, 5)
-    shown = browser.script(GET_LAMPS)
+    lamps_before = browser.script(GET_LAMPS)
     browser.script("window.shown = new Set()")
     browser.script("new MutationObserver(() => window.shown.add([...document.querySelectorAll('.bulb')].map((each) => "
                    "(each.classList.contains('lit') ? '*' : '.')).join(''))).observe(document.getElementById('lamps'), "
@@ -95,11 +95,11 @@ def check_keys(browser):
     letter = browser.script("return document.querySelector('#keys kbd').textContent")
     browser.keys([letter], 300, 100)
     eventually(browser, "a key lights a lamp", "return window.shown.size > 0 && [...window.shown].some((each) => each !== arguments[0])"
-               .replace("arguments[0]", f"'{shown}'"), True)
+               .replace("arguments[0]", f"'{lamps_before}'"), True)
     eventually(browser, "and is up again", GET_KEYS_DOWN, "")
 
 
-def check_stop(browser):
+def check_breakpoint(browser):
     """Checks a pause at a breakpoint in the source, and a step."""
     browser.keys([F8])
     browser.until(GET_STATUS, re.compile("^Paused"))
@@ -116,9 +116,9 @@ def check_stop(browser):
     eventually(browser, "F9 clears it", GET_BREAKPOINT_LINES, "")
 
 
-def check_loss(browser):
+def check_restoring(browser):
     """Checks that a lost text can be restored."""
-    mine = browser.script(GET_PROGRAM_TEXT)
+    own_source = browser.script(GET_PROGRAM_TEXT)
     browser.script("document.getElementById('from-rom').focus()")
     browser.keys([ENTER])
     browser.until(GET_QUESTION, "Replace the source?")
@@ -127,8 +127,8 @@ def check_loss(browser):
     browser.until(GET_QUESTION, "")
     eventually(browser, "a source of the ROM has no comment", GET_PROGRAM_TEXT, re.compile(r"^\s*LDM 3\s+WRR\s+RDR\s+WMP\s+JUN 0x002\s*$"))
     go_to_source(browser)
-    browser.chord(CONTROL, "z")
-    eventually(browser, "Control and Z bring the text back", GET_PROGRAM_TEXT, mine)
+    browser.press_chord(CONTROL, "z")
+    eventually(browser, "Control and Z bring the text back", GET_PROGRAM_TEXT, own_source)
 
 
 def save_by_keyboard(browser):
@@ -143,10 +143,10 @@ def check_file(browser, folder):
     """Checks that a file is saved, that a wrong file is rejected, and that the saved file opens with the same bytes."""
     texts = browser.script(GET_TEXTS)
     save_by_keyboard(browser)
-    saved = kept_download(folder, "My first board.mcsp")
-    whole = saved.read_bytes()
-    saved.unlink()
-    verdict("a project has the text as it is", all(line in whole.decode() for line in ("; my first program", "read: RDR")), True)
+    project_file = wait_for_download(folder, "My first board.mcsp")
+    project_bytes = project_file.read_bytes()
+    project_file.unlink()
+    verdict("a project has the text as it is", all(line in project_bytes.decode() for line in ("; my first program", "read: RDR")), True)
     browser.script(DROP_FILE, "holiday.jpg", "no session at all")
     eventually(browser, "a wrong file that is dropped is refused in words", GET_NOTICE,
                re.compile(r"Cannot open holiday\.jpg: not a kind of text that the bench has; supported are projects .*The session shown is unchanged"))
@@ -155,11 +155,11 @@ def check_file(browser, folder):
     browser.script(SET_CARET, PROGRAM, 0, 0)
     type_keys(browser, "; not this")
     eventually(browser, "something else is typed", GET_TEXT_OF_EDITOR.replace("arguments[0]", f"'{PROGRAM}'"), re.compile("^; not this"))
-    browser.script(DROP_FILE, "mine.mcsp", whole.decode())
+    browser.script(DROP_FILE, "mine.mcsp", project_bytes.decode())
     eventually(browser, "the project is opened again", GET_TEXTS, texts)
     eventually(browser, "what was left for it can be come back to", GET_NOTICE, re.compile('"My first board" is saved'))
     save_by_keyboard(browser)
-    verdict("and saved again it is the same, to the byte", kept_download(folder, "My first board.mcsp").read_bytes() == whole, True)
+    verdict("and saved again it is the same, to the byte", wait_for_download(folder, "My first board.mcsp").read_bytes() == project_bytes, True)
     browser.script("document.querySelector(\"#notice button[aria-label^='Reopen']\").focus()")
     browser.keys([ENTER])
     eventually(browser, "back to the other one", GET_PROGRAM_TEXT, re.compile("^; not this"))
@@ -177,15 +177,15 @@ def check_example(browser):
     verdict("time stands still", browser.script("return document.getElementById('run').textContent"), "Continue")
     eventually(browser, "no session is made before something is done", "return location.hash", "#example=a%20fault%20to%20find")
     source = browser.script(GET_PROGRAM_TEXT)
-    at = source.split("\n").index("        SUB R4")
+    line = source.split("\n").index("        SUB R4")
     go_to_source(browser)
-    browser.script(SET_CARET, PROGRAM, at, len("        SUB R4"))
+    browser.script(SET_CARET, PROGRAM, line, len("        SUB R4"))
     browser.keys([BACKSPACE, "5"], 5, 5)
-    browser.chord(CONTROL, ENTER)
+    browser.press_chord(CONTROL, ENTER)
     eventually(browser, "mended, it is assembled and run", GET_STATUS_OF.format(PROGRAM), re.compile("^Assembled .* bytes; running from 000"))
     browser.until(GET_STATUS, re.compile("at a breakpoint"))
     script = "\n".join(["unbreak 8", "reset", *["run 91000"] * 10, "lamps", "run 97000", "lamps"])
-    verdict("and counts to 9, and then from 0 on", lines_answered(browser, script), re.compile(r"lamps \*\.\.\*.*lamps \.\.\.\."))
+    verdict("and counts to 9, and then from 0 on", send_lines(browser, script), re.compile(r"lamps \*\.\.\*.*lamps \.\.\.\."))
 
 
 def check(browser, page, folder, _mcs4):
@@ -195,8 +195,8 @@ def check(browser, page, folder, _mcs4):
     check_board(browser)
     check_program(browser)
     check_keys(browser)
-    check_stop(browser)
-    check_loss(browser)
+    check_breakpoint(browser)
+    check_restoring(browser)
     check_file(browser, folder)
     time.sleep(0.7)
     check_example(browser)

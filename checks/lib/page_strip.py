@@ -12,7 +12,7 @@ const lines = [...document.querySelectorAll("#paper div")].map((line) => line.te
 return document.getElementById("strip").hidden ? "-" : lines.join(" ")"""
 GET_TAPE_HEIGHT = "return document.getElementById('strip').offsetHeight"
 GET_BOARD_TEXT = "return document.querySelector('#board-editor .cm-editor').lineEditor.getValue()"
-GET_FAULTS = "return [...document.querySelectorAll('#face-faults li')].map((each) => each.textContent).join(' ')"
+GET_PANEL_ERRORS = "return [...document.querySelectorAll('#face-faults li')].map((each) => each.textContent).join(' ')"
 IS_AT_END = "const paper = document.getElementById('paper'); return paper.scrollHeight - paper.scrollTop - paper.clientHeight < 4"
 BOARD = """# printer rom0.3: ram0.0 a CE b_c
 [[rom]]
@@ -22,8 +22,8 @@ port = "000i"
 bank = 0
 chips = 1
 """
-# A program that sends 0, 1, 2, 3, .. once, each code before its strobe.
-SENDER = """
+# A program that sends the codes 0 to 15 once, each code before its strobe.
+SENDER_PROGRAM = """
         FIM P0, 0
         SRC P0
 next:   LD R4
@@ -37,9 +37,9 @@ stop:   JUN stop
 """
 
 
-def press(browser, legends):
+def press_keys(browser, legends):
     for legend in legends:
-        browser.fingers([key(legend)], 60)
+        browser.touch_together([key(legend)], 60)
         time.sleep(0.08)
 
 
@@ -47,7 +47,7 @@ def check_calculator(browser):
     choose_example(browser, "printing calculator")
     eventually(browser, "a board with a printer has a strip without a line", GET_PRINTER_TAPE, "")
     height = browser.script(GET_TAPE_HEIGHT)
-    press(browser, "12+30=")
+    press_keys(browser, "12+30=")
     eventually(browser, "what is keyed and what comes is printed", GET_PRINTER_TAPE, "12+ 30= 42")
     eventually(browser, "and shown", GET_DIGITS, "42")
     browser.keys(["-", "5", "8", ENTER], 60, 120)
@@ -56,7 +56,7 @@ def check_calculator(browser):
     until_ready(browser)
     eventually(browser, "a reload keeps it", GET_PRINTER_TAPE, "12+ 30= 42 42- 58= -16")
     browser.script(SET_SPEED, "full")
-    press(browser, "*3=")
+    press_keys(browser, "*3=")
     eventually(browser, "at full speed it prints", GET_PRINTER_TAPE, "12+ 30= 42 42- 58= -16 -16* 3= -48")
     verdict("the end of the paper is in view", browser.script(IS_AT_END), True)
     verdict("the paper takes no more room, so the keys stay where they are", browser.script(GET_TAPE_HEIGHT), height)
@@ -67,17 +67,17 @@ def check_editing(browser):
     """Checks the tape while the board's text is edited but not applied."""
     text = browser.script(GET_BOARD_TEXT)
     browser.script(PUT_INTO_EDITOR, "#board-editor", text.replace("printer rom0.2", "printer rom5.2"))
-    eventually(browser, "a printer that cannot be is reported", GET_FAULTS, re.compile("the board has no output line rom5.2"))
+    eventually(browser, "a printer that cannot be is reported", GET_PANEL_ERRORS, re.compile("the board has no output line rom5.2"))
     browser.script(PUT_INTO_EDITOR, "#board-editor", text)
-    eventually(browser, "until it is right again", GET_FAULTS, "")
+    eventually(browser, "until it is right again", GET_PANEL_ERRORS, "")
     verdict("the paper keeps its lines", browser.script(GET_PRINTER_TAPE), "12+ 30= 42 42- 58= -16 -16* 3= -48")
 
 
-def check_back(browser):
+def check_going_back(browser):
     browser.click("#run")
     eventually(browser, "time stands still", GET_STATUS, re.compile("^Paused"))
     browser.click("#run")
-    press(browser, "C7=")
+    press_keys(browser, "C7=")
     eventually(browser, "more is printed", GET_PRINTER_TAPE, re.compile("-48 C 7= 7$"))
     browser.click("#run")
     eventually(browser, "time stands still again", GET_STATUS, re.compile("^Paused"))
@@ -88,17 +88,17 @@ def check_back(browser):
     browser.click("#clear-printout")
     eventually(browser, "the paper is torn off", GET_PRINTER_TAPE, "")
     browser.click("#run")
-    press(browser, "9=")
+    press_keys(browser, "9=")
     eventually(browser, "and the next line begins a new one", GET_PRINTER_TAPE, "9= 9")
 
 
-def check_lines(browser):
+def check_other_printer(browser):
     status_of(browser, "#board-editor", BOARD)
     eventually(browser, "a printer of another board has a strip of its own", GET_PRINTER_TAPE, "")
-    status_of(browser, "#program-editor", SENDER)
+    status_of(browser, "#program-editor", SENDER_PROGRAM)
     eventually(browser, "codes without words are ?", GET_PRINTER_TAPE, f"aCEb c{'?' * 13}")
     status_of(browser, "#board-editor", BOARD.replace("rom0.3", "rom0.0"))
-    eventually(browser, "a strobe at an input line is reported", GET_FAULTS, "line 1 of the board's text: the board has no output line rom0.0")
+    eventually(browser, "a strobe at an input line is reported", GET_PANEL_ERRORS, "line 1 of the board's text: the board has no output line rom0.0")
     verdict("and prints nothing", browser.script(GET_PRINTER_TAPE), "-")
 
 
@@ -108,5 +108,5 @@ def check(browser, page, _folder, _mcs4):
     verdict("a board without a printer has no strip", browser.script(GET_PRINTER_TAPE), "-")
     check_calculator(browser)
     check_editing(browser)
-    check_back(browser)
-    check_lines(browser)
+    check_going_back(browser)
+    check_other_printer(browser)

@@ -5,21 +5,21 @@ is cancelled, and saving the text with the session and in a project."""
 import re
 import time
 
-from page_in_browser import (GET_STATUS, GET_TEXT_OF_EDITOR, PUT_INTO_EDITOR, choose_example, lines_answered, of_file_menu, open_anew, show_text,
+from page_in_browser import (GET_STATUS, GET_TEXT_OF_EDITOR, PUT_INTO_EDITOR, choose_example, send_lines, choose_from_file_menu, reopen_page, show_text,
                              until_ready)
-from page_texts import GET_NAME, kept_download, rename
+from page_texts import GET_NAME, wait_for_download, rename
 from verdicts import eventually, verdict
 
 EDITOR = "#tests-editor"
 GET_TESTS_STATUS = "return document.querySelector('#tests-editor .status-text').textContent"
 GET_RESULTS = """return [...document.querySelectorAll('#test-list > li > p:first-child')]
   .map((each) => each.textContent.split(' ').slice(0, 4).join(' '))"""
-GET_WRONG = "return [...document.querySelectorAll('#test-list .wrong')].map((each) => each.textContent)"
+GET_FAILURES = "return [...document.querySelectorAll('#test-list .wrong')].map((each) => each.textContent)"
 GET_COUNTS = "return [...document.querySelectorAll('#program-editor .mark-counts')].map((each) => each.textContent).filter(Boolean)"
 GET_LABELS = """return [...document.querySelectorAll('#profile-labels tr')]
   .map((row) => [...row.cells].map((cell) => cell.textContent).join(' ').trim())"""
 GET_MARK = "return document.querySelector('#tests-tab .mark').textContent"
-GET_FAULTS = "return [...document.querySelectorAll('#tests-editor .fault-list li')].map((each) => each.textContent)"
+GET_ERRORS = "return [...document.querySelectorAll('#tests-editor .fault-list li')].map((each) => each.textContent)"
 GET_SELECTED = "return document.querySelector('#tests-editor .cm-editor').lineEditor.getSelection()"
 
 
@@ -52,23 +52,23 @@ def check_failing(browser):
     run_tests(browser)
     eventually(browser, "a test fails", GET_TESTS_STATUS, "1 of 2 tests failed.")
     verdict("the tab says so", browser.script(GET_MARK), "1 failed")
-    verdict("with its line, and what is wrong", browser.script(GET_WRONG), ["line 14 expect cycles 538: cycles are 536, but must be 538"])
+    verdict("with its line, and what is wrong", browser.script(GET_FAILURES), ["line 14 expect cycles 538: cycles are 536, but must be 538"])
     browser.click("#test-list .wrong button")
     verdict("the line is shown", browser.script(GET_SELECTED), "  expect cycles 538")
     browser.click("#test-list details summary")
-    last = browser.text("#test-list pre").split("\n")
-    verdict("the trace ends there", (last[0], last[-1]), ("lamps .*.", "     536  007 50 14 JMS wait         comes next"))
+    trace_lines = browser.text("#test-list pre").split("\n")
+    verdict("the trace ends there", (trace_lines[0], trace_lines[-1]), ("lamps .*.", "     536  007 50 14 JMS wait         comes next"))
     browser.click("#test-list .bar button")
     eventually(browser, "the session is opened as it is there", GET_NAME, "each lamp is lit for 538 cycles, line 14")
-    verdict("at the cycle of the failure", "pc 007 owed 0" in lines_answered(browser, "regs"), True)
+    verdict("at the cycle of the failure", "pc 007 owed 0" in send_lines(browser, "regs"), True)
     verdict("its text of tests is there, too", browser.script(GET_TEXT_OF_EDITOR, EDITOR).count("\ntest "), 2)
     verdict("and nothing was run in it yet", browser.script(GET_RESULTS), [])
 
 
-def check_faults(browser):
+def check_errors(browser):
     browser.script(PUT_INTO_EDITOR, EDITOR, "test a\n  until lamps green within 10 ms\n  press x\n")
     show_text(browser, "tests")
-    eventually(browser, "faults are reported while one types", GET_FAULTS,
+    eventually(browser, "faults are reported while one types", GET_ERRORS,
                ["line 2: the board has no lamp green; it has: left middle right (column 9)",
                 "line 3: the board has no key x; its text names no keys (`# row 0: NAME ..`)"])
     verdict("the tab shows how many", browser.script(GET_MARK), "2 faults")
@@ -102,7 +102,7 @@ def insert_sample(browser):
 
 GET_EXAMPLES = """return [...document.querySelectorAll("#examples button[aria-label^='new session: ']")]
   .map((each) => each.getAttribute("aria-label").slice("new session: ".length))"""
-PASSED = re.compile(r"^(The test|All \d+ tests) passed\.$")
+PASSED_MESSAGE = re.compile(r"^(The test|All \d+ tests) passed\.$")
 
 
 def check_examples(browser):
@@ -114,13 +114,13 @@ def check_examples(browser):
         show_text(browser, "tests")
         if browser.script(GET_TEXT_OF_EDITOR, EDITOR).strip():
             browser.click(f"{EDITOR} .send")
-            eventually(browser, f"the tests of {example} pass", GET_TESTS_STATUS, PASSED, 180)
+            eventually(browser, f"the tests of {example} pass", GET_TESTS_STATUS, PASSED_MESSAGE, 180)
         insert_sample(browser)
         browser.click(f"{EDITOR} .send")
         eventually(browser, f"the sample test of {example} passes", GET_TESTS_STATUS, "The test passed.", 180)
 
 
-def check_cancel(browser):
+def check_cancelling(browser):
     browser.script(PUT_INTO_EDITOR, EDITOR, "test for ever\n  until r15 9 within 10000 s\n")
     browser.click(f"{EDITOR} .send")
     browser.until("return isShown(document.getElementById('work'))", True)
@@ -128,7 +128,7 @@ def check_cancel(browser):
     eventually(browser, "a test that does not end is cancelled", GET_TESTS_STATUS, "It was cancelled; the results shown are from before.")
 
 
-def check_kept(browser, folder):
+def check_saving(browser, folder):
     """Checks that the tests text is saved with its session and is in a project."""
     browser.script(PUT_INTO_EDITOR, EDITOR, "test mine\n  run 5")
     time.sleep(1)
@@ -137,16 +137,16 @@ def check_kept(browser, folder):
     show_text(browser, "tests")
     eventually(browser, "the text is there after a reload", GET_TEXT_OF_EDITOR.replace("arguments[0]", f"'{EDITOR}'"), "test mine\n  run 5")
     rename(browser, "with tests")
-    of_file_menu(browser, "#save-button")
-    saved = kept_download(folder, "with tests.mcsp").read_text()
-    verdict("a project has it", "\nunended test\n" in saved and "\ntest\ntest mine\n  run 5\n.\n" in saved, True)
+    choose_from_file_menu(browser, "#save-button")
+    project_text = wait_for_download(folder, "with tests.mcsp").read_text()
+    verdict("a project has it", "\nunended test\n" in project_text and "\ntest\ntest mine\n  run 5\n.\n" in project_text, True)
 
 
 def check(browser, page, folder, _mcs4):
-    open_anew(browser, page)
+    reopen_page(browser, page)
     check_passing(browser)
     check_failing(browser)
-    check_faults(browser)
+    check_errors(browser)
     check_examples(browser)
-    check_cancel(browser)
-    check_kept(browser, folder)
+    check_cancelling(browser)
+    check_saving(browser, folder)

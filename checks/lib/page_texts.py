@@ -7,7 +7,7 @@ import subprocess
 import time
 import zlib
 
-from page_in_browser import (ESCAPE, GET_ALL_NOTICES, GET_NOTICE, GET_STATUS, choose_example, lines_answered, of_file_menu, open_anew, show_text,
+from page_in_browser import (ESCAPE, GET_ALL_NOTICES, GET_NOTICE, GET_STATUS, choose_example, send_lines, choose_from_file_menu, reopen_page, show_text,
                              status_of, stop_time, until_ready)
 from verdicts import eventually, verdict
 
@@ -15,7 +15,7 @@ TOP = pathlib.Path(__file__).resolve().parent.parent.parent
 GET_NAME = "return document.getElementById('name').value"
 GET_WATCHES = "return [...document.querySelectorAll('#watched-list li')].map((row) => row.title)"
 ENTER = "\ue007"
-# True if the page handles Ctrl+S instead of the browser.
+# Presses Ctrl+S. Returns true if the page handles the keys instead of the browser.
 PRESS_CONTROL_S = """
 const event = new KeyboardEvent("keydown", { key: "s", ctrlKey: true, bubbles: true, cancelable: true });
 document.body.dispatchEvent(event);
@@ -24,23 +24,23 @@ GET_TEXTS = "return ['board', 'program'].map((name) => document.querySelector(`#
 GET_PROGRAM_TEXT = "return document.querySelector('#program-editor .cm-editor').lineEditor.getValue()"
 GET_LINES = "return document.getElementById('lines').value"
 GET_QUESTION = "return document.getElementById('ask').open ? document.getElementById('ask-title').textContent : ''"
-COUNT_KEPT = "return document.querySelectorAll('#kept li').length"
-UNDO = "#notice button:not(.dismiss)"
+COUNT_SAVED = "return document.querySelectorAll('#kept li').length"
+UNDO_BUTTON = "#notice button:not(.dismiss)"
 
 # A board and a program with comments, names and non-ASCII letters, which are lost unless the page saves the texts themselves.
 BOARD = (TOP / "examples/three_lamps/board.toml").read_text() + "# row 0: WALK\n"
 PROGRAM = "; my own light\nstart:\tFIM P0, 0x00\t; f\u00fcr the first lamp\n\tJUN start"
 
 
-def kept_download(folder, name):
+def wait_for_download(folder, name):
     """Waits until a file that the page saves is complete, and returns its path."""
-    saved = folder / "downloads" / name
-    end = time.monotonic() + 20
+    file = folder / "downloads" / name
+    deadline = time.monotonic() + 20
     # Some browsers first create an empty file.
-    while not (saved.exists() and saved.stat().st_size > 0) and time.monotonic() < end:
+    while not (file.exists() and file.stat().st_size > 0) and time.monotonic() < deadline:
         time.sleep(0.05)
     time.sleep(0.1)
-    return saved
+    return file
 
 
 def rename(browser, name):
@@ -53,99 +53,99 @@ def check_project(browser, folder):
     status_of(browser, "#program-editor", PROGRAM)
     browser.type_into("#watched-field", "count = R5" + ENTER)
     rename(browser, "my light")
-    of_file_menu(browser, "#save-button")
-    saved = kept_download(folder, "my light.mcsp")
-    before = saved.read_bytes()
-    verdict("a project is a text with both texts in it", BOARD in before.decode() and PROGRAM in before.decode(), True)
-    saved.unlink()
-    project = folder / "project.mcsp"
-    project.write_bytes(before)
+    choose_from_file_menu(browser, "#save-button")
+    saved_file = wait_for_download(folder, "my light.mcsp")
+    project_bytes = saved_file.read_bytes()
+    verdict("a project is a text with both texts in it", BOARD in project_bytes.decode() and PROGRAM in project_bytes.decode(), True)
+    saved_file.unlink()
+    copy = folder / "project.mcsp"
+    copy.write_bytes(project_bytes)
     rename(browser, "another one")
     status_of(browser, "#program-editor", "\tNOP\n")
-    browser.type_into("#file", str(project))
+    browser.type_into("#file", str(copy))
     eventually(browser, "a project is opened", GET_NAME, "my light")
     verdict("with its texts", browser.script(GET_TEXTS), [BOARD, PROGRAM])
     verdict("and its values", browser.script(GET_WATCHES), ["count = R5"])
     verdict("Control and S are the page's", browser.script(PRESS_CONTROL_S), True)
-    verdict("and saved again it is the same, to the byte", kept_download(folder, "my light.mcsp").read_bytes() == before, True)
-    return project
+    verdict("and saved again it is the same, to the byte", wait_for_download(folder, "my light.mcsp").read_bytes() == project_bytes, True)
+    return copy
 
 
-def check_damaged(browser, folder, whole):
+def check_damaged(browser, folder, project_bytes):
     """Checks that incomplete, damaged and foreign files are rejected with a message, and that the current session stays."""
-    shown = browser.script(GET_TEXTS)
-    cut = folder / "cut.mcsp"
-    cut.write_bytes(whole[:-700])
-    changed = folder / "changed.mcsp"
-    changed.write_bytes(whole.replace(b"my own", b"my 0wn"))
-    newer = folder / "newer.mcsp"
-    newer.write_bytes(whole.replace(b"project 1", b"project 2"))
-    foreign = folder / "foreign.png"
-    foreign.write_bytes(b"\x89PNG\r\n\x1a\n" + bytes(100))
-    for path, words in ((cut, "cut off: its last line"), (changed, "damaged or was edited"), (newer, "of version 2"),
-                        (foreign, "not a text, a session or a project; supported are projects")):
+    texts_before = browser.script(GET_TEXTS)
+    cut_file = folder / "cut.mcsp"
+    cut_file.write_bytes(project_bytes[:-700])
+    changed_file = folder / "changed.mcsp"
+    changed_file.write_bytes(project_bytes.replace(b"my own", b"my 0wn"))
+    newer_file = folder / "newer.mcsp"
+    newer_file.write_bytes(project_bytes.replace(b"project 1", b"project 2"))
+    foreign_file = folder / "foreign.png"
+    foreign_file.write_bytes(b"\x89PNG\r\n\x1a\n" + bytes(100))
+    for path, reason in ((cut_file, "cut off: its last line"), (changed_file, "damaged or was edited"), (newer_file, "of version 2"),
+                        (foreign_file, "not a text, a session or a project; supported are projects")):
         browser.type_into("#file", str(path))
         eventually(browser, f"{path.name} is refused in words", GET_NOTICE,
-                   re.compile(f"Cannot open {path.name}: .*{words}.*The session shown is unchanged"))
-    plain = folder / "plain"
-    plain.write_text("hello")
-    browser.type_into("#file", str(plain))
+                   re.compile(f"Cannot open {path.name}: .*{reason}.*The session shown is unchanged"))
+    plain_file = folder / "plain"
+    plain_file.write_text("hello")
+    browser.type_into("#file", str(plain_file))
     eventually(browser, "a text with an error in each line is no program unasked", GET_QUESTION, "Replace the source by plain?")
     browser.keys([ESCAPE])
     eventually(browser, "the question is left", GET_QUESTION, "")
-    verdict("and the texts are as they were", browser.script(GET_TEXTS), shown)
+    verdict("and the texts are as they were", browser.script(GET_TEXTS), texts_before)
 
 
 def check_undo(browser):
     """Checks that the page asks before it replaces a text, and that replacing can be undone."""
-    mine, of_rom = "; mine\n\tLDM 5\n\tJUN 0\n", "\tLDM 5\n\tJUN 0x000\n"
-    status_of(browser, "#program-editor", mine)
-    taken = browser.script(GET_TEXTS)
+    own_source, rom_source = "; mine\n\tLDM 5\n\tJUN 0\n", "\tLDM 5\n\tJUN 0x000\n"
+    status_of(browser, "#program-editor", own_source)
+    texts_before = browser.script(GET_TEXTS)
     show_text(browser, "program")
     browser.click("#from-rom")
     eventually(browser, "to replace a source is asked for", GET_QUESTION, "Replace the source?")
     browser.click("#ask .bar button:last-child")
-    verdict("what is refused is not done", browser.script(GET_TEXTS), taken)
+    verdict("what is refused is not done", browser.script(GET_TEXTS), texts_before)
     browser.click("#from-rom")
     browser.until(GET_QUESTION, re.compile("."))
     browser.click("#ask .bar button:first-child")
-    eventually(browser, "the source is that of the ROM", GET_PROGRAM_TEXT, of_rom)
-    browser.click(UNDO)
-    eventually(browser, "and is brought back", GET_PROGRAM_TEXT, mine)
-    browser.click(UNDO)
-    eventually(browser, "the undoing can be undone, too", GET_PROGRAM_TEXT, of_rom)
-    browser.click(UNDO)
-    browser.until(GET_PROGRAM_TEXT, mine)
+    eventually(browser, "the source is that of the ROM", GET_PROGRAM_TEXT, rom_source)
+    browser.click(UNDO_BUTTON)
+    eventually(browser, "and is brought back", GET_PROGRAM_TEXT, own_source)
+    browser.click(UNDO_BUTTON)
+    eventually(browser, "the undoing can be undone, too", GET_PROGRAM_TEXT, rom_source)
+    browser.click(UNDO_BUTTON)
+    browser.until(GET_PROGRAM_TEXT, own_source)
     browser.script("document.querySelector('#program-editor .cm-editor').lineEditor.undo()")
-    verdict("after Undo, as after Ctrl Z, another Ctrl Z undoes what was before", browser.script(GET_PROGRAM_TEXT) in (mine, of_rom), False)
+    verdict("after Undo, as after Ctrl Z, another Ctrl Z undoes what was before", browser.script(GET_PROGRAM_TEXT) in (own_source, rom_source), False)
     browser.script("document.querySelector('#program-editor .cm-editor').lineEditor.undoOrRedo('redo')")
-    browser.until(GET_PROGRAM_TEXT, mine)
+    browser.until(GET_PROGRAM_TEXT, own_source)
     browser.click("#notice .dismiss")
     time.sleep(1)
     browser.reload()
     until_ready(browser)
-    verdict("the texts are kept", browser.script(GET_PROGRAM_TEXT), mine)
+    verdict("the texts are kept", browser.script(GET_PROGRAM_TEXT), own_source)
 
 
-def count_kept(browser):
+def count_saved(browser):
     """Returns the number of sessions in the dialog, and leaves the dialog open."""
     browser.click("#sessions-button")
     browser.until("return document.getElementById('sessions').open", True)
-    return browser.script(COUNT_KEPT)
+    return browser.script(COUNT_SAVED)
 
 
 def check_examples(browser):
     """Checks that an example becomes a saved session only after the user has done something in it."""
-    before = count_kept(browser)
+    count_before = count_saved(browser)
     browser.click("#close-sessions")
     choose_example(browser, "die")
     eventually(browser, "an example has its own address", "return location.hash", "#example=die")
     eventually(browser, "the tab names the session", "return document.title", "die - Fethsaim")
-    verdict("it is not kept yet", count_kept(browser), before)
+    verdict("it is not kept yet", count_saved(browser), count_before)
     browser.click("#close-sessions")
     browser.click("#step")
     eventually(browser, "once something is done it is", "return location.hash", re.compile("^#session="))
-    verdict("and is listed", count_kept(browser), before + 1)
+    verdict("and is listed", count_saved(browser), count_before + 1)
     browser.click("#close-sessions")
     rename(browser, "my die")
     verdict("its name stands in the tab", browser.script("return document.title"), "my die - Fethsaim")
@@ -157,23 +157,23 @@ def check_examples(browser):
     choose_example(browser, "traffic light")
     verdict("but not what was typed", browser.script(GET_LINES), "poke r5 9")
     browser.script("document.getElementById('lines').value = ''")
-    return before + 1
+    return count_before + 1
 
 
-def check_deleting(browser, kept):
+def check_deleting(browser, count):
     """Checks that several sessions can be deleted at once and restored."""
-    verdict("examples alone have made no session", count_kept(browser), kept)
+    verdict("examples alone have made no session", count_saved(browser), count)
     browser.click("#choose-all")
     browser.click("#delete-chosen")
-    eventually(browser, "all are deleted at once", COUNT_KEPT, 0)
+    eventually(browser, "all are deleted at once", COUNT_SAVED, 0)
     verdict("the keyboard goes on in the dialog", browser.script("return document.activeElement.closest('#sessions') !== null"), True)
-    browser.click(UNDO)
-    eventually(browser, "and brought back", COUNT_KEPT, kept)
+    browser.click(UNDO_BUTTON)
+    eventually(browser, "and brought back", COUNT_SAVED, count)
     browser.click("#kept li button[aria-label^='delete']")
-    eventually(browser, "one is deleted", COUNT_KEPT, kept - 1)
+    eventually(browser, "one is deleted", COUNT_SAVED, count - 1)
     browser.click("#notice .dismiss")
     browser.click("#deleted button")
-    eventually(browser, "what was deleted is listed, too", COUNT_KEPT, kept)
+    eventually(browser, "what was deleted is listed, too", COUNT_SAVED, count)
     browser.click("#close-sessions")
 
 
@@ -194,7 +194,7 @@ def check_notices(browser, folder):
     browser.click("#notice .dismiss")
     browser.click("#notice .dismiss")
     eventually(browser, "each can be dismissed", GET_NOTICE, "")
-    lines_answered(browser, "reset\nbreak 0x024")
+    send_lines(browser, "reset\nbreak 0x024")
     browser.click("#run")
     browser.until(GET_STATUS, re.compile("at a breakpoint"))
     browser.click("#reset")
@@ -205,15 +205,15 @@ def check_notices(browser, folder):
 def check_many_notices(browser, folder):
     """Checks that each file causes one notice and that the newest three are visible. They disappear automatically, and the list can show and undo
     them."""
-    words = [f"{number}.asm is in Source. Assemble and run puts it into ROM." for number in range(4)]
+    notices = [f"{number}.asm is in Source. Assemble and run puts it into ROM." for number in range(4)]
     for number in range(4):
         text = folder / f"{number}.asm"
         text.write_text(f" LDM {number}\n")
         browser.type_into("#file", str(text))
         browser.until(GET_PROGRAM_TEXT, f" LDM {number}\n")
-    eventually(browser, "the newest three notices are seen", GET_NOTICE, " ".join(reversed(words[1:])))
+    eventually(browser, "the newest three notices are seen", GET_NOTICE, " ".join(reversed(notices[1:])))
     eventually(browser, "what went well leaves by itself", GET_NOTICE, "", 30)
-    verdict("each notice can be read again", browser.script(GET_ALL_NOTICES)[:4], words[::-1])
+    verdict("each notice can be read again", browser.script(GET_ALL_NOTICES)[:4], notices[::-1])
     browser.click("#notices-button")
     browser.click("#notices li:nth-child(2) button")
     eventually(browser, "and undone in the list", GET_PROGRAM_TEXT, " LDM 1\n")
@@ -245,52 +245,52 @@ def check_link(browser, page):
                " ? document.getElementById('link').value.slice(document.getElementById('link').selectionStart).split('#')[1] : ''", link)
     browser.click("#ask .bar button:last-child")
     choose_example(browser, "die")
-    stored_count = count_kept(browser)
+    stored_count = count_saved(browser)
     open_link(browser, page, link)
     eventually(browser, "a link is shown before it is opened", GET_QUESTION, 'Open "my light" from a link?')
     verdict("with what it holds", browser.text("#ask"), re.compile("Three lamps.*text has 1[0-9] lines, the source 3 lines.*1 ROM, 1 RAM chip, 3 lamps"))
     browser.click("#ask .bar button:last-child")
     eventually(browser, "what is not wanted is not opened", "return location.hash", re.compile("^#(session|example)="))
-    verdict("and nothing is made", count_kept(browser), stored_count)
+    verdict("and nothing is made", count_saved(browser), stored_count)
     open_link(browser, page, link)
     eventually(browser, "it is asked again", GET_QUESTION, re.compile("my light"))
     browser.click("#ask .bar button:first-child")
     eventually(browser, "it becomes a session", GET_NAME, "my light")
     until_ready(browser)
     verdict("with its texts", browser.script(GET_TEXTS), [BOARD, PROGRAM])
-    verdict("which is kept", count_kept(browser), stored_count + 1)
+    verdict("which is kept", count_saved(browser), stored_count + 1)
     browser.click("#close-sessions")
     open_link(browser, page, f"{link}%20")
     eventually(browser, "a blank behind a link is passed over", GET_QUESTION, re.compile("my light"))
     browser.click("#ask .bar button:last-child")
     open_link(browser, page, "lnk=1")
     eventually(browser, "an address that names nothing says so", GET_NOTICE, re.compile("^The address ends with #lnk=1, which names nothing here"))
-    for what, made in (("a cut link", link[:-9]), ("a link that is made by hand", "link=1.aGVsbG8"), ("another one", "link=hello")):
-        before = browser.script(GET_TEXTS)
-        open_link(browser, page, made)
-        eventually(browser, f"{what} is refused in words", GET_NOTICE, re.compile("Cannot open the link: it is cut off or was changed"))
-        verdict("and the bench is as it was", browser.script(GET_TEXTS), before)
+    for description, broken_link in (("a cut link", link[:-9]), ("a link that is made by hand", "link=1.aGVsbG8"), ("another one", "link=hello")):
+        texts_before = browser.script(GET_TEXTS)
+        open_link(browser, page, broken_link)
+        eventually(browser, f"{description} is refused in words", GET_NOTICE, re.compile("Cannot open the link: it is cut off or was changed"))
+        verdict("and the bench is as it was", browser.script(GET_TEXTS), texts_before)
 
 
 def link_of(name, board, program):
     """Returns a link with this name and these texts, as somebody else could write it."""
-    rest = f"name {name}\nwire\n{board}.\nasm\n{program}.\n".encode()
-    total = subprocess.run(["cksum"], input=rest, stdout=subprocess.PIPE, check=True).stdout.split()[0]
-    packer = zlib.compressobj(wbits=-15)
-    packed = packer.compress(total + b"\n" + rest) + packer.flush()
-    return f"link=1.{base64.urlsafe_b64encode(packed).decode().rstrip('=')}"
+    contents = f"name {name}\nwire\n{board}.\nasm\n{program}.\n".encode()
+    checksum = subprocess.run(["cksum"], input=contents, stdout=subprocess.PIPE, check=True).stdout.split()[0]
+    compressor = zlib.compressobj(wbits=-15)
+    compressed = compressor.compress(checksum + b"\n" + contents) + compressor.flush()
+    return f"link=1.{base64.urlsafe_b64encode(compressed).decode().rstrip('=')}"
 
 
 def check_foreign_links(browser, page):
     """Checks links that would hang the page or mislead the user."""
-    names = [f"n{at}" for at in range(12000)]
+    names = [f"n{number}" for number in range(12000)]
     hanging = f"# lamp 0: {' '.join(names)}\n# grid 0: {' '.join(f'-{name}' for name in names)}\n"
-    shown = browser.script(GET_TEXTS)
+    texts_before = browser.script(GET_TEXTS)
     open_link(browser, page, link_of("a clock", hanging, ""))
     eventually(browser, "a link with a text that is too long is refused in words", GET_NOTICE, re.compile(
         rf"^Cannot open the link: the board's text has {len(hanging):,} characters; at most 65,536 are accepted\. Nothing was changed\.$"))
-    verdict("and the bench is as it was", browser.script(GET_TEXTS), shown)
-    board = f"# title: {'long words ' * 20}\n# lamp 0: {' '.join(names[:400])}\n# grid 0: {' '.join(f'-{at}' for at in range(600))}\n"
+    verdict("and the bench is as it was", browser.script(GET_TEXTS), texts_before)
+    board = f"# title: {'long words ' * 20}\n# lamp 0: {' '.join(names[:400])}\n# grid 0: {' '.join(f'-{number}' for number in range(600))}\n"
     open_link(browser, page, link_of("\u202etxe\u2066\t" + "name " * 900, board, ""))
     eventually(browser, "a long name is cut, and no letter turns it round", GET_QUESTION, f'Open "txe {"name " * 10}name…" from a link?')
     verdict("and so is the title", browser.text("#ask"), re.compile("link\\?(long words ){5}long…The board's text has 3 lines"))
@@ -311,35 +311,35 @@ data.items.add(new File([arguments[0]], "dropped.mcsp"));
 document.body.dispatchEvent(new DragEvent("drop", { dataTransfer: data, bubbles: true, cancelable: true }))""", project.decode())
     eventually(browser, "a project that is dropped is opened", GET_TEXTS, [BOARD, PROGRAM])
     # A script cannot drop a folder, but dropping its files has the same effect.
-    drop = """
+    drop_files = """
 const data = new DataTransfer();
 for (const [name, text] of arguments[0]) data.items.add(new File([text], name));
 document.body.dispatchEvent(new DragEvent("drop", { dataTransfer: data, bubbles: true, cancelable: true }))"""
     names = 'board = "own.toml"\nprogram = "own.asm"\nspeed = "tenth"\n'
     files = [["own.toml", BOARD], ["own.asm", "; my own\n" + PROGRAM], ["mcs4.toml", names]]
-    browser.script(drop, files)
+    browser.script(drop_files, files)
     eventually(browser, "the files of a project are opened by its mcs4.toml", GET_TEXTS, [BOARD, "; my own\n" + PROGRAM])
     eventually(browser, "at the speed that it names", "return document.getElementById('speed').value", "tenth")
-    browser.script(drop, [*files[:2], ["mcs4.toml", names + "lamps = 1\n"]])
+    browser.script(drop_files, [*files[:2], ["mcs4.toml", names + "lamps = 1\n"]])
     eventually(browser, "what is wrong in it is reported with its line", GET_NOTICE, re.compile(
         r"^Cannot open the folder: mcs4\.toml: line 4: a project has no key lamps; .*The session shown is unchanged"))
-    browser.script(drop, files[2:])
+    browser.script(drop_files, files[2:])
     eventually(browser, "alone it is refused", GET_NOTICE, re.compile(r"^Cannot open mcs4\.toml: it names files of a project: drop its folder"))
     browser.script("document.getElementById('speed').value = 'real'; document.getElementById('speed').dispatchEvent(new Event('change'))")
 
 
-def saved_as(browser, folder, ending):
+def export_file(browser, folder, suffix):
     """Returns the contents of a file that the Export dialog saves."""
-    of_file_menu(browser, "#export-button")
-    number = [".asm", ".toml", ".hex", ".bin"].index(ending) + 1
+    choose_from_file_menu(browser, "#export-button")
+    number = [".asm", ".toml", ".hex", ".bin"].index(suffix) + 1
     browser.click(f"#export li:nth-child({number}) button")
-    saved = kept_download(folder, f"my light{ending}")
-    found = saved.read_bytes()
-    saved.unlink()
-    return found
+    file = wait_for_download(folder, f"my light{suffix}")
+    contents = file.read_bytes()
+    file.unlink()
+    return contents
 
 
-def asked_of_bench(mcs4, session, lines):
+def answers_in_copy(mcs4, session, lines):
     """Returns the program's answers to lines in a copy of a session."""
     copy = session.with_suffix(".copy.mcs")
     copy.write_bytes(session.read_bytes())
@@ -352,9 +352,9 @@ def check_files(browser, folder, mcs4):
     for name in ("board.toml", "three_lamps.asm"):
         browser.type_into("#file", str(example / name))
         eventually(browser, f"{name} is opened", GET_NOTICE, re.compile(f"^{name} is in (Board|Source)"))
-    prose = folder / "notes"
-    prose.write_text("hello there\nthis is no program\n")
-    browser.type_into("#file", str(prose))
+    prose_file = folder / "notes"
+    prose_file.write_text("hello there\nthis is no program\n")
+    browser.type_into("#file", str(prose_file))
     eventually(browser, "a text with an error in each line is asked for", GET_QUESTION, "Replace the source by notes?")
     browser.click("#ask .bar button:last-child")
     eventually(browser, "their texts are in the editors", GET_TEXTS, [(example / "board.toml").read_text(), (example / "three_lamps.asm").read_text()])
@@ -365,27 +365,27 @@ def check_files(browser, folder, mcs4):
     browser.click("#assemble-only")
     browser.until("return document.querySelector('#program-editor .status-text').textContent", re.compile("ssembled"))
     rename(browser, "my light")
-    verdict("the source is exported", saved_as(browser, folder, ".asm"), (example / "three_lamps.asm").read_bytes())
-    verdict("and the board", saved_as(browser, folder, ".toml"), (example / "board.toml").read_bytes())
-    image = saved_as(browser, folder, ".bin")
-    of_file_menu(browser, "#save-session-button")
-    session = kept_download(folder, "my light.mcs")
+    verdict("the source is exported", export_file(browser, folder, ".asm"), (example / "three_lamps.asm").read_bytes())
+    verdict("and the board", export_file(browser, folder, ".toml"), (example / "board.toml").read_bytes())
+    image = export_file(browser, folder, ".bin")
+    choose_from_file_menu(browser, "#save-session-button")
+    session = wait_for_download(folder, "my light.mcs")
     rom, size = [TOP / "mcs4", "rom"], str(len(image))
     questions = subprocess.run([*rom, "ask", "0", size], stdout=subprocess.PIPE, check=True, text=True).stdout
-    answers = asked_of_bench(mcs4, session, questions)
-    for words, ending, expected in ((["save"], ".bin", image), (["save", "--hex"], ".hex", None)):
-        expected_file = subprocess.run([*rom, *words, "0", size], input=answers.encode(), stdout=subprocess.PIPE, check=True).stdout
-        verdict(f"ROM is exported as {ending} as mcs4 rom has it", expected or saved_as(browser, folder, ending), expected_file)
+    answers = answers_in_copy(mcs4, session, questions)
+    for arguments, suffix, expected in ((["save"], ".bin", image), (["save", "--hex"], ".hex", None)):
+        expected_file = subprocess.run([*rom, *arguments, "0", size], input=answers.encode(), stdout=subprocess.PIPE, check=True).stdout
+        verdict(f"ROM is exported as {suffix} as mcs4 rom has it", expected or export_file(browser, folder, suffix), expected_file)
     check_image(browser, folder, image)
 
 
 def check_image(browser, folder, image):
     """Checks that an image is loaded into ROM, and that an image with bytes outside the board's ROM chips is rejected."""
-    other = folder / "other.bin"
-    other.write_bytes(bytes(byte ^ 0x80 if at < 4 else byte for at, byte in enumerate(image)))
-    browser.type_into("#file", str(other))
+    changed_image = folder / "other.bin"
+    changed_image.write_bytes(bytes(byte ^ 0x80 if index < 4 else byte for index, byte in enumerate(image)))
+    browser.type_into("#file", str(changed_image))
     eventually(browser, "an image is opened", GET_NOTICE, re.compile(f"^{len(image):,} bytes of other.bin are in ROM, from 000; nothing was reset\\."))
-    verdict("it stands in ROM", saved_as(browser, folder, ".bin"), other.read_bytes())
+    verdict("it stands in ROM", export_file(browser, folder, ".bin"), changed_image.read_bytes())
     large = folder / "large.hex"
     large.write_text(":010F0000D11F\n:00000001FF\n")
     browser.type_into("#file", str(large))
@@ -396,16 +396,16 @@ def check_image(browser, folder, image):
 def check_tool(folder, project):
     """Checks that `mcs4 project` splits a project of the page and joins it again to the same bytes."""
     tool = [TOP / "mcs4", "project"]
-    parts, again = folder / "parts", folder / "again.mcsp"
-    subprocess.run([*tool, "split", project, parts], check=True)
-    verdict("the tool finds the board's text", (parts / "board.toml").read_text(), BOARD)
-    verdict("and the source", (parts / "program.asm").read_text(), PROGRAM)
-    subprocess.run([*tool, "join", parts, again], check=True)
-    verdict("and puts the project together to the byte", again.read_bytes() == project.read_bytes(), True)
+    parts_folder, joined_file = folder / "parts", folder / "again.mcsp"
+    subprocess.run([*tool, "split", project, parts_folder], check=True)
+    verdict("the tool finds the board's text", (parts_folder / "board.toml").read_text(), BOARD)
+    verdict("and the source", (parts_folder / "program.asm").read_text(), PROGRAM)
+    subprocess.run([*tool, "join", parts_folder, joined_file], check=True)
+    verdict("and puts the project together to the byte", joined_file.read_bytes() == project.read_bytes(), True)
 
 
 def check_texts(browser, page, folder, mcs4):
-    open_anew(browser, page)
+    reopen_page(browser, page)
     stop_time(browser)
     project = check_project(browser, folder)
     check_damaged(browser, folder, project.read_bytes())

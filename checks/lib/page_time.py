@@ -6,7 +6,7 @@ import pathlib
 import re
 import subprocess
 
-from page_in_browser import GET_DIGITS, GET_RATE, GET_STATUS, SET_SPEED, STEPPED, choose_example, key, lines_answered, stop_time, until_ready
+from page_in_browser import GET_DIGITS, GET_RATE, GET_STATUS, SET_SPEED, STEPPED, choose_example, key, send_lines, stop_time, until_ready
 from verdicts import eventually, verdict
 
 TOP = pathlib.Path(__file__).resolve().parent.parent.parent
@@ -20,15 +20,15 @@ field.dispatchEvent(new Event("input"))"""
 PRESS_KEY = """
 document.body.dispatchEvent(new KeyboardEvent("keydown", { key: arguments[0], shiftKey: arguments[1], bubbles: true, cancelable: true }))"""
 # Reads the bytes of the saved session into `keptFile`.
-READ_KEPT_FILE = """
+READ_SAVED_FILE = """
 window.keptFile = "";
 const id = location.hash.slice("#session=".length);
 indexedDB.open("fethsaim", 1).onsuccess = (opened) => {
   const request = opened.target.result.transaction("sessions").objectStore("sessions").get(id);
   request.onsuccess = () => { window.keptFile = request.result.file.join(" "); };
 }"""
-GET_KEPT_FILE = "return window.keptFile"
-ALL = "seq\nstate\nram 0\nbreaks\nwatches"
+GET_SAVED_FILE = "return window.keptFile"
+ALL_QUERIES = "seq\nstate\nram 0\nbreaks\nwatches"
 
 
 class Program:
@@ -37,11 +37,11 @@ class Program:
     def __init__(self, folder, mcs4):
         self.folder = folder
         self.mcs4 = mcs4
-        self.env = dict(os.environ, MCS4=str(mcs4))
+        self.environment = dict(os.environ, MCS4=str(mcs4))
 
-    def tool(self, name, *words, lines=""):
-        tool = [TOP / "mcs4", name, *map(str, words)]
-        return subprocess.run(tool, input=lines, stdout=subprocess.PIPE, text=True, check=True, env=self.env).stdout
+    def tool(self, name, *arguments, lines=""):
+        tool = [TOP / "mcs4", name, *map(str, arguments)]
+        return subprocess.run(tool, input=lines, stdout=subprocess.PIPE, text=True, check=True, env=self.environment).stdout
 
     def session(self, name, lines):
         """Creates a new session and serves lines in it. Returns its file and the answers."""
@@ -62,21 +62,21 @@ def texts_of(name):
 
 
 def first_call(program, name):
-    """Finds the first JMS that an example executes. Returns the cycles before it, the cycles of its subroutine, the JMS's address, and the address
-    after it."""
+    """Finds the first JMS that an example executes. Returns the cycles before the JMS, the cycles until its subroutine returns, its address, and its
+    return address."""
     file, _ = program.session(name, texts_of(name))
     lines = [line for line in program.tool("trace", file, 3000).splitlines() if re.match(r" *\d+  [0-9A-F]{3} ", line)]
-    at = next(at for at, line in enumerate(lines) if " JMS " in line)
-    cycles, address = lines[at].split()[:2]
-    behind = f"{int(address, 16) + 2:03X}"
-    end = next(line for line in lines[at + 1:] if line.split()[1] == behind)
-    return int(cycles), int(end.split()[0]) - int(cycles), address, behind
+    index = next(index for index, line in enumerate(lines) if " JMS " in line)
+    cycles, address = lines[index].split()[:2]
+    return_address = f"{int(address, 16) + 2:03X}"
+    return_line = next(line for line in lines[index + 1:] if line.split()[1] == return_address)
+    return int(cycles), int(return_line.split()[0]) - int(cycles), address, return_address
 
 
-def counted(cycles):
+def cycles_text(cycles):
     """Returns a number of cycles and its time in the page's format, with 10.8 microseconds per cycle."""
-    time = cycles * 10.8 / 1000
-    return f"{cycles:,} cycles, " + (f"{time:.3f} ms" if time < 1000 else f"{time / 1000:.3f} s")
+    milliseconds = cycles * 10.8 / 1000
+    return f"{cycles:,} cycles, " + (f"{milliseconds:.3f} ms" if milliseconds < 1000 else f"{milliseconds / 1000:.3f} s")
 
 
 def pause_time(browser):
@@ -90,36 +90,36 @@ def open_paused_example(browser, name):
     choose_example(browser, name)
     browser.until("return document.getElementById('run').textContent", "Pause", 3)
     pause_time(browser)
-    lines_answered(browser, "reset")
+    send_lines(browser, "reset")
     browser.until(GET_CYCLES_SINCE_RESET, "0 cycles, 0.000 ms")
 
 
-def state(browser):
+def query_state(browser):
     """Returns the answers to all queries. If time was running, an entry about runs can precede them in the log."""
-    answers = lines_answered(browser, ALL)
+    answers = send_lines(browser, ALL_QUERIES)
     return answers[answers.index("seqseq"):]
 
 
-def check_over(browser, program, name, example):
+def check_step_over(browser, program, name, example):
     """Checks stepping over a JMS, into it, out of its subroutine, and to the next line. The cycles must match the trace. No breakpoint may remain."""
-    before, over, address, behind = first_call(program, example)
+    cycles_before, call_cycles, address, return_address = first_call(program, example)
     open_paused_example(browser, name)
-    lines_answered(browser, f"run {before}")
+    send_lines(browser, f"run {cycles_before}")
     browser.click("#over")
-    eventually(browser, f"{name}: Over comes back behind the JMS at {address}", GET_STATUS, f"Returned to {behind}, after {counted(over)}.")
-    verdict("the counter has the cycles since the stop", browser.script(GET_CYCLES_SINCE_STOP), counted(over))
-    verdict("and those since the reset", browser.script(GET_CYCLES_SINCE_RESET), counted(before + over))
-    verdict("no breakpoint and no watch stays", state(browser)[-len("breaksbreaks -watcheswatches -"):], "breaksbreaks -watcheswatches -")
-    for what, again in {"by F10": lambda: browser.script(PRESS_KEY, "F10", False),
-                        "into it by F11, and out by Shift and F11": lambda: into_and_out(browser)}.items():
+    eventually(browser, f"{name}: Over comes back behind the JMS at {address}", GET_STATUS, f"Returned to {return_address}, after {cycles_text(call_cycles)}.")
+    verdict("the counter has the cycles since the stop", browser.script(GET_CYCLES_SINCE_STOP), cycles_text(call_cycles))
+    verdict("and those since the reset", browser.script(GET_CYCLES_SINCE_RESET), cycles_text(cycles_before + call_cycles))
+    verdict("no breakpoint and no watch stays", query_state(browser)[-len("breaksbreaks -watcheswatches -"):], "breaksbreaks -watcheswatches -")
+    for action, repeat_step in {"by F10": lambda: browser.script(PRESS_KEY, "F10", False),
+                        "into it by F11, and out by Shift and F11": lambda: step_into_and_out(browser)}.items():
         browser.click("#back-stop")
         eventually(browser, f"{name}: back to the stop before", GET_STATUS, re.compile(f"^Back at the stop at {address}"))
-        again()
-        eventually(browser, f"{name}: the same {what}", GET_STATUS, re.compile(f"^Returned to {behind}, after "))
-        verdict("after as many cycles", browser.script(GET_CYCLES_SINCE_RESET), counted(before + over))
+        repeat_step()
+        eventually(browser, f"{name}: the same {action}", GET_STATUS, re.compile(f"^Returned to {return_address}, after "))
+        verdict("after as many cycles", browser.script(GET_CYCLES_SINCE_RESET), cycles_text(cycles_before + call_cycles))
 
 
-def into_and_out(browser):
+def step_into_and_out(browser):
     browser.script(PRESS_KEY, "F11", False)
     browser.until(GET_STATUS, STEPPED)
     browser.script(PRESS_KEY, "F11", True)
@@ -146,31 +146,31 @@ const editor = document.querySelector("#program-editor .cm-editor").lineEditor;
 editor.setCursor({ line: editor.getValue().split("\\n").findIndex((line) => line.startsWith("turn:")), ch: 0 });
 editor.getInputField().dispatchEvent(new KeyboardEvent("keydown", { key: "F10", ctrlKey: true, bubbles: true, cancelable: true }))""")
     eventually(browser, "Control and F10 in the source run to the label turn", GET_STATUS, re.compile("^Paused at 016, as requested, after 11 cycles, "))
-    lines_answered(browser, "reset")
+    send_lines(browser, "reset")
     browser.script(CHANGE_FIELD, "#change-place", "right")
     browser.click("#until-change")
     eventually(browser, "to a change of a lamp by its name", GET_STATUS, "Paused at 007, after lamp 2 changed, after 7 cycles, 0.076 ms.")
 
 
-def check_many(browser, program):
+def check_many_steps(browser, program):
     """Checks that a step of several instructions takes the number of cycles that the trace shows."""
     file, _ = program.session("many", texts_of("three_lamps"))
     lines = [line for line in program.tool("trace", file, 400).splitlines() if re.match(r" *\d+  [0-9A-F]{3} ", line)]
     open_paused_example(browser, "three lamps")
     browser.script(CHANGE_FIELD, "#step-count", "50")
     browser.click("#step-many")
-    eventually(browser, "50 instructions", GET_STATUS, f"50 instructions were done, after {counted(int(lines[50].split()[0]))}.")
+    eventually(browser, "50 instructions", GET_STATUS, f"50 instructions were done, after {cycles_text(int(lines[50].split()[0]))}.")
     browser.script(CHANGE_FIELD, "#step-count", "many")
     browser.click("#step-many")
     eventually(browser, "what is no number is refused in words", GET_STATUS, re.compile("^Nothing was done: give a number"))
 
 
-def check_far(browser):
-    """Checks a step over a delay of 24 seconds, whose cycles are computed here, and a step back before it. Checks that a search for a change that
-    never happens ends."""
+def check_delay(browser):
+    """Checks a step over a delay of 24 seconds, whose cycles are computed here, and going back to changes within the delay. Checks that a search for
+    a change of a port that the board lacks is rejected."""
     choose_example(browser, "empty bench")
-    loops = "".join(f"ISZ R{each}, loop\n" for each in range(5))
-    lines_answered(browser, "wire\n[[rom]]\nchip = 0\nport = \"0000\"\n.\nasm\nJMS wait\nend: JUN end\n"
+    loops = "".join(f"ISZ R{register}, loop\n" for register in range(5))
+    send_lines(browser, "wire\n[[rom]]\nchip = 0\nport = \"0000\"\n.\nasm\nJMS wait\nend: JUN end\n"
                    f"wait: FIM P0, 0\nFIM P1, 0\nFIM P2, 0\nloop: {loops}BBL 0\n.")
     # An ISZ takes two cycles, and each loop runs 16 times.
     cycles = 0
@@ -178,7 +178,7 @@ def check_far(browser):
         cycles = 16 * (cycles + 2)
     browser.script(SET_SPEED, "full")
     browser.click("#over")
-    eventually(browser, "Over a delay", GET_STATUS, f"Returned to 002, after {counted(cycles + 9)}.", 60)
+    eventually(browser, "Over a delay", GET_STATUS, f"Returned to 002, after {cycles_text(cycles + 9)}.", 60)
     browser.script(SET_SPEED, "real")
     browser.script(CHANGE_FIELD, "#change-place", "r2")
     browser.click("#back-change")
@@ -194,7 +194,7 @@ def check_far(browser):
 def check_stopwatch(browser):
     """Checks that a hundredth of a second of the stopwatch is 926 cycles, measured between two markers."""
     open_paused_example(browser, "stopwatch")
-    lines_answered(browser, "test 0")
+    send_lines(browser, "test 0")
     browser.script(CHANGE_FIELD, "#change-place", "lamps")
     for _ in range(2):
         browser.script("document.getElementById('status').firstChild.data = ''")
@@ -202,13 +202,13 @@ def check_stopwatch(browser):
         browser.until(GET_STATUS, re.compile("after lamps changed, after"))
         browser.click("#mark")
     verdict("from one hundredth to the next", browser.script(GET_MARKED), re.compile(r"Between the marks 926 cycles, 10\.001 ms$"))
-    lamps = lines_answered(browser, "lamps")
+    lamps = send_lines(browser, "lamps")
     browser.click("#back-change")
     eventually(browser, "back to the change of the lamps", GET_STATUS, re.compile("^Back at ..., 1 cycle, 0.011 ms earlier: this instruction changes lamps"))
-    verdict("it is not done yet", lines_answered(browser, "lamps") != lamps, True)
+    verdict("it is not done yet", send_lines(browser, "lamps") != lamps, True)
     browser.click("#step")
     browser.until(GET_STATUS, STEPPED)
-    verdict("and it does it", lines_answered(browser, "lamps"), lamps)
+    verdict("and it does it", send_lines(browser, "lamps"), lamps)
     browser.script(CHANGE_FIELD, "#change-place", "chain2.0")
     browser.click("#until-change")
     eventually(browser, "a line that the board lacks", GET_STATUS, "Nothing was done: this board has no chain2.0.")
@@ -217,57 +217,57 @@ def check_stopwatch(browser):
     eventually(browser, "a name that is none", GET_STATUS, "Nothing was done: r99: no such place; the registers are r0 to r15 (column 1).")
 
 
-def check_back(browser):
+def check_going_back(browser):
     """Checks going back and forward past key presses. Afterwards, the answers and the file must be the same as before."""
     open_paused_example(browser, "calculator")
     browser.click("#run")
     for legend in "12":
-        browser.fingers([key(legend)], 60)
+        browser.touch_together([key(legend)], 60)
     browser.until(GET_DIGITS, "12")
     pause_time(browser)
-    there = state(browser)
-    browser.script(READ_KEPT_FILE)
-    file = browser.until(GET_KEPT_FILE, re.compile("."))
+    state_before = query_state(browser)
+    browser.script(READ_SAVED_FILE)
+    file = browser.until(GET_SAVED_FILE, re.compile("."))
     browser.click("#back-stop")
     eventually(browser, "back before Run", GET_STATUS, re.compile("^Back at the stop at 000, [0-9,]+ cycles"))
     verdict("the display is that of then", browser.script(GET_DIGITS), "0")
     browser.click("#forward")
     eventually(browser, "forward again", GET_STATUS, re.compile("^Forward again to ..., [0-9,]+ cycles"))
-    browser.script(READ_KEPT_FILE)
-    verdict("the bytes that are kept are the same", browser.until(GET_KEPT_FILE, re.compile(".")) == file, True)
-    verdict("and so are the answers", state(browser), there)
+    browser.script(READ_SAVED_FILE)
+    verdict("the bytes that are kept are the same", browser.until(GET_SAVED_FILE, re.compile(".")) == file, True)
+    verdict("and so are the answers", query_state(browser), state_before)
     for _ in range(3):
         browser.script("document.getElementById('status').firstChild.data = ''")
         browser.click("#back-instruction")
         browser.until(GET_STATUS, re.compile("^Back at ..., [12] cycles?, .* earlier: this instruction has not run yet.$"))
-    verdict("three instructions back it is another moment", state(browser) != there, True)
+    verdict("three instructions back it is another moment", query_state(browser) != state_before, True)
     verdict("Forward is possible", browser.script("return document.getElementById('forward').disabled"), False)
     for _ in range(3):
         browser.click("#forward")
     eventually(browser, "forward as often, and no further", "return document.getElementById('forward').disabled", True)
-    verdict("leads to the same again", state(browser), there)
+    verdict("leads to the same again", query_state(browser), state_before)
     browser.click("#back-stop")
     browser.until("return document.getElementById('forward').disabled", False)
-    lines_answered(browser, "poke r5 9")
+    send_lines(browser, "poke r5 9")
     eventually(browser, "once something else is done, there is no forward", "return document.getElementById('forward').disabled", True)
     browser.reload()
     until_ready(browser)
-    verdict("the present is what is kept", re.search("r [0-9A-F]{5}9", lines_answered(browser, "regs")) is not None, True)
+    verdict("the present is what is kept", re.search("r [0-9A-F]{5}9", send_lines(browser, "regs")) is not None, True)
     browser.click("#back-stop")
     eventually(browser, "a page that was loaded anew goes back through the reload", GET_STATUS, re.compile("^Back at the stop at 000"))
-    verdict("to what was then", re.search("r [0-9A-F]{5}9", lines_answered(browser, "regs")), None)
+    verdict("to what was then", re.search("r [0-9A-F]{5}9", send_lines(browser, "regs")), None)
 
 
-def check_never(browser):
+def check_unreachable_goal(browser):
     """Checks that Stop, F8 and a reload end a run to an unreachable goal, and that the session then contains only the runs."""
     choose_example(browser, "empty bench")
-    lines_answered(browser, 'wire\n[[rom]]\nchip = 0\nport = "0000"\n.\nasm\nJMS round\nround: JUN round\n.\nstep')
-    for what, stop in {"F8": lambda: browser.script(PRESS_KEY, "F8", False), "Stop": lambda: browser.click("#run")}.items():
+    send_lines(browser, 'wire\n[[rom]]\nchip = 0\nport = "0000"\n.\nasm\nJMS round\nround: JUN round\n.\nstep')
+    for action, stop in {"F8": lambda: browser.script(PRESS_KEY, "F8", False), "Stop": lambda: browser.click("#run")}.items():
         browser.click("#out")
-        eventually(browser, f"what never comes is time that runs, before {what}", GET_STATUS, "Running to the return from the subroutine.")
+        eventually(browser, f"what never comes is time that runs, before {action}", GET_STATUS, "Running to the return from the subroutine.")
         browser.until(GET_RATE, re.compile("^[0-9,]+ cycles"))
         stop()
-        eventually(browser, f"{what} ends it", GET_STATUS,
+        eventually(browser, f"{action} ends it", GET_STATUS,
                    re.compile("^Paused at 002, after [0-9,]+ cycles, .*; the return from the subroutine was not reached.$"))
     browser.click("#out")
     browser.until(GET_STATUS, re.compile("^Running to"))
@@ -278,11 +278,11 @@ def check_never(browser):
     browser.click("#back-stop")
     # The number of cycles before the last save depends on the browser.
     eventually(browser, "and nothing is lost", GET_STATUS, re.compile("^Back at the stop at 002"))
-    verdict("no breakpoint and no watch is left", state(browser)[-len("breaksbreaks -watcheswatches -"):], "breaksbreaks -watcheswatches -")
+    verdict("no breakpoint and no watch is left", query_state(browser)[-len("breaksbreaks -watcheswatches -"):], "breaksbreaks -watcheswatches -")
 
 
 # A program with a subroutine that waits for the second key of the first board.
-WAITS = """asm
+WAITING_PROGRAM = """asm
 FIM P0, 0
 SRC P0
 LDM 2
@@ -300,27 +300,27 @@ BBL 6
 ."""
 
 
-def check_waiting(browser):
+def check_wait_for_key(browser):
     """Checks a step over a subroutine that waits for a key: time runs until the key is pressed. Outside a subroutine, Step out reports that no call
     is open."""
     choose_example(browser, "empty bench")
     browser.click("#first-board")
     browser.until("return document.querySelectorAll('#keys button').length", 2)
-    lines_answered(browser, f"{WAITS}\nrun 8")
+    send_lines(browser, f"{WAITING_PROGRAM}\nrun 8")
     browser.script(PRESS_KEY, "F10", False)
     eventually(browser, "Over a subroutine that waits for a key is time that runs", GET_STATUS, "Running to the return from the subroutine.")
     browser.until(GET_RATE, re.compile("^9[0-4],"))
-    browser.fingers([key("right")], 60)
+    browser.touch_together([key("right")], 60)
     eventually(browser, "it returns once the key is pressed", GET_STATUS, re.compile("^Returned to 00A, after [0-9,]+ cycles, "))
-    verdict("no breakpoint and no watch stays", state(browser)[-len("breaksbreaks -watcheswatches -"):], "breaksbreaks -watcheswatches -")
+    verdict("no breakpoint and no watch stays", query_state(browser)[-len("breaksbreaks -watcheswatches -"):], "breaksbreaks -watcheswatches -")
     browser.script(PRESS_KEY, "F10", False)
     eventually(browser, "Over a plain instruction says where it is", GET_STATUS, "At 00B, after 1 cycle, 0.011 ms.")
     browser.script(PRESS_KEY, "F10", False)
     eventually(browser, "and so at one that jumps to itself", GET_STATUS, "At 00B, after 2 cycles, 0.022 ms.")
-    verdict("the lamps have what it gave", lines_answered(browser, "lamps"), re.compile(r"lamps \.\*\*\."))
+    verdict("the lamps have what it gave", send_lines(browser, "lamps"), re.compile(r"lamps \.\*\*\."))
 
 
-def check_slow(browser):
+def check_slow_motion(browser):
     """Checks slow motion, and that the page follows the running line."""
     open_paused_example(browser, "three lamps")
     verdict("the speeds", browser.script("return [...document.getElementById('speed').options].map((each) => each.textContent).join(', ')"),
@@ -337,7 +337,7 @@ def check_slow(browser):
     browser.click("#run")
     browser.until(GET_CYCLES_SINCE_STOP, re.compile("^[3-9] cycles"))
     pause_time(browser)
-    verdict("an instruction a second ends between instructions", re.search("owed 0", lines_answered(browser, "regs")) is not None, True)
+    verdict("an instruction a second ends between instructions", re.search("owed 0", send_lines(browser, "regs")) is not None, True)
     browser.script(SET_SPEED, "real")
     browser.click("#run")
     eventually(browser, "and real time is held again", GET_RATE, re.compile("^9[0-4]...$"))
@@ -348,14 +348,14 @@ def check(browser, page, folder, mcs4):
     program = Program(folder, mcs4)
     browser.go(page.as_uri())
     until_ready(browser)
-    check_over(browser, program, "three lamps", "three_lamps")
-    check_over(browser, program, "calculator", "calculator")
+    check_step_over(browser, program, "three lamps", "three_lamps")
+    check_step_over(browser, program, "calculator", "calculator")
     check_run_to(browser)
     check_run_to_source(browser)
-    check_many(browser, program)
+    check_many_steps(browser, program)
     check_stopwatch(browser)
-    check_far(browser)
-    check_back(browser)
-    check_never(browser)
-    check_waiting(browser)
-    check_slow(browser)
+    check_delay(browser)
+    check_going_back(browser)
+    check_unreachable_goal(browser)
+    check_wait_for_key(browser)
+    check_slow_motion(browser)

@@ -4,7 +4,7 @@ If the mistake's check box is on, time pauses before the mistake, and can contin
 import re
 import time
 
-from page_in_browser import GET_STATUS, choose_example, open_anew, show_text, status_of, stop_time, until_ready
+from page_in_browser import GET_STATUS, choose_example, reopen_page, show_text, status_of, stop_time, until_ready
 from verdicts import eventually, verdict
 
 GET_ROWS = "return [...document.querySelectorAll('#usual-list li .words')].map((each) => each.textContent)"
@@ -19,11 +19,11 @@ PROGRAM = """keys:   FIM P0, 0x10
         WRR
         JUN keys
 """
-WRITE = "WRR writes to ROM 1, whose port has no output line; the last SRC is at 002"
+MISTAKE = "WRR writes to ROM 1, whose port has no output line; the last SRC is at 002"
 
 
 def check(browser, page, _folder, _mcs4):
-    open_anew(browser, page)
+    reopen_page(browser, page)
     choose_example(browser, "calculator")
     show_text(browser, "problems")
     time.sleep(1)
@@ -31,14 +31,14 @@ def check(browser, page, _folder, _mcs4):
     choose_example(browser, "empty bench")
     status_of(browser, "#board-editor", BOARD)
     status_of(browser, "#program-editor", PROGRAM)
-    eventually(browser, "a fault is reported with its line", GET_ROWS, [f"004 (keys + 4, line 4) {WRITE}"])
+    eventually(browser, "a fault is reported with its line", GET_ROWS, [f"004 (keys + 4, line 4) {MISTAKE}"])
     verdict("the tab counts it", browser.text("#problems-tab .mark"), "1")
     verdict("while time goes on", browser.script(GET_STATUS), re.compile("^Running"))
     browser.click("#usual-list input")
     stop_time(browser)
     browser.click("#run")
     eventually(browser, "with its switch time stops before it", GET_STATUS, "Paused at 004, before a mistake that is reported.")
-    verdict("and it is reported again", browser.script(GET_ROWS), [f"004 (keys + 4, line 4) {WRITE}"])
+    verdict("and it is reported again", browser.script(GET_ROWS), [f"004 (keys + 4, line 4) {MISTAKE}"])
     browser.click("#run")
     eventually(browser, "it goes on with it, up to the next time", GET_STATUS, re.compile("^Paused at 004"))
     browser.reload()
@@ -48,7 +48,7 @@ def check(browser, page, _folder, _mcs4):
     browser.click("#usual-list input")
     browser.click("#run")
     eventually(browser, "and switched off again", GET_STATUS, re.compile("^Running"))
-    eventually(browser, "it is reported once a run", GET_ROWS, [f"004 (keys + 4, line 4) {WRITE}"])
+    eventually(browser, "it is reported once a run", GET_ROWS, [f"004 (keys + 4, line 4) {MISTAKE}"])
     time.sleep(0.5)
     verdict("and no more", len(browser.script(GET_ROWS)), 1)
     browser.click("#run")

@@ -3,7 +3,7 @@ page remembers the layout, and can reset it."""
 
 import re
 
-from page_in_browser import ENTER, ESCAPE, GET_STATUS, choose_example, open_anew, show_text, stop_time, until_ready
+from page_in_browser import ENTER, ESCAPE, GET_STATUS, choose_example, reopen_page, show_text, stop_time, until_ready
 from verdicts import eventually, verdict
 
 HOME, UP, RIGHT, LEFT, F1 = "\ue011", "\ue013", "\ue014", "\ue012", "\ue031"
@@ -14,64 +14,64 @@ GET_TESTS = "return document.querySelector('#tests-editor .cm-editor').lineEdito
 MEASURE_PANEL = """
 const { width, height } = document.getElementById(arguments[0]).getBoundingClientRect();
 return Math.round(arguments[1] === "vertical" ? width : height)"""
-GET_MIDDLE = """
+GET_CENTRE = """
 const box = document.getElementById(arguments[0]).getBoundingClientRect();
 return [Math.round(box.x + box.width / 2), Math.round(box.y + box.height / 2)]"""
-GET_SHOWN = "return arguments[0].filter((id) => isShown(document.getElementById(id)))"
+FIND_SHOWN = "return arguments[0].filter((id) => isShown(document.getElementById(id)))"
 PANELS = ["front", "texts", "dock", "processor", "calls", "watched", "breakpoints", "memory", "ports", "history"]
 # Each splitter with the panel that it resizes, its direction, and the pointer movement that enlarges the panel.
-BORDERS = (("front-splitter", "front", "vertical", (40, 0)), ("side-splitter", "side", "vertical", (-40, 0)),
+SPLITTERS = (("front-splitter", "front", "vertical", (40, 0)), ("side-splitter", "side", "vertical", (-40, 0)),
            ("dock-splitter", "dock", "horizontal", (0, -40)), ("calls-splitter", "calls", "horizontal", (0, 40)))
 
 
-def drag_by(browser, border, move, kind):
-    x, y = browser.script(GET_MIDDLE, border)
-    steps = [{"type": "pointerMove", "duration": 20, "x": x + move[0] * part // 4, "y": y + move[1] * part // 4} for part in range(1, 5)]
+def drag_by(browser, splitter, distance, kind):
+    x, y = browser.script(GET_CENTRE, splitter)
+    steps = [{"type": "pointerMove", "duration": 20, "x": x + distance[0] * quarter // 4, "y": y + distance[1] * quarter // 4} for quarter in range(1, 5)]
     browser.actions({"type": "pointer", "id": f"drag-{kind}", "parameters": {"pointerType": kind}, "actions": [
         {"type": "pointerMove", "duration": 0, "x": x, "y": y}, {"type": "pointerDown", "button": 0}, *steps, {"type": "pointerUp", "button": 0}]})
 
 
-def check_borders(browser):
-    for border, panel, way, move in BORDERS:
-        before = browser.script(MEASURE_PANEL, panel, way)
-        for kind in ("mouse", "touch") if browser.has_fingers else ("mouse",):
-            drag_by(browser, border, move, kind)
-            verdict(f"{border}: a {kind} makes {panel} larger", browser.script(MEASURE_PANEL, panel, way), before + 40)
-            drag_by(browser, border, tuple(-each for each in move), kind)
-            verdict(f"{border}: and smaller", browser.script(MEASURE_PANEL, panel, way), before)
-        browser.script("document.getElementById(arguments[0]).focus()", border)
-        larger = {"front": RIGHT, "side": LEFT, "dock": UP, "calls": "\ue015"}[panel]
-        browser.keys([larger, larger])
-        verdict(f"{border}: an arrow makes it larger", browser.script(MEASURE_PANEL, panel, way), before + 40)
-        verdict(f"{border}: its value is the size", browser.script("return document.activeElement.getAttribute('aria-valuenow')"), str(before + 40))
+def check_splitters(browser):
+    for splitter, panel, direction, distance in SPLITTERS:
+        size_before = browser.script(MEASURE_PANEL, panel, direction)
+        for kind in ("mouse", "touch") if browser.can_multitouch else ("mouse",):
+            drag_by(browser, splitter, distance, kind)
+            verdict(f"{splitter}: a {kind} makes {panel} larger", browser.script(MEASURE_PANEL, panel, direction), size_before + 40)
+            drag_by(browser, splitter, tuple(-coordinate for coordinate in distance), kind)
+            verdict(f"{splitter}: and smaller", browser.script(MEASURE_PANEL, panel, direction), size_before)
+        browser.script("document.getElementById(arguments[0]).focus()", splitter)
+        enlarging_key = {"front": RIGHT, "side": LEFT, "dock": UP, "calls": "\ue015"}[panel]
+        browser.keys([enlarging_key, enlarging_key])
+        verdict(f"{splitter}: an arrow makes it larger", browser.script(MEASURE_PANEL, panel, direction), size_before + 40)
+        verdict(f"{splitter}: its value is the size", browser.script("return document.activeElement.getAttribute('aria-valuenow')"), str(size_before + 40))
         browser.reload()
         until_ready(browser)
-        verdict(f"{border}: which is remembered", browser.script(MEASURE_PANEL, panel, way), before + 40)
-        browser.script("document.getElementById(arguments[0]).focus()", border)
+        verdict(f"{splitter}: which is remembered", browser.script(MEASURE_PANEL, panel, direction), size_before + 40)
+        browser.script("document.getElementById(arguments[0]).focus()", splitter)
         browser.keys([HOME])
-        verdict(f"{border}: Home gives the usual size", browser.script(MEASURE_PANEL, panel, way), before)
+        verdict(f"{splitter}: Home gives the usual size", browser.script(MEASURE_PANEL, panel, direction), size_before)
 
 
-def in_menu(browser, panel, what):
+def click_in_panel_menu(browser, panel, selector):
     """Clicks a panel's checkbox in the panel menu, or its button for full size."""
     browser.click("#view-button")
-    browser.script("document.querySelectorAll(`#view-menu li`)[arguments[0]].querySelector(arguments[1]).click()", PANELS.index(panel), what)
+    browser.script("document.querySelectorAll(`#view-menu li`)[arguments[0]].querySelector(arguments[1]).click()", PANELS.index(panel), selector)
     browser.keys([ESCAPE])
 
 
 def check_panels(browser):
     """Checks that each panel can be closed, reopened and maximised, and that a newly opened page has the same layout as the page before."""
-    verdict("all panels are there", browser.script(GET_SHOWN, PANELS), PANELS)
+    verdict("all panels are there", browser.script(FIND_SHOWN, PANELS), PANELS)
     for panel in PANELS:
-        in_menu(browser, panel, "input")
-        verdict(f"{panel} is closed", browser.script(GET_SHOWN, PANELS), [each for each in PANELS if each != panel])
+        click_in_panel_menu(browser, panel, "input")
+        verdict(f"{panel} is closed", browser.script(FIND_SHOWN, PANELS), [other_panel for other_panel in PANELS if other_panel != panel])
         if panel in ("front", "memory"):
             browser.reload()
             until_ready(browser)
-            verdict(f"{panel} stays closed", browser.script(GET_SHOWN, [panel]), [])
-        in_menu(browser, panel, "input")
-        verdict(f"{panel} is open again", browser.script(GET_SHOWN, PANELS), PANELS)
-        in_menu(browser, panel, "button")
+            verdict(f"{panel} stays closed", browser.script(FIND_SHOWN, [panel]), [])
+        click_in_panel_menu(browser, panel, "input")
+        verdict(f"{panel} is open again", browser.script(FIND_SHOWN, PANELS), PANELS)
+        click_in_panel_menu(browser, panel, "button")
         verdict(f"{panel} is full size", browser.script(MEASURE_PANEL, panel, "vertical"), browser.script("return innerWidth"))
         verdict(f"and nothing else of the bench is seen beside {panel}", browser.script("""
             return [...document.querySelectorAll("#front, #texts, #dock, #side > section")]
@@ -82,21 +82,21 @@ def check_panels(browser):
 
 def check_reset(browser):
     drag_by(browser, "side-splitter", (-60, 0), "mouse")
-    before = browser.script(MEASURE_PANEL, "side", "vertical")
-    in_menu(browser, "ports", "input")
+    width_before = browser.script(MEASURE_PANEL, "side", "vertical")
+    click_in_panel_menu(browser, "ports", "input")
     browser.click("#memory .fold")
     browser.click("#view-button")
     browser.click("#view-menu > button")
-    verdict("a reset opens what was closed", browser.script(GET_SHOWN, PANELS), PANELS)
+    verdict("a reset opens what was closed", browser.script(FIND_SHOWN, PANELS), PANELS)
     verdict("unfolds what was folded", browser.script("return document.querySelector('#memory .fold').getAttribute('aria-expanded')"), "true")
-    verdict("and gives borders their place", browser.script(MEASURE_PANEL, "side", "vertical") <= before - 60, True)
+    verdict("and gives borders their place", browser.script(MEASURE_PANEL, "side", "vertical") <= width_before - 60, True)
     browser.reload()
     until_ready(browser)
-    verdict("also after a reload", (browser.script(GET_SHOWN, PANELS), browser.script(MEASURE_PANEL, "side", "vertical") <= before - 60), (PANELS, True))
+    verdict("also after a reload", (browser.script(FIND_SHOWN, PANELS), browser.script(MEASURE_PANEL, "side", "vertical") <= width_before - 60), (PANELS, True))
 
 
 def check_arrangement(browser):
-    check_borders(browser)
+    check_splitters(browser)
     check_panels(browser)
     check_reset(browser)
 
@@ -156,7 +156,7 @@ def check_first_glance(browser, page, at_size):
     """Checks what a new user sees: the debugger's panels beside the source and a trace, few controls and words, and nothing that is too small."""
     browser.script("localStorage.clear()")
     at_size(browser, 1440, 900)
-    open_anew(browser, page)
+    reopen_page(browser, page)
     choose_example(browser, "calculator")
     verdict(f"at most {MAX_CONTROLS} controls are seen", browser.script(COUNT_CONTROLS) <= MAX_CONTROLS, True)
     # On a busy machine, the status first reports that the tab was busy.
@@ -177,7 +177,7 @@ def check_first_glance(browser, page, at_size):
 
 # --- details that later changes can easily break
 
-IS_FORM_IN_VIEW = """
+FIND_HIDDEN_FIELDS = """
 const { left, top, right, bottom } = document.getElementById("chosen").getBoundingClientRect();
 const isIn = (box) => box.left >= left && box.right <= right + 1 && box.top >= top && box.bottom <= bottom + 1;
 return [...document.querySelectorAll("#chosen :is(button, input, select)")].filter((each) => !isIn(each.getBoundingClientRect()))
@@ -186,7 +186,7 @@ GET_DIGIT_FILL = """
 return getComputedStyle(document.querySelector(`#examples button[aria-label='new session: ${arguments[0]}'] .digits`)).fill"""
 GET_OFFERS = """
 return ["board-offer", "hello"].filter((id) => isShown(document.getElementById(id)))"""
-FIND_NARROW = """
+COUNT_BUTTONS_AT_EDGE = """
 const { left, right } = document.getElementById("history").getBoundingClientRect();
 return [...document.querySelectorAll("#history button")].map((each) => each.getBoundingClientRect())
   .filter((box) => box.left < left + 8 || box.right > right - 8).length"""
@@ -195,7 +195,7 @@ COUNT_WATCHES = "return [...document.querySelectorAll('#watched-list .values')].
 GET_HELP_WIDTH = "return document.getElementById('help').getBoundingClientRect().width / innerWidth"
 
 
-def check_small_things(browser, at_size):
+def check_details(browser, at_size):
     """Checks details, such as these: all settings of twenty keys are visible, a display has its colour in the gallery, and an empty bench offers one
     way to begin."""
     at_size(browser, 1440, 900)
@@ -205,7 +205,7 @@ def check_small_things(browser, at_size):
     browser.script("document.querySelector('#wiring-picture .of-keys').focus()")
     browser.keys([ENTER])
     eventually(browser, "keys are chosen", "return document.querySelectorAll('#chosen input').length", 20)
-    verdict("nothing of them is hidden behind the edge of their box", browser.script(IS_FORM_IN_VIEW), [])
+    verdict("nothing of them is hidden behind the edge of their box", browser.script(FIND_HIDDEN_FIELDS), [])
     show_text(browser, "program")
     browser.click("#sessions-button")
     browser.until("return document.getElementById('sessions').open", True)
@@ -215,15 +215,15 @@ def check_small_things(browser, at_size):
     choose_example(browser, "empty bench")
     verdict("an empty bench offers what it can begin with, and nothing else", browser.script(GET_OFFERS), ["board-offer"])
     choose_example(browser, "first")
-    verdict("lines alone are seen where they can be sent", browser.script(GET_SHOWN, ["lines"]), ["lines"])
+    verdict("lines alone are seen where they can be sent", browser.script(FIND_SHOWN, ["lines"]), ["lines"])
     choose_example(browser, "three lamps")
     show_text(browser, "disassembly")
-    before = browser.script(GET_TOP, "#program-editor .cm-scroller")
+    top_before = browser.script(GET_TOP, "#program-editor .cm-scroller")
     browser.click("#program-editor .send")
     eventually(browser, "what was assembled is said", "return document.querySelector('#program-editor .status-text').textContent", re.compile("ssembled"))
-    verdict("above the source, which does not move", browser.script(GET_TOP, "#program-editor .cm-scroller"), before)
+    verdict("above the source, which does not move", browser.script(GET_TOP, "#program-editor .cm-scroller"), top_before)
     browser.click("#program-editor .cm-content")
-    browser.script("document.querySelector('#program-editor .cm-editor').lineEditor.setCursor(arguments[0])", first_word(browser, "SRC"))
+    browser.script("document.querySelector('#program-editor .cm-editor').lineEditor.setCursor(arguments[0])", position_of_word(browser, "SRC"))
     browser.keys([F1])
     eventually(browser, "F1 looks up the word at the caret", "return document.getElementById('help-search').value", "SRC")
     verdict("beside most of the page", browser.script(GET_HELP_WIDTH) <= 0.34, True)
@@ -231,35 +231,35 @@ def check_small_things(browser, at_size):
     check_watch_rows(browser)
     at_size(browser, 1920, 1080)
     choose_example(browser, "calculator")
-    found = browser.script(COUNT_CONTROLS)
-    verdict(f"a large window has at most {MAX_CONTROLS} controls, too", found <= MAX_CONTROLS or found, True)
-    verdict("and no log in front", browser.script(GET_SHOWN, ["log"]), [])
-    browser.resize_back()
+    control_count = browser.script(COUNT_CONTROLS)
+    verdict(f"a large window has at most {MAX_CONTROLS} controls, too", control_count <= MAX_CONTROLS or control_count, True)
+    verdict("and no log in front", browser.script(FIND_SHOWN, ["log"]), [])
+    browser.restore_size()
 
 
-def check_narrow_things(browser, at_size):
+def check_phone_details(browser, at_size):
     """Checks details on a phone."""
     at_size(browser, 390, 844, True)
     browser.click("#region-debug")
-    verdict("on a phone no button touches the edge of its panel", browser.script(FIND_NARROW), 0)
+    verdict("on a phone no button touches the edge of its panel", browser.script(COUNT_BUTTONS_AT_EDGE), 0)
     browser.click("#region-source")
     verdict("and the source begins in the upper quarter", browser.script(GET_TOP, "#program-editor .cm-scroller") < 844 / 4, True)
     browser.click("#region-board")
-    browser.resize_back()
+    browser.restore_size()
 
 
-def first_word(browser, word):
+def position_of_word(browser, word):
     """Returns the position of a word's first occurrence in the source."""
     lines = browser.script("return document.querySelector('#program-editor .cm-editor').lineEditor.getValue()").split("\n")
-    line = next(at for at, text in enumerate(lines) if re.search(rf"^[^;]*\b{word}\b", text))
+    line = next(index for index, text in enumerate(lines) if re.search(rf"^[^;]*\b{word}\b", text))
     return {"line": line, "ch": lines[line].index(word) + 1}
 
 
 def check_watch_rows(browser):
     """Checks that the rows of four watched values have 24 pixels each."""
     stop_time(browser)
-    for words in ("count = R5", "R6", "acc", "P2"):
-        browser.type_into("#watched-field", words + ENTER)
+    for expression in ("count = R5", "R6", "acc", "P2"):
+        browser.type_into("#watched-field", expression + ENTER)
     eventually(browser, "four values are watched", COUNT_WATCHES, 4)
     verdict("in rows of 24 pixels", browser.script("return Math.round(document.getElementById('watched-list').getBoundingClientRect().height)"), 96)
     for _ in range(4):
@@ -272,21 +272,21 @@ COUNT_CLICKS = """
 window.clicks = 0;
 if (!window.countsClicks) addEventListener("click", ({ isTrusted, detail }) => { window.clicks += Number(isTrusted && detail > 0); }, true);
 window.countsClicks = true"""
-GET_COUNTED = "return [...new Set(window.counted)].sort().join(' ')"
+GET_RECORDED_LAMPS = "return [...new Set(window.counted)].sort().join(' ')"
 # Records which lamps are visibly on.
-COUNT_LAMPS = """
+RECORD_LAMPS = """
 window.counted = [];
 const note = () => window.counted.push([...document.querySelectorAll("#front .bulb")].map((bulb) => Number(bulb.classList.contains("lit"))).join(""));
 window.noting = new MutationObserver(note);
 window.noting.observe(document.getElementById("front"), { subtree: true, attributes: true })"""
 
 
-def clicks_of(browser, what, most, path):
+def check_click_count(browser, task, max_clicks, perform):
     """Checks that a new user's task needs at most `most` clicks. Typing does not count."""
     browser.script(COUNT_CLICKS)
-    path(browser)
-    found = browser.script("return window.clicks")
-    verdict(f"{what} takes {most} clicks at most", 0 < found <= most or found, True)
+    perform(browser)
+    clicks = browser.script("return window.clicks")
+    verdict(f"{task} takes {max_clicks} clicks at most", 0 < clicks <= max_clicks or clicks, True)
 
 
 def draw_board(browser):
@@ -302,7 +302,7 @@ def draw_board(browser):
     browser.click("#drawing-wire")
     eventually(browser, "there are sixteen keys", "return document.querySelectorAll('#keys .key').length", 16)
     browser.script("document.activeElement.blur()")
-    browser.chord(CONTROL, "k")
+    browser.press_chord(CONTROL, "k")
     browser.until("return document.activeElement.getAttribute('role')", "combobox")
     browser.keys([*"scan", ENTER], 5, 5)
     eventually(browser, "the source has a routine", GET_SOURCE, re.compile("keys_scan"))
@@ -310,7 +310,7 @@ def draw_board(browser):
     eventually(browser, "it runs", GET_STATUS, re.compile("^Running"))
 
 
-def mend_bug(browser):
+def fix_bug(browser):
     choose_example(browser, "a fault to find")
     eventually(browser, "it is paused at the breakpoint", "return document.querySelectorAll('#breakpoint-list li').length", 1)
     browser.click("#over")
@@ -318,12 +318,12 @@ def mend_bug(browser):
     browser.click("#program-editor .cm-line:nth-child(24)")
     browser.keys([END, BACKSPACE, "5"])
     browser.click("#breakpoint-list [aria-label^='remove']")
-    browser.script(COUNT_LAMPS)
+    browser.script(RECORD_LAMPS)
     browser.click("#program-editor .send")
-    wanted = [f"{number:04b}" for number in range(10)]
-    eventually(browser, "lamps count from 0 to 9", GET_COUNTED, re.compile("^" + " ".join(wanted)), 60)
+    counts = [f"{number:04b}" for number in range(10)]
+    eventually(browser, "lamps count from 0 to 9", GET_RECORDED_LAMPS, re.compile("^" + " ".join(counts)), 60)
     eventually(browser, "and begin again", "return window.counted.lastIndexOf('0000') > window.counted.indexOf('1001')", True, 60)
-    verdict("and no further", browser.script(GET_COUNTED), " ".join(wanted))
+    verdict("and no further", browser.script(GET_RECORDED_LAMPS), " ".join(counts))
     browser.script("window.noting.disconnect()")
 
 
@@ -345,13 +345,13 @@ def search_property(browser):
     eventually(browser, "it is searched", "return isShown(document.getElementById('explore-results'))", True, 60)
 
 
-def check_newcomer(browser):
+def check_first_tasks(browser):
     """Checks a new user's tasks. The first lamp has its own check with the welcome cards (page_commands)."""
     choose_example(browser, "empty bench")
-    clicks_of(browser, "a board of one's own", 12, draw_board)
-    clicks_of(browser, "a bug", 6, mend_bug)
-    clicks_of(browser, "a test", 3, run_test)
-    clicks_of(browser, "a property", 3, search_property)
+    check_click_count(browser, "a board of one's own", 12, draw_board)
+    check_click_count(browser, "a bug", 6, fix_bug)
+    check_click_count(browser, "a test", 3, run_test)
+    check_click_count(browser, "a property", 3, search_property)
     browser.until("return document.getElementById('work').hidden", True, 60)
     show_text(browser, "program")
 
@@ -381,10 +381,10 @@ def check_shifts(browser, page, at_size):
         until_ready(browser)
         eventually(browser, "the example runs", GET_STATUS, re.compile("^Running"))
         verdict(f"at {width} nothing moves after the first paint", browser.script(MEASURE_SHIFTS), [])
-    browser.resize_back()
+    browser.restore_size()
 
 
-def check_by_finger(browser, at_size):
+def check_touch_targets(browser, at_size):
     """Checks that on a phone and on a tablet every touch target has 44 pixels, except value cells."""
     browser.command("Emulation.setTouchEmulationEnabled", enabled=True)
     for width, height in ((390, 844), (820, 1180)):
@@ -395,4 +395,4 @@ def check_by_finger(browser, at_size):
         verdict(f"at {width} nothing of Wiring is below 44 pixels", browser.script(FIND_SMALL_CONTROLS, 44), [])
         browser.script("document.getElementById('program-tab').click(); document.getElementById('region-board').click()")
     browser.command("Emulation.setTouchEmulationEnabled", enabled=False)
-    browser.resize_back()
+    browser.restore_size()

@@ -7,42 +7,42 @@ import zlib
 COLOURS = 64
 
 
-def chunks(data):
+def chunks_of(data):
     """Yields the chunks of a PNG with their names."""
-    at = 8
-    while at < len(data):
-        length, name = struct.unpack(">I4s", data[at:at + 8])
-        yield name, data[at + 8:at + 8 + length]
-        at += 12 + length
+    offset = 8
+    while offset < len(data):
+        length, name = struct.unpack(">I4s", data[offset:offset + 8])
+        yield name, data[offset + 8:offset + 8 + length]
+        offset += 12 + length
 
 
 def paeth(left, above, corner):
-    guess = left + above - corner
-    return min((left, above, corner), key=lambda value: abs(guess - value))
+    estimate = left + above - corner
+    return min((left, above, corner), key=lambda value: abs(estimate - value))
 
 
-def unfilter(kind, row, above, step):
+def unfilter(filter_type, row, above, bytes_per_pixel):
     """Reverses the filter of a row."""
-    for at in range(len(row)):
-        left = row[at - step] if at >= step else 0
-        corner = above[at - step] if at >= step else 0
-        row[at] = (row[at] + (0, left, above[at], (left + above[at]) // 2, paeth(left, above[at], corner))[kind]) & 255
+    for offset in range(len(row)):
+        left = row[offset - bytes_per_pixel] if offset >= bytes_per_pixel else 0
+        corner = above[offset - bytes_per_pixel] if offset >= bytes_per_pixel else 0
+        row[offset] = (row[offset] + (0, left, above[offset], (left + above[offset]) // 2, paeth(left, above[offset], corner))[filter_type]) & 255
     return row
 
 
 def rows_of(data):
     """Yields the rows of a PNG with 8 bits per channel, as lists of colours."""
-    parts = list(chunks(data))
-    width, height, depth, kind = struct.unpack(">IIBB", parts[0][1][:10])
-    if depth != 8 or kind not in (2, 6):
+    png_chunks = list(chunks_of(data))
+    width, height, bit_depth, colour_type = struct.unpack(">IIBB", png_chunks[0][1][:10])
+    if bit_depth != 8 or colour_type not in (2, 6):
         raise ValueError("a PNG of another form")
-    step = 3 if kind == 2 else 4
-    raw = zlib.decompress(b"".join(body for name, body in parts if name == b"IDAT"))
-    above = bytearray(width * step)
+    bytes_per_pixel = 3 if colour_type == 2 else 4
+    filtered = zlib.decompress(b"".join(body for name, body in png_chunks if name == b"IDAT"))
+    above = bytearray(width * bytes_per_pixel)
     for number in range(height):
-        start = number * (width * step + 1)
-        above = unfilter(raw[start], bytearray(raw[start + 1:start + 1 + width * step]), above, step)
-        yield [tuple(above[at:at + 3]) for at in range(0, len(above), step)]
+        start = number * (width * bytes_per_pixel + 1)
+        above = unfilter(filtered[start], bytearray(filtered[start + 1:start + 1 + width * bytes_per_pixel]), above, bytes_per_pixel)
+        yield [tuple(above[offset:offset + 3]) for offset in range(0, len(above), bytes_per_pixel)]
 
 
 def palette_of(rows):
@@ -57,8 +57,8 @@ def palette_of(rows):
     return palette
 
 
-def distance(one, other):
-    return sum((a - b) ** 2 for a, b in zip(one, other))
+def distance(first, second):
+    return sum((first_channel - second_channel) ** 2 for first_channel, second_channel in zip(first, second))
 
 
 def write_picture(data, path):
@@ -74,8 +74,8 @@ def write_picture(data, path):
             lines.append(nearest[colour])
     header = struct.pack(">IIBBBBB", len(rows[0]), len(rows), 8, 3, 0, 0, 0)
     colours = bytes(value for colour in palette for value in colour)
-    parts = [(b"IHDR", header), (b"PLTE", colours), (b"IDAT", zlib.compress(bytes(lines), 9)), (b"IEND", b"")]
-    with open(path, "wb") as out:
-        out.write(b"\x89PNG\r\n\x1a\n")
-        for name, body in parts:
-            out.write(struct.pack(">I", len(body)) + name + body + struct.pack(">I", zlib.crc32(name + body)))
+    png_chunks = [(b"IHDR", header), (b"PLTE", colours), (b"IDAT", zlib.compress(bytes(lines), 9)), (b"IEND", b"")]
+    with open(path, "wb") as file:
+        file.write(b"\x89PNG\r\n\x1a\n")
+        for name, body in png_chunks:
+            file.write(struct.pack(">I", len(body)) + name + body + struct.pack(">I", zlib.crc32(name + body)))

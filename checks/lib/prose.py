@@ -4,7 +4,7 @@ import re
 
 MAX_WORDS = 30
 # Patterns for unidiomatic or vague words, each with the words to write instead.
-AVOIDED = {
+REPLACEMENTS = {
     r"tells?|told|telling": "report, print, say or show",
     r"(?:comes?|came) (?:to|about)": "reach or happen",
     r"beg[ia]ns? to hold": "become true",
@@ -34,9 +34,9 @@ AVOIDED = {
     r"simply|just|of course|note that|please": "nothing",
     r"\w+n't|(?:it|that|let|here|there)'s|you're": "no contraction",
 }
-BETTER = list(AVOIDED.values())
-ANY_AVOIDED = re.compile("|".join(rf"\b(?P<word{n}>{words})\b" for n, words in enumerate(AVOIDED)), re.I)
-# Sentences that are exempt, by their beginnings, with the reasons.
+BETTER_WORDS = list(REPLACEMENTS.values())
+ANY_AVOIDED = re.compile("|".join(rf"\b(?P<word{n}>{words})\b" for n, words in enumerate(REPLACEMENTS)), re.I)
+# The beginnings of the sentences that are exempt, with the reasons.
 EXCEPTIONS = {
     "*Whatever bytes the shell reads, and wherever the machine stops,": "the headline of PROOF stays word for word",
 }
@@ -48,14 +48,14 @@ BLOCK_BEGIN = r"\s*(?:\||- |\d+\. )|#"
 
 def blocks_of(text):
     """Yields paragraphs, list items, cells and headings, each with the number of its first line, without code blocks."""
-    block, first, fenced = [], 1, False
+    block, first, is_in_code = [], 1, False
     for number, line in enumerate([*text.splitlines(), ""], 1):
         is_fence = line.startswith("```")
         if block and (not line.strip() or is_fence or re.match(BLOCK_BEGIN, line)):
             yield first, " ".join(block)
             block = []
-        fenced ^= is_fence
-        if fenced or is_fence or (line.startswith("    ") and not block and not re.match(BLOCK_BEGIN, line)):
+        is_in_code ^= is_fence
+        if is_in_code or is_fence or (line.startswith("    ") and not block and not re.match(BLOCK_BEGIN, line)):
             continue
         if line.startswith("|"):
             yield from ((number, cell.strip()) for cell in line.strip("|").split("|"))
@@ -68,8 +68,8 @@ def sentences_of(text):
     """Yields each sentence with the number of the first line of its block. Omits the targets of links, and in PROOF's promises the contracts after
     the dash."""
     for number, block in blocks_of(text):
-        plain = re.sub(CODE, "CODE", re.sub(r"\]\([^)]*\)", "]", block)).partition(" \u2014 ")[0]
-        yield from ((number, sentence) for sentence in re.split(r"(?<=[.?!])[*)\"]*\s+", plain))
+        prose = re.sub(CODE, "CODE", re.sub(r"\]\([^)]*\)", "]", block)).partition(" \u2014 ")[0]
+        yield from ((number, sentence) for sentence in re.split(r"(?<=[.?!])[*)\"]*\s+", prose))
 
 
 def errors_of(text):
@@ -77,9 +77,9 @@ def errors_of(text):
     for number, sentence in sentences_of(text):
         if sentence.startswith(tuple(EXCEPTIONS)):
             continue
-        words = len(re.findall(r"\w[\w'/-]*", sentence))
-        if words > MAX_WORDS:
-            yield number, f"a sentence of {words} words, with a limit of {MAX_WORDS}: {sentence[:60]}.."
-        for found in ANY_AVOIDED.finditer(sentence):
-            near = sentence[max(0, found.start() - 20):found.end() + 20]
-            yield number, f"\"{found[0]}\" in \"{near}\": write {BETTER[int(found.lastgroup.removeprefix('word'))]}"
+        word_count = len(re.findall(r"\w[\w'/-]*", sentence))
+        if word_count > MAX_WORDS:
+            yield number, f"a sentence of {word_count} words, with a limit of {MAX_WORDS}: {sentence[:60]}.."
+        for match in ANY_AVOIDED.finditer(sentence):
+            context = sentence[max(0, match.start() - 20):match.end() + 20]
+            yield number, f"\"{match[0]}\" in \"{context}\": write {BETTER_WORDS[int(match.lastgroup.removeprefix('word'))]}"

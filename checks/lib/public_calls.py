@@ -24,14 +24,14 @@ def without_comments(text):
 def parts_of(text):
     """Returns the parts of a list, split at the commas outside of brackets."""
     depth, parts, part = 0, [], ""
-    for before, char in zip(" " + text, text):
+    for previous, char in zip(" " + text, text):
         # The `>` of an arrow does not close a bracket.
-        depth += (char in "([{<") - (char in ")]}" or (char == ">" and before != "-"))
+        depth += (char in "([{<") - (char in ")]}" or (char == ">" and previous != "-"))
         if char == "," and depth == 0:
             parts, part = [*parts, part], ""
         else:
             part += char
-    return [each.strip() for each in [*parts, part] if each.strip()]
+    return [item.strip() for item in [*parts, part] if item.strip()]
 
 
 def type_of(parameter):
@@ -39,45 +39,45 @@ def type_of(parameter):
     return parameter if re.match(r"(?:&(?:'\w+ )?)?(?:mut )?self$", parameter) else parameter.split(": ", 1)[1]
 
 
-def call_of(head):
+def call_of(signature):
     """Converts a function's signature to the format of public_calls.txt: the name, the types of the parameters, and the type of the result."""
-    head = re.sub(r"\s+", " ", head).strip()
-    name, _, rest = re.sub(r"^(?:pub )?(?:const )?fn ", "", head).partition("(")
-    end = next(at for at in range(len(rest)) if rest[:at + 1].count(")") > rest[:at + 1].count("("))
-    return f"{name}({', '.join(type_of(each) for each in parts_of(rest[:end]))}){rest[end + 1:]}"
+    signature = re.sub(r"\s+", " ", signature).strip()
+    name, _, parameters_and_result = re.sub(r"^(?:pub )?(?:const )?fn ", "", signature).partition("(")
+    end = next(at for at in range(len(parameters_and_result)) if parameters_and_result[:at + 1].count(")") > parameters_and_result[:at + 1].count("("))
+    return f"{name}({', '.join(type_of(parameter) for parameter in parts_of(parameters_and_result[:end]))}){parameters_and_result[end + 1:]}"
 
 
-def head_at(lines, at):
+def signature_at(lines, index):
     """Returns the signature of the function that begins at a line."""
-    head = []
-    for line in lines[at:]:
+    signature_lines = []
+    for line in lines[index:]:
         end = END.search(line)
         if end and not re.match(r"^\s*(?:requires|ensures|ghost|decreases)\b", line):
-            head.append(line[:end.start()])
+            signature_lines.append(line[:end.start()])
         if end:
             break
-        head.append(line)
-    return " ".join(head)
+        signature_lines.append(line)
+    return " ".join(signature_lines)
 
 
-def block_at(lines, at):
+def block_at(lines, index):
     """Returns the lines of the block that begins at a line without indentation."""
-    return lines[at + 1:next(end for end in range(at, len(lines)) if lines[end].startswith("}"))]
+    return lines[index + 1:next(end for end in range(index, len(lines)) if lines[end].startswith("}"))]
 
 
-def calls_in(lines, at, form):
+def calls_in(lines, index, pattern):
     """Returns the functions in a block. `form` is a pattern for the words before `fn`."""
-    block = block_at(lines, at)
-    return [call_of(head_at(block, number)) for number, line in enumerate(block) if re.match(rf"    {form}fn ", line)]
+    block = block_at(lines, index)
+    return [call_of(signature_at(block, number)) for number, line in enumerate(block) if re.match(rf"    {pattern}fn ", line)]
 
 
-def fields_of(lines, at):
+def fields_of(lines, index):
     """Returns the variants of an enum, or the public fields of a struct."""
-    if lines[at].endswith(";"):
+    if lines[index].endswith(";"):
         # A struct whose fields have no names.
-        return [lines[at][lines[at].index("("):-1]] if "(" in lines[at] else []
-    body = re.sub(r"\s+", " ", " ".join(block_at(lines, at)))
-    return [part.removeprefix("pub ") for part in parts_of(body) if " enum " in f" {lines[at]} " or part.startswith("pub ")]
+        return [lines[index][lines[index].index("("):-1]] if "(" in lines[index] else []
+    body = re.sub(r"\s+", " ", " ".join(block_at(lines, index)))
+    return [part.removeprefix("pub ") for part in parts_of(body) if " enum " in f" {lines[index]} " or part.startswith("pub ")]
 
 
 @functools.cache
@@ -85,22 +85,22 @@ def items_of_file(path):
     """Returns the public declarations in a file, as pairs of a name and its public form."""
     lines = without_comments(path.read_text()).splitlines()
     items = []
-    for at, line in enumerate(lines):
-        if found := re.match(r"pub (?:enum|struct) (\w+)", line):
-            fields = fields_of(lines, at)
-            head = re.sub(r"\s+", " ", head_at(lines, at)).partition("(")[0].partition(" where ")[0].strip().removeprefix("pub ")
-            items.append((found[1], head + (": " + ", ".join(fields) if fields else "")))
-        elif found := re.match(r"pub (?:const|type) (\w+)", line):
-            items.append((found[1], re.sub(r"\s+", " ", head_at(lines, at)).removeprefix("pub ").strip()))
-        elif found := re.match(r"pub trait (\w+)", line):
-            items += [(found[1], f"{found[1]}::{call}") for call in calls_in(lines, at, "")]
-        elif found := re.match(r"impl(?:<.*?>)? (?:(\w+)(?:<.*>)? for )?(\w+)", line):
-            if found[1]:
-                items.append((found[2], f"impl {found[1]} for {found[2]}"))
+    for index, line in enumerate(lines):
+        if match := re.match(r"pub (?:enum|struct) (\w+)", line):
+            fields = fields_of(lines, index)
+            signature = re.sub(r"\s+", " ", signature_at(lines, index)).partition("(")[0].partition(" where ")[0].strip().removeprefix("pub ")
+            items.append((match[1], signature + (": " + ", ".join(fields) if fields else "")))
+        elif match := re.match(r"pub (?:const|type) (\w+)", line):
+            items.append((match[1], re.sub(r"\s+", " ", signature_at(lines, index)).removeprefix("pub ").strip()))
+        elif match := re.match(r"pub trait (\w+)", line):
+            items += [(match[1], f"{match[1]}::{call}") for call in calls_in(lines, index, "")]
+        elif match := re.match(r"impl(?:<.*?>)? (?:(\w+)(?:<.*>)? for )?(\w+)", line):
+            if match[1]:
+                items.append((match[2], f"impl {match[1]} for {match[2]}"))
             else:
-                items += [(found[2], f"{found[2]}::{call}") for call in calls_in(lines, at, "pub (?:const )?")]
-        elif found := re.match(r"pub (?:const )?fn (\w+)", line):
-            items.append((found[1], call_of(head_at(lines, at))))
+                items += [(match[2], f"{match[2]}::{call}") for call in calls_in(lines, index, "pub (?:const )?")]
+        elif match := re.match(r"pub (?:const )?fn (\w+)", line):
+            items.append((match[1], call_of(signature_at(lines, index))))
     return items
 
 
@@ -116,14 +116,14 @@ def calls_of(crate):
     source = TOP / "crates" / crate / "src"
     text = without_comments((source / "lib.rt").read_text())
     open_modules = set(re.findall(r"^pub mod (\w+);", text, re.M)) | {"lib"}
-    named = set(reexported_names(text))
-    names = {name for _, name in named}
+    reexports = set(reexported_names(text))
+    names = {name for _, name in reexports}
     for path in sorted(source.rglob("*.rt")):
         yield from (line for name, line in items_of_file(path) if path.stem in open_modules or name in names)
-    yield from (f"use {name}" for first, name in named if not (source / f"{first}.rt").exists())
+    yield from (f"use {name}" for first_word, name in reexports if not (source / f"{first_word}.rt").exists())
 
 
-def kept():
+def listed_calls():
     """Reads public_calls.txt. Returns the lines for each crate."""
     crates = {}
     for line in LIST.read_text().splitlines():
@@ -134,11 +134,11 @@ def kept():
     return crates
 
 
-def missing():
+def missing_calls():
     """Yields the lines of public_calls.txt that the crate's interface no longer contains, each with its crate."""
-    for crate, lines in kept().items():
-        given = set(calls_of(crate))
-        yield from ((crate, line) for line in lines if line not in given)
+    for crate, lines in listed_calls().items():
+        current_calls = set(calls_of(crate))
+        yield from ((crate, line) for line in lines if line not in current_calls)
 
 
 if __name__ == "__main__":

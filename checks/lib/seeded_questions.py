@@ -13,7 +13,7 @@ from collections.abc import Iterator
 from assembler import CODES_WITHOUT_OPERAND
 from board4004 import Board
 from second_search import (
-    MISTAKES, Comparison, Mark, Question, Row, all_keys, cell, elapsed_of, go_on, is_shown, power_on, values_read)
+    MISTAKES, Comparison, Mark, Question, Row, all_keys, cell_value, elapsed_of, run_to_next_state, is_mark_shown, power_on, values_read)
 from seeded_boards import INVALID_CODES, Program, Seeded, Wiring
 
 # Most of the instructions that do not access a chip.
@@ -123,7 +123,7 @@ def random_walk(question: Question, chance: random.Random) -> Iterator[Board]:
     yield board
     for _n in range(chance.randrange(MAX_WALK_STATES)):
         values = values_read(board)
-        go_on(board, values[chance.choice(sorted(values))], lambda _board: False, min(question.pause, 50))
+        run_to_next_state(board, values[chance.choice(sorted(values))], lambda _board: False, min(question.pause, 50))
         yield board
 
 
@@ -199,7 +199,7 @@ def longest_seen(question: Question, chance: random.Random) -> int:
         board = power_on(dataclasses.replace(question, within=0))
         for _n in range(MAX_WALK_STATES):
             values = values_read(board)
-            go_on(board, values[chance.choice(sorted(values))], note, min(question.pause, 50))
+            run_to_next_state(board, values[chance.choice(sorted(values))], note, min(question.pause, 50))
     return max(shown)
 
 
@@ -209,7 +209,7 @@ def add_marks(question: Question, chance: random.Random, wiring: Wiring) -> None
     if chance.random() < 0.5:
         question.nevers = []
     cells, way = cells_of(wiring), marks_on_way(question, chance)
-    there = [{each: cell(board, *each) for each in cells} for board, _marks in way]
+    there = [{each: cell_value(board, *each) for each in cells} for board, _marks in way]
     firsts = [(each, at) for each in cells for at in range(1, len(way)) if there[at][each] not in {seen[each] for seen in there[:at]}]
     (name, index), at = chance.choice(firsts) if firsts else (chance.choice(cells), 1)
     value = there[min(at, len(way) - 1)][name, index]
@@ -254,10 +254,10 @@ def marks_on_way(question: Question, chance: random.Random) -> list[tuple[Board,
     for _n in range(2 * MAX_WALK_STATES):
         values = values_read(board)
         levels = values[chance.choice(sorted(values))]
-        board.chips.down = set(levels[0])
-        marks = [(level, row, column) for row, column in all_keys(board) for level in ("up", "down") if is_shown(board, (level, row, column))]
+        board.chips.pressed_keys = set(levels[0])
+        marks = [(level, row, column) for row, column in all_keys(board) for level in ("up", "down") if is_mark_shown(board, (level, row, column))]
         way.append((copy.deepcopy(board), marks))
-        go_on(board, levels, lambda _board: False, min(question.pause, 50))
+        run_to_next_state(board, levels, lambda _board: False, min(question.pause, 50))
     return way
 
 
@@ -277,11 +277,11 @@ def seeded_question(seed: int, most: int) -> Question:
     else:
         wiring = Wiring(chance)
         question = Question(wiring.text(), ReadingProgram(chance, wiring).text())
-    question.most, question.pause = most, chance.choice([1, 2, 7, 30, 100, 300])
+    question.max_states, question.pause = most, chance.choice([1, 2, 7, 30, 100, 300])
     if seed % 8 == 6:
         return question
     cells = cells_of(wiring)
-    boards = [{each: cell(board, *each) for each in cells} for board in random_walk(question, chance)]
+    boards = [{each: cell_value(board, *each) for each in cells} for board in random_walk(question, chance)]
     question.nevers = [[comparison(chance, wiring, boards) for _each in range(chance.choice([1, 2, 2, 3]))] for _row in range(chance.choice([0, 1, 1, 1, 2]))]
     if chance.random() < 0.5:
         mistake_condition = ("mistake", *chance.sample(MISTAKES, chance.choice([1, 1, 2, len(MISTAKES)])))

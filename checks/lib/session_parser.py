@@ -157,7 +157,7 @@ def bench_of(state):
     chips.ram_latch = {(bank, chip): state.ram_ports[4 * bank + chip] for bank, chip in chips.ram_latch}
     chips.rom_latch = {chip: state.rom_ports[chip] for chip in chips.rom_latch}
     chips.rom_src, chips.bank_src, chips.chains = state.rom_source, list(state.bank_sources), [list(chain) for chain in state.chains]
-    chips.down = {divmod(at, len(chips.columns)) for at, is_down in enumerate(state.keys) if is_down}
+    chips.pressed_keys = {divmod(at, len(chips.columns)) for at, is_down in enumerate(state.keys) if is_down}
     return bench
 
 

@@ -12,7 +12,7 @@ import time
 import urllib.error
 import urllib.request
 
-from driven import BEFORE_SCRIPTS, ELEMENT, Driven, Fault
+from driven import BEFORE_SCRIPTS, ELEMENT, BrowserDriver, DriverError
 
 # Scripts that dispatch the events of a touch, and of a click with the secondary mouse button, for drivers that cannot do these.
 TOUCH_ELEMENT = """
@@ -36,7 +36,7 @@ def free_port():
         return line.getsockname()[1]
 
 
-class WebDriver(Driven):
+class WebDriver(BrowserDriver):
     """A browser that a WebDriver server controls. `self.root` is the address of this server, and `self.session` the path of the browser's session
     there."""
 
@@ -48,7 +48,7 @@ class WebDriver(Driven):
                 return json.load(answer)["value"]
         except urllib.error.HTTPError as fault:
             fault_value = json.load(fault)["value"]
-            raise Fault(f"{fault_value['error']}: {fault_value['message']}".split("\n")[0]) from None
+            raise DriverError(f"{fault_value['error']}: {fault_value['message']}".split("\n")[0]) from None
 
     def do(self, method, path, body=None):
         return self._ask(method, self.session + path, body)
@@ -109,7 +109,7 @@ class WebDriver(Driven):
     def end(self):
         try:
             self.do("DELETE", "")
-        except (Fault, OSError):
+        except (DriverError, OSError):
             pass
         self.driver.terminate()
         self.driver.wait()
@@ -125,7 +125,7 @@ class Chromium(WebDriver):
         self.root = f"http://127.0.0.1:{port}"
         self.driver = subprocess.Popen(["chromedriver", f"--port={port}"], stdout=subprocess.PIPE, stderr=subprocess.DEVNULL, text=True)
         if not any("started successfully" in line for line in self.driver.stdout):
-            raise Fault("chromedriver did not start")
+            raise DriverError("chromedriver did not start")
         options = {
             "args": ["--headless=new", "--no-sandbox", "--disable-gpu", "--hide-scrollbars", "--window-size=1280,900",
                      f"--user-data-dir={folder}", *flags],
@@ -143,7 +143,7 @@ class Chromium(WebDriver):
     def resize(self, width, height, mobile=False):
         self.command("Emulation.setDeviceMetricsOverride", width=width, height=height, deviceScaleFactor=1, mobile=mobile)
 
-    def resize_back(self):
+    def restore_size(self):
         self.command("Emulation.clearDeviceMetricsOverride")
 
     def log(self):
@@ -159,8 +159,8 @@ class WebKit(WebDriver):
     blocks_data = None
     # WebKit's driver has only a mouse pointer, and no touch. It opens each tab as a separate window, so a page in a background tab still counts as
     # visible.
-    has_fingers = False
-    hides_tabs = False
+    can_multitouch = False
+    hides_background_tabs = False
     settle_seconds = 0.3
 
     def __init__(self, folder, downloads):
@@ -178,7 +178,7 @@ class WebKit(WebDriver):
         answer = self._begin()
         self.session = "/session/" + answer["sessionId"]
         self.version = answer["capabilities"]["browserVersion"]
-        self.resize_back()
+        self.restore_size()
 
     def touch(self, selector, time_down):
         self.script(TOUCH_ELEMENT, selector, time_down)
@@ -193,7 +193,7 @@ class WebKit(WebDriver):
                                        stderr=subprocess.DEVNULL, text=True)
         number = self.screen.stdout.readline().strip()
         if not number:
-            raise Fault("Xvfb did not start")
+            raise DriverError("Xvfb did not start")
         return f":{number}"
 
     def _begin(self):
@@ -206,7 +206,7 @@ class WebKit(WebDriver):
                 return self._ask("POST", "/session", request)
             except OSError:
                 if time.monotonic() > end:
-                    raise Fault("WebKitWebDriver did not start") from None
+                    raise DriverError("WebKitWebDriver did not start") from None
                 time.sleep(0.2)
 
     def end(self):

@@ -2,7 +2,7 @@
 
 import random
 
-from board_spellings import TEXT_ENDS, EQUALS, KINDS, Raw, seeded_board, random_tables_text
+from board_spellings import TEXT_ENDS, EQUALS, KINDS, RawValue, seeded_board, random_tables_text
 
 # Wrong values for each key, besides those in INVALID_VALUES, which are wrong for every key.
 WRONG = {
@@ -10,7 +10,7 @@ WRONG = {
     "data": ["ram0.4.0", "rom0"], "chain": [4, -1], "first": [80, -1], "rows": [0, 11], "line": ["rom16.0", "chain4.0", "ram8.0.0", "led"],
     "columns": [[], ["rom0.4"], ["chain0.0"], ["ram0.0.0"]],
 }
-INVALID_VALUES = [Raw(text) for text in ("1.0", "true", "inf", "{}", "{ a = 1 }", "[[]]", "1979-05-27", '"1"', "[1]", '["a"]')]
+INVALID_VALUES = [RawValue(text) for text in ("1.0", "true", "inf", "{}", "{ a = 1 }", "[[]]", "1979-05-27", '"1"', "[1]", '["a"]')]
 UNKNOWN_KEYS = ["lamps", "chip", "bank", "line", "port", "x", "Rom", "a-b", "a b", "", "a.b", "_1"]
 CHARACTERS = "\"'[]{}=.,#\\ \t0123456789abcdeiorxINF_-+:"
 

@@ -9,17 +9,17 @@ from typing import NamedTuple
 # --- file systems
 
 
-class Kind(NamedTuple):
+class FileSystem(NamedTuple):
     """A file system: the size of its disk in MiB, the command that creates it, that command's Debian package, its type, the mount options besides
     noatime, the options that make it commit every second, and its kernel modules. `whole_blocks` is true if the file system needs each block of 4 KiB
     to be written completely or not at all. `shows_stale` is true if unwritten parts of a file can contain old data of the disk."""
     name: str
     size: int
-    make: tuple[str, ...]
+    make_command: tuple[str, ...]
     package: str
     type: str
     options: str
-    often: str
+    frequent_commit_options: str
     modules: tuple[str, ...]
     whole_blocks: bool = False
     shows_stale: bool = False
@@ -30,30 +30,30 @@ MAKE_XFS = ("mkfs.xfs", "-q", "-f", "-K")
 MAKE_BTRFS = ("mkfs.btrfs", "-q", "-f", "-K")
 
 
-def ext(name: str, options: str = "", *more: str) -> Kind:
+def ext(name: str, options: str = "", *arguments: str) -> FileSystem:
     """Returns the kind ext4 with these mount options. `more` are further arguments of mkfs.ext4."""
-    return Kind(name, 64, (*MAKE_EXT, *more), "e2fsprogs", "ext4", options, "commit=1", ("ext4",))
+    return FileSystem(name, 64, (*MAKE_EXT, *arguments), "e2fsprogs", "ext4", options, "commit=1", ("ext4",))
 
 
-def btrfs(name: str, options: str = "") -> Kind:
+def btrfs(name: str, options: str = "") -> FileSystem:
     """Returns the kind btrfs with these mount options."""
-    return Kind(name, 128, MAKE_BTRFS, "btrfs-progs", "btrfs", options, "commit=1", ("btrfs",), whole_blocks=True)
+    return FileSystem(name, 128, MAKE_BTRFS, "btrfs-progs", "btrfs", options, "commit=1", ("btrfs",), whole_blocks=True)
 
 
-KINDS = {kind.name: kind for kind in (
+FILE_SYSTEMS = {kind.name: kind for kind in (
     ext("ext4"),
     ext("ext4-writeback", "data=writeback"),
     ext("ext4-journal", "data=journal"),
     ext("ext4-fast", "", "-O", "fast_commit"),
     ext("ext4-async", "journal_async_commit,data=writeback"),
     ext("ext4-1k", "", "-b", "1024"),
-    Kind("xfs", 300, MAKE_XFS, "xfsprogs", "xfs", "", "", ("xfs",)),
+    FileSystem("xfs", 300, MAKE_XFS, "xfsprogs", "xfs", "", "", ("xfs",)),
     btrfs("btrfs"),
     btrfs("btrfs-nocow", "nodatacow"),
-    Kind("vfat", 32, ("mkfs.vfat",), "dosfstools", "vfat", "", "", ("vfat", "nls_cp437", "nls_ascii"), shows_stale=True),
-    Kind("exfat", 32, ("mkfs.exfat",), "exfatprogs", "exfat", "", "", ("exfat", "nls_utf8"), shows_stale=True),
+    FileSystem("vfat", 32, ("mkfs.vfat",), "dosfstools", "vfat", "", "", ("vfat", "nls_cp437", "nls_ascii"), shows_stale=True),
+    FileSystem("exfat", 32, ("mkfs.exfat",), "exfatprogs", "exfat", "", "", ("exfat", "nls_utf8"), shows_stale=True),
     # Linux before 6.5 does not always flush the disk when a file on this file system is synced.
-    ext("ext4-nojournal", "", "-O", "^has_journal")._replace(often="", shows_stale=True),
+    ext("ext4-nojournal", "", "-O", "^has_journal")._replace(frequent_commit_options="", shows_stale=True),
     # Without barriers the file system loses acknowledged data, which the check must detect.
     ext("ext4-nobarrier", "nobarrier"),
 )}
@@ -63,52 +63,53 @@ KINDS = {kind.name: kind for kind in (
 
 class Case(NamedTuple):
     """What happens on a file system before and while a session is served: shell commands whose effects are synced, shell commands after these whose
-    effects are not synced, the program's arguments, and the name of the session file after the cut. `begins` is the number of commands in the session
-    at the beginning. `is_kept` is true if the session is already durable at the beginning. `takes_all` is true if all commands are sent to it."""
+    effects are not synced, the program's arguments, and the name of the session file after the cut. `initial_commands` is the number of commands in
+    the session at the beginning. `is_durable` is true if the session is already durable then. If `gets_all_commands` is true, the trial sends it
+    ALL_COMMANDS commands."""
     name: str
     setup: str
     before: str
     words: str
     file: str
-    begins: int = 0
-    is_kept: bool = False
-    takes_all: bool = False
+    initial_commands: int = 0
+    is_durable: bool = False
+    gets_all_commands: bool = False
 
 
-LONG = "a_session_with_a_long_name_that_takes_several_slots_of_a_folder_on_a_file_system_of_that_sort.mcs"
-SEED = "mcs4 new seed < /dev/null > /dev/null"
-OTHERS = "for i in 1 2 3 4 5 6 7 8 9 10; do : > f$i; done"
+LONG_NAME = "a_session_with_a_long_name_that_takes_several_slots_of_a_folder_on_a_file_system_of_that_sort.mcs"
+CREATE_SEED = "mcs4 new seed < /dev/null > /dev/null"
+CREATE_OTHER_FILES = "for i in 1 2 3 4 5 6 7 8 9 10; do : > f$i; done"
 # Session files that are copied into the machine, and the number of commands in each. The second one has version 1 of the format.
-SERVED, FIRST = "served.mcs", "first.mcs"
-SERVED_COMMANDS, FIRST_COMMANDS = 60, 30
+SERVED_FILE, VERSION_1_FILE = "served.mcs", "first.mcs"
+SERVED_COMMANDS, VERSION_1_COMMANDS = 60, 30
 
 CASES = {case.name: case for case in (
-    Case("new", "", "", "new s.mcs", "s.mcs", takes_all=True),
-    Case("new-long", "", "", f"new {LONG}", LONG),
+    Case("new", "", "", "new s.mcs", "s.mcs", gets_all_commands=True),
+    Case("new-long", "", "", f"new {LONG_NAME}", LONG_NAME),
     Case("new-full", "mkdir d; for i in $(seq 1 250); do : > d/a_name_that_fills_the_folder_$i; done", "", "new d/s.mcs", "d/s.mcs"),
     Case("new-empty", "", ": > s.mcs", "new s.mcs", "s.mcs"),
     Case("new-folder", "", "mkdir d", "new d/s.mcs", "d/s.mcs"),
     Case("new-link", "mkdir a b; ln -s ../b/real.mcs a/s.mcs", "", "new a/s.mcs", "a/s.mcs"),
-    Case("linked", SEED, "ln seed s.mcs || cp seed s.mcs", "open s.mcs", "s.mcs"),
-    Case("copied", SEED, "cp seed s.mcs", "open s.mcs", "s.mcs"),
-    Case("moved", SEED, "mv seed s.mcs", "open s.mcs", "s.mcs"),
-    Case("replaced", f"mcs4 new s.mcs < /dev/null > /dev/null; {SEED}", "mv seed s.mcs", "open s.mcs", "s.mcs"),
-    Case("long-copied", f"{SEED}; {OTHERS}", f"cp seed {LONG}", f"open {LONG}", LONG),
-    Case("long-moved", f"{SEED}; {OTHERS}", f"mv seed {LONG}", f"open {LONG}", LONG),
-    Case("folder-copied", SEED, "mkdir d; cp seed d/s.mcs", "open d/s.mcs", "d/s.mcs"),
+    Case("linked", CREATE_SEED, "ln seed s.mcs || cp seed s.mcs", "open s.mcs", "s.mcs"),
+    Case("copied", CREATE_SEED, "cp seed s.mcs", "open s.mcs", "s.mcs"),
+    Case("moved", CREATE_SEED, "mv seed s.mcs", "open s.mcs", "s.mcs"),
+    Case("replaced", f"mcs4 new s.mcs < /dev/null > /dev/null; {CREATE_SEED}", "mv seed s.mcs", "open s.mcs", "s.mcs"),
+    Case("long-copied", f"{CREATE_SEED}; {CREATE_OTHER_FILES}", f"cp seed {LONG_NAME}", f"open {LONG_NAME}", LONG_NAME),
+    Case("long-moved", f"{CREATE_SEED}; {CREATE_OTHER_FILES}", f"mv seed {LONG_NAME}", f"open {LONG_NAME}", LONG_NAME),
+    Case("folder-copied", CREATE_SEED, "mkdir d; cp seed d/s.mcs", "open d/s.mcs", "d/s.mcs"),
     Case("folder-moved", "mkdir d; mcs4 new d/s.mcs < /dev/null > /dev/null", "mv d e", "open e/s.mcs", "e/s.mcs"),
-    Case("served", f"cp /{SERVED} s.mcs", "", "open s.mcs", "s.mcs", begins=SERVED_COMMANDS, is_kept=True),
-    Case("carried", f"cp /{FIRST} s.mcs", "", "open s.mcs", "s.mcs", begins=FIRST_COMMANDS, is_kept=True),
-    Case("carried-copied", "", f"cp /{FIRST} s.mcs", "open s.mcs", "s.mcs", begins=FIRST_COMMANDS),
+    Case("served", f"cp /{SERVED_FILE} s.mcs", "", "open s.mcs", "s.mcs", initial_commands=SERVED_COMMANDS, is_durable=True),
+    Case("carried", f"cp /{VERSION_1_FILE} s.mcs", "", "open s.mcs", "s.mcs", initial_commands=VERSION_1_COMMANDS, is_durable=True),
+    Case("carried-copied", "", f"cp /{VERSION_1_FILE} s.mcs", "open s.mcs", "s.mcs", initial_commands=VERSION_1_COMMANDS),
     # The program syncs only the file's own folder, so new folders above it can be lost.
     Case("folders", "", "mkdir -p d/e", "new d/e/s.mcs", "d/e/s.mcs"),
 )}
-NEW = ("new-long", "new-full", "new-empty", "new-folder")
-OPENED = ("linked", "copied", "moved", "replaced", "long-copied", "long-moved", "folder-copied", "folder-moved", "carried-copied")
+NEW_CASES = ("new-long", "new-full", "new-empty", "new-folder")
+OPEN_CASES = ("linked", "copied", "moved", "replaced", "long-copied", "long-moved", "folder-copied", "folder-moved", "carried-copied")
 
 # --- the trials of a run of the check
 
-# The numbers of commands to send: to the session of a case with `takes_all`, to a session that is already durable or is opened again, and to any
+# The numbers of commands to send: to the session of a case with `gets_all_commands`, to a session that is already durable or is opened again, and to any
 # other session.
 ALL_COMMANDS, MORE_COMMANDS, FEW_COMMANDS = 110, 24, 12
 
@@ -132,7 +133,7 @@ class Trial(NamedTuple):
 
 NO_BARRIER = "no barrier"
 # Trials with an omitted step, which must detect that data is lost. In the last but one, `open` does not sync the file's folder.
-WRONG = (
+FAULTY_TRIALS = (
     Trial("ext4-nobarrier", "served", 60, wrong=NO_BARRIER),
     Trial("ext4", "served", 60, wrong="no sync"),
     Trial("ext4", "served", 200, wrong="no first sync"),
@@ -149,22 +150,22 @@ WRONG = (
 
 def cases_of(kind: str) -> list[str]:
     """Returns the names of the short cases for a kind of file system. Kinds that show stale data have no case `new-link`: FAT has no links."""
-    return [*NEW, *([] if KINDS[kind].shows_stale else ["new-link"]), *OPENED]
+    return [*NEW_CASES, *([] if FILE_SYSTEMS[kind].shows_stale else ["new-link"]), *OPEN_CASES]
 
 
 def long_trials() -> list[Trial]:
     """Returns the trials of `checks/power --long`."""
-    found = [Trial(kind, case, 20) for kind in ("ext4", "xfs", "btrfs", "vfat") for case in cases_of(kind)]
+    trials = [Trial(kind, case, 20) for kind in ("ext4", "xfs", "btrfs", "vfat") for case in cases_of(kind)]
     for kind in ("ext4", "ext4-writeback", "xfs", "btrfs", "vfat", "exfat"):
-        found.append(Trial(kind, "new", 150, 1, is_busy=True))
-        found.append(Trial(kind, "served", 60, 5, is_busy=True))
-        found.append(Trial(kind, "carried", 60, 5))
-    return [*found, *WRONG]
+        trials.append(Trial(kind, "new", 150, 1, is_busy=True))
+        trials.append(Trial(kind, "served", 60, 5, is_busy=True))
+        trials.append(Trial(kind, "carried", 60, 5))
+    return [*trials, *FAULTY_TRIALS]
 
 
 def short_trials() -> list[Trial]:
     """Returns the trials of `checks/power`: two file systems, each with the cases in which data is most easily lost."""
-    found = [Trial("vfat", case, 10) for case in ("new-folder", "long-copied", "folder-copied", "folder-moved")]
-    found += [Trial(kind, "carried", 30, 2) for kind in ("ext4", "vfat")]
-    found += [Trial(kind, "new", 60, 1, is_busy=True) for kind in ("ext4", "vfat")]
-    return [*found, *(trial for trial in WRONG if trial.wrong in ("no sync", "no second sync", "no folder sync") and trial.kind != "xfs")]
+    trials = [Trial("vfat", case, 10) for case in ("new-folder", "long-copied", "folder-copied", "folder-moved")]
+    trials += [Trial(kind, "carried", 30, 2) for kind in ("ext4", "vfat")]
+    trials += [Trial(kind, "new", 60, 1, is_busy=True) for kind in ("ext4", "vfat")]
+    return [*trials, *(trial for trial in FAULTY_TRIALS if trial.wrong in ("no sync", "no second sync", "no folder sync") and trial.kind != "xfs")]

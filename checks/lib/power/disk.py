@@ -22,25 +22,25 @@ ACKNOWLEDGED, INFORMED, UNSUPPORTED = 1, 3, (1 << 31) + 1
 EXPORT, BLOCK_SIZE = 0, 3
 # NBD transmission flags (flags are valid; the disk accepts flushes), and the types of requests.
 HAS_FLAGS, SEND_FLUSH = 1, 4
-READ, WRITE, LEAVE, FLUSH = 0, 1, 2, 3
+READ, WRITE, DISCONNECT, FLUSH = 0, 1, 2, 3
 OPTION_HEAD, REQUEST_HEAD = 16, 28
 
 
-class Fault(Exception):
+class PowerCheckError(Exception):
     """An error that stops the check: the machine or the program in it does not behave as required."""
 
 
 class Event(NamedTuple):
     """An event on the disk or in the program. On the disk, a `write` arrives and is answered later (`wrote`), and a `flush` arrives and is answered
     later (`flushed`); both events of a request have its number. In the program, the command with this number was `sent` or `answered`."""
-    what: str
+    kind: str
     number: int
-    place: int = 0
+    offset: int = 0
     data: bytes = b""
 
 
 class Disk:
-    """Bytes in memory that a machine reads and writes as a disk. If `events` is a list, events are added to it. If `late` is true, writes and flushes
+    """Bytes in memory that a machine reads and writes as a disk. If `events` is a list, events are added to it. If `is_late` is true, writes and flushes
     are answered late and out of order, as a real disk's queue does."""
 
     def __init__(self, size: int, seed: int = 0) -> None:
@@ -49,9 +49,9 @@ class Disk:
         self.bytes = mmap.mmap(self.memory, size)
         self.events: list[Event] | None = None
         self.undo: list[tuple[int, bytes]] | None = None
-        self.late = False
+        self.is_late = False
         self.count = 0
-        self.chance = random.Random(seed)
+        self.rng = random.Random(seed)
 
     @property
     def file(self) -> str:
@@ -63,22 +63,22 @@ class Disk:
         self.bytes.close()
         os.close(self.memory)
 
-    def put(self, place: int, data: bytes) -> None:
+    def write(self, offset: int, data: bytes) -> None:
         """Writes bytes. If `undo` is a list, adds the old bytes to it."""
         if self.undo is not None:
-            self.undo.append((place, self.bytes[place:place + len(data)]))
-        self.bytes[place:place + len(data)] = data
+            self.undo.append((offset, self.bytes[offset:offset + len(data)]))
+        self.bytes[offset:offset + len(data)] = data
 
-    def take_back(self) -> None:
+    def undo_writes(self) -> None:
         """Undoes all writes since `undo` was set to a list."""
-        for place, data in reversed(self.undo or []):
-            self.bytes[place:place + len(data)] = data
+        for offset, data in reversed(self.undo or []):
+            self.bytes[offset:offset + len(data)] = data
         self.undo = None
 
-    def happened(self, what: str, number: int, place: int = 0, data: bytes = b"") -> None:
+    def add_event(self, kind: str, number: int, offset: int = 0, data: bytes = b"") -> None:
         """Adds an event to the list of events if there is a list."""
         if self.events is not None:
-            self.events.append(Event(what, number, place, data))
+            self.events.append(Event(kind, number, offset, data))
 
 
 class Connection:
@@ -88,17 +88,17 @@ class Connection:
         self.disks, self.channel, self.leave = disks, channel, leave
         self.input = bytearray()
         self.disk: Disk | None = None
-        self.is_begun = False
+        self.has_begun = False
         self.waiting: list[tuple[str, int, int]] = []
         channel.sendall(struct.pack(">QQH", MAGIC, OPTION_MAGIC, FIXED_NEWSTYLE_NO_ZEROES))
 
-    def is_ready(self) -> None:
+    def serve_input(self) -> None:
         """Serves the data that has arrived."""
-        found = self.channel.recv(1 << 20)
-        if not found:
+        data = self.channel.recv(1 << 20)
+        if not data:
             self.leave(self.channel)
             return
-        self.input += found
+        self.input += data
         while self.disk is None and self.serve_option():
             pass
         while self.disk is not None and self.serve_request(self.disk):
@@ -110,10 +110,10 @@ class Connection:
 
     def serve_option(self) -> bool:
         """Serves an option of the handshake if it has arrived completely. Returns true if it has."""
-        if not self.is_begun and len(self.input) >= 4:
+        if not self.has_begun and len(self.input) >= 4:
             del self.input[:4]
-            self.is_begun = True
-        if not self.is_begun or len(self.input) < OPTION_HEAD:
+            self.has_begun = True
+        if not self.has_begun or len(self.input) < OPTION_HEAD:
             return False
         _, option, length = struct.unpack(">QII", self.input[:OPTION_HEAD])
         if len(self.input) < OPTION_HEAD + length:
@@ -139,28 +139,28 @@ class Connection:
         """Serves a request if it has arrived completely. Returns true if it has."""
         if len(self.input) < REQUEST_HEAD:
             return False
-        _, _, kind, handle, place, length = struct.unpack(">IHHQQI", self.input[:REQUEST_HEAD])
-        whole = REQUEST_HEAD + (length if kind == WRITE else 0)
-        if len(self.input) < whole:
+        _, _, kind, handle, offset, length = struct.unpack(">IHHQQI", self.input[:REQUEST_HEAD])
+        request_length = REQUEST_HEAD + (length if kind == WRITE else 0)
+        if len(self.input) < request_length:
             return False
-        data = bytes(self.input[REQUEST_HEAD:whole])
-        del self.input[:whole]
+        data = bytes(self.input[REQUEST_HEAD:request_length])
+        del self.input[:request_length]
         if kind == READ:
-            self.answer(handle, disk.bytes[place:place + length])
+            self.answer(handle, disk.bytes[offset:offset + length])
         elif kind == WRITE:
             disk.count += 1
-            disk.happened("write", disk.count, place, data)
-            disk.put(place, data)
+            disk.add_event("write", disk.count, offset, data)
+            disk.write(offset, data)
             self.wait("wrote", handle, disk)
         elif kind == FLUSH:
             disk.count += 1
-            disk.happened("flush", disk.count)
+            disk.add_event("flush", disk.count)
             self.wait("flushed", handle, disk)
-        elif kind == LEAVE:
+        elif kind == DISCONNECT:
             self.leave(self.channel)
             return False
         else:
-            raise Fault(f"QEMU asks the disk for a request of kind {kind}")
+            raise PowerCheckError(f"QEMU asks the disk for a request of kind {kind}")
         return True
 
     def answer(self, handle: int, data: bytes = b"") -> None:
@@ -168,15 +168,15 @@ class Connection:
         self.channel.setblocking(True)
         self.channel.sendall(struct.pack(">IIQ", REQUEST_ANSWER, 0, handle) + data)
 
-    def wait(self, what: str, handle: int, disk: Disk) -> None:
+    def wait(self, kind: str, handle: int, disk: Disk) -> None:
         """Answers a request later if the disk is late, otherwise immediately."""
-        self.waiting.append((what, disk.count, handle))
-        if not disk.late:
-            self.answer_one()
+        self.waiting.append((kind, disk.count, handle))
+        if not disk.is_late:
+            self.answer_random_request()
 
-    def answer_one(self) -> None:
+    def answer_random_request(self) -> None:
         """Answers one of the waiting requests, chosen at random."""
         assert self.disk is not None
-        what, number, handle = self.waiting.pop(self.disk.chance.randrange(len(self.waiting)))
-        self.disk.happened(what, number)
+        kind, number, handle = self.waiting.pop(self.disk.rng.randrange(len(self.waiting)))
+        self.disk.add_event(kind, number)
         self.answer(handle)

@@ -31,9 +31,9 @@ Part = tuple[int, int] | None
 
 @dataclasses.dataclass
 class Image:
-    """Possible contents of the disk after a power cut. A cut after the event with the number `place` can leave the image, and so can cuts up to the
-    event `last`. At least `least` and at most `most` commands must be found after all these cuts. `least` is None before the first answer if no
-    session existed at the beginning."""
+    """Possible contents of the disk after a power cut. Cuts after the event with the number `place`, or after some later event up to `last`, can leave
+    this image. After each of these cuts, at least `least` and at most `most` commands must be found. `least` is None before the first answer if no
+    session existed at the beginning. `durable` is the number of durable writes, and `kept` has the parts of the pending writes."""
     place: int
     last: int
     phase: Phase
@@ -48,7 +48,7 @@ class Image:
         """Returns true if a block of the file system can be half old and half new, which the file system need not tolerate."""
         return any(part is not None and part[0] < BLOCK for part in self.kept.values())
 
-    def tighten(self, place: int, least: int | None, most: int) -> None:
+    def add_cut(self, place: int, least: int | None, most: int) -> None:
         """Adds a cut after another event that leaves the same image."""
         self.last = place
         if least is not None:
@@ -59,98 +59,99 @@ class Image:
 class History:
     """The events on a disk while a session was served on it."""
 
-    def __init__(self, events: list[Event], first: int, is_kept: bool, snapshots: set[int], whole_blocks: bool,
-                 chance: random.Random) -> None:
-        """`first` is the number of commands in the session at the beginning. `is_kept` is true if the session was durable then. `snapshots` has the
-        numbers of the commands at which a snapshot is written. If `whole_blocks` is true, a block of 4,096 bytes is never half written."""
-        self.events, self.first, self.snapshots, self.chance = events, first, snapshots, chance
-        self.start = first if is_kept else None
+    def __init__(self, events: list[Event], initial_commands: int, is_durable: bool, snapshots: set[int], whole_blocks: bool,
+                 rng: random.Random) -> None:
+        """`initial_commands` is the number of commands in the session at the beginning. `is_durable` is true if the session was durable then.
+        `snapshots` has the numbers of the commands at which a snapshot is written. If `whole_blocks` is true, no block of 4,096 bytes is half
+        written."""
+        self.events, self.first, self.snapshots, self.rng = events, initial_commands, snapshots, rng
+        self.start = initial_commands if is_durable else None
         self.whole_blocks = whole_blocks
         durable_at = self.durable_at()
         never = len(events) + 1
-        self.writes = {event.number: event for event in events if event.what == "write"}
+        self.writes = {event.number: event for event in events if event.kind == "write"}
         # Sorted by the time at which they become durable, so that the durable writes of each image are the first ones in this list.
         self.by_durability = sorted(self.writes, key=lambda number: (durable_at.get(number, never), number))
         self.durable_places = [durable_at.get(number, never) for number in self.by_durability]
         self.rank = {number: rank for rank, number in enumerate(self.by_durability)}
 
-    def count(self, what: str) -> int:
+    def count(self, kind: str) -> int:
         """Returns the number of events of a kind."""
-        return sum(event.what == what for event in self.events)
+        return sum(event.kind == kind for event in self.events)
 
     def durable_at(self) -> dict[int, int]:
         """Returns the number of the event that makes each write durable. This event is the answer to a flush that arrived after the write was
         answered. Writes that never become durable are omitted."""
-        at: dict[int, int] = {}
-        answered: list[int] = []
-        covered: dict[int, list[int]] = {}
-        for place, event in enumerate(self.events, 1):
-            if event.what == "wrote":
-                answered.append(event.number)
-            elif event.what == "flush":
-                covered[event.number] = answered
-                answered = []
-            elif event.what == "flushed":
-                at.update(dict.fromkeys(covered.pop(event.number), place))
-        return at
+        durable_events: dict[int, int] = {}
+        answered_writes: list[int] = []
+        covered_writes: dict[int, list[int]] = {}
+        for event_number, event in enumerate(self.events, 1):
+            if event.kind == "wrote":
+                answered_writes.append(event.number)
+            elif event.kind == "flush":
+                covered_writes[event.number] = answered_writes
+                answered_writes = []
+            elif event.kind == "flushed":
+                durable_events.update(dict.fromkeys(covered_writes.pop(event.number), event_number))
+        return durable_events
 
     def all_images(self) -> list[Image]:
         """Returns all possible images, each once, in chronological order."""
-        found: dict[bytes, Image] = {}
+        images: dict[bytes, Image] = {}
         answered, sent, first_answer = self.start, self.first, 0
         durable, pending = 0, list[int]()
-        for place, event in enumerate(self.events, 1):
-            if event.what == "answered":
-                answered, first_answer = event.number, first_answer or place
-            elif event.what == "sent":
+        for event_number, event in enumerate(self.events, 1):
+            if event.kind == "answered":
+                answered, first_answer = event.number, first_answer or event_number
+            elif event.kind == "sent":
                 sent = event.number
-            elif event.what == "write":
+            elif event.kind == "write":
                 pending.append(event.number)
-            elif event.what == "flushed":
-                while durable < len(self.by_durability) and self.durable_places[durable] <= place:
+            elif event.kind == "flushed":
+                while durable < len(self.by_durability) and self.durable_places[durable] <= event_number:
                     pending.remove(self.by_durability[durable])
                     durable += 1
-            phase = self.phase(place, first_answer, answered, sent)
-            for how, kept in self.ways(event, pending):
-                key = hashlib.sha256(repr((durable, sorted(kept.items()))).encode()).digest()
-                image = found.setdefault(key, Image(place, place, phase, how, durable, kept, answered, sent))
-                image.tighten(place, answered, sent)
-        return list(found.values())
+            phase = self.phase(event_number, first_answer, answered, sent)
+            for selection, parts in self.ways(event, pending):
+                key = hashlib.sha256(repr((durable, sorted(parts.items()))).encode()).digest()
+                image = images.setdefault(key, Image(event_number, event_number, phase, selection, durable, parts, answered, sent))
+                image.add_cut(event_number, answered, sent)
+        return list(images.values())
 
-    def phase(self, place: int, first_answer: int, answered: int | None, sent: int) -> Phase:
-        """Returns the phase of a cut after the event with the number `place`."""
+    def phase(self, event_number: int, first_answer: int, answered: int | None, sent: int) -> Phase:
+        """Returns the phase of a cut after the event with this number."""
         if not first_answer:
             return "opening"
         if sent != answered and sent in self.snapshots:
             return "snapshot"
-        return "beginning" if place < first_answer + BEGINNING else "serving"
+        return "beginning" if event_number < first_answer + BEGINNING else "serving"
 
     def ways(self, event: Event, pending: list[int]) -> list[tuple[str, dict[int, Part]]]:
         """Returns some of the ways in which the pending writes can be on the disk after an event: for each its name, and the part of each write."""
-        found: list[tuple[str, dict[int, Part]]] = [("none", {}), ("all", dict.fromkeys(pending))]
-        if event.what in ("write", "flushed"):
-            found += [("some", self.part_of(pending)) for _ in range(PARTS * min(len(pending), MAX_PENDING))]
-        return found
+        selections: list[tuple[str, dict[int, Part]]] = [("none", {}), ("all", dict.fromkeys(pending))]
+        if event.kind in ("write", "flushed"):
+            selections += [("some", self.part_of(pending)) for _ in range(PARTS * min(len(pending), MAX_PENDING))]
+        return selections
 
     def part_of(self, pending: list[int]) -> dict[int, Part]:
         """Returns a random selection from these writes: all, none or some of the sectors of each one."""
-        unit = BLOCK if self.whole_blocks else self.chance.choice((SECTOR, BLOCK))
-        found: dict[int, Part] = {}
+        unit = BLOCK if self.whole_blocks else self.rng.choice((SECTOR, BLOCK))
+        parts: dict[int, Part] = {}
         for write in pending:
-            what = self.chance.randrange(3)
-            if what == 0:
-                found[write] = None
-            elif what == 1:
-                found[write] = unit, self.chance.getrandbits(-(-len(self.writes[write].data) // unit))
-        return found
+            choice = self.rng.randrange(3)
+            if choice == 0:
+                parts[write] = None
+            elif choice == 1:
+                parts[write] = unit, self.rng.getrandbits(-(-len(self.writes[write].data) // unit))
+        return parts
 
     def draw(self, images: list[Image], count: int) -> list[Image]:
         """Returns at most `count` of these images, in chronological order. Each phase has the same share, or more if another phase has too few."""
         groups = sorted(([image for image in images if image.phase == phase] for phase in PHASES), key=len)
-        drawn: list[Image] = []
+        chosen_images: list[Image] = []
         for index, group in enumerate(groups):
-            drawn += self.chance.sample(group, min(len(group), (count - len(drawn)) // (len(groups) - index)))
-        return sorted(drawn, key=lambda image: image.place)
+            chosen_images += self.rng.sample(group, min(len(group), (count - len(chosen_images)) // (len(groups) - index)))
+        return sorted(chosen_images, key=lambda image: image.place)
 
 
 class Builder:
@@ -163,39 +164,39 @@ class Builder:
         self.replaced: list[tuple[int, bytes]] = []
 
     def build(self, image: Image) -> None:
-        """Writes an image to the disk: the durable writes permanently, the others until `disk.take_back`. Writes are done in the order in which
-        they arrived."""
+        """Writes an image to the disk, in the order in which the writes arrived: the durable writes permanently, the others until
+        `disk.undo_writes`."""
         rank = self.history.rank
         while self.placed < len(self.order) and rank[self.order[self.placed].number] < image.durable:
             write = self.order[self.placed]
-            self.replaced.append((write.place, self.disk.bytes[write.place:write.place + len(write.data)]))
-            self.disk.put(write.place, write.data)
+            self.replaced.append((write.offset, self.disk.bytes[write.offset:write.offset + len(write.data)]))
+            self.disk.write(write.offset, write.data)
             self.placed += 1
         self.disk.undo = []
         for write in self.order[self.placed:]:
             if rank[write.number] < image.durable:
-                self.disk.put(write.place, write.data)
+                self.disk.write(write.offset, write.data)
             elif write.number in image.kept:
-                self.put_part(write, image.kept[write.number])
+                self.write_part(write, image.kept[write.number])
 
-    def put_part(self, write: Event, part: Part) -> None:
+    def write_part(self, write: Event, part: Part) -> None:
         """Writes a part of a write to the disk."""
         if part is None:
-            self.disk.put(write.place, write.data)
+            self.disk.write(write.offset, write.data)
             return
         unit, mask = part
-        for begin in range(0, len(write.data), unit):
-            if mask >> begin // unit & 1:
-                self.disk.put(write.place + begin, write.data[begin:begin + unit])
+        for start in range(0, len(write.data), unit):
+            if mask >> start // unit & 1:
+                self.disk.write(write.offset + start, write.data[start:start + unit])
 
-    def rewind(self) -> None:
+    def undo_all(self) -> None:
         """Undoes all writes."""
-        for place, data in reversed(self.replaced):
-            self.disk.put(place, data)
+        for offset, data in reversed(self.replaced):
+            self.disk.write(offset, data)
         self.placed, self.replaced = 0, []
 
-    def settle(self, image: Image) -> None:
+    def write_permanently(self, image: Image) -> None:
         """Writes an image to the disk permanently, regardless of its previous contents."""
-        self.rewind()
+        self.undo_all()
         self.build(image)
         self.disk.undo = None

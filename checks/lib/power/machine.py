@@ -14,7 +14,7 @@ import subprocess
 import time
 from typing import NamedTuple
 
-from power.disk import Connection, Disk, Fault
+from power.disk import Connection, Disk, PowerCheckError
 
 # The machine's init script. It loads modules, switches off the echo of its serial line, and then runs each shell line that arrives and prints its
 # exit status.
@@ -32,12 +32,12 @@ while read -r line; do eval "$line"; echo "done $?"; done
 """
 # `clearcpuid=cx16`: Linux 6.12 triggers a bug of CMPXCHG16B in QEMU 7.2 without KVM. `no_timer_check`: on a busy host, the kernel would consider
 # its timer broken. The default processor is too old for Debian's glibc.
-KERNEL_WORDS = "console=ttyS0 loglevel=5 panic=-1 mitigations=off random.trust_cpu=on clearcpuid=cx16 no_timer_check cryptomgr.notests"
+KERNEL_ARGUMENTS = "console=ttyS0 loglevel=5 panic=-1 mitigations=off random.trust_cpu=on clearcpuid=cx16 no_timer_check cryptomgr.notests"
 PROCESSOR = "Nehalem"
 MEMORY = 512
 BOOT_SECONDS = 900
 # The seconds for which a disk holds back an answer, so that other answers can overtake it.
-LATE = 0.0005
+ANSWER_DELAY = 0.0005
 
 
 class Kernel(NamedTuple):
@@ -71,29 +71,29 @@ def modules_of(kernel: Kernel, names: list[str]) -> dict[str, bytes]:
     files = kernel.module_files()
     order: dict[str, bytes] = {}
 
-    def need(name: str) -> None:
+    def add_module(name: str) -> None:
         name = name.replace("-", "_")
         if name not in files or name in order:
             return
         data = module_bytes(files[name])
-        wanted = re.findall(rb"\0depends=([^\0]*)\0", data) + re.findall(rb"\0softdep=pre: ([^\0]*)\0", data)
-        for other in re.split(r"[, ]+", " ".join(words.decode() for words in wanted)):
-            if other:
-                need(other)
+        dependencies = re.findall(rb"\0depends=([^\0]*)\0", data) + re.findall(rb"\0softdep=pre: ([^\0]*)\0", data)
+        for dependency in re.split(r"[, ]+", " ".join(command.decode() for command in dependencies)):
+            if dependency:
+                add_module(dependency)
         order[name] = data
 
     for name in names:
-        need(name)
+        add_module(name)
     return order
 
 
 def libraries_of(program: str) -> dict[str, str]:
     """Returns the shared libraries of a program, by their paths in the machine. There are none if it is linked statically."""
-    listed = subprocess.run(["ldd", program], stdout=subprocess.PIPE, stderr=subprocess.DEVNULL, text=True, check=False).stdout
-    return {place.lstrip("/"): place for place in re.findall(r"(/\S+) \(0x", listed)}
+    output = subprocess.run(["ldd", program], stdout=subprocess.PIPE, stderr=subprocess.DEVNULL, text=True, check=False).stdout
+    return {path.lstrip("/"): path for path in re.findall(r"(/\S+) \(0x", output)}
 
 
-def initramfs(folder: pathlib.Path, kernel: Kernel, names: list[str], files: dict[str, str]) -> pathlib.Path:
+def create_initramfs(folder: pathlib.Path, kernel: Kernel, names: list[str], files: dict[str, str]) -> pathlib.Path:
     """Creates an archive of busybox, modules and files. Each file has its path in the machine and its path on this host."""
     root = folder / "root"
     shutil.rmtree(root, ignore_errors=True)
@@ -110,10 +110,10 @@ def initramfs(folder: pathlib.Path, kernel: Kernel, names: list[str], files: dic
         shutil.copy(file, root / place)
     (root / "init").write_text(INIT_SCRIPT)
     (root / "init").chmod(0o755)
-    listed = "\n".join(sorted(str(path.relative_to(root)) for path in root.rglob("*")))
-    packed = subprocess.run(["cpio", "--quiet", "-o", "-H", "newc"], input=listed.encode(), cwd=root, stdout=subprocess.PIPE, check=True)
+    names_in_archive = "\n".join(sorted(str(path.relative_to(root)) for path in root.rglob("*")))
+    result = subprocess.run(["cpio", "--quiet", "-o", "-H", "newc"], input=names_in_archive.encode(), cwd=root, stdout=subprocess.PIPE, check=True)
     archive = folder / "initramfs"
-    archive.write_bytes(packed.stdout)
+    archive.write_bytes(result.stdout)
     return archive
 
 
@@ -123,15 +123,15 @@ class Line:
     def __init__(self) -> None:
         self.channel: socket.socket | None = None
         self.texts: list[str] = []
-        self.rest = b""
+        self.incomplete = b""
 
-    def is_ready(self) -> None:
+    def serve_input(self) -> None:
         """Reads the data that has arrived."""
         assert self.channel is not None
-        *texts, self.rest = (self.rest + self.channel.recv(1 << 16)).split(b"\n")
+        *texts, self.incomplete = (self.incomplete + self.channel.recv(1 << 16)).split(b"\n")
         self.texts += [text.decode(errors="replace").rstrip("\r") for text in texts]
 
-    def say(self, text: str) -> None:
+    def send(self, text: str) -> None:
         """Writes a text and a line feed to the line."""
         assert self.channel is not None
         self.channel.sendall(text.encode() + b"\n")
@@ -155,26 +155,26 @@ class Machine:
             self.selector.register(listener, selectors.EVENT_READ, name)
         self.started = time.monotonic()
         # The kernel kills QEMU when this process ends, even if this process is killed.
-        words = ["setpriv", "--pdeathsig", "KILL", *self.words(folder, kernel, archive)]
+        command = ["setpriv", "--pdeathsig", "KILL", *self.qemu_command(folder, kernel, archive)]
         with open(self.errors, "wb") as errors:
-            self.process = subprocess.Popen(words, stdin=subprocess.DEVNULL, stderr=errors)
+            self.process = subprocess.Popen(command, stdin=subprocess.DEVNULL, stderr=errors)
 
-    def words(self, folder: pathlib.Path, kernel: Kernel, archive: pathlib.Path) -> list[str]:
+    def qemu_command(self, folder: pathlib.Path, kernel: Kernel, archive: pathlib.Path) -> list[str]:
         """Returns the command line that starts QEMU."""
-        words = ["qemu-system-x86_64", "-accel", "tcg", "-cpu", PROCESSOR, "-m", str(MEMORY), "-smp", "1", "-nodefaults", "-no-user-config",
+        command = ["qemu-system-x86_64", "-accel", "tcg", "-cpu", PROCESSOR, "-m", str(MEMORY), "-smp", "1", "-nodefaults", "-no-user-config",
                  "-display", "none", "-nic", "none", "-no-reboot", "-kernel", str(kernel.image), "-initrd", str(archive),
-                 "-append", KERNEL_WORDS, "-chardev", f"file,id=console,path={self.console}", "-serial", "chardev:console"]
-        words += ["-chardev", f"socket,id=shell,path={folder}/shell", "-serial", "chardev:shell", "-device", "virtio-serial-pci",
+                 "-append", KERNEL_ARGUMENTS, "-chardev", f"file,id=console,path={self.console}", "-serial", "chardev:console"]
+        command += ["-chardev", f"socket,id=shell,path={folder}/shell", "-serial", "chardev:shell", "-device", "virtio-serial-pci",
                   "-chardev", f"socket,id=program,path={folder}/program", "-device", "virtserialport,chardev=program"]
         for name in self.disks:
-            words += ["-blockdev", f"driver=nbd,node-name={name},server.type=unix,server.path={folder}/disk,export={name}",
+            command += ["-blockdev", f"driver=nbd,node-name={name},server.type=unix,server.path={folder}/disk,export={name}",
                       "-device", f"virtio-blk-pci,drive={name},write-cache=on"]
-        return words
+        return command
 
     def boot(self) -> float:
         """Waits until the machine accepts shell lines. Returns the number of seconds since its start."""
-        if self.hear(self.shell, BOOT_SECONDS) != "ready":
-            raise Fault(f"the machine does not begin; its last lines:\n{self.last_lines()}")
+        if self.receive(self.shell, BOOT_SECONDS) != "ready":
+            raise PowerCheckError(f"the machine does not begin; its last lines:\n{self.last_lines()}")
         return time.monotonic() - self.started
 
     def last_lines(self) -> str:
@@ -182,11 +182,11 @@ class Machine:
         output = self.console.read_bytes()[-4000:] + self.errors.read_bytes()[-1000:]
         return "\n".join("    " + line for line in output.decode(errors="replace").splitlines()[-12:])
 
-    def joins(self, name: str, listener: socket.socket) -> None:
+    def accept_connection(self, name: str, listener: socket.socket) -> None:
         """Accepts QEMU's connection to a line or a disk."""
         channel, _ = listener.accept()
         if name == "disk":
-            connection = Connection(self.disks, channel, self.leaves)
+            connection = Connection(self.disks, channel, self.end_connection)
             self.connections.append(connection)
             self.selector.register(channel, selectors.EVENT_READ, connection)
         else:
@@ -194,53 +194,53 @@ class Machine:
             line.channel = channel
             self.selector.register(channel, selectors.EVENT_READ, line)
 
-    def leaves(self, channel: socket.socket) -> None:
+    def end_connection(self, channel: socket.socket) -> None:
         """Handles the end of QEMU's connection to a disk."""
         self.connections = [connection for connection in self.connections if connection.channel is not channel]
         self.selector.unregister(channel)
         channel.close()
 
-    def turn(self, seconds: float) -> None:
+    def serve(self, seconds: float) -> None:
         """Serves the data that arrives within a number of seconds. If none arrives, sends answers that the disks have held back."""
-        waiting = [connection for connection in self.connections if connection.waiting]
-        found = self.selector.select(LATE if waiting else seconds)
-        for key, _ in found:
+        busy_connections = [connection for connection in self.connections if connection.waiting]
+        ready = self.selector.select(ANSWER_DELAY if busy_connections else seconds)
+        for key, _ in ready:
             if isinstance(key.data, str):
                 assert isinstance(key.fileobj, socket.socket)
-                self.joins(key.data, key.fileobj)
+                self.accept_connection(key.data, key.fileobj)
             else:
-                key.data.is_ready()
-        if not found:
-            for connection in waiting:
-                connection.answer_one()
+                key.data.serve_input()
+        if not ready:
+            for connection in busy_connections:
+                connection.answer_random_request()
         if self.process.poll() is not None:
-            raise Fault(f"QEMU has ended with status {self.process.returncode}; the last lines:\n{self.last_lines()}")
+            raise PowerCheckError(f"QEMU has ended with status {self.process.returncode}; the last lines:\n{self.last_lines()}")
 
-    def hear(self, line: Line, seconds: float = 600) -> str:
+    def receive(self, line: Line, seconds: float = 600) -> str:
         """Returns the next text on a line."""
-        end = time.monotonic() + seconds
+        deadline = time.monotonic() + seconds
         while not line.texts:
-            if time.monotonic() > end:
-                raise Fault(f"the machine was silent for {seconds} seconds; its last lines:\n{self.last_lines()}")
-            self.turn(0.2)
+            if time.monotonic() > deadline:
+                raise PowerCheckError(f"the machine was silent for {seconds} seconds; its last lines:\n{self.last_lines()}")
+            self.serve(0.2)
         return line.texts.pop(0)
 
-    def do(self, text: str) -> tuple[list[str], int]:
+    def run(self, text: str) -> tuple[list[str], int]:
         """Runs a line of shell. Returns its lines of output and its status."""
-        self.shell.say(text)
+        self.shell.send(text)
         lines: list[str] = []
-        while not re.fullmatch(r"done \d+", line := self.hear(self.shell)):
+        while not re.fullmatch(r"done \d+", line := self.receive(self.shell)):
             lines.append(line)
         return lines, int(line.split()[1])
 
-    def must(self, text: str) -> list[str]:
+    def run_successfully(self, text: str) -> list[str]:
         """Runs a line of shell that must have status 0. Returns its lines of output."""
-        lines, status = self.do(text)
+        lines, status = self.run(text)
         if status:
-            raise Fault(f"{text}: status {status}, {lines}; the machine's last lines:\n{self.last_lines()}")
+            raise PowerCheckError(f"{text}: status {status}, {lines}; the machine's last lines:\n{self.last_lines()}")
         return lines
 
-    def off(self) -> None:
+    def cut_power(self) -> None:
         """Cuts the power."""
         if self.process.poll() is None:
             self.process.send_signal(signal.SIGKILL)

@@ -17,7 +17,7 @@ PROGRAMS = {"qemu-system-x86_64": "qemu-system-x86", "cpio": "cpio", "busybox": 
 ALL_PACKAGES = "qemu-system-x86 busybox-static cpio e2fsprogs xfsprogs btrfs-progs dosfstools exfatprogs"
 KERNEL_PACKAGE = "linux-image-cloud-amd64"
 # The folder that `checks/power --fetch` fills.
-FETCHED = pathlib.Path(os.environ.get("XDG_CACHE_HOME") or pathlib.Path.home() / ".cache") / "fethsaim/kernels"
+FETCHED_KERNELS = pathlib.Path(os.environ.get("XDG_CACHE_HOME") or pathlib.Path.home() / ".cache") / "fethsaim/kernels"
 MEGA = 1 << 20
 
 
@@ -31,44 +31,44 @@ def memory_folder() -> str | None:
     return "/dev/shm" if os.access("/dev/shm", os.W_OK) else None
 
 
-def lacking_packages(programs: dict[str, str]) -> list[str]:
+def missing_packages(programs: dict[str, str]) -> list[str]:
     """Returns the Debian packages of missing programs."""
     return sorted({package for program, package in programs.items() if shutil.which(program, path=path_with_system()) is None})
 
 
 def kernels_in(folder: pathlib.Path) -> list[Kernel]:
     """Returns the kernels in a folder with `boot` and `lib/modules`, by name."""
-    found = []
+    kernels = []
     for image in sorted(folder.glob("boot/vmlinuz-*")):
         release = image.name.removeprefix("vmlinuz-")
         modules = [place for top in ("lib", "usr/lib") if (place := folder / top / "modules" / release).is_dir()]
         if modules and os.access(image, os.R_OK):
-            found.append(Kernel(image, modules[0]))
-    return found
+            kernels.append(Kernel(image, modules[0]))
+    return kernels
 
 
 def find_kernels(folders: list[str]) -> list[Kernel]:
     """Returns the kernels in these folders. Without folders, returns the newest fetched kernel, or else the newest installed one."""
     if folders:
         return [kernel for folder in folders for kernel in kernels_in(pathlib.Path(folder))]
-    fetched = [kernel for folder in sorted(FETCHED.glob("*")) for kernel in kernels_in(folder)]
+    fetched = [kernel for folder in sorted(FETCHED_KERNELS.glob("*")) for kernel in kernels_in(folder)]
     return (fetched or kernels_in(pathlib.Path("/")))[-1:]
 
 
 def fetch_kernel() -> int:
     """Downloads and unpacks Debian's kernel for virtual machines, without installing it. Returns the exit status."""
-    FETCHED.mkdir(parents=True, exist_ok=True)
-    depends = subprocess.run(["apt-cache", "depends", KERNEL_PACKAGE], stdout=subprocess.PIPE, stderr=subprocess.PIPE, text=True, check=False)
-    found = re.search(r"Depends: (linux-image-\S+)", depends.stdout)
-    if not found:
-        print(f"checks/power: apt knows no {KERNEL_PACKAGE}; try apt-get update first. {depends.stderr.strip()}", file=sys.stderr)
+    FETCHED_KERNELS.mkdir(parents=True, exist_ok=True)
+    result_of_depends = subprocess.run(["apt-cache", "depends", KERNEL_PACKAGE], stdout=subprocess.PIPE, stderr=subprocess.PIPE, text=True, check=False)
+    match = re.search(r"Depends: (linux-image-\S+)", result_of_depends.stdout)
+    if not match:
+        print(f"checks/power: apt knows no {KERNEL_PACKAGE}; try apt-get update first. {result_of_depends.stderr.strip()}", file=sys.stderr)
         return 1
-    folder = FETCHED / found[1]
-    ran = subprocess.run(["apt-get", "-o", "APT::Sandbox::User=root", "download", found[1]], cwd=FETCHED, stdout=subprocess.DEVNULL,
+    folder = FETCHED_KERNELS / match[1]
+    result = subprocess.run(["apt-get", "-o", "APT::Sandbox::User=root", "download", match[1]], cwd=FETCHED_KERNELS, stdout=subprocess.DEVNULL,
                          stderr=subprocess.PIPE, text=True, check=False)
-    archives = sorted(FETCHED.glob(f"{found[1]}_*.deb"))
-    if ran.returncode or not archives:
-        print(f"checks/power: {found[1]} is not downloaded: {ran.stderr.strip()}", file=sys.stderr)
+    archives = sorted(FETCHED_KERNELS.glob(f"{match[1]}_*.deb"))
+    if result.returncode or not archives:
+        print(f"checks/power: {match[1]} is not downloaded: {result.stderr.strip()}", file=sys.stderr)
         return 1
     status = subprocess.run(["dpkg-deb", "-x", archives[-1], folder], check=False).returncode
     for archive in archives:
@@ -78,7 +78,7 @@ def fetch_kernel() -> int:
     return status
 
 
-def lack_of_room(folder: pathlib.Path, disk: int) -> str:
+def missing_space(folder: pathlib.Path, disk: int) -> str:
     """Returns a message if there is too little memory for a machine with a disk of this size, or too little space for its images; otherwise ""."""
     needed = MEMORY * MEGA + 3 * disk
     memory = pathlib.Path("/proc/meminfo").read_text()

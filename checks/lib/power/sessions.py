@@ -7,8 +7,8 @@ import os
 import pathlib
 import subprocess
 
-from power.cases import FIRST, FIRST_COMMANDS, SERVED, SERVED_COMMANDS
-from power.disk import Fault
+from power.cases import VERSION_1_FILE, VERSION_1_COMMANDS, SERVED_FILE, SERVED_COMMANDS
+from power.disk import PowerCheckError
 from session_file import LENGTH_BYTES, SLOTS, read
 
 ROMS = 16
@@ -38,34 +38,34 @@ VERSION_PLACE, VERSION_2 = 4, 2
 def commands(count: int) -> list[str]:
     """Returns `count` commands as text. A snapshot is written at the 49th command, when cycles have filled the log, and then at every 20th command,
     when bytes have filled it: three in four of these commands have a record of 4,213 bytes, which takes two blocks."""
-    found = [BOARD, PROGRAM]
-    for number in range(len(found), count):
+    all_commands = [BOARD, PROGRAM]
+    for number in range(len(all_commands), count):
         if number >= SHORT_COMMANDS and number % 4:
             line = "DB " + ",".join([str(number % 10)] * BYTES_OF_LINE) + "\n"
-            found.append("asm\nORG 0x100\n" + line * LINES + ".")
+            all_commands.append("asm\nORG 0x100\n" + line * LINES + ".")
         elif number % 8 == 7:
-            found.append(f"poke ram.0.{number % 256} {number % 16}")
+            all_commands.append(f"poke ram.0.{number % 256} {number % 16}")
         else:
-            found.append("run 100000")
-    return found[:count]
+            all_commands.append("run 100000")
+    return all_commands[:count]
 
 
 def as_version_1(data: bytes) -> bytes:
     """Returns the version 1 form of a session file whose snapshot, of version 2, has no watches: without the version byte and without the
     number of watches."""
     slot = SLOTS[data[8] % 2]
-    begin = slot + LENGTH_BYTES
-    length = int.from_bytes(data[slot:begin], "big")
-    state = data[begin:begin + length]
+    start = slot + LENGTH_BYTES
+    length = int.from_bytes(data[slot:start], "big")
+    state = data[start:start + length]
     assert state[VERSION_PLACE] == VERSION_2 and state[-1] == 0
-    first = state[:VERSION_PLACE] + state[VERSION_PLACE + 1:-1]
-    return data[:slot] + len(first).to_bytes(LENGTH_BYTES, "big") + first + bytes(2) + data[begin + length:]
+    state_1 = state[:VERSION_PLACE] + state[VERSION_PLACE + 1:-1]
+    return data[:slot] + len(state_1).to_bytes(LENGTH_BYTES, "big") + state_1 + bytes(2) + data[start + length:]
 
 
 def has_version_1(data: bytes) -> bool:
     """Returns true if a file contains a session of version 1."""
-    found = read(data)
-    return found is not None and found[0][VERSION_PLACE] != VERSION_2
+    parsed = read(data)
+    return parsed is not None and parsed[0][VERSION_PLACE] != VERSION_2
 
 
 def digest(answers: bytes) -> str:
@@ -84,61 +84,61 @@ class Sessions:
         self.verdicts: dict[bytes, int | str] = {}
         self.serve_all()
 
-    def run(self, words: list[str], text: str) -> tuple[str, bytes]:
+    def run(self, arguments: list[str], text: str) -> tuple[str, bytes]:
         """Runs the program until it ends. Returns its first answer and the other answers."""
-        done = subprocess.run([self.program, *words], input=text.encode(), stdout=subprocess.PIPE, stderr=subprocess.DEVNULL, check=False)
-        first, _, others = done.stdout.partition(b"\n")
-        return first.decode(errors="replace"), others
+        result = subprocess.run([self.program, *arguments], input=text.encode(), stdout=subprocess.PIPE, stderr=subprocess.DEVNULL, check=False)
+        first_answer, _, other_answers = result.stdout.partition(b"\n")
+        return first_answer.decode(errors="replace"), other_answers
 
     def serve_all(self) -> None:
         """Records the state after each command, and the commands at which a snapshot is written. Creates the sessions that are copied into the
         machine."""
         file = self.folder / "model.mcs"
         slot = 0
-        with subprocess.Popen([self.program, "new", str(file)], stdin=subprocess.PIPE, stdout=subprocess.PIPE) as served:
+        with subprocess.Popen([self.program, "new", str(file)], stdin=subprocess.PIPE, stdout=subprocess.PIPE) as process:
             for number in range(len(self.commands) + 1):
-                begun, state = self.after(served, number)
-                if begun != ("ok" if number else "session"):
-                    raise Fault(f"the program does not serve command {number}: {begun}")
+                first_word, state = self.state_after(process, number)
+                if first_word != ("ok" if number else "session"):
+                    raise PowerCheckError(f"the program does not serve command {number}: {first_word}")
                 self.states.append(state)
                 data = file.read_bytes()
                 if data[8] != slot:
                     self.snapshots.add(number)
                 slot = data[8]
                 if number == SERVED_COMMANDS:
-                    (self.folder / SERVED).write_bytes(data)
-                if number == FIRST_COMMANDS:
-                    (self.folder / FIRST).write_bytes(as_version_1(data))
+                    (self.folder / SERVED_FILE).write_bytes(data)
+                if number == VERSION_1_COMMANDS:
+                    (self.folder / VERSION_1_FILE).write_bytes(as_version_1(data))
         file.unlink()
         if len(set(self.states)) != len(self.states):
-            raise Fault("two commands leave the same state")
+            raise PowerCheckError("two commands leave the same state")
 
-    def after(self, served: subprocess.Popen[bytes], number: int) -> tuple[str, str]:
+    def state_after(self, process: subprocess.Popen[bytes], number: int) -> tuple[str, str]:
         """Sends a command to a running program. Returns the first word of the answer, and a hash of the state after the command."""
-        assert served.stdin is not None and served.stdout is not None
+        assert process.stdin is not None and process.stdout is not None
         text = (self.commands[number - 1] + "\n" if number else "") + QUERIES + "seq\n"
-        served.stdin.write(text.encode())
-        served.stdin.flush()
+        process.stdin.write(text.encode())
+        process.stdin.flush()
         answers, end = b"", f"\nseq {number}\n".encode()
-        while not answers.endswith(end) and (more := os.read(served.stdout.fileno(), 1 << 16)):
-            answers += more
-        begun, _, state = answers.removesuffix(end[1:]).partition(b"\n")
-        return begun.decode().split(" ")[0], digest(state)
+        while not answers.endswith(end) and (output := os.read(process.stdout.fileno(), 1 << 16)):
+            answers += output
+        first_answer, _, state = answers.removesuffix(end[1:]).partition(b"\n")
+        return first_answer.decode().split(" ")[0], digest(state)
 
-    def found_in(self, data: bytes) -> int | str:
+    def commands_in(self, data: bytes) -> int | str:
         """Returns the number of commands in a session file if the file has the state after these commands, otherwise a message."""
         key = hashlib.sha256(data).digest()
         if key not in self.verdicts:
-            self.verdicts[key] = self.opened(data)
+            self.verdicts[key] = self.open_file(data)
         return self.verdicts[key]
 
-    def opened(self, data: bytes) -> int | str:
+    def open_file(self, data: bytes) -> int | str:
         """Opens a file with the program, and returns its number of commands, or a message."""
         file = self.folder / "found.mcs"
         file.write_bytes(data)
-        first, state = self.run(["open", str(file)], QUERIES)
-        if first.startswith("session "):
-            count = int(first.split()[1])
+        first_answer, state = self.run(["open", str(file)], QUERIES)
+        if first_answer.startswith("session "):
+            count = int(first_answer.split()[1])
             return count if count < len(self.states) and digest(state) == self.states[count] else f"session {count} of another state"
-        again, _ = self.run(["new", str(file)], "")
-        return "blank" if again == "session 0" else f"no session, and none is begun ({first}, {again})"
+        second_answer, _ = self.run(["new", str(file)], "")
+        return "blank" if second_answer == "session 0" else f"no session, and none is begun ({first_answer}, {second_answer})"

@@ -17,8 +17,8 @@ import time
 from collections.abc import Iterator
 from typing import NamedTuple
 
-from power.cases import (ALL_COMMANDS, CASES, FEW_COMMANDS, KINDS, MORE_COMMANDS, NO_BARRIER, Case, Kind, Trial)
-from power.disk import Disk, Event, Fault
+from power.cases import (ALL_COMMANDS, CASES, FEW_COMMANDS, FILE_SYSTEMS, MORE_COMMANDS, NO_BARRIER, Case, FileSystem, Trial)
+from power.disk import Disk, Event, PowerCheckError
 from power.images import Builder, History, Image, Phase
 from power.machine import Machine
 from power.sessions import Sessions, has_version_1
@@ -37,13 +37,13 @@ ALLOWED_BEFORE_NEW = ("absent", "size 0", "blank", 0)
 MAX_REPORTED, MAX_STORED = 2, 6
 
 # The result of examining an image: the number of commands in its session, or a description of anything else.
-Found = int | str
+Contents = int | str
 
 
-class Seen(NamedTuple):
+class ExaminedImage(NamedTuple):
     """The result of examining an image. `is_old` is true if the file has version 1."""
     image: Image
-    found: Found
+    found: Contents
     is_old: bool
 
 
@@ -69,7 +69,7 @@ class Stage:
     before: str
     first: int
     last: int
-    is_kept: bool
+    is_durable: bool
     images: int
 
 
@@ -80,225 +80,225 @@ class Runner:
         """Images with errors are stored in `keep`. `show` is the command line that examines a stored image again, without the name of the image."""
         self.machine, self.sessions, self.keep, self.show = machine, sessions, keep, show
         self.disk, self.out = machine.disks["disk"], machine.disks["out"]
-        self.chance = random.Random(seed)
+        self.rng = random.Random(seed)
         self.junk = random.Random(1).randbytes(MEGA)
-        self.kept = 0
+        self.stored_count = 0
 
     def run(self, trial: Trial) -> Outcome:
         """Runs a trial, and returns its result."""
-        kind, case = KINDS[trial.kind], CASES[trial.case]
-        self.make(kind, trial, case)
-        last = ALL_COMMANDS if case.takes_all else case.begins + (MORE_COMMANDS if case.is_kept else FEW_COMMANDS)
-        stage = Stage(case.words, case.before, case.begins, last, case.is_kept, trial.images)
+        kind, case = FILE_SYSTEMS[trial.kind], CASES[trial.case]
+        self.create_file_system(kind, trial, case)
+        last = ALL_COMMANDS if case.gets_all_commands else case.initial_commands + (MORE_COMMANDS if case.is_durable else FEW_COMMANDS)
+        stage = Stage(case.words, case.before, case.initial_commands, last, case.is_durable, trial.images)
         outcome = Outcome()
         for generation in range(trial.generations + 1):
             began = time.monotonic()
             history = self.record(kind, trial, case, stage)
             builder = Builder(self.disk, history)
             drawn = history.draw(history.all_images(), stage.images)
-            with self.looking():
-                seen = [self.look_at(builder, kind, trial, case, image) for image in drawn]
-            judged = self.judge(trial, generation, history, seen, builder, time.monotonic() - began)
-            outcome.add(judged)
-            if judged.faults or generation == trial.generations:
+            with self.examining():
+                examined = [self.examine(builder, kind, trial, case, image) for image in drawn]
+            results = self.report_results(trial, generation, history, examined, builder, time.monotonic() - began)
+            outcome.add(results)
+            if results.faults or generation == trial.generations:
                 break
-            following = self.next_disk(trial, generation, seen)
-            builder.settle(following.image)
-            stage = self.next_stage(case, following.found, max(15, trial.images // 4))
+            next_image = self.choose_next_disk(trial, generation, examined)
+            builder.write_permanently(next_image.image)
+            stage = self.next_stage(case, next_image.found, max(15, trial.images // 4))
         return outcome
 
     # --- serving a session
 
     @staticmethod
-    def options(kind: Kind, trial: Trial) -> str:
+    def options(kind: FileSystem, trial: Trial) -> str:
         """Returns the mount options."""
-        return ",".join(filter(None, [kind.options, kind.often if trial.is_busy else ""]))
+        return ",".join(filter(None, [kind.options, kind.frequent_commit_options if trial.is_busy else ""]))
 
-    def mount(self, kind: Kind, trial: Trial) -> None:
+    def mount(self, kind: FileSystem, trial: Trial) -> None:
         """Mounts the disk."""
         options = ",".join(filter(None, ["noatime", self.options(kind, trial)]))
-        self.machine.must(f"blockdev --flushbufs /dev/vda; mount -t {kind.type} -o {options} /dev/vda /mnt")
+        self.machine.run_successfully(f"blockdev --flushbufs /dev/vda; mount -t {kind.type} -o {options} /dev/vda /mnt")
 
-    def make(self, kind: Kind, trial: Trial, case: Case) -> None:
+    def create_file_system(self, kind: FileSystem, trial: Trial, case: Case) -> None:
         """Creates a new file system, whose free blocks contain other bytes than zeros, and runs the synced shell commands of the case on it."""
         size = kind.size * MEGA
         blank = Disk(size)
-        for place in range(0, size, MEGA):
-            blank.bytes[place:place + MEGA] = self.junk
-        words = [*kind.make, blank.file]
-        result = subprocess.run(words, stdout=subprocess.PIPE, stderr=subprocess.STDOUT, text=True, check=False)
+        for offset in range(0, size, MEGA):
+            blank.bytes[offset:offset + MEGA] = self.junk
+        command = [*kind.make_command, blank.file]
+        result = subprocess.run(command, stdout=subprocess.PIPE, stderr=subprocess.STDOUT, text=True, check=False)
         if result.returncode:
-            raise Fault(f"{' '.join(words)}: {result.stdout}")
+            raise PowerCheckError(f"{' '.join(command)}: {result.stdout}")
         self.disk.bytes[:size] = blank.bytes[:]
         blank.close()
         if case.setup:
             self.mount(kind, trial)
-            self.machine.must(f"cd /mnt; {case.setup}; cd /; umount /mnt")
+            self.machine.run_successfully(f"cd /mnt; {case.setup}; cd /; umount /mnt")
 
-    def record(self, kind: Kind, trial: Trial, case: Case, stage: Stage) -> History:
+    def record(self, kind: FileSystem, trial: Trial, case: Case, stage: Stage) -> History:
         """Serves a session, and returns the events on the disk during that time. The disk is then restored to its previous state."""
         self.disk.undo = []
         self.disk.events = events = list[Event]()
-        self.disk.late = True
+        self.disk.is_late = True
         self.mount(kind, trial)
-        self.machine.must("cd /mnt; mkdir -p noise; busy=")
+        self.machine.run_successfully("cd /mnt; mkdir -p noise; busy=")
         if trial.is_busy:
-            self.machine.must(START_OTHER_WRITER)
+            self.machine.run_successfully(START_OTHER_WRITER)
         if stage.before:
-            self.machine.must(stage.before)
-        wrong = f"LD_PRELOAD=/omit.so WRONG='{trial.wrong}'" if trial.wrong not in ("", NO_BARRIER) else ""
-        self.machine.must(START_PROGRAM.format(wrong=wrong, words=stage.words))
+            self.machine.run_successfully(stage.before)
+        environment = f"LD_PRELOAD=/omit.so WRONG='{trial.wrong}'" if trial.wrong not in ("", NO_BARRIER) else ""
+        self.machine.run_successfully(START_PROGRAM.format(wrong=environment, words=stage.words))
         self.serve(events, stage)
         self.disk.events = None
-        self.disk.late = False
-        self.machine.must(STOP_AND_UNMOUNT)
-        self.disk.take_back()
+        self.disk.is_late = False
+        self.machine.run_successfully(STOP_AND_UNMOUNT)
+        self.disk.undo_writes()
         snapshots = set() if case.name.startswith("carried") else self.sessions.snapshots
-        return History(events, stage.first, stage.is_kept, snapshots, kind.whole_blocks, self.chance)
+        return History(events, stage.first, stage.is_durable, snapshots, kind.whole_blocks, self.rng)
 
     def serve(self, events: list[Event], stage: Stage) -> None:
         """Sends the commands of a session, one after another, and records their answers."""
         number, command = stage.first, ""
         while True:
-            answer = self.machine.hear(self.machine.program)
+            answer = self.machine.receive(self.machine.program)
             if not f"{answer} ".startswith(f"{'ok' if command else 'session'} {number} "):
-                raise Fault(f"in place of answer {number}: {answer}; the machine's last lines:\n{self.machine.last_lines()}")
+                raise PowerCheckError(f"in place of answer {number}: {answer}; the machine's last lines:\n{self.machine.last_lines()}")
             events.append(Event("answered", number))
             if number == stage.last:
                 return
             command = self.sessions.commands[number]
             number += 1
             events.append(Event("sent", number))
-            self.machine.program.say(command)
+            self.machine.program.send(command)
 
     # --- looking at images
 
-    def look_at(self, builder: Builder, kind: Kind, trial: Trial, case: Case, image: Image) -> Seen:
+    def examine(self, builder: Builder, kind: FileSystem, trial: Trial, case: Case, image: Image) -> ExaminedImage:
         """Returns what is found on an image."""
         builder.build(image)
-        found = self.found(kind, self.options(kind, trial), case.file)
-        self.disk.take_back()
-        return Seen(image, found, isinstance(found, int) and has_version_1(bytes(self.out.bytes[:SIZE])))
+        contents = self.contents_of_disk(kind, self.options(kind, trial), case.file)
+        self.disk.undo_writes()
+        return ExaminedImage(image, contents, isinstance(contents, int) and has_version_1(bytes(self.out.bytes[:SIZE])))
 
-    def found(self, kind: Kind, options: str, file: str) -> Found:
+    def contents_of_disk(self, kind: FileSystem, options: str, file: str) -> Contents:
         """Returns what a machine finds on its disk after a cut: a number of commands, or a description."""
-        self.machine.shell.say(f"{kind.type} {file} {options}")
-        answer = self.machine.hear(self.machine.shell)
+        self.machine.shell.send(f"{kind.type} {file} {options}")
+        answer = self.machine.receive(self.machine.shell)
         if answer != f"size {SIZE}":
             return answer
-        return self.sessions.found_in(bytes(self.out.bytes[:SIZE]))
+        return self.sessions.commands_in(bytes(self.out.bytes[:SIZE]))
 
     @contextlib.contextmanager
-    def looking(self) -> Iterator[None]:
+    def examining(self) -> Iterator[None]:
         """While this context is active, the machine examines disks (look.c)."""
-        self.machine.shell.say("look")
+        self.machine.shell.send("look")
         yield
-        self.machine.shell.say("")
-        end = self.machine.hear(self.machine.shell)
+        self.machine.shell.send("")
+        end = self.machine.receive(self.machine.shell)
         if end != "done 0":
-            raise Fault(f"the machine cannot look at disks: {end}; its last lines:\n{self.machine.last_lines()}")
+            raise PowerCheckError(f"the machine cannot look at disks: {end}; its last lines:\n{self.machine.last_lines()}")
 
     @staticmethod
-    def verdict(trial: Trial, seen: Seen) -> str:
+    def verdict(trial: Trial, seen: ExaminedImage) -> str:
         """Judges what was found on an image. Returns `good`, a note if other contents are allowed there, or "" for an error."""
-        kind, case = KINDS[trial.kind], CASES[trial.case]
-        image, found = seen.image, seen.found
-        if found == "not mounted" and image.is_torn:
+        kind, case = FILE_SYSTEMS[trial.kind], CASES[trial.case]
+        image, contents = seen.image, seen.found
+        if contents == "not mounted" and image.is_torn:
             return "not mounted, with a torn block"
         if image.least is None:
-            is_good = found in ALLOWED_BEFORE_NEW if case.words.startswith("new") and not kind.shows_stale else found != "not mounted"
-            return f"before the first answer {found}" if is_good else ""
-        return "good" if isinstance(found, int) and image.least <= found <= image.most else ""
+            is_good = contents in ALLOWED_BEFORE_NEW if case.words.startswith("new") and not kind.shows_stale else contents != "not mounted"
+            return f"before the first answer {contents}" if is_good else ""
+        return "good" if isinstance(contents, int) and image.least <= contents <= image.most else ""
 
-    def judge(self, trial: Trial, generation: int, history: History, seen: list[Seen], builder: Builder, seconds: float) -> Outcome:
+    def report_results(self, trial: Trial, generation: int, history: History, examined: list[ExaminedImage], builder: Builder, seconds: float) -> Outcome:
         """Prints what was found on the images of a history, and stores some of the images with errors."""
         notes: collections.Counter[str] = collections.Counter()
-        wrong = []
-        for one in seen:
-            verdict = self.verdict(trial, one)
+        with_errors = []
+        for examined_image in examined:
+            verdict = self.verdict(trial, examined_image)
             if verdict:
                 notes[verdict] += 1
             else:
-                wrong.append(one)
-        phases = collections.Counter(one.image.phase for one in seen)
+                with_errors.append(examined_image)
+        phases = collections.Counter(examined_image.image.phase for examined_image in examined)
         name = f"{trial.name}{f', opened again ({generation})' if generation else ''}"
         print(f"{name}: {history.count('sent')} commands, {history.count('write')} writes, {history.count('flush')} flushes; "
-              f"{len(seen)} images ({', '.join(f'{number} {phase}' for phase, number in phases.items())}), {len(wrong)} faults; "
+              f"{len(examined)} images ({', '.join(f'{number} {phase}' for phase, number in phases.items())}), {len(with_errors)} faults; "
               f"{seconds:.1f} s", flush=True)
         del notes["good"]
         if notes:
             print("    " + "; ".join(f"{number} {note}" for note, number in sorted(notes.items())), flush=True)
-        faults = [self.words_of_fault(one, len(history.events)) for one in wrong[:MAX_REPORTED]]
-        for words, one in zip(faults, wrong):
+        faults = [self.error_message(examined_image, len(history.events)) for examined_image in with_errors[:MAX_REPORTED]]
+        for message, examined_image in zip(faults, with_errors):
             if not trial.wrong:
-                print(f"FAULT in {name}: {words}", flush=True)
-                if one.found == "not mounted":
+                print(f"FAULT in {name}: {message}", flush=True)
+                if examined_image.found == "not mounted":
                     print(f"    the machine's last lines:\n{self.machine.last_lines()}", flush=True)
-                self.keep_image(trial, generation, builder, one.image)
-        return Outcome(len(seen), len(wrong), faults[0] if faults else "")
+                self.store_image(trial, generation, builder, examined_image.image)
+        return Outcome(len(examined), len(with_errors), faults[0] if faults else "")
 
     @staticmethod
-    def words_of_fault(seen: Seen, places: int) -> str:
+    def error_message(examined: ExaminedImage, event_count: int) -> str:
         """Describes an error."""
-        image = seen.image
-        least = "nothing" if image.least is None else f"command {image.least}"
-        found = f"{seen.found} commands" if isinstance(seen.found, int) else seen.found
-        later = f" to {image.last}" if image.last > image.place else ""
-        return (f"cut at {image.place}{later} of {places} ({image.phase}): {least} acknowledged{' in the end' * bool(later)}, "
-                f"command {image.most} sent, found: {found}; {image.durable} writes durable, of {len(image.kept)} others {image.how}")
+        image = examined.image
+        acknowledged = "nothing" if image.least is None else f"command {image.least}"
+        contents = f"{examined.found} commands" if isinstance(examined.found, int) else examined.found
+        range_end = f" to {image.last}" if image.last > image.place else ""
+        return (f"cut at {image.place}{range_end} of {event_count} ({image.phase}): {acknowledged} acknowledged{' in the end' * bool(range_end)}, "
+                f"command {image.most} sent, found: {contents}; {image.durable} writes durable, of {len(image.kept)} others {image.how}")
 
     # --- stored images, and the next disk
 
-    def keep_image(self, trial: Trial, generation: int, builder: Builder, image: Image) -> None:
+    def store_image(self, trial: Trial, generation: int, builder: Builder, image: Image) -> None:
         """Stores an image in a file, with the expected result, and reports the command line that examines it again."""
-        kind, case = KINDS[trial.kind], CASES[trial.case]
-        if self.kept == MAX_STORED:
+        kind, case = FILE_SYSTEMS[trial.kind], CASES[trial.case]
+        if self.stored_count == MAX_STORED:
             return
-        self.kept += 1
+        self.stored_count += 1
         self.keep.mkdir(parents=True, exist_ok=True)
         name = self.keep / f"{trial.kind}-{trial.case}-{generation}-{image.place}.image"
-        builder.rewind()
+        builder.undo_all()
         builder.build(image)
         name.write_bytes(self.disk.bytes[:kind.size * MEGA])
-        self.disk.take_back()
-        about = {"kind": trial.kind, "options": self.options(kind, trial), "file": case.file, "least": image.least, "most": image.most}
-        name.with_suffix(".json").write_text(json.dumps(about))
+        self.disk.undo_writes()
+        description = {"kind": trial.kind, "options": self.options(kind, trial), "file": case.file, "least": image.least, "most": image.most}
+        name.with_suffix(".json").write_text(json.dumps(description))
         print(f"    look at it again: {self.show} --show {name}", flush=True)
 
-    def show_again(self, name: pathlib.Path) -> bool:
+    def examine_stored(self, name: pathlib.Path) -> bool:
         """Reports what is found on a stored image. Returns true if it is right."""
-        about = json.loads(name.with_suffix(".json").read_text())
-        kind, image = KINDS[about["kind"]], name.read_bytes()
+        description = json.loads(name.with_suffix(".json").read_text())
+        kind, image = FILE_SYSTEMS[description["kind"]], name.read_bytes()
         self.disk.bytes[:len(image)] = image
-        with self.looking():
-            found = self.found(kind, about["options"], about["file"])
-        least, most = about["least"], about["most"]
-        is_good = isinstance(found, int) and (least or 0) <= found <= most
-        print(f"{name}: {about['file']} on {kind.name}: {least} commands acknowledged, {most} sent, found: {found}")
+        with self.examining():
+            contents = self.contents_of_disk(kind, description["options"], description["file"])
+        min_commands, max_commands = description["least"], description["most"]
+        is_good = isinstance(contents, int) and (min_commands or 0) <= contents <= max_commands
+        print(f"{name}: {description['file']} on {kind.name}: {min_commands} commands acknowledged, {max_commands} sent, found: {contents}")
         return is_good
 
-    def next_disk(self, trial: Trial, generation: int, seen: list[Seen]) -> Seen:
+    def choose_next_disk(self, trial: Trial, generation: int, examined: list[ExaminedImage]) -> ExaminedImage:
         """Returns the image that becomes the disk of the next generation. Alternates between an image that was cut while a snapshot was
         written and one that was cut while the session was opened, if there are any. For a session of version 1, prefers one that still has
         version 1. For the first generation of a new session, prefers a blank file."""
         case = CASES[trial.case]
         is_carried = case.name.startswith("carried")
-        wanted: Phase = "opening" if is_carried or generation % 2 else "snapshot"
-        good = [one for one in seen if self.verdict(trial, one) == "good"]
+        preferred_phase: Phase = "opening" if is_carried or generation % 2 else "snapshot"
+        valid = [candidate for candidate in examined if self.verdict(trial, candidate) == "good"]
         if case.words.startswith("new") and generation == 0:
-            good = [one for one in seen if one.found == "blank"] or good
-        if not good:
-            raise Fault(f"{trial.name}: no image holds a session")
+            valid = [candidate for candidate in examined if candidate.found == "blank"] or valid
+        if not valid:
+            raise PowerCheckError(f"{trial.name}: no image holds a session")
 
-        def worth(one: Seen) -> tuple[bool, bool, bool]:
-            return one.is_old, one.image.phase == wanted, one.image.how == "some"
+        def rank(candidate: ExaminedImage) -> tuple[bool, bool, bool]:
+            return candidate.is_old, candidate.image.phase == preferred_phase, candidate.image.how == "some"
 
-        best = max(map(worth, good))
-        return self.chance.choice([one for one in good if worth(one) == best])
+        best = max(map(rank, valid))
+        return self.rng.choice([candidate for candidate in valid if rank(candidate) == best])
 
     @staticmethod
-    def next_stage(case: Case, found: Found, images: int) -> Stage:
+    def next_stage(case: Case, contents: Contents, images: int) -> Stage:
         """Returns how the session is served in the next generation: it continues, or is created if the file is blank."""
-        if not isinstance(found, int):
+        if not isinstance(contents, int):
             return Stage(case.words, "", 0, MORE_COMMANDS, False, images)
-        return Stage(f"open {case.file}", "", found, found + MORE_COMMANDS, True, images)
+        return Stage(f"open {case.file}", "", contents, contents + MORE_COMMANDS, True, images)
