@@ -175,7 +175,7 @@ export async function createRejectedTextsError(engine, givenTexts, faults) {
  */
 export async function readCheckedMap(engine, codes, program) {
   const { sessionProgram } = await import("../core/engine/session_program.js");
-  const { faults, difference: other: otherByte, map } = sessionProgram(engine, codes, program.text);
+  const { faults, difference: otherByte, map } = sessionProgram(engine, codes, program.text);
   if (faults.length > 0) throw await createRejectedTextsError(engine, { program }, faults);
   if (!otherByte) return map;
   const { address, romByte, line, sourceByte } = otherByte;

@@ -77,7 +77,7 @@ export class RejectedLines {
    * @param {{ number: number, line: number }} refusal
    */
   describeInput(answeredInput, refusal) {
-    const { input, lineNumber: at: lineNumber } = answeredInput;
+    const { input, lineNumber } = answeredInput;
     const { number } = refusal;
     const error = opensText(input.line) ? this.findTextError(answeredInput, refusal) : null;
     const shownLine = this.lines[lineNumber + (error ? error.line : 0) - 1];
@@ -98,7 +98,7 @@ export class RejectedLines {
     const lines = openingRefusal ? [say.sessionWasRefusedBy(openingRefusal.number, describeRefusal(openingRefusal.number))] : [];
     if (openingLine === "session 0") this.boardText = "";
     for (const [index, answeredInput] of inputs.entries()) {
-      const { input, lineNumber: at: lineNumber, answer } = answeredInput;
+      const { input, lineNumber, answer } = answeredInput;
       if (answer === "") {
         const shownLine = `    ${input.line.slice(0, MAX_SHOWN_LENGTH)}`;
         return [...lines, say.notAnswered(lineNumber, index === inputs.length - 1), shownLine, ...this.formatAddressLines(answeredInput)];

@@ -12,10 +12,10 @@ import { MAX_LINES, PromptHistory } from "./prompt_history.mjs";
 import { isDumb, makePainter } from "./terminal.mjs";
 
 /**
- * The receiver of typed lines. `label` is the text of the prompt. `isEnded` is true after a line that ends the prompt. `take` executes a
+ * The receiver of typed lines. `label` is the text of the prompt. `isEnded` is true after a line that ends the prompt. `enterLine` executes a
  * line. `complete` resolves to the completions of a line, and to the end of the line that they replace. `interrupt` stops the line in
  * progress, and returns false if it cannot be stopped. `drop` discards incomplete input and returns a message about it.
- * @typedef {{ label: string, isEnded: boolean, take: (line: string) => Promise<boolean>,
+ * @typedef {{ label: string, isEnded: boolean, enterLine: (line: string) => Promise<boolean>,
  *   complete: (line: string) => Promise<[string[], string]>, interrupt: () => boolean, drop: () => string }} LinePrompt
  */
 

@@ -174,7 +174,7 @@ test("breakpoints can be set in a source that differs from ROM, and stop once it
   assert.deepEqual([linesAndAddresses(manager), bench.breaks], [[[4, -1]], []]);
   assert.match(log.messages[0], /Assemble to update\. Until then this breakpoint stops nothing\.$/);
   assert.deepEqual([...breakpointMarks(manager.list.all, manager.errors).lines.values()],
-    [{ mark: "\u25CB", words: "breakpoint: it stops once the source is assembled" }]);
+    [{ mark: "\u25CB", description: "breakpoint: it stops once the source is assembled" }]);
   manager.setSourceMap(MAP, "");
   await manager.allSent;
   assert.deepEqual(bench.breaks, ["002"]);

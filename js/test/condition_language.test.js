@@ -224,7 +224,7 @@ for (const [use, evaluate] of Object.entries(USES)) {
 
 test("A names the accumulator unless the user has defined A", () => {
   for (const text of ["A = 10", "a == 0xA"]) assert.deepEqual(compileCondition(text, names).condition.places, ["acc"], text);
-  const namesWithWatch = { ...names, namesWithWatch: collectWatchNames(["A = r3"]) };
+  const namesWithWatch = { ...names, watched: collectWatchNames(["A = r3"]) };
   assert.deepEqual(compileCondition("A = 10", namesWithWatch).condition.places, ["r3"]);
   const namesWithLabel = { ...names, map: { ...names.map, names: new Map([["A", { value: 10, isLabel: true }]]) } };
   assert.deepEqual(compileCondition("A = 10", namesWithLabel).condition.places, []);

@@ -356,7 +356,7 @@ function randomAction(pick, board, face) {
   return pick([
     { kind: "add", part: pick(SHELF_PARTS), digits: pick([1, 2, 3]) },
     { kind: "wire", line, target: pick([...possibleTargets(board, line), "lamp 0"]) },
-    ...(field ? [field.act(field.options ? pick(field.options).value : pick(names))] : []),
+    ...(field ? [field.createAction(field.options ? pick(field.options).value : pick(names))] : []),
     ...buttons.map(({ action: act }) => act).slice(0, 1 + Number(pick([0, 0, 1]))),
   ]);
 }

@@ -90,7 +90,7 @@ test("past changes are counted exactly, and the session stays unchanged", async 
   const { cycles, cells } = await calls.heat(SETUP_CYCLES + 20 * LOOP_CYCLES);
   assert.equal(cycles, SETUP_CYCLES + 20 * LOOP_CYCLES);
   assert.deepEqual(cells, [
-    { place: "ram.0.0x12", count: 20, ago: 6, address: 0x009, line: "" },
+    { place: "ram.0.0x12", count: 20, cyclesAgo: 6, address: 0x009, line: "" },
   ]);
   assert.deepEqual(calls.ask(ALL_QUERIES), answersBefore);
 });
@@ -110,8 +110,8 @@ test("`poke` lines are reported, also in a bank that no SRC has selected", async
   await calls.serve("poke st.2.5.3 9\npoke ram.2.0x7F 1\npoke ram.2.0x7F 1\nrun 2\n");
   const { cells } = await calls.heat(100);
   assert.deepEqual(cells.filter(({ line }) => line), [
-    { place: "ram.2.0x7F", count: 1, ago: 2, address: -1, line: "poke ram.2.0x7F 1" },
-    { place: "st.2.5.3", count: 1, ago: 2, address: -1, line: "poke st.2.5.3 9" },
+    { place: "ram.2.0x7F", count: 1, cyclesAgo: 2, address: -1, line: "poke ram.2.0x7F 1" },
+    { place: "st.2.5.3", count: 1, cyclesAgo: 2, address: -1, line: "poke st.2.5.3 9" },
   ]);
 });
 
@@ -136,8 +136,8 @@ test("the count can be cancelled, and a board without RAM has no changes", async
 const HEAT = {
   cycles: 1000,
   cells: [
-    { place: "a", count: 1, ago: 1000, address: 0, line: "" }, { place: "b", count: 100, ago: 1, address: 9, line: "" },
-    { place: "c", count: 10, ago: 30, address: -1, line: "poke c 1" },
+    { place: "a", count: 1, cyclesAgo: 1000, address: 0, line: "" }, { place: "b", count: 100, cyclesAgo: 1, address: 9, line: "" },
+    { place: "c", count: 10, cyclesAgo: 30, address: -1, line: "poke c 1" },
   ],
 };
 

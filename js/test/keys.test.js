@@ -30,7 +30,8 @@ test("keyboard keys match letters first, then named keys, then the other case", 
 
 test("the key at TEST is the last key, and has its own letter", () => {
   const keys = boardKeys({ rows: 1, columns: 1 }, new Face("# row 0: w\n# test: button WALK_NOW\n"));
-  const expected = { key: pinKey(0), legend: "WALK NOW", words: "button WALK NOW, at TEST", isNamed: true, isSwitch: false, letter: "a" };
+  const expected = { key: pinKey(0), legend: "WALK NOW", description: "button WALK NOW, at TEST",
+    isNamed: true, isSwitch: false, letter: "a" };
   assert.deepEqual(keys[1], expected);
   const [pinOnlyKey] = boardKeys({ rows: 0, columns: 0 }, new Face("# test: switch R to 1"));
   assert.deepEqual([pinOnlyKey.key, pinOnlyKey.isSwitch, pinOnlyKey.letter], [pinKey(1), true, "R"]);

@@ -12,7 +12,8 @@ const listingLine = (line) => ({ address: parseInt(line.slice(0, 3), 16), line }
 test("a line has its labels, its target's label and its line of the source", () => {
   assert.deepEqual(addLineNames(listingLine("000 50 02 JMS 0x002"), MAP), { address: 0, firstAddress: "000", secondAddress: "001",
     bytes: "000 50 02", labels: "go:", instruction: "JMS put", source: "line 2: go: jms put ; far" });
-  assert.deepEqual(addLineNames(listingLine("002 C0    BBL 0"), MAP), { address: 2, firstAddress: "002", secondAddress: "", bytes: "002 C0   ",
+  assert.deepEqual(addLineNames(listingLine("002 C0    BBL 0"), MAP),
+    { address: 2, firstAddress: "002", secondAddress: "", bytes: "002 C0   ",
     labels: "put: out:", instruction: "BBL 0", source: "line 4: out: BBL 0" });
   assert.equal(addLineNames(listingLine("003 40 02 JUN 0x002"), MAP).instruction, "JUN out");
 });

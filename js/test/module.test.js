@@ -69,7 +69,7 @@ test("frames press keys, run cycles, and reuse returned buffers", async () => {
 test("a key goes down at the start of its cycles, or when the keys before it are done", async () => {
   const { calls } = await openExample(calculator);
   const lampsOf = ({ snapshot }) => / lamps (\S+)/.exec(snapshot[0])[1];
-  const linesOf = ({ ran }) => ran.map(({ line }) => line);
+  const linesOf = ({ runEntries }) => runEntries.map(({ line }) => line);
   const frameBefore = calls.advance(100000);
   const frame = calls.advance(2000, matrixKey(2, 1));
   assert.deepEqual(linesOf(frame), ["press 2 1", "run 2000"]);

@@ -150,7 +150,8 @@ test("the user's breakpoints stop a move first; a goal that is never reached has
   const emptyBench = await openExample("empty bench", "wire\n[[rom]]\nchip = 0\nport = \"0000\"\n.\nasm\nx: JUN x\n.\n");
   const fileBefore = Buffer.from(emptyBench.bench.session.file);
   const result = await emptyBench.goOn({ kind: "change", place: "r4" }, 5000);
-  assert.deepEqual([result.searchResult.end, result.entries.length, Buffer.compare(fileBefore, emptyBench.bench.session.file)], ["bound", 0, 0]);
+  const difference = Buffer.compare(fileBefore, emptyBench.bench.session.file);
+  assert.deepEqual([result.searchResult.end, result.entries.length, difference], ["bound", 0, 0]);
 });
 
 test("with key presses, a goal stops the run at the cycle in which it is reached", async () => {

@@ -44,7 +44,8 @@ async function openPanel({ board, program }, { lines = "", isPaused = false, has
   const ask = async (sessionLines) => engine.serve(state, sessionLines, state).answers;
   const answers = await ask(`wire\n${sentText(board, "#")}.\nasm\n${program}.\n${lines}`);
   assert.deepEqual(answers.filter((answer) => answer.startsWith("no ")), []);
-  const sourceOf = () => ({ map: sessionProgram(engine, romCodes(engine, state), program).map, lines: program.split("\n"), linesBefore: 0 });
+  const sourceOf = () => ({ map: sessionProgram(engine, romCodes(engine, state), program).map,
+    lines: program.split("\n"), linesBefore: 0 });
   const options = {
     name: "s.mcs", board: readBoard(await ask("board\n")), face: new Face(board), note: "", isPaused,
     source: hasSource ? sourceOf() : null,

@@ -188,7 +188,8 @@ test("the message about assembled bytes names the bytes that stay in ROM", () =>
 
 test("a text with an error in each line of code is probably not a program", () => {
   const createErrors = (...lines) => lines.map((line) => ({ number: 30, line, from: 0, to: 1, words: "" }));
-  assert.equal(isProbablyNotProgram("hello there\n\n; a remark\nand more\n", { faults: createErrors(1, 4), isComplete: true, generalRefusal: null }),
+  assert.equal(isProbablyNotProgram("hello there\n\n; a remark\nand more\n",
+    { faults: createErrors(1, 4), isComplete: true, generalRefusal: null }),
     true);
   assert.equal(isProbablyNotProgram("hello there\n NOP\n", { faults: createErrors(1), isComplete: true, generalRefusal: null }), false);
   // The search for errors stops after a maximum number of errors.

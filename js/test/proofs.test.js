@@ -222,10 +222,10 @@ function createFakeWorker(engine) {
   worker.terminate = () => {
     worker.isEnded = true;
   };
-  worker.postMessage = async ({ kind, number, call, words }) => {
+  worker.postMessage = async ({ kind, number, call, parameters }) => {
     if (kind !== "request") return;
     worker.number = number;
-    post({ kind: "reply", number, result: globalThis.structuredClone(await calls[call](...words)) });
+    post({ kind: "reply", number, result: globalThis.structuredClone(await calls[call](...parameters)) });
   };
   return worker;
 }

@@ -396,7 +396,8 @@ test("verdicts are printed as TAP, and determine the exit status", () => {
   const provedVerdict = { kind: "proved", states: 96937, bySets: false, leftOut: "" };
   const setVerdict = { kind: "proved", states: 23, bySets: true, leftOut: '"once" and "after press"' };
   const openVerdict = { kind: "open", reason: "why" };
-  const foundVerdict = { kind: "found", counterexample: { steps: 1, cycles: 1200, isAllowed: true, isTest: true, text: "test x\n  run 1\n" } };
+  const foundVerdict = { kind: "found",
+    counterexample: { steps: 1, cycles: 1200, isAllowed: true, isTest: true, text: "test x\n  run 1\n" } };
   const verdicts = [{ property, verdict: provedVerdict }, { property, verdict: openVerdict }, { property: goal, verdict: foundVerdict },
     { property: goal, verdict: provedVerdict }, { property, verdict: setVerdict }, { property: goal, verdict: setVerdict }];
   assert.equal(tapHead(verdicts.length) + verdicts.map((propertyVerdict, at) => formatJudgedTap(propertyVerdict, at, "p")).join(""),

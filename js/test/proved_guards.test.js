@@ -150,7 +150,7 @@ test("presses that no read detects are not a counterexample", async () => {
   const [found] = await findVerdicts("lamp go on only after press START, press START\n",
     new FixedAnswerEngine(`may fail 0 8${" 1".repeat(16)}\n`));
   assert.equal(found.kind, "found");
-  assert.match(found.found.text, /\n {2}press START\n {2}run \d+\n {2}expect not lamp go on\n$/);
+  assert.match(found.counterexample.text, /\n {2}press START\n {2}run \d+\n {2}expect not lamp go on\n$/);
   const [pin] = await findVerdicts("lamp foul on only after press PRESS\n");
   assert.match(pin.reason, /^PRESS is at the TEST pin/);
 });

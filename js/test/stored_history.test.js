@@ -68,7 +68,7 @@ test("going back reaches each stop from before a reload", async () => {
     assert.equal((await calls.goBack({ kind: "stop" })).isDone, true);
     assert.deepEqual(calls.ask(ALL_QUERIES), state);
   }
-  assert.equal((await calls.goBack({ kind: "stop" })).why, "short");
+  assert.equal((await calls.goBack({ kind: "stop" })).reason, "short");
   assert.equal(calls.bench.session.count.total, 0);
 });
 

@@ -53,7 +53,7 @@ function namesIn(session, map) {
 function piecesOf(line, word, { session, map }) {
   const nameOf = (name) => {
     const found = map.names.get(name);
-    return found && { ...found, words: `${name} ${found.value}` };
+    return found && { ...found, description: `${name} ${found.value}` };
   };
   return valuesAt(line, line.indexOf(word), standingOf(session), { nameOf, describeInstruction: (each) => DOES.get(each) || "" });
 }
@@ -202,5 +202,5 @@ test("watched expressions can have names, and invalid expressions are reported",
   const { all, error: fault } = parseWatches(["a = R1", "r5 +", 5, null, "R2"]);
   assert.deepEqual(all.map(({ text }) => text), ["a = R1", "R2"]);
   assert.match(fault, /^a value is missing after \+ \(column 4\)/);
-  assert.deepEqual(parseWatches({ a: 1 }), { all: [], fault: "" });
+  assert.deepEqual(parseWatches({ a: 1 }), { all: [], error: "" });
 });

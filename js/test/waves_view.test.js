@@ -121,7 +121,7 @@ test("the instruction and value at a cursor are described", () => {
   assert.equal(describeCursor("B", 3, waves), "B: cycle 3, 0.032 ms: next: 002 00 NOP");
   assert.equal(screenReaderText(2, waves, 0), "test is 0, cycle 2, 001 40 00 JUN 0x000");
   assert.equal(screenReaderText(1, waves, -1), "cycle 1, 001 40 00 JUN 0x000");
-  const row = { address: 1, listed: "001 40 00 JUN 0x000", line: 3, source: "JUN wait", isSecond: false, isEnd: false };
+  const row = { address: 1, listingLine: "001 40 00 JUN 0x000", line: 3, source: "JUN wait", isSecond: false, isEnd: false };
   assert.equal(instructionText(row), "001 40 00 JUN 0x000; line 3 of the source: JUN wait");
   assert.equal(instructionText({ ...row, isSecond: true }), "the second cycle of an instruction");
 });

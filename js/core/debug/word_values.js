@@ -16,7 +16,7 @@ import * as say from "../../words/debug.js";
  * @typedef {{ place: string, name: string, value: string }} Value
  * @typedef {string | Value} Piece
  *
- * A program name: its value, and its description (`words`). A name is a label or a constant.
+ * A program name: its value, and its description. A name is a label or a constant.
  * @typedef {{ value: number, isLabel: boolean, description: string }} NamedValue
  *
  * Two functions that explain the words of a program. `nameOf` returns the named value; undefined for any other word. `describeInstruction`

@@ -296,7 +296,8 @@ export class SessionPrompt {
     const manual = this.calls.manual();
     const places = sectionRows(manual, say.PLACES_TITLE).map((row) => `  ${row.map(cellText).join(", ").replace(", ", ": ")}`);
     if (word === "places") return places.join("\n");
-    const promptLines = say.PROMPT_LINES.filter(([form]) => form.split(/[ ,]+/).includes(word)).map(([form, effect]) => `${form}: ${effect}`);
+    const promptLines = say.PROMPT_LINES.filter(([form]) => form.split(/[ ,]+/).includes(word))
+      .map(([form, effect]) => `${form}: ${effect}`);
     const lines = matchLines(readLineForms(manual), `${word} `).map(({ form, effect }) => `${form}: ${effect}`);
     return [...lines, ...(word === "poke" ? places : []), ...promptLines].join("\n");
   }

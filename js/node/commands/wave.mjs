@@ -131,7 +131,7 @@ function panelBuzzerLine({ board, boardText, face: { buzzer } }) {
   if (!boardText) throw new CommandError(say.NO_BUZZER_GIVEN);
   if (!buzzer) throw new CommandError(say.noBuzzer(boardText.name));
   if (hasOutput(board, buzzer.place)) return buzzer.place;
-  throw new CommandError(say.noOutputAt(boardText.name, buzzer.line + boardText.before, buzzer.place));
+  throw new CommandError(say.noOutputAt(boardText.name, buzzer.line + boardText.linesBefore, buzzer.place));
 }
 
 /**

@@ -37,7 +37,7 @@ function findTypedDestinations(query, calls) {
   if (line) return [makeEntry(say.lineNamed(Number(line)), "", () => calls.showLine(Number(line)), true)];
   const map = calls.map();
   if (query === "" || (map && map.names.has(query))) return [];
-  const { address, message: words: error } = parseGoal(query, map);
+  const { address, message: error } = parseGoal(query, map);
   return error ? [] : [makeEntry(say.addressNamed(hex(address, 3)), "", () => calls.showAddress(address), true)];
 }
 

@@ -74,7 +74,7 @@ export class LineServer {
    */
   async serveTyped(typedLines) {
     const { calls } = this;
-    const { lines, message: words: nameError } = replaceNames(typedLines, calls.map());
+    const { lines, message: nameError } = replaceNames(typedLines, calls.map());
     if (nameError !== "") {
       this.notice.show(nameError);
       return null;

@@ -1,6 +1,6 @@
 // The watch list: expressions with their names and current values. The values can be edited in place.
 
-import { Cell, block, descendant, element, field, onClick } from "../ui/dom.js";
+import { Cell, block, findDescendant, element, field, onClick } from "../ui/dom.js";
 import { MAX_WATCH_EXPRESSIONS, parseWatches, parseWatch } from "../../core/debug/watch_expressions.js";
 import * as say from "../../words/machine.js";
 
@@ -37,19 +37,19 @@ export class WatchView {
     field("watched-field").addEventListener("keydown", ({ key, isComposing }) => {
       if (key === "Enter" && !isComposing) this.add();
     });
-    onClick(descendant(block("watched-form"), "button", HTMLButtonElement), () => this.add());
+    onClick(findDescendant(block("watched-form"), "button", HTMLButtonElement), () => this.add());
   }
 
   /** @param {unknown} texts the expressions that were saved with a session, not yet validated */
   open(texts) {
-    const { all: expressions, error: fault: error } = parseWatches(texts);
+    const { all: expressions, error } = parseWatches(texts);
     this.status.textContent = error;
     this.setExpressions(expressions);
   }
 
   add() {
     const input = field("watched-field");
-    const { watch: watched: expression, error: fault: error } = parseWatch(input.value, this.calls.names());
+    const { watch: expression, error } = parseWatch(input.value, this.calls.names());
     const isFull = this.expressions.length >= MAX_WATCH_EXPRESSIONS;
     this.status.textContent = isFull ? say.maxWatched(MAX_WATCH_EXPRESSIONS) : error;
     input.setAttribute("aria-invalid", String(this.status.textContent !== ""));

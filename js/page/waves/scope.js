@@ -197,7 +197,8 @@ export class Scope {
     if (!settings) return;
     this.selectTriggerLine(settings.trigger);
     const { trigger, cyclesAfterTrigger: cyclesAfter, stopsTime } = settings;
-    const result = await this.calls.startLive({ trigger, cyclesAfterTrigger: cyclesAfter, stopsMachine: stopsTime }, this.choice.valueNames);
+    const liveSetup = { trigger, cyclesAfterTrigger: cyclesAfter, stopsMachine: stopsTime };
+    const result = await this.calls.startLive(liveSetup, this.choice.valueNames);
     if (!result) return;
     const { recorded, error: fault } = result;
     field("trigger").setAttribute("aria-invalid", String(fault !== ""));

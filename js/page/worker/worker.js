@@ -96,7 +96,7 @@ class BenchWorker {
   }
 
   /** @param {Request} request */
-  async answerRequest({ number, call, parameters: words: callArguments }) {
+  async answerRequest({ number, call, parameters: callArguments }) {
     this.currentRequest = number;
     this.lastReportTime = performance.now();
     // First report the run that preceded the call.
