@@ -142,7 +142,7 @@ def check_counterexample_opened(browser):
 
 
 def check_stop_button(browser):
-    """Checks that a search of ten minutes can be stopped immediately, also by keyboard."""
+    """Checks that a ten-minute search stops at once, whether with the mouse or from the keyboard."""
     explore(browser, 600)
     # The page first attempts a proof, for a tenth of the time.
     eventually(browser, "it looks", GET_FIGURES, re.compile("^[1-9][0-9,]* steps"), 120)

@@ -118,7 +118,8 @@ const inView = (element) => {
 };
 const controls = [...document.querySelectorAll("button, input, select, textarea, summary, a[href]")].filter(inView);
 """
-# Groups of controls that count as one, because each is one tab stop: the board's keys, the registers, a RAM bank, the rows of the disassembly.
+# Groups of controls that count as one, because each is one tab stop: the board's keys, each of the two lists of registers, a RAM bank, the call
+# stack, and the rows of the disassembly.
 BLOCKS = "#keys, .ram, .cells, .stack, #lines-of-program"
 COUNT_CONTROLS = FIND_IN_VIEW + f"return new Set(controls.map((each) => each.closest('{BLOCKS}') || each)).size"
 # Returns the controls that are too small. The size of a checkbox is that of its label, because a click on the label also works.
@@ -238,7 +239,7 @@ def check_details(browser, at_size):
 
 
 def check_phone_details(browser, at_size):
-    """Checks details on a phone."""
+    """Checks the layout on a phone: no button touches the edge of its panel, and the source begins in the upper quarter."""
     at_size(browser, 390, 844, True)
     browser.click("#region-debug")
     verdict("on a phone no button touches the edge of its panel", browser.script(COUNT_BUTTONS_AT_EDGE), 0)
@@ -282,7 +283,7 @@ window.noting.observe(document.getElementById("front"), { subtree: true, attribu
 
 
 def check_click_count(browser, task, max_clicks, perform):
-    """Checks that a new user's task needs at most `most` clicks. Typing does not count."""
+    """Checks that a new user's task needs at most `max_clicks` clicks. Typing does not count."""
     browser.script(COUNT_CLICKS)
     perform(browser)
     clicks = browser.script("return window.clicks")

@@ -214,7 +214,7 @@ def is_mark_shown(board: Board, mark: Mark) -> bool:
 
 
 def marks_seen_after(board: Board) -> int:
-    """Returns the number of marks that will have been seen after the next cycle, as `seen_of` counts them."""
+    """Returns the number of marks that will have been seen after the next cycle, as `marks_seen` counts them."""
     sequence = mark_sequence_of(board)
     if not sequence:
         return 0

@@ -22,36 +22,36 @@ LONGEST = 16384
 class Wiring:
     """A random board: its text, and the parts that a program can use."""
 
-    def __init__(self, chance: random.Random) -> None:
-        self.chance = chance
-        pages = {0, *chance.choices([1, 1, 2, 14, 15, chance.randrange(16)], k=chance.randrange(1, 3))}
+    def __init__(self, rng: random.Random) -> None:
+        self.rng = rng
+        pages = {0, *rng.choices([1, 1, 2, 14, 15, rng.randrange(16)], k=rng.randrange(1, 3))}
         # Often adds the page after a page, because instructions at the end of a page continue on the next page.
-        self.pages = sorted(pages | {(page + 1) % 16 for page in pages if chance.random() < 0.4})
-        ports = {*self.pages, *chance.sample(range(16), chance.randrange(4))}
-        self.ports = {chip: chance.choice(["0000", "0000", "1111", "".join(chance.choices("i01", k=4)), "iiii"]) for chip in sorted(ports)}
-        self.banks = {bank: chance.randrange(1, 5) for bank in sorted(chance.sample(range(8), chance.choice([0, 1, 1, 2, 4])))}
+        self.pages = sorted(pages | {(page + 1) % 16 for page in pages if rng.random() < 0.4})
+        ports = {*self.pages, *rng.sample(range(16), rng.randrange(4))}
+        self.ports = {chip: rng.choice(["0000", "0000", "1111", "".join(rng.choices("i01", k=4)), "iiii"]) for chip in sorted(ports)}
+        self.banks = {bank: rng.randrange(1, 5) for bank in sorted(rng.sample(range(8), rng.choice([0, 1, 1, 2, 4])))}
         outputs = [[f"rom{chip}.{3 - i}" for i in range(4) if port[i] != "i"] for chip, port in self.ports.items()]
         outputs += [[f"ram{bank}.{chip}.{k}" for k in range(4)] for bank, chips in self.banks.items() for chip in range(chips)]
         self.outputs = [lines for lines in outputs if lines]
         self.inputs = [f"rom{chip}.{3 - i}" for chip, port in self.ports.items() for i in range(4) if port[i] == "i"]
-        self.chains = [self.chain() for _n in range(chance.choice([0, 1, 1, 1, 2, 4]))] if self.outputs else []
+        self.chains = [self.chain() for _n in range(rng.choice([0, 1, 1, 1, 2, 4]))] if self.outputs else []
         self.rows = self.first = self.driver = 0
         self.columns: list[str] = []
         if self.chains and self.inputs:
-            self.driver = chance.randrange(len(self.chains))
+            self.driver = rng.randrange(len(self.chains))
             bits = 10 * self.chains[self.driver][2]
-            self.rows = chance.randrange(1, min(10, bits) + 1)
-            self.first = chance.randrange(min(20, bits - self.rows) + 1)
-            self.columns = chance.choices(self.inputs, k=chance.randrange(1, 9))
+            self.rows = rng.randrange(1, min(10, bits) + 1)
+            self.first = rng.randrange(min(20, bits - self.rows) + 1)
+            self.columns = rng.choices(self.inputs, k=rng.randrange(1, 9))
         bits_of_chains = [f"chain{n}.{bit}" for n, chain in enumerate(self.chains) for bit in range(10 * chain[2])]
         self.lines = [line for lines in self.outputs for line in lines] + bits_of_chains
-        self.lamps = chance.choices(self.lines, k=chance.choice([0, 3, 8, 20])) if self.lines else []
+        self.lamps = rng.choices(self.lines, k=rng.choice([0, 3, 8, 20])) if self.lines else []
 
     def chain(self) -> tuple[str, str, int]:
         """Returns the clock and the data of a chain, usually on the same port, and its number of chips."""
-        lines = self.chance.choice(self.outputs)
-        others = lines if self.chance.random() < 0.8 else self.chance.choice(self.outputs)
-        return self.chance.choice(lines), self.chance.choice(others), self.chance.choice([1, 2, 3, 8, 8])
+        lines = self.rng.choice(self.outputs)
+        others = lines if self.rng.random() < 0.8 else self.rng.choice(self.outputs)
+        return self.rng.choice(lines), self.rng.choice(others), self.rng.choice([1, 2, 3, 8, 8])
 
     def text(self) -> list[str]:
         """Returns the text of the board."""
@@ -73,16 +73,16 @@ class Wiring:
 class Program:
     """A random program for a board: instructions at several addresses, and then targets for its jumps."""
 
-    def __init__(self, chance: random.Random, wiring: Wiring) -> None:
-        self.chance, self.wiring = chance, wiring
+    def __init__(self, rng: random.Random, wiring: Wiring) -> None:
+        self.rng, self.wiring = rng, wiring
         # The text of the statement at each address. The targets of jumps are added later.
         self.statements: dict[int, str] = {}
         self.loops: dict[int, int] = {}
         self.free = set(range(ADDRESS_COUNT))
         for page in wiring.pages:
-            for word in {0, *chance.sample(ORIGINS, 2)} if page == 0 else chance.sample(ORIGINS, chance.randrange(1, 4)):
-                self.put_part(256 * page + word, chance.randrange(4, 30))
-            if chance.random() < 0.5:
+            for word in {0, *rng.sample(ORIGINS, 2)} if page == 0 else rng.sample(ORIGINS, rng.randrange(1, 4)):
+                self.put_part(256 * page + word, rng.randrange(4, 30))
+            if rng.random() < 0.5:
                 self.put_end_of_page(256 * page)
         self.begins = [at for at, statement in self.statements.items() if not statement.startswith("DB")]
         self.names = self.some_names()
@@ -91,7 +91,7 @@ class Program:
         """Adds phrases (short sequences of instructions) from an address on, as far as there is room. Usually ends them by a jump, or by a code that
         is not an instruction."""
         statement = [word for _n in range(phrases) for word in self.phrase()]
-        self.put(at, statement + self.chance.choice([["JUN"], ["JUN"], ["BBL 3"], [f"DB 0x{self.chance.choice(INVALID_CODES):02X}"], []]))
+        self.put(at, statement + self.rng.choice([["JUN"], ["JUN"], ["BBL 3"], [f"DB 0x{self.rng.choice(INVALID_CODES):02X}"], []]))
 
     def put(self, at: int, statements: list[str]) -> None:
         """Adds statements from an address on, as far as there is room. `^4` in a jump is the target four statements before it."""
@@ -111,67 +111,67 @@ class Program:
     def put_end_of_page(self, page: int) -> None:
         """Adds instructions in the last words of a page. Their targets are on the next page."""
         if (page >> 8) + 1 in self.wiring.pages and {page + 0xFC, page + 0xFD, page + 0xFE, page + 0xFF, page + 0x100} <= self.free:
-            name = self.chance.choice(["ISZ R3", "JCN 12", "JCN 4", "JIN P2", "FIN P2"])
-            self.put(page + 0xFC, [*self.chance.randrange(2, 4) * ["NOP"], name])
+            name = self.rng.choice(["ISZ R3", "JCN 12", "JCN 4", "JIN P2", "FIN P2"])
+            self.put(page + 0xFC, [*self.rng.randrange(2, 4) * ["NOP"], name])
 
     def phrase(self) -> list[str]:
         """Returns a few instructions that belong together, or a single one of any kind."""
-        kind = self.chance.random()
-        value, pair = self.chance.randrange(16), self.chance.randrange(8)
+        kind = self.rng.random()
+        value, pair = self.rng.randrange(16), self.rng.randrange(8)
         if kind < 0.15:
             return [f"FIM P{pair}, 0x{self.selected():02X}", f"SRC P{pair}"]
         if kind < 0.20:
-            return [f"LDM {self.chance.choice([*self.wiring.banks, value])}", "DCL"]
+            return [f"LDM {self.rng.choice([*self.wiring.banks, value])}", "DCL"]
         if kind < 0.40 and self.wiring.chains:
             return self.clocked(pair)
         if kind < 0.45:
-            return [f"FIM P0, 0x{self.chance.randrange(256):02X}", f"FIN P{pair}"]
+            return [f"FIM P0, 0x{self.rng.randrange(256):02X}", f"FIN P{pair}"]
         if kind < 0.48:
-            return [self.chance.choice(["STC", "CLC"]), f"LDM {value}", "DAA"]
+            return [self.rng.choice(["STC", "CLC"]), f"LDM {value}", "DAA"]
         if kind < 0.57:
-            return [f"LDM {value}", self.chance.choice(["WRM", "WMP", "WRR", f"WR{value % 4}"])]
+            return [f"LDM {value}", self.rng.choice(["WRM", "WMP", "WRR", f"WR{value % 4}"])]
         return [self.any_instruction(value, pair)]
 
     def selected(self) -> int:
         """Returns an SRC byte, usually that of an existing chip."""
-        return self.chance.choice([16 * self.chance.choice([*self.wiring.ports]), self.chance.randrange(64), self.chance.randrange(256)])
+        return self.rng.choice([16 * self.rng.choice([*self.wiring.ports]), self.rng.randrange(64), self.rng.randrange(256)])
 
     def clocked(self, pair: int) -> list[str]:
         """Returns instructions that clock a chain several times."""
-        clock, data, _chips = self.chance.choice(self.wiring.chains)
+        clock, data, _chips = self.rng.choice(self.wiring.chains)
         numbers = [int(word) for word in clock[3:].split(".")]
-        up, down = (f"LDM {1 << numbers[-1] | self.chance.choice([0, 1 << int(data[-1])]) | self.chance.choice([0, 4])}", "LDM 0")
+        up, down = (f"LDM {1 << numbers[-1] | self.rng.choice([0, 1 << int(data[-1])]) | self.rng.choice([0, 4])}", "LDM 0")
         begin = [f"FIM P{pair}, 0x{16 * numbers[0] if clock.startswith('rom') else 64 * numbers[1]:02X}", f"SRC P{pair}"]
         if clock.startswith("ram"):
             begin = [f"LDM {numbers[0]}", "DCL", *begin]
         write = "WRR" if clock.startswith("rom") else "WMP"
         pulse = [up, write, down, write]
-        return begin + (self.chance.randrange(1, 6) * pulse if self.chance.random() < 0.5 else [*pulse, f"ISZ R{self.chance.randrange(16)} ^5"])
+        return begin + (self.rng.randrange(1, 6) * pulse if self.rng.random() < 0.5 else [*pulse, f"ISZ R{self.rng.randrange(16)} ^5"])
 
     def any_instruction(self, value: int, pair: int) -> str:
         """Returns one of the 45 instructions."""
-        name = self.chance.choice([*CODES_WITHOUT_OPERAND, *CODES_ON_REGISTER, *CODES_ON_PAIR, *JUMPS, "FIM", "LDM", "BBL", "ISZ", "JMS"])
+        name = self.rng.choice([*CODES_WITHOUT_OPERAND, *CODES_ON_REGISTER, *CODES_ON_PAIR, *JUMPS, "FIM", "LDM", "BBL", "ISZ", "JMS"])
         if name == "FIM":
-            return f"FIM P{pair}, 0x{self.chance.randrange(256):02X}"
+            return f"FIM P{pair}, 0x{self.rng.randrange(256):02X}"
         operand = f" P{pair}" if name in CODES_ON_PAIR else f" R{value}" if name in (*CODES_ON_REGISTER, "ISZ") else ""
         return name + (operand or (f" {value}" if name in ("LDM", "BBL", "JCN") else ""))
 
     def some_names(self) -> dict[int, str]:
         """Returns labels for some of the addresses. Some of the labels look like numbers."""
-        there = self.chance.sample(self.begins, min(len(self.begins), self.chance.choice([0, 2, 12])))
+        there = self.rng.sample(self.begins, min(len(self.begins), self.rng.choice([0, 2, 12])))
         return {at: NAMES[i] if i < len(NAMES) else f"l{at:03X}" for i, at in enumerate(there)}
 
     def target(self, at: int, name: str) -> str:
         """Returns the target of a jump, usually an instruction."""
         if at in self.loops:
             return self.names.get(self.loops[at], f"0x{self.loops[at]:03X}")
-        page = (at + 2) % ADDRESS_COUNT >> 8 if name in ("JCN", "ISZ") else self.chance.choice(self.wiring.pages)
+        page = (at + 2) % ADDRESS_COUNT >> 8 if name in ("JCN", "ISZ") else self.rng.choice(self.wiring.pages)
         there = [other for other in self.begins if other >> 8 == page]
         # The targets up to 12 bytes before the jump, which make a short loop.
         near = [other for other in there if at - 12 < other <= at]
-        if name == "ISZ" and near and self.chance.random() < 0.7:
+        if name == "ISZ" and near and self.rng.random() < 0.7:
             there = near
-        goal = self.chance.choice(there) if there and self.chance.random() < 0.95 else 256 * page + self.chance.randrange(256)
+        goal = self.rng.choice(there) if there and self.rng.random() < 0.95 else 256 * page + self.rng.randrange(256)
         return self.names.get(goal, f"0x{goal:03X}")
 
     def text(self) -> list[str]:
@@ -185,7 +185,7 @@ class Program:
             if at != here:
                 lines.append(f"        ORG 0x{at:03X}")
             label = f"{self.names[at]}:" if at in self.names else ""
-            lines.append(f"{label:<10}{statement}" + ("" if self.chance.random() < 0.9 else " ; a comment"))
+            lines.append(f"{label:<10}{statement}" + ("" if self.rng.random() < 0.9 else " ; a comment"))
             here = at + (2 if name in (*JUMPS, "FIM") else 1)
         return lines
 
@@ -194,9 +194,9 @@ class Seeded:
     """A random board and program, and random commands for a session with them."""
 
     def __init__(self, seed: int) -> None:
-        self.chance = random.Random(seed)
-        self.wiring = Wiring(self.chance)
-        self.program = Program(self.chance, self.wiring)
+        self.rng = random.Random(seed)
+        self.wiring = Wiring(self.rng)
+        self.program = Program(self.rng, self.wiring)
         self.board_text = self.wiring.text()
         self.program_text = self.program.text()
 
@@ -207,30 +207,30 @@ class Seeded:
     def somewhere(self) -> int:
         """Returns an address, usually of an instruction, and often before a loop that clocks a chain, or at the end of a page."""
         loops = [goal - 3 for goal in self.program.loops.values()]
-        if loops and self.chance.random() < 0.3:
-            return self.chance.choice(loops)
+        if loops and self.rng.random() < 0.3:
+            return self.rng.choice(loops)
         ends = [at for at in self.program.begins if at & 0xFC == 0xFC]
-        if ends and self.chance.random() < 0.2:
-            return self.chance.choice(ends)
-        return self.chance.choice(self.program.begins) if self.chance.random() < 0.95 else self.chance.randrange(ADDRESS_COUNT)
+        if ends and self.rng.random() < 0.2:
+            return self.rng.choice(ends)
+        return self.rng.choice(self.program.begins) if self.rng.random() < 0.95 else self.rng.randrange(ADDRESS_COUNT)
 
     def character(self) -> tuple[int, int]:
         """Returns a RAM nibble, usually of an existing chip."""
-        bank = self.chance.choice([*self.wiring.banks, self.chance.randrange(8)])
-        return bank, self.chance.choice([self.program.selected(), self.chance.randrange(256)])
+        bank = self.rng.choice([*self.wiring.banks, self.rng.randrange(8)])
+        return bank, self.rng.choice([self.program.selected(), self.rng.randrange(256)])
 
     def change(self) -> str:
         """Returns a command that changes something. Some of these commands are rejected."""
-        chance = self.chance
+        rng = self.rng
         bank, src = self.character()
-        value = chance.randrange(16)
+        value = rng.randrange(16)
         kinds = [f"poke pc 0x{self.somewhere():03X}"] * 4 + [
-            f"poke acc {value}", f"poke cy {value % 2}", f"poke dcl {value % 8}", f"poke r{chance.randrange(16)} {value}",
-            f"poke ram.{bank}.{src} {value}", f"poke st.{bank}.{src >> 4}.{chance.randrange(4)} {value}", f"test {value % 2}"]
+            f"poke acc {value}", f"poke cy {value % 2}", f"poke dcl {value % 8}", f"poke r{rng.randrange(16)} {value}",
+            f"poke ram.{bank}.{src} {value}", f"poke st.{bank}.{src >> 4}.{rng.randrange(4)} {value}", f"test {value % 2}"]
         if self.wiring.columns:
-            key = f"{chance.randrange(self.wiring.rows)} {chance.randrange(len(self.wiring.columns))}"
+            key = f"{rng.randrange(self.wiring.rows)} {rng.randrange(len(self.wiring.columns))}"
             kinds += [f"press {key}"] * 3 + [f"release {key}"]
-        return chance.choice(kinds)
+        return rng.choice(kinds)
 
     def stop(self, board: Board) -> str:
         """Returns a command that sets or removes a breakpoint or a watch, usually one that the program soon reaches, or at which it has stopped."""
@@ -242,20 +242,20 @@ class Seeded:
             written.extend([(ahead.dcl, ahead.chips.bank_src[ahead.dcl])] if ahead.rom[at] == 0xE0 else [])
 
         ahead.run(300, begun)
-        at, (bank, src) = self.chance.choice([board.pc, self.somewhere(), *visited[-20:]]), self.chance.choice(written)
-        return self.chance.choice([f"break {at}"] * 2 + [f"unbreak {at}"] + [f"watch {bank} {src}"] * 2 + [f"unwatch {bank} {src}"])
+        at, (bank, src) = self.rng.choice([board.pc, self.somewhere(), *visited[-20:]]), self.rng.choice(written)
+        return self.rng.choice([f"break {at}"] * 2 + [f"unbreak {at}"] + [f"watch {bank} {src}"] * 2 + [f"unwatch {bank} {src}"])
 
     def place(self) -> str:
         """Returns a place for a trace."""
-        chance = self.chance
+        rng = self.rng
         bank, src = self.character()
-        line = chance.choice(self.wiring.lines + self.wiring.inputs + [f"chain{chance.randrange(4)}.{chance.randrange(80)}"])
-        other = f"ram{chance.randrange(8)}.{chance.randrange(4)}.{chance.randrange(4)}"
-        return chance.choice(["acc", "cy", "pc", "dcl", f"r{chance.randrange(16)}", f"rom.0x{self.somewhere():x}", f"ram.{bank}.{src}",
-                              f"st.{bank}.{src >> 4}.{chance.randrange(4)}", "ret", "lamps", "src", line, line, line, other,
-                              line.rpartition(".")[0], line.rpartition(".")[0], other.rpartition(".")[0], f"rom{chance.randrange(16)}",
-                              f"chain{chance.randrange(4)}"])
+        line = rng.choice(self.wiring.lines + self.wiring.inputs + [f"chain{rng.randrange(4)}.{rng.randrange(80)}"])
+        other = f"ram{rng.randrange(8)}.{rng.randrange(4)}.{rng.randrange(4)}"
+        return rng.choice(["acc", "cy", "pc", "dcl", f"r{rng.randrange(16)}", f"rom.0x{self.somewhere():x}", f"ram.{bank}.{src}",
+                              f"st.{bank}.{src >> 4}.{rng.randrange(4)}", "ret", "lamps", "src", line, line, line, other,
+                              line.rpartition(".")[0], line.rpartition(".")[0], other.rpartition(".")[0], f"rom{rng.randrange(16)}",
+                              f"chain{rng.randrange(4)}"])
 
     def cycles(self) -> int:
         """Returns the length of a run."""
-        return self.chance.choice([1, 2, 3, self.chance.randrange(1, 60), self.chance.randrange(1, 400), self.chance.randrange(1, 1500)])
+        return self.rng.choice([1, 2, 3, self.rng.randrange(1, 60), self.rng.randrange(1, 400), self.rng.randrange(1, 1500)])

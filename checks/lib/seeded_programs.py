@@ -26,33 +26,33 @@ def examples():
 
 def seeded(number):
     """Returns a random program. Most have no error, and some have one or more."""
-    chance = random.Random(number)
+    rng = random.Random(number)
     names = [f"n{i}" for i in range(8)]
     # The names that no line has defined so far. The names that are left are defined at the end, so that most programs are accepted.
     free = list(names)
-    chance.shuffle(free)
+    rng.shuffle(free)
 
     def value(most):
-        return chance.choice([str(chance.randrange(most + 1)), f"0x{chance.randrange(most + 1):x}"])
+        return rng.choice([str(rng.randrange(most + 1)), f"0x{rng.randrange(most + 1):x}"])
 
     def target():
-        return chance.choice([*names, value(300)]) if chance.random() < 0.7 else value(300)
+        return rng.choice([*names, value(300)]) if rng.random() < 0.7 else value(300)
 
     def line():
-        statement = chance.choice(["NOP", "wrr", "ADD R3", "Src p1", "", f"LDM {value(15)}", f"FIM P2, {value(255)}", f"JUN {target()}",
+        statement = rng.choice(["NOP", "wrr", "ADD R3", "Src p1", "", f"LDM {value(15)}", f"FIM P2, {value(255)}", f"JUN {target()}",
                               f"JMS {target()}", f"ISZ r4, {value(255)}", f"JCN 4, {value(255)}",
-                              "DB " + ", ".join(value(255) for _ in range(chance.randrange(1, 9)))])
-        if chance.random() < 0.02:
-            statement = chance.choice(["ORG 4096", "LDM 16", "DB 256", "DB", "NOP NOP", "ORG 4095", "JUN nowhere", "ORG 0", "n0 = 4096", "R1: NOP"])
-        if chance.random() < 0.06:
-            statement = f"ORG {chance.randrange(0, 4000)}"
-        if free and chance.random() < 0.15:
+                              "DB " + ", ".join(value(255) for _ in range(rng.randrange(1, 9)))])
+        if rng.random() < 0.02:
+            statement = rng.choice(["ORG 4096", "LDM 16", "DB 256", "DB", "NOP NOP", "ORG 4095", "JUN nowhere", "ORG 0", "n0 = 4096", "R1: NOP"])
+        if rng.random() < 0.06:
+            statement = f"ORG {rng.randrange(0, 4000)}"
+        if free and rng.random() < 0.15:
             name = free.pop()
-            statement = f"{name}: {statement}" if chance.random() < 0.8 else f"{name} = {value(4095)}"
-        return chance.choice(["", " ", "\t"]) + statement + chance.choice(["", "", " ; a comment", "\t;"])
+            statement = f"{name}: {statement}" if rng.random() < 0.8 else f"{name} = {value(4095)}"
+        return rng.choice(["", " ", "\t"]) + statement + rng.choice(["", "", " ; a comment", "\t;"])
 
-    lines = [line() for _ in range(chance.randrange(1, 60))]
-    return lines + [f"{name}:" for name in free if chance.random() < 0.98]
+    lines = [line() for _ in range(rng.randrange(1, 60))]
+    return lines + [f"{name}:" for name in free if rng.random() < 0.98]
 
 
 # Lines with each kind of error. Some are always wrong, and others only in most programs.
@@ -62,13 +62,13 @@ WRONG = ("FOO", "LDM", "NOP NOP", "1: NOP", "DB 1,, 2", "ORG 4096", "n9 = 5000",
 
 def wrong(number):
     """Returns a random program with wrong lines. In half of the programs, only the assembler's second pass finds these errors."""
-    chance = random.Random(number)
+    rng = random.Random(number)
     lines = seeded(number)
-    rows = WRONG if chance.random() < 0.5 else WRONG[11:]
-    count = chance.choice([1, 2, 3, 5, 150])
+    rows = WRONG if rng.random() < 0.5 else WRONG[11:]
+    count = rng.choice([1, 2, 3, 5, 150])
     for _n in range(count):
-        line = chance.choice(rows)
-        lines.insert(chance.randrange(len(lines) + 1), line if chance.random() < 0.9 else f"m{chance.randrange(4)}: {line}")
+        line = rng.choice(rows)
+        lines.insert(rng.randrange(len(lines) + 1), line if rng.random() < 0.9 else f"m{rng.randrange(4)}: {line}")
     return lines
 
 

@@ -27,80 +27,80 @@ MAX_WALK_STATES, TIMED_WALKS = 12, 8
 class ReadingProgram(Program):
     """A short program that reads keys and TEST repeatedly."""
 
-    def __init__(self, chance: random.Random, wiring: Wiring) -> None:
-        self.chance, self.wiring = chance, wiring
+    def __init__(self, rng: random.Random, wiring: Wiring) -> None:
+        self.rng, self.wiring = rng, wiring
         self.statements, self.loops, self.names = {}, {}, {}
         self.free = set(range(0x1000))
-        self.registers = chance.sample(range(16), 2)
-        words = [word for _n in range(chance.randrange(0, 3)) for word in self.phrases_before_loop()]
-        words += [word for _n in range(chance.randrange(2, 7)) for word in self.loop_phrases()]
-        ends = [["JUN"]] * 8 + [["BBL 3"], [f"DB 0x{chance.choice(INVALID_CODES):02X}"], []]
-        self.put(0, words + chance.choice(ends))
+        self.registers = rng.sample(range(16), 2)
+        words = [word for _n in range(rng.randrange(0, 3)) for word in self.phrases_before_loop()]
+        words += [word for _n in range(rng.randrange(2, 7)) for word in self.loop_phrases()]
+        ends = [["JUN"]] * 8 + [["BBL 3"], [f"DB 0x{rng.choice(INVALID_CODES):02X}"], []]
+        self.put(0, words + rng.choice(ends))
         self.begins = [at for at, statement in self.statements.items() if not statement.startswith("DB")]
 
     def phrases_before_loop(self) -> list[str]:
         """Returns the phrases before the program's loop. They shift bits into a chain, or write a value to a port."""
-        if self.wiring.chains and self.chance.random() < 0.8:
-            clock, data, _chips = self.chance.choice([self.wiring.chains[self.wiring.driver], self.chance.choice(self.wiring.chains)])
+        if self.wiring.chains and self.rng.random() < 0.8:
+            clock, data, _chips = self.rng.choice([self.wiring.chains[self.wiring.driver], self.rng.choice(self.wiring.chains)])
             return self.pulses(clock, data)
-        return self.selected_by(self.chance.randrange(8)) + [f"LDM {self.chance.randrange(16)}", self.chance.choice(["WRR", "WMP", "WRM", "WR1"])]
+        return self.selected_by(self.rng.randrange(8)) + [f"LDM {self.rng.randrange(16)}", self.rng.choice(["WRR", "WMP", "WRM", "WR1"])]
 
     def pulses(self, clock: str, data: str) -> list[str]:
         """Returns phrases that clock a chain, usually with its data line at 1."""
         numbers = [int(word) for word in clock[3:].split(".")]
-        pair = self.chance.randrange(8)
+        pair = self.rng.randrange(8)
         begin = [f"FIM P{pair}, 0x{16 * numbers[0] if clock.startswith('rom') else 64 * numbers[1]:02X}", f"SRC P{pair}"]
         if clock.startswith("ram"):
             begin = [f"LDM {numbers[0]}", "DCL", *begin]
         write = "WRR" if clock.startswith("rom") else "WMP"
-        one = 1 << int(data[-1]) if self.chance.random() < 0.7 else 0
-        return begin + self.chance.randrange(1, 4) * [f"LDM {one}", write, f"LDM {one | 1 << numbers[-1]}", write]
+        one = 1 << int(data[-1]) if self.rng.random() < 0.7 else 0
+        return begin + self.rng.randrange(1, 4) * [f"LDM {one}", write, f"LDM {one | 1 << numbers[-1]}", write]
 
     def selected_by(self, pair: int) -> list[str]:
         """Returns phrases that select a chip, usually one with inputs."""
         inputs = [16 * int(line[3:].split(".")[0]) for line in self.wiring.inputs]
-        return [f"FIM P{pair}, 0x{self.chance.choice(inputs) if inputs and self.chance.random() < 0.8 else self.selected():02X}", f"SRC P{pair}"]
+        return [f"FIM P{pair}, 0x{self.rng.choice(inputs) if inputs and self.rng.random() < 0.8 else self.selected():02X}", f"SRC P{pair}"]
 
     def loop_phrases(self) -> list[str]:
         """Returns the phrases of the loop."""
-        chance = self.chance
-        register = chance.choice(self.registers)
-        kind = chance.random()
+        rng = self.rng
+        register = rng.choice(self.registers)
+        kind = rng.random()
         if kind < 0.30:
-            return self.selected_by(chance.randrange(8)) + ["RDR"] + self.used(register)
+            return self.selected_by(rng.randrange(8)) + ["RDR"] + self.used(register)
         if kind < 0.55:
-            return [f"JCN {chance.choice([1, 1, 9, 9, 3, 5, 7, 11, 13, 15])}", *self.used(register)]
+            return [f"JCN {rng.choice([1, 1, 9, 9, 3, 5, 7, 11, 13, 15])}", *self.used(register)]
         if kind < 0.65:
-            return [f"INC R{register}"] if chance.random() < 0.5 else [f"ISZ R{register}"]
+            return [f"INC R{register}"] if rng.random() < 0.5 else [f"ISZ R{register}"]
         if kind < 0.75:
             return self.phrases_before_loop()
         if kind < 0.80:
-            return [chance.choice(["JMS", "BBL 1", f"LDM {chance.randrange(16)}", "JUN"])]
+            return [rng.choice(["JMS", "BBL 1", f"LDM {rng.randrange(16)}", "JUN"])]
         if kind < 0.88:
-            return [chance.choice(["RDM", "ADM", "SBM", "RD0", "RD1"]), *self.used(register)]
-        return [self.any_instruction(register, register // 2)] if chance.random() < 0.3 else [chance.choice(CHIPLESS)]
+            return [rng.choice(["RDM", "ADM", "SBM", "RD0", "RD1"]), *self.used(register)]
+        return [self.any_instruction(register, register // 2)] if rng.random() < 0.3 else [rng.choice(CHIPLESS)]
 
     def used(self, register: int) -> list[str]:
         """Returns phrases that use a value that was read."""
-        chance = self.chance
+        rng = self.rng
         written = [name for name in CODES_WITHOUT_OPERAND if name.startswith("W") and name != "WPM"]
-        return chance.choice([
-            [], ["KBP"], [f"XCH R{register}"], [chance.choice(written)], [chance.choice(written)], [f"JCN {chance.choice([4, 12])}"],
-            ["RAR", f"JCN {chance.choice([2, 10])}"], [f"ADD R{register}"], [chance.choice(CHIPLESS)], [f"INC R{register}"], ["RAR", "TCC", "WMP"]])
+        return rng.choice([
+            [], ["KBP"], [f"XCH R{register}"], [rng.choice(written)], [rng.choice(written)], [f"JCN {rng.choice([4, 12])}"],
+            ["RAR", f"JCN {rng.choice([2, 10])}"], [f"ADD R{register}"], [rng.choice(CHIPLESS)], [f"INC R{register}"], ["RAR", "TCC", "WMP"]])
 
 
 class KeyWiring(Wiring):
     """A small board with a key matrix."""
 
-    def __init__(self, chance: random.Random) -> None:
-        self.chance, self.pages, self.lamps = chance, [0], []
-        self.ports = {0: "0000", 1: chance.choice(["iiii", "iii1", "0ii0", "i0i1"])}
-        self.banks = {0: 1} if chance.random() < 0.5 else {}
+    def __init__(self, rng: random.Random) -> None:
+        self.rng, self.pages, self.lamps = rng, [0], []
+        self.ports = {0: "0000", 1: rng.choice(["iiii", "iii1", "0ii0", "i0i1"])}
+        self.banks = {0: 1} if rng.random() < 0.5 else {}
         self.outputs = [[f"rom0.{line}" for line in range(4)]]
         self.inputs = [f"rom1.{3 - i}" for i in range(4) if self.ports[1][i] == "i"]
         self.chains, self.driver = [("rom0.0", "rom0.1", 1)], 0
-        self.rows, self.first = chance.randrange(1, 4), chance.randrange(3)
-        self.columns = chance.choices(self.inputs, k=chance.randrange(1, 4))
+        self.rows, self.first = rng.randrange(1, 4), rng.randrange(3)
+        self.columns = rng.choices(self.inputs, k=rng.randrange(1, 4))
 
 
 class KeyReadingProgram(ReadingProgram):
@@ -112,18 +112,18 @@ class KeyReadingProgram(ReadingProgram):
 
     def loop_phrases(self) -> list[str]:
         """Returns the phrases of the loop."""
-        if self.chance.random() < 0.6:
-            return self.selected_by(self.chance.randrange(8)) + ["RDR"] + self.used(self.chance.choice(self.registers))
+        if self.rng.random() < 0.6:
+            return self.selected_by(self.rng.randrange(8)) + ["RDR"] + self.used(self.rng.choice(self.registers))
         return super().loop_phrases()
 
 
-def random_walk(question: Question, chance: random.Random) -> Iterator[Board]:
+def random_walk(question: Question, rng: random.Random) -> Iterator[Board]:
     """Yields the machine at several states of a random walk, in which keys and TEST have random levels."""
     board = power_on(question)
     yield board
-    for _n in range(chance.randrange(MAX_WALK_STATES)):
+    for _n in range(rng.randrange(MAX_WALK_STATES)):
         values = values_read(board)
-        run_to_next_state(board, values[chance.choice(sorted(values))], lambda _board: False, min(question.pause, 50))
+        run_to_next_state(board, values[rng.choice(sorted(values))], lambda _board: False, min(question.pause, 50))
         yield board
 
 
@@ -137,24 +137,24 @@ def cells_of(wiring: Wiring) -> list[tuple[str, int]]:
     return cells + [(f"chain{n}", bit) for n in range(len(wiring.chains)) for bit in range(4)]
 
 
-def comparison(chance: random.Random, wiring: Wiring, boards: list[dict[tuple[str, int], int]]) -> Comparison:
+def comparison(rng: random.Random, wiring: Wiring, boards: list[dict[tuple[str, int], int]]) -> Comparison:
     """Returns a comparison, usually of a cell that changes on a random walk. It compares the cell with one of its values there, or with another
     value."""
-    name, index = chance.choice(cells_of(wiring))
+    name, index = rng.choice(cells_of(wiring))
     changing = [each for each in boards[0] if len({seen[each] for seen in boards}) > 1]
-    if changing and chance.random() < 0.8:
-        name, index = chance.choice(changing)
-    elif chance.random() < 0.1:
-        name = chance.choice([*LENGTHS])
-        index = chance.randrange(LENGTHS[name])
+    if changing and rng.random() < 0.8:
+        name, index = rng.choice(changing)
+    elif rng.random() < 0.1:
+        name = rng.choice([*LENGTHS])
+        index = rng.randrange(LENGTHS[name])
     numbers = [seen.get((name, index), 0) for seen in boards]
     others = [number for number in numbers if number != numbers[0]] or numbers
-    number = chance.choice(others) if chance.random() < 0.5 else chance.randrange(256 if name == "counter" else 16)
-    if chance.random() < 0.3:
-        k = chance.randrange(4)
-        return chance.choice(["in", "out"]), name, index, f"line{k}", *[chance.choice([1 - (numbers[0] >> k & 1), chance.randrange(2)])] * 2
-    width = chance.choice([0, 0, 0, 1, 5])
-    return ("in", name, index, "whole", number, min(number + width, 255)) if chance.random() < 0.85 else ("out", name, index, "whole", 0, number)
+    number = rng.choice(others) if rng.random() < 0.5 else rng.randrange(256 if name == "counter" else 16)
+    if rng.random() < 0.3:
+        k = rng.randrange(4)
+        return rng.choice(["in", "out"]), name, index, f"line{k}", *[rng.choice([1 - (numbers[0] >> k & 1), rng.randrange(2)])] * 2
+    width = rng.choice([0, 0, 0, 1, 5])
+    return ("in", name, index, "whole", number, min(number + width, 255)) if rng.random() < 0.85 else ("out", name, index, "whole", 0, number)
 
 
 def at_address(seen: dict[tuple[str, int], int]) -> Row:
@@ -167,27 +167,27 @@ def opposite(words: Comparison) -> Comparison:
     return ("out" if words[0] == "in" else "in", *words[1:])
 
 
-def add_stopwatch(question: Question, chance: random.Random, wiring: Wiring, boards: list[dict[tuple[str, int], int]]) -> None:
+def add_stopwatch(question: Question, rng: random.Random, wiring: Wiring, boards: list[dict[tuple[str, int], int]]) -> None:
     """Adds a stopwatch to a question. It measures how long a condition is true, or the time from one address to another. Its limit is near the
     longest time on several random walks."""
-    if chance.random() < 0.5:
+    if rng.random() < 0.5:
         question.nevers = []
-    kind = chance.random()
+    kind = rng.random()
     if kind < 0.4:
-        condition = comparison(chance, wiring, boards)
+        condition = comparison(rng, wiring, boards)
         question.begins, question.ends = [[condition]], [[opposite(condition)]]
     elif kind < 0.8:
-        question.begins, question.ends = [at_address(chance.choice(boards))], [at_address(chance.choice(boards))]
+        question.begins, question.ends = [at_address(rng.choice(boards))], [at_address(rng.choice(boards))]
     else:
-        question.begins = [[comparison(chance, wiring, boards)] for _row in range(chance.choice([1, 2]))]
-        question.ends = [[comparison(chance, wiring, boards), *([("mistake", *MISTAKES)] if chance.random() < 0.2 else [])] for _row in range(chance.choice([1, 2]))]
-    if chance.random() < 0.15:
+        question.begins = [[comparison(rng, wiring, boards)] for _row in range(rng.choice([1, 2]))]
+        question.ends = [[comparison(rng, wiring, boards), *([("mistake", *MISTAKES)] if rng.random() < 0.2 else [])] for _row in range(rng.choice([1, 2]))]
+    if rng.random() < 0.15:
         # Compares the lowest byte of the number that the stopwatch shows.
-        question.ends.append([("in", "counter", 16, "whole", chance.randrange(1, 6), 255)])
-    question.within = max(0, longest_seen(question, chance) + chance.choice([-1, 0, 0, 0, 1, 3]))
+        question.ends.append([("in", "counter", 16, "whole", rng.randrange(1, 6), 255)])
+    question.within = max(0, longest_seen(question, rng) + rng.choice([-1, 0, 0, 0, 1, 3]))
 
 
-def longest_seen(question: Question, chance: random.Random) -> int:
+def longest_seen(question: Question, rng: random.Random) -> int:
     """Returns the longest time that the stopwatch of a question shows on several random walks."""
     shown = [0]
 
@@ -199,61 +199,61 @@ def longest_seen(question: Question, chance: random.Random) -> int:
         board = power_on(dataclasses.replace(question, within=0))
         for _n in range(MAX_WALK_STATES):
             values = values_read(board)
-            run_to_next_state(board, values[chance.choice(sorted(values))], note, min(question.pause, 50))
+            run_to_next_state(board, values[rng.choice(sorted(values))], note, min(question.pause, 50))
     return max(shown)
 
 
-def add_marks(question: Question, chance: random.Random, wiring: Wiring) -> None:
+def add_marks(question: Question, rng: random.Random, wiring: Wiring) -> None:
     """Adds marks that must be seen before a cell has a certain value. On a random walk, the cell gets this value for the first time after reads that
     usually show these marks."""
-    if chance.random() < 0.5:
+    if rng.random() < 0.5:
         question.nevers = []
-    cells, way = cells_of(wiring), marks_on_way(question, chance)
+    cells, way = cells_of(wiring), marks_on_way(question, rng)
     there = [{each: cell_value(board, *each) for each in cells} for board, _marks in way]
     firsts = [(each, at) for each in cells for at in range(1, len(way)) if there[at][each] not in {seen[each] for seen in there[:at]}]
-    (name, index), at = chance.choice(firsts) if firsts else (chance.choice(cells), 1)
+    (name, index), at = rng.choice(firsts) if firsts else (rng.choice(cells), 1)
     value = there[min(at, len(way) - 1)][name, index]
     question.opens = [[("in", name, index, "whole", value, value)]]
-    if chance.random() < 0.2:
-        question.opens.append([comparison(chance, wiring, there)])
-    shown = [chance.choice(marks) for _board, marks in way[:at] if marks]
-    if chance.random() < 0.3:
-        shown = [(chance.choice(["up", "down"]), row, column) for row in range(wiring.rows) for column in range(len(wiring.columns))]
-    places = sorted(chance.sample(range(len(shown)), min(len(shown), chance.choice([1, 1, 1, 2, 2, 3]))))
-    question.marks = [shown[place] for place in places] or [("up", 0, 0), ("down", 0, 0)][:chance.choice([1, 2])]
-    if chance.random() < 0.15:
+    if rng.random() < 0.2:
+        question.opens.append([comparison(rng, wiring, there)])
+    shown = [rng.choice(marks) for _board, marks in way[:at] if marks]
+    if rng.random() < 0.3:
+        shown = [(rng.choice(["up", "down"]), row, column) for row in range(wiring.rows) for column in range(len(wiring.columns))]
+    places = sorted(rng.sample(range(len(shown)), min(len(shown), rng.choice([1, 1, 1, 2, 2, 3]))))
+    question.marks = [shown[place] for place in places] or [("up", 0, 0), ("down", 0, 0)][:rng.choice([1, 2])]
+    if rng.random() < 0.15:
         # Compares the number of marks that were seen.
-        question.nevers.append([("in", "counter", 17, "whole", chance.randrange(1, len(question.marks) + 2), 255)])
+        question.nevers.append([("in", "counter", 17, "whole", rng.randrange(1, len(question.marks) + 2), 255)])
 
 
-def key_waiting_question(chance: random.Random, wiring: Wiring) -> Question:
+def key_waiting_question(rng: random.Random, wiring: Wiring) -> Question:
     """Returns a question about a program that waits until keys of a row are pressed, one after another, and then stores a number in a register. Some
     of these programs do not wait until a key is up, some drive other rows as well, and some questions have marks of other keys."""
-    row, register, number = chance.randrange(wiring.rows), chance.randrange(12), chance.randrange(1, 16)
+    row, register, number = rng.randrange(wiring.rows), rng.randrange(12), rng.randrange(1, 16)
     program, marks = [" FIM P7, 0", " SRC P7"], []
     for bit in range(wiring.first + row + 1):
-        data = 2 if bit == 0 or chance.random() < 0.1 else 0
+        data = 2 if bit == 0 or rng.random() < 0.1 else 0
         program += [f" LDM {data}", " WRR", f" LDM {data + 1}", " WRR"]
     program += [" FIM P6, 0x10", " SRC P6", "loop: CLB", f" XCH R{register}"]
-    for n in range(chance.choice([1, 1, 2])):
-        column = chance.randrange(len(wiring.columns))
+    for n in range(rng.choice([1, 1, 2])):
+        column = rng.randrange(len(wiring.columns))
         to_carry = (int(wiring.columns[column][-1]) + 1) * [" RAR"]
-        if chance.random() < 0.85:
+        if rng.random() < 0.85:
             program += [f"up{n}: RDR", *to_carry, f" JCN 2, up{n}"]
         program += [f"down{n}: RDR", *to_carry, f" JCN 10, down{n}"]
         marks += [("up", row, column), ("down", row, column)]
-    if chance.random() < 0.3:
-        marks[chance.randrange(len(marks))] = (chance.choice(["up", "down"]), chance.randrange(wiring.rows), chance.randrange(len(wiring.columns)))
+    if rng.random() < 0.3:
+        marks[rng.randrange(len(marks))] = (rng.choice(["up", "down"]), rng.randrange(wiring.rows), rng.randrange(len(wiring.columns)))
     opens = [[("in", "register", register, "whole", number, number)]]
     return Question(wiring.text(), [*program, f" LDM {number}", f" XCH R{register}", " JUN loop"], opens=opens, marks=marks)
 
 
-def marks_on_way(question: Question, chance: random.Random) -> list[tuple[Board, list[Mark]]]:
+def marks_on_way(question: Question, rng: random.Random) -> list[tuple[Board, list[Mark]]]:
     """Returns the machine at some states of a random walk, each with the marks that the next cycle shows."""
     board, way = power_on(question), []
     for _n in range(2 * MAX_WALK_STATES):
         values = values_read(board)
-        levels = values[chance.choice(sorted(values))]
+        levels = values[rng.choice(sorted(values))]
         board.chips.pressed_keys = set(levels[0])
         marks = [(level, row, column) for row, column in all_keys(board) for level in ("up", "down") if is_mark_shown(board, (level, row, column))]
         way.append((copy.deepcopy(board), marks))
@@ -263,31 +263,31 @@ def marks_on_way(question: Question, chance: random.Random) -> list[tuple[Board,
 
 def seeded_question(seed: int, most: int) -> Question:
     """Returns a random question. One in eight has a long program of arbitrary instructions."""
-    chance = random.Random(seed)
+    rng = random.Random(seed)
     wiring: Wiring
     if seed % 8 == 7:
         seeded = Seeded(seed)
         wiring, question = seeded.wiring, Question(seeded.board_text, seeded.program_text)
     elif seed % 8 == 6:
-        wiring = KeyWiring(chance)
-        question = key_waiting_question(chance, wiring)
+        wiring = KeyWiring(rng)
+        question = key_waiting_question(rng, wiring)
     elif seed % 8 == 2:
-        wiring = KeyWiring(chance)
-        question = Question(wiring.text(), KeyReadingProgram(chance, wiring).text())
+        wiring = KeyWiring(rng)
+        question = Question(wiring.text(), KeyReadingProgram(rng, wiring).text())
     else:
-        wiring = Wiring(chance)
-        question = Question(wiring.text(), ReadingProgram(chance, wiring).text())
-    question.max_states, question.pause = most, chance.choice([1, 2, 7, 30, 100, 300])
+        wiring = Wiring(rng)
+        question = Question(wiring.text(), ReadingProgram(rng, wiring).text())
+    question.max_states, question.pause = most, rng.choice([1, 2, 7, 30, 100, 300])
     if seed % 8 == 6:
         return question
     cells = cells_of(wiring)
-    boards = [{each: cell_value(board, *each) for each in cells} for board in random_walk(question, chance)]
-    question.nevers = [[comparison(chance, wiring, boards) for _each in range(chance.choice([1, 2, 2, 3]))] for _row in range(chance.choice([0, 1, 1, 1, 2]))]
-    if chance.random() < 0.5:
-        mistake_condition = ("mistake", *chance.sample(MISTAKES, chance.choice([1, 1, 2, len(MISTAKES)])))
-        question.nevers.append([mistake_condition, *([comparison(chance, wiring, boards)] if chance.random() < 0.2 else [])])
+    boards = [{each: cell_value(board, *each) for each in cells} for board in random_walk(question, rng)]
+    question.nevers = [[comparison(rng, wiring, boards) for _each in range(rng.choice([1, 2, 2, 3]))] for _row in range(rng.choice([0, 1, 1, 1, 2]))]
+    if rng.random() < 0.5:
+        mistake_condition = ("mistake", *rng.sample(MISTAKES, rng.choice([1, 1, 2, len(MISTAKES)])))
+        question.nevers.append([mistake_condition, *([comparison(rng, wiring, boards)] if rng.random() < 0.2 else [])])
     if seed % 4 == 1:
-        add_stopwatch(question, chance, wiring, boards)
+        add_stopwatch(question, rng, wiring, boards)
     if seed % 8 == 2:
-        add_marks(question, chance, wiring)
+        add_marks(question, rng, wiring)
     return question

@@ -70,7 +70,7 @@ export function findSpellingHint(line) {
   return OTHER_SYNTAX.test(line.replace(/;.*/, "").toUpperCase()) ? "; mcs4 import takes programs in Intel's and AS's spelling" : "";
 }
 
-/** The composer of messages about rejected texts. An engine checks the texts again to find the details. */
+/** Composes the messages about rejected texts. Uses an engine to check the texts again, to find the details. */
 export class RejectedTexts {
   /**
    * @param {EngineHost} engine

@@ -193,10 +193,10 @@ export class Page {
   /**
    * Shows a snapshot of the session.
    * @param {PageState} state
-   * @param {boolean} [isPassing] true if time is running and another snapshot follows
+   * @param {boolean} [isIntermediate] true if time is running and another snapshot follows
    * @param {import("../core/engine/brightness_meter.js").LitShares | null} [litShares] the measured duty cycle of each lamp, from 0 to 1
    */
-  show({ snapshot, file, board, total, reset, future, past, waves, printed, waiting }, isPassing = false, litShares = null) {
+  show({ snapshot, file, board, total, reset, future, past, waves, printed, waiting }, isIntermediate = false, litShares = null) {
     const { session } = this.currentSession;
     if (!session) return;
     this.bench.returnBuffer(session.replaceFile(file));
@@ -206,7 +206,7 @@ export class Page {
     session.record.cycles = this.cyclesView.cycles.storedCounts;
     this.historyView.updateForwardButton(future);
     if (board) this.draw(session.record, board);
-    this.snapshotView.show(snapshot, isPassing, litShares);
+    this.snapshotView.show(snapshot, isIntermediate, litShares);
     if (printed) {
       session.record.printed = printed;
       this.snapshotView.printer.showPrinted(printed);

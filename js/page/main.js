@@ -148,7 +148,7 @@ function listenToWindow(page) {
     page.recovery.reportFailure(event.error || event.message);
   });
   addEventListener("unhandledrejection", (event) => page.recovery.reportFailure(event.reason));
-  addEventListener("hashchange", () => page.sessionsController.followAddress());
+  addEventListener("hashchange", () => page.sessionsController.openUrlTarget());
 }
 
 /**

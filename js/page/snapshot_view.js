@@ -171,14 +171,14 @@ export class SnapshotView {
   /**
    * Shows a snapshot. Lamps, displays and keys are updated immediately. While time is running fast, all other views are updated less often.
    * @param {string[]} snapshot
-   * @param {boolean} [isPassing] true if time is running and another snapshot follows
+   * @param {boolean} [isIntermediate] true if time is running and another snapshot follows
    * @param {import("../core/engine/brightness_meter.js").LitShares | null} [litShares] the measured duty cycle of each lamp
    */
-  show(snapshot, isPassing = false, litShares = null) {
+  show(snapshot, isIntermediate = false, litShares = null) {
     const changedValues = this.reader.take(snapshot);
-    this.showLamps(changedValues.lamps, isPassing && this.calls.isRunning() ? litShares : null);
+    this.showLamps(changedValues.lamps, isIntermediate && this.calls.isRunning() ? litShares : null);
     this.showFront(changedValues);
-    if (isPassing && this.calls.isFast() && performance.now() - this.lastDrawTime < DRAW_INTERVAL) return;
+    if (isIntermediate && this.calls.isFast() && performance.now() - this.lastDrawTime < DRAW_INTERVAL) return;
     this.showSlowViews();
     if (this.calls.isRunning()) this.changes.handleRunning();
     else this.changes.handlePaused();

@@ -35,7 +35,7 @@ test("a failed launch has an error message, and another launch can follow", asyn
   await request("initialize", {});
   const launchError = async (args) => (await getResponse("launch", args)).message;
   assert.match(await launchError(undefined), /^launch needs "project"/);
-  assert.match(await launchError({ program: 3 }), /program is a text/);
+  assert.match(await launchError({ program: 3 }), /program must be a text/);
   assert.match(await launchError({ program: "/none.asm" }), /cannot read \/none.asm/);
   assert.match(await launchError({ program: "/a.asm" }), /^a.asm, line 1: the assembler does not know the form of the line \(no 30\)$/);
   assert.match(await launchError({ program: "/b/b.asm" }), /^there is no board.toml next to \/b\/b.asm/);
@@ -374,7 +374,7 @@ test("a debugged test stops where it fails, or at its end, and can step back", a
   const passingClient = startAdapter(files);
   await passingClient.startSession({ test: "it goes on", tests: "/lock/a b.test" });
   const passingOutput = passingClient.messages.filter(({ event }) => event === "output").map(({ body }) => body.output).join("");
-  assert.match(passingOutput, /The test passes: it goes on\./);
+  assert.match(passingOutput, /The test it goes on passed\./);
   const launchError = async (launchArguments) => {
     const failingClient = startAdapter(files);
     await failingClient.request("initialize", { adapterID: "mcs4" });

@@ -57,7 +57,7 @@ test("a failed attach has an error message", async () => {
   assert.equal(await attachError({ session: "/used.mcs" }), "/used.mcs is in use by mcs4 open (process 7)");
   assert.match(await attachError({ session: "/none.mcs" }), /^none\.mcs: .* \(no 50\)$/);
   assert.match(await attachError({ session: "/s.mcs", program: "/lock/other.asm" }), /^other.asm differs from the ROM of s.mcs/);
-  assert.equal(await attachError({ session: "/s.mcs", write: "yes" }), "write is true or false");
+  assert.equal(await attachError({ session: "/s.mcs", write: "yes" }), "write must be true or false");
   await request("attach", { session: "/s.mcs" });
 });
 
@@ -73,7 +73,7 @@ test("a waiting request is cancelled at once; a cancelled console line has no ef
   assert.equal((await responseTo(longRequest)).message, "cancelled");
   assert.deepEqual([await evaluate("r4"), await evaluate("seq", "repl")], ["0x0", "seq 2"]);
   assert.equal((await getResponse("cancel", { requestId: 99999 })).success, true);
-  assert.match((await getResponse("cancel", { requestId: "1" })).message, /requestId is a whole number/);
+  assert.match((await getResponse("cancel", { requestId: "1" })).message, /requestId must be a whole number/);
   assert.match((await getResponse("cancel", { progressId: "x" })).message, /no work in progress/);
 });
 
@@ -146,7 +146,7 @@ test("numbers have the base that the client requests", async () => {
   for (const format of [3, { hex: "yes" }, []]) {
     for (const [command, args] of [["variables", { variablesReference: 1 }], ["evaluate", { expression: "acc" }],
       ["stackTrace", { threadId: 1 }], ["scopes", { frameId: 1 }]]) {
-      assert.match((await getResponse(command, { ...args, format })).message, /^(format is an object|hex is true or false)/);
+      assert.match((await getResponse(command, { ...args, format })).message, /^(format must be an object|hex must be true or false)/);
     }
   }
 });

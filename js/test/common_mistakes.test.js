@@ -140,8 +140,8 @@ test("mistakes are checked at once if that frame has a stop, or if mistakes caus
   withBreakpoint.session.changeBreaks("break 7\n");
   const frame = withBreakpoint.advance(1543, true);
   assert.deepEqual([frame.stop.reason, frame.tally.mistakes.length], ["break", 1]);
-  const withStop = openSession(program);
-  withStop.commonMistakes.stoppingKinds.add("lines");
-  const stopFrame = withStop.advance(1543, true);
+  const withStoppingMistakes = openSession(program);
+  withStoppingMistakes.commonMistakes.stoppingKinds.add("lines");
+  const stopFrame = withStoppingMistakes.advance(1543, true);
   assert.deepEqual([stopFrame.stop.reason, stopFrame.cycles, stopFrame.tally.mistakes.length], ["usual", 3, 1]);
 });

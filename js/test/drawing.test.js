@@ -1,4 +1,5 @@
-// Tests drawn boards: each drawing action on the boards of the examples, after which the bench must accept the resulting text.
+// Tests the board drawing: applies each drawing action to the boards of the examples, and to boards in other TOML styles. The bench must
+// accept each resulting text.
 import assert from "node:assert/strict";
 import { test } from "node:test";
 import { readBoard } from "../core/bench/answers.js";

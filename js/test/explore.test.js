@@ -108,14 +108,14 @@ test("errors in a text of properties are reported with the valid names", () => {
   assert.match(errorsOf("wait 0 to 5")[0], /^1: write `wait TIME to TIME`/);
   assert.match(errorsOf("wait 1 to 2 s")[0], /^1: write `wait TIME to TIME`/);
   assert.match(errorsOf("wait 10 ms to 1 ms")[0], /^1: write `wait TIME to TIME`/);
-  assert.match(errorsOf("sometimes lamp on on")[0], /^1: no line begins with `sometimes`; they begin with press, test/);
+  assert.match(errorsOf("sometimes lamp on on")[0], /^1: a line cannot begin with `sometimes`; it can begin with press, test/);
   assert.match(errorsOf("reach line 1000")[0], /^1: line 1000 of the program has no instruction/);
   assert.match(errorsOf("model ./sum")[0], /names no display/);
   assert.match(errorsOf("lamp on on only after A")[0], /only after press KEY, press KEY/);
   assert.match(errorsOf("after press A lamp on on")[0], /after press KEY within TIME CONDITION/);
   assert.match(errorsOf("@look to @dark within time")[0], /^1: write `@LABEL to @LABEL within TIME`/);
   assert.deepEqual(errorsOf("@look to @there within 1 ms"), ["1: the program has no label there"]);
-  assert.match(errorsOf("@look to dark within 1 ms")[0], /^1: no line begins with `@look`/);
+  assert.match(errorsOf("@look to dark within 1 ms")[0], /^1: a line cannot begin with `@look`/);
   assert.equal(errorsOf("note pc")[0].slice(0, 5), "1: pc");
   assert.deepEqual(errorsOf("note lamps r7 ram.0.0x12 rom1 chain0 ram0.0 src\nnever acc 3 for 5 ms\nalways cy < 1\nat @look r7 0"), []);
 });
@@ -358,8 +358,8 @@ test("a counted walk ends in the same state as a watched walk", () => {
     const memories = properties.map(({ createMemory }) => createMemory(7, 0));
     const start = { file: threeCallSubject.file, time: 7, downInputs: initialDownInputs(campaign),
       memories };
-    const { violation: broken, stepStates: after } = watcher.watch(start, steps, propertyIndexes);
-    assert.equal(broken, null);
+    const { violation, stepStates: after } = watcher.watch(start, steps, propertyIndexes);
+    assert.equal(violation, null);
     const countedStates = countWalk({ subject: threeCallSubject, campaign, coverage: new Coverage() }, start, steps);
     countedStates.forEach(({ time, downInputs, memories: countedMemories }, index) => {
       assert.deepEqual({ time, downInputs }, { time: after[index].time, downInputs: after[index].downInputs });
@@ -447,7 +447,7 @@ test("errors of the start state are reported", async () => {
   assert.match(await errorOf("from lit of"), /^1: write `from STATE` or `from STATE of FILE.test`/);
   assert.match(await errorOf("from lit\nfrom both"), /^2: an earlier line already says from which state it begins/);
   const error = await errorOf("from lit", SAVING.replace("run 400", "rune 400"));
-  assert.match(error, /^1: its tests have an error in line 3: no line of a test/);
+  assert.match(error, /^1: its tests have an error in line 3: a line of a test cannot begin/);
   const failingTests = SAVING.replace("run 400", "expect lamp on on");
   assert.match(await errorOf("from lit", failingTests), /^1: line 3 of its tests fails: expect lamp on on: /);
 });

@@ -148,9 +148,9 @@ function findViolationTime(property, { c, g, acts }) {
   const areGuardsOpenAt = (time) => property.guards.map(({ condition }) => condition !== null && g[time]);
   let violation = -1;
   const notify = (event, time, input = "") => {
-    const isState = event === "values";
-    const areOpen = isState || event === "down" ? areGuardsOpenAt(time) : [];
-    const moment = { time, changeTime: time, address: -1, holds: isState && c[time], areOpen, input, downCount: 0 };
+    const isValuesEvent = event === "values";
+    const areOpen = isValuesEvent || event === "down" ? areGuardsOpenAt(time) : [];
+    const moment = { time, changeTime: time, address: -1, holds: isValuesEvent && c[time], areOpen, input, downCount: 0 };
     const violationNow = property.update(memory, event, moment);
     if (violationNow >= 0 && (violation < 0 || violationNow < violation)) violation = violationNow;
   };

@@ -27,7 +27,7 @@ test("errors in tests have their positions", async () => {
   const errors = describeDiagnostics(await openText(tests, "test a\n  press Q\n  until lamp opn on within 1 s\n  nonsense\n"));
   assert.equal(errors[0], "1:2-9 1 the board has no key Q; it has: 1 2 3 4 5 6 7 8 9 * 0 #");
   assert.equal(errors[1], "2:8-12 1 the board has no lamp opn; it has: locked open alarm", "at the column, which is not named");
-  assert.match(errors[2], /^3:2-10 1 no line of a test begins with `nonsense`/);
+  assert.match(errors[2], /^3:2-10 1 a line of a test cannot begin with `nonsense`/);
   assert.deepEqual(await openText(tests, ""), []);
 });
 

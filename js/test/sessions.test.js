@@ -1,7 +1,7 @@
 // Tests the creation, deletion and restoration of sessions, and the messages about them.
 import assert from "node:assert/strict";
 import { test } from "node:test";
-import { formatAddress, readAddress } from "../page/session/address.js";
+import { formatUrlFragment, readUrlFragment } from "../page/session/address.js";
 import { Trash, formatNames } from "../page/session/trash.js";
 import { OpenSession, newRecord } from "../page/session/open_session.js";
 import { Persistence } from "../page/session/persistence.js";
@@ -13,14 +13,14 @@ const AVAILABLE_LOCKS = { acquire: async () => () => {} };
 
 test("addresses are formatted and parsed", () => {
   for (const [kind, value] of [["session", "m1-2-x"], ["example", "traffic light"], ["link", "1.abc-_"], ["example", "50 % \u00fc"]]) {
-    assert.deepEqual(readAddress(formatAddress(kind, value)), { kind, value });
+    assert.deepEqual(readUrlFragment(formatUrlFragment(kind, value)), { kind, value });
   }
-  assert.deepEqual(readAddress("#example=50%"), { kind: "example", value: "50%" });
+  assert.deepEqual(readUrlFragment("#example=50%"), { kind: "example", value: "50%" });
   for (const blanks of ["%20", " ", "%0A%20%0d", "\n"]) {
-    assert.deepEqual(readAddress(`#link=1.abc-_${blanks}`), { kind: "link", value: "1.abc-_" });
-    assert.deepEqual(readAddress(`#example=traffic%20light${blanks}`), { kind: "example", value: "traffic light" });
+    assert.deepEqual(readUrlFragment(`#link=1.abc-_${blanks}`), { kind: "link", value: "1.abc-_" });
+    assert.deepEqual(readUrlFragment(`#example=traffic%20light${blanks}`), { kind: "example", value: "traffic light" });
   }
-  for (const address of ["", "#", "#help", "#sessions=1", "#link"]) assert.deepEqual(readAddress(address), { kind: "", value: "" });
+  for (const address of ["", "#", "#help", "#sessions=1", "#link"]) assert.deepEqual(readUrlFragment(address), { kind: "", value: "" });
 });
 
 test("breakpoints and watches are stored in a new session, if there are any", () => {

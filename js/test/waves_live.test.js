@@ -150,9 +150,9 @@ test("the reason for the end of a recording is reported", async () => {
 
 test("an invalid trigger is reported, and nothing is recorded", async () => {
   const { calls, texts } = await beginWith("calculator");
-  const faultOf = (trigger) => calls.recordLive(texts, { trigger, cyclesAfterTrigger: 0, stopsMachine: false });
+  const recordWith = (trigger) => calls.recordLive(texts, { trigger, cyclesAfterTrigger: 0, stopsMachine: false });
   const faults = {
-    "r99 rises": 'nothing here is called r99; Rows lists the names',
+    "r99 rises": 'nothing here is called r99; the menu Rows lists the names',
     "rom0 rises": "rom0 is a number: write rom0 changes, or as rom0 = 5",
     "pc changes": "write a place of the program as @LABEL",
     "r9 = 16": /15/,
@@ -160,7 +160,7 @@ test("an invalid trigger is reported, and nothing is recorded", async () => {
     rubbish: /./,
   };
   for (const [trigger, words] of Object.entries(faults)) {
-    const { recorded, error: fault } = faultOf(trigger);
+    const { recorded, error: fault } = recordWith(trigger);
     assert.equal(recorded, null, trigger);
     if (typeof words === "string") assert.equal(fault, words);
     else assert.match(fault, words);

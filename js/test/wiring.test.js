@@ -44,7 +44,7 @@ test("what is at TEST is a part with a wire to the processor, and has its words"
   const { parts, wires } = layOutBoard(readBoard(["board"]), at);
   assert.deepEqual(parts.map(({ id, title }) => `${id} ${title}`), ["processor 4004", "test CROSS THE …"]);
   assert.deepEqual(wires.map(({ from, to }) => `${from.label} ${to.label}`), ["button TEST"]);
-  assert.equal(parts[0].descriptions[1], "its input TEST is at the button CROSS THE ROAD");
+  assert.equal(parts[0].descriptions[1], "its input TEST is connected to the button CROSS THE ROAD");
   assert.deepEqual(parts[1].descriptions, ["the button CROSS THE ROAD puts TEST to 0 while it is pressed"]);
 });
 

@@ -29,7 +29,7 @@ export const benchAnswered = (line, answer) => `${line}: the bench answered ${an
 export const BASE_64_REQUIRED = "data must be in base 64";
 
 // --- adapter/client_breakpoints.js ---
-export const HIT_COUNT_SYNTAX = "a hit count is a number, as in 5: it stops from that hit on";
+export const HIT_COUNT_SYNTAX = "a hit count is a number, such as 5: the breakpoint stops at that hit and at each later one";
 /** @type {(maximum: number) => string} */
 export const tooManyEnabled = (maximum) => `at most ${maximum} breakpoints can be on`;
 /** @type {(place: string) => string} */
@@ -128,7 +128,7 @@ export const TEST_NEEDS_TESTS = "a test needs `tests`, the name of its text";
 /** @type {(name: string, file: string) => string} */
 export const noSuchTest = (name, file) => `${file} has no test ${name}`;
 /** @type {(name: string) => string} */
-export const testHasPassed = (name) => `The test passes: ${name}. This is its end; step back to see what led to it.`;
+export const testHasPassed = (name) => `The test ${name} passed. The session is at the end of the test; step back to see how it got there.`;
 /** @type {(file: string, line: number, error: string) => string} */
 export const testsHaveError = (file, line, error) => `${file}, line ${line}: ${error || "it has an error"}; no test is run`;
 
@@ -139,15 +139,15 @@ export const NO_TARGET = "there is no such target";
 export const NOT_CALLED = "this frame is the program itself, which nothing called; restart starts it again";
 
 // --- adapter/number_format.js ---
-export const FORMAT_OBJECT_SYNTAX = "format is an object, as { \"hex\": true }";
+export const FORMAT_OBJECT_SYNTAX = "format must be an object, such as { \"hex\": true }";
 
 // --- adapter/dap_protocol.js ---
 /** @type {(name: string) => string} */
-export const mustBeInteger = (name) => `${name} is a whole number`;
+export const mustBeInteger = (name) => `${name} must be a whole number`;
 /** @type {(name: string) => string} */
-export const mustBeBoolean = (name) => `${name} is true or false`;
+export const mustBeBoolean = (name) => `${name} must be true or false`;
 /** @type {(name: string) => string} */
-export const mustBeList = (name) => `${name} is a list`;
+export const mustBeList = (name) => `${name} must be a list`;
 
 // --- adapter/scopes.js ---
 /** @type {(chips: number, isSelected: boolean) => string} */

@@ -64,7 +64,7 @@ export const AND = " and ";
 export const NOT_USED = "is not used";
 export const PROCESSOR_ROLE = "it reads the ROMs' bytes and ports, writes the ports, and reads and writes RAM";
 /** @type {(kind: string, name: string) => string} */
-export const testIsAt = (kind, name) => `its input TEST is at the ${kind} ${name}`;
+export const testConnectedTo = (kind, name) => `its input TEST is connected to the ${kind} ${name}`;
 export const TEST_IS_ONLY_INPUT = "TEST is only its input";
 /** @type {(kind: string, name: string, level: number) => string} */
 export const drivesTest = (kind, name, level) => `the ${kind} ${name} puts TEST to ${level} while it is pressed`;

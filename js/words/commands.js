@@ -86,7 +86,7 @@ export const COMMAND_WORDS = {
     summary: "prints how long the runs of a session took",
     text: `
       Reads the answers of mcs4, and adds up the cycles in \`ok N ran K ..\` with the microseconds that a 4004 takes for them,
-      10.8 each. FIRST and LAST are numbers of lines of the answers: only these lines and those between them are added up.
+      10.8 each. FIRST and LAST are line numbers of the answers: only these lines and those between them are added up.
 
       With --source, each run has a line of its own. It shows where the run stopped, with the name and the line of the source, if the answer
       to \`regs\` or \`state\` follows it. PROGRAM must be what is in the ROM of SESSION, byte for byte.`,
@@ -779,7 +779,7 @@ export const noAnswers = (command) => (
 
 // --- cycles ---
 /** @type {(word: string) => string} */
-export const notALineNumber = (word) => `FIRST and LAST are numbers of lines, and '${word}' is not a number`;
+export const notALineNumber = (word) => `FIRST and LAST are line numbers; '${word}' is not a number`;
 export const FIRST_AND_LAST = "FIRST is at least 1, and LAST is not before it";
 
 // --- explain ---
@@ -831,10 +831,10 @@ export const wouldDiffer = (session, expected, actual) => `${session} would not 
 export const noFolderIn = (parent) => `cannot make a folder in ${parent}; TMPDIR names another place for temporary files`;
 
 // --- debug ---
-export const NOT_A_BREAKPOINTS_FILE = "does not begin like a file of breakpoints (# Breakpoints of mcs4 debug)";
+export const NOT_A_BREAKPOINTS_FILE = "is not a file of breakpoints: it does not begin with `# Breakpoints of mcs4 debug`";
 
 // --- explore ---
-export const NOT_COUNTEREXAMPLES = "does not begin like a file of counterexamples (# Found by mcs4 explore)";
+export const NOT_COUNTEREXAMPLES = "is not a file of counterexamples: it does not begin with `# Found by mcs4 explore`";
 export const NOT_A_REPORT = "is not a report of mcs4 explore";
 /** @type {(file: string, names: string[]) => string} */
 export const nameOneFile = (file, names) => `${file} names ${names.length} texts of properties; name one of them: ${names.join(" ")}`;

@@ -74,7 +74,7 @@ export const sourceOfBank = (bank) => `SRC of bank ${bank}`;
 export const KINDS = /** @type {Record<import("../core/debug/common_mistakes.js").Kind, string>} */ ({
   calls: "a fourth JMS inside three others",
   return: "a BBL without a call",
-  lines: "WRR or RDR at a port without such lines",
+  lines: "WRR at a port without outputs, or RDR at a port without inputs",
   chip: "a write to a chip that the board lacks",
   bytes: "bytes that no line of the source put there",
   source: "an SRC that still points elsewhere",

@@ -50,7 +50,7 @@ export const MODEL_SYNTAX = "write `model COMMAND`: the command gets keys, and p
 export const DISPLAY_IS_MULTIPLEXED = "the display's digits are multiplexed, but a model needs a display that shows its number at once";
 export const ONLY_AFTER_SYNTAX = "write `CONDITION only after press KEY, press KEY ..`";
 /** @type {(word: string, firstWords: string) => string} */
-export const unknownFirstWord = (word, firstWords) => `no line begins with \`${word}\`; they begin with ${firstWords}`;
+export const unknownFirstWord = (word, firstWords) => `a line cannot begin with \`${word}\`; it can begin with ${firstWords}`;
 export const NOTHING_CHANGES =
   "nothing may change: the board's text names no keys and no TEST; `test` lets TEST change, `reset` the power";
 export const MODEL_NEEDS_KEYS = "a model is asked about keys, but none may go down";

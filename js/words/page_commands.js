@@ -124,7 +124,7 @@ export const toggledPanel = (panel) => `Close or reopen ${panel}`;
 /** @type {(panel: string) => string} */
 export const fullPanel = (panel) => `Full size: ${panel}, and back`;
 /** The names of the commands that select a theme, by theme id. */
-export const THEMES = { system: "Theme: as the system", light: "Theme: light", dark: "Theme: dark" };
+export const THEMES = { system: "Theme: same as the system", light: "Theme: light", dark: "Theme: dark" };
 /** @type {(example: string) => string} */
 export const openExample = (example) => `Open the example ${example}`;
 /** @type {(key: string) => string} */
@@ -193,9 +193,9 @@ export const noneHas = (query) => `Nothing is named ${query}`;
 
 // --- commands/palette_places.js ---
 /** @type {(address: string) => string} */
-export const addressNamed = (address) => `Address ${address}`;
+export const nameOfAddress = (address) => `Address ${address}`;
 /** @type {(line: number) => string} */
-export const lineNamed = (line) => `Line ${line} of Source`;
+export const nameOfLine = (line) => `Line ${line} of Source`;
 /** @type {(line: number, address: string) => string} */
 export const labelAt = (line, address) => `line ${line}, ${address}`;
 export const A_TEXT = "text";

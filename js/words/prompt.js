@@ -87,7 +87,7 @@ export const VIEW_SYNTAX = "write view, view on or view off";
 export const VIEW_NEEDS_TERMINAL = "the view needs a terminal: it is above the commands that are typed there";
 export const NO_DISPLAY = "there is no such display; info display shows their numbers";
 /** @type {(place: string) => string} */
-export const noPlaceOfMemory = (place) => `${place} is not a place; examples: x/8 show, x/8 0x00F, x/16 ram.0.0x10`;
+export const noPlaceOfMemory = (place) => `${place} is neither a label nor an address; examples: x/8 LABEL, x/8 0x00F, x/16 ram.0.0x10`;
 export const NO_LINE_THERE = "the source has no line there; x shows what is in ROM";
 /** @type {(count: number) => string} */
 export const sourceHas = (count) => `the source has ${count} lines`;

@@ -65,7 +65,7 @@ export const noFile = (key, path) => `${key}: there is no file ${path}`;
 // --- server/language_server.js ---
 /** @type {(uri: string) => string} */
 export const notOpen = (uri) => `${uri} is not open`;
-export const CONTENT_CHANGES_SYNTAX = "contentChanges is a list";
+export const CONTENT_CHANGES_SYNTAX = "contentChanges must be a list";
 export const TEXT_OF_CHANGE = "the text of a change";
 /** @type {(uri: string, errors: string) => string} */
 export const faultsOf = (uri, errors) => `the errors of ${uri}: ${errors}`;
@@ -93,12 +93,12 @@ export const NO_NAME_HERE = "There is no name of the program here.";
 
 // --- server/lsp_protocol.js ---
 /** @type {(name: string) => string} */
-export const mustBeText = (name) => `${name} is a text`;
+export const mustBeText = (name) => `${name} must be a text`;
 export const POSITION_IS = "a position has a line and a character, whole numbers from 0";
 
 // --- server/requests.js ---
 /** @type {(name: string) => string} */
-export const mustBeList = (name) => `${name} is a list`;
+export const mustBeList = (name) => `${name} must be a list`;
 /** @type {(command: string) => string} */
 export const noCommand = (command) => `there is no command ${command} here`;
 

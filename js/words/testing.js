@@ -110,7 +110,7 @@ export const noSteps = (name, knownNames) => `there are no steps ${name} before 
 /** @type {(word: string) => string} */
 export const takesNoArgument = (word) => `\`${word}\` takes no argument`;
 /** @type {(word: string, firstWords: string) => string} */
-export const unknownFirstWord = (word, firstWords) => `no line of a test begins with \`${word}\`; they begin with ${firstWords}`;
+export const unknownFirstWord = (word, firstWords) => `a line of a test cannot begin with \`${word}\`; it can begin with ${firstWords}`;
 /** @type {(word: string) => string} */
 export const stateSyntax = (word) => `write \`${word} STATE\`, a word`;
 export const SAVED_ONCE = "a state is saved once: `save` cannot be in a `repeat`";

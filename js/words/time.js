@@ -26,7 +26,7 @@ export const toPlace = (place) => `, to ${place}`;
 // --- time/cycles_view.js ---
 export const MARKS_CYCLE = "marks this cycle; a second press shows how many cycles lie between the marks";
 export const MARK = "Set marker";
-export const OR_SINCE_BEGUN = "or since this session was begun or opened here";
+export const SINCE_RESET_TOOLTIP = "the cycles since the last reset, or since this session was started or opened in this tab";
 export const SINCE_RESET = "Since reset ";
 export const IN_LAST_RUN = "in the last run without a stop";
 export const SINCE_STOP = "Since pause ";

@@ -35,7 +35,7 @@ test: $folder/bad.test:7: a pattern of 4 lamps; the board has 3 (column 10)
 test: $folder/bad.test:8: the board has no RAM chip for ram.0.0x40 (column 10)
 test: $folder/bad.test:9: r16: no such place; the registers are r0 to r15 (column 7)
 test: $folder/bad.test:10: r1 holds 0 to 15, not 16 (column 13)
-test: $folder/bad.test:11: no line of a test begins with \`foo\`; they begin with test, steps, from, save, press, release, keys, pace, run, until, expect, mark, set, reset, do, repeat or end
+test: $folder/bad.test:11: a line of a test cannot begin with \`foo\`; it can begin with test, steps, from, save, press, release, keys, pace, run, until, expect, mark, set, reset, do, repeat or end
 test: $folder/bad.test:12: \`from\` must be right below \`test\`
 test: $folder/bad.test:13: the board has no key z, nor 12z; it has: 1 2 3 4 5 6 7 8 9 * 0 #
 test: $folder/bad.test:14: write \`until CONDITION within TIME\`

@@ -35,8 +35,8 @@ export function stripCarriageReturn(rawLine) {
  */
 export function opensText(line) {
   const match = line.length <= MAX_LINE_LENGTH ? ONE_WORD.exec(line) : null;
-  const form = match && ANSWER_FORMATS.get(match[1]);
-  return Boolean(form && form.opensText);
+  const format = match && ANSWER_FORMATS.get(match[1]);
+  return Boolean(format && format.opensText);
 }
 
 /**
@@ -141,12 +141,12 @@ export function maxAnswerLines(input, first, count) {
  * @param {number} from the index of the answer's first line
  */
 export function answerLength(input, answers, from) {
-  const form = ANSWER_FORMATS.get(input.kind);
-  if (!form || !form.further || !form.first.test(answers[from])) return 1;
-  const max = maxAnswerLines(input, answers[from], form.count);
+  const format = ANSWER_FORMATS.get(input.kind);
+  if (!format || !format.further || !format.first.test(answers[from])) return 1;
+  const max = maxAnswerLines(input, answers[from], format.count);
   let index = from + 1;
-  while (index < answers.length && index - from < max && form.further.test(answers[index])) {
-    if (form.count === "list" && !continuesListing(answers[index - 1], answers[index])) break;
+  while (index < answers.length && index - from < max && format.further.test(answers[index])) {
+    if (format.count === "list" && !continuesListing(answers[index - 1], answers[index])) break;
     index++;
   }
   return index - from;

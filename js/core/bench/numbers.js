@@ -45,8 +45,8 @@ export function formatTenths(value) {
 /**
  * Formats a count with its noun: `1 line`, `1,543 cycles`.
  * @param {number} count
- * @param {string} singular the noun in singular
- * @param {string} [plural] the noun in plural
+ * @param {string} singular the singular noun
+ * @param {string} [plural] the plural noun
  */
 export function formatQuantity(count, singular, plural = `${singular}s`) {
   return `${count.toLocaleString("en")} ${count === 1 ? singular : plural}`;

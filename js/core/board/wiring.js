@@ -173,7 +173,7 @@ function portPins(chip) {
  */
 function addProcessor(column, test) {
   const descriptions = [say.PROCESSOR_ROLE,
-    test ? say.testIsAt(test.kind, displayedName(test)) : say.TEST_IS_ONLY_INPUT];
+    test ? say.testConnectedTo(test.kind, displayedName(test)) : say.TEST_IS_ONLY_INPUT];
   const pin = { id: "TEST", line: "", label: "TEST", number: TEST_PIN_NUMBER };
   return column.add({ id: "processor", kind: "processor", title: "4004", descriptions }, [], [pin]);
 }

@@ -1,5 +1,5 @@
-// Creates the listing of a program in the format of assemblers: each source line with its address and bytes, followed by the names with
-// their values.
+// Creates the listing of a program, as assemblers usually print it: each source line with its address and bytes, followed by the names
+// with their values.
 
 import { hex, indices } from "../bench/numbers.js";
 

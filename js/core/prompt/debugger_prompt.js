@@ -15,7 +15,7 @@ import { ErrorMessages } from "../bench/error_messages.js";
 import { BreakpointCommands } from "./breakpoint_commands.js";
 import { ChangeCommands } from "./change_commands.js";
 import { COMMANDS, findCommand } from "./prompt_commands.js";
-import { PromptKeys } from "./prompt_keys.js";
+import { BoardKeyNames } from "./prompt_keys.js";
 import { INFO_WORDS, InspectCommands } from "./inspect_commands.js";
 import { formatNextInstruction } from "./state_text.js";
 import { MoveCommands } from "./move_commands.js";
@@ -105,7 +105,7 @@ export class Prompt {
     this.sources = new SourceCommand(this, calls);
     const consoleCalls = { breaksChanged: () => this.breakpoints.syncWithBench(), romChanged: () => {} };
     this.console = new Console(this.machine, this.expressionContext, new ErrorMessages(refusals), consoleCalls);
-    this.keys = new PromptKeys(this.session, this.face);
+    this.keys = new BoardKeyNames(this.session, this.face);
     /** @type {Record<string, CommandHandler>} */
     this.handlers = {
       ...new MoveCommands(this).handlers, ...this.breakpoints.handlers, ...this.stops.handlers, ...this.inspectCommands.handlers,

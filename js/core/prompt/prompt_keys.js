@@ -12,7 +12,7 @@ import * as say from "../../words/prompt.js";
  * @typedef {import("../testing/test_text.js").Key} NamedKey
  */
 
-export class PromptKeys {
+export class BoardKeyNames {
   /**
    * @param {DebugSession} session
    * @param {import("../board/face.js").Face} face

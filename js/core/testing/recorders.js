@@ -186,7 +186,7 @@ export class ExecutionRecorder {
   }
 
   /**
-   * Ends a test.
+   * Ends the recording of a test.
    * @param {number} elapsed the length of the test in cycles
    */
   end(elapsed) {

@@ -306,7 +306,8 @@ export class TestRun {
   async runToChange(session, condition, end) {
     if (condition.needs.includes("seen") || condition.needs.includes("printed")) return this.runToPerceived(session, condition, end);
     let stop = "end";
-    // A trace does not report TEST or a pending second cycle. During a run, they can change only in the first cycle.
+    // A trace reports neither TEST nor `owed`. TEST does not change during a run, and the first cycle ends a pending instruction, so a
+    // condition without traced places is checked after one cycle.
     let piece = condition.places.length > 0 ? 1000 : 1;
     const extraValues = { ...session.readCondition(condition).extraValues, owed: "0" };
     for (; session.elapsed < end && stop === "end"; piece = piece < 10000 ? piece * 10 : MAX_RUN_CYCLES) {

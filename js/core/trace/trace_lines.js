@@ -84,7 +84,8 @@ export class TraceLines {
   }
 
   /**
-   * Returns the lines of a run: one line per instruction, and one line per label.
+   * Returns the lines of a run: one text per executed instruction. The text begins with a line for the label of the instruction, if it has
+   * one that its source line does not show.
    * @param {State} state
    * @param {number} cycles the length of the run in cycles, at most the maximum of the bench
    * @param {number} elapsed the number of cycles before the run

@@ -92,7 +92,7 @@ function command(id, group, action, options = {}) {
 }
 
 /**
- * Returns a command that clicks a button of a panel.
+ * Returns a command that clicks a button of the page.
  * @param {CommandId} id
  * @param {Command["group"]} group
  * @param {string} button the id of the button

@@ -34,11 +34,11 @@ const makeEntry = (label, hint, action, isForQuery = false) => ({ label, hint, d
  */
 function findTypedDestinations(query, calls) {
   const [, line = ""] = LINE_NUMBER_QUERY.exec(query) || [];
-  if (line) return [makeEntry(say.lineNamed(Number(line)), "", () => calls.showLine(Number(line)), true)];
+  if (line) return [makeEntry(say.nameOfLine(Number(line)), "", () => calls.showLine(Number(line)), true)];
   const map = calls.map();
   if (query === "" || (map && map.names.has(query))) return [];
   const { address, message: error } = parseGoal(query, map);
-  return error ? [] : [makeEntry(say.addressNamed(hex(address, 3)), "", () => calls.showAddress(address), true)];
+  return error ? [] : [makeEntry(say.nameOfAddress(hex(address, 3)), "", () => calls.showAddress(address), true)];
 }
 
 /**

@@ -33,11 +33,11 @@ export function forgetStory() {
 }
 
 /**
- * Returns the target of an address. Ignores trailing spaces, which users sometimes copy together with an address.
+ * Returns what the fragment of a URL names. Ignores trailing spaces, which users sometimes copy together with a URL.
  * @param {string} hash
  * @returns {{ kind: AddressKind | "", value: string }}
  */
-export function readAddress(hash) {
+export function readUrlFragment(hash) {
   const [, kind, value] = /^#(session|example|link)=(.*?)(?:%20|%09|%0A|%0D|\s)*$/i.exec(hash) || [];
   return { kind: /** @type {AddressKind | ""} */ (kind || ""), value: kind === "example" ? decodeText(value) : value || "" };
 }
@@ -46,6 +46,6 @@ export function readAddress(hash) {
  * @param {AddressKind} kind
  * @param {string} value
  */
-export function formatAddress(kind, value) {
+export function formatUrlFragment(kind, value) {
   return `#${kind}=${kind === "example" ? encodeURIComponent(value) : value}`;
 }

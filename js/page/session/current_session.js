@@ -3,7 +3,7 @@
 import { field, block } from "../ui/dom.js";
 import { describeInterruption } from "../../words/stops.js";
 import { ZERO_COUNTS } from "../../core/time/cycles.js";
-import { formatAddress } from "./address.js";
+import { formatUrlFragment } from "./address.js";
 import { OpenSession } from "./open_session.js";
 import { shortName } from "../../core/session/names.js";
 import * as say from "../../words/session.js";
@@ -156,7 +156,7 @@ export class CurrentSession {
     const { record, example } = this.session;
     this.showTitle();
     block("hello").hidden = example === "";
-    location.replace(example ? formatAddress("example", example) : formatAddress("session", record.id));
+    location.replace(example ? formatUrlFragment("example", example) : formatUrlFragment("session", record.id));
   }
 
   /**

@@ -1,6 +1,6 @@
 // Links that contain a session's texts. The page sends nothing to a server: the user copies a link, and the recipient opens the link.
 
-import { formatAddress } from "./address.js";
+import { formatUrlFragment } from "./address.js";
 import { readBoard, parseRefusal } from "../../core/bench/answers.js";
 import { sessionTitle, describeBoard } from "../../core/session/session_summary.js";
 import { element } from "../ui/dom.js";
@@ -64,7 +64,7 @@ export class LinkSharing {
       this.notice.show(say.noLink(lengthError), "refusal");
       return;
     }
-    const address = location.href.replace(/#.*$/, "") + formatAddress("link", await toLink(texts));
+    const address = location.href.replace(/#.*$/, "") + formatUrlFragment("link", await toLink(texts));
     const size = say.characters(address.length.toLocaleString("en"));
     if (address.length > MAX_LINK_LENGTH) {
       await this.offerFile(size);

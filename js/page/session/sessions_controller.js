@@ -1,6 +1,6 @@
 // Controls the sessions of the page: opens the first session, handles the sessions dialog, and follows changes of the page's address.
 
-import { readAddress } from "./address.js";
+import { readUrlFragment } from "./address.js";
 import { Trash, formatNames } from "./trash.js";
 import { shortName } from "../../core/session/names.js";
 import { OpeningGuard } from "./opening_guard.js";
@@ -173,7 +173,7 @@ export class SessionsController {
    */
   async openFirst(story) {
     const { hash } = location;
-    const address = readAddress(hash);
+    const address = readUrlFragment(hash);
     const isStory = address.kind === "" && this.examples.some((example) => example.name === story && example.story);
     const { kind, value } = isStory ? { kind: "example", value: story } : address;
     const isQuiet = kind === "" || kind === "link" || (kind === "session" && this.openingGuard.hasUnfinishedOpening(value));
@@ -223,9 +223,9 @@ export class SessionsController {
     this.notice.show(message, "unended", openAction, deleteAction);
   }
 
-  /** Opens the target of a changed address, unless it is already open. */
-  async followAddress() {
-    const { kind, value } = readAddress(location.hash);
+  /** Opens what the fragment of a changed URL names, unless it is already open. */
+  async openUrlTarget() {
+    const { kind, value } = readUrlFragment(location.hash);
     const session = this.calls.session();
     if (!session) return;
     if (kind === "") this.reportUnknownAddress(location.hash);

@@ -33,8 +33,8 @@ import { COLOURS } from "../../core/text/test_colours.js";
  */
 
 /**
- * A kind of text: tests or properties. `name` is also a part of the editor's id. `firstButton` is the id of the button that inserts
- * `firstText`. `forms` are the syntax forms of its lines. `wordsAt` describes a word, and `complete` completes it.
+ * A kind of text: tests or properties. `name` is also a part of the editor's id. `insertButton` is the id of the button that inserts
+ * `firstText`. `forms` are the syntax forms of its lines. `describeWord` describes a word, and `complete` completes it.
  * @template Forms
  * @typedef {{ name: "tests" | "properties", insertButton: string, firstText: (names: Names) => string | Promise<string>, forms: Forms,
  *   describeWord: (lines: string[], line: number, offset: number, forms: Forms) => string,
