@@ -320,7 +320,7 @@ def sub(board: Board, k: int, _second_byte: int) -> None:
 
 
 def ld(board: Board, k: int, _second_byte: int) -> None:
-    """Load a register."""
+    """Load the accumulator from a register."""
     board.acc = board.r[k]
 
 

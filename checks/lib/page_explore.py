@@ -109,7 +109,7 @@ return [isShown(editor.view.dom), editor.getCursor('from').line + 1]"""), [True,
 
 
 def check_test_added(browser):
-    """Checks that the counterexample's test is added to the tests once, that it fails there, and that it can be removed again."""
+    """Checks that the counterexample's test is added to the tests only once, at the end, and that it fails there."""
     add_button = "#property-list .bar button:nth-of-type(2)"
     tests_before = text_of(browser, "tests")
     test = browser.script(GET_COUNTEREXAMPLE_TEST)

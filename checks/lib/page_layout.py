@@ -189,7 +189,7 @@ def check_marks(browser):
     choose_example(browser, "three lamps")
     stop_time(browser)
     send_lines(browser, f"asm\n{SLOW_PROGRAM}.\nreset\nbreak 12".replace("\\n", "\n"))
-    eventually(browser, "after a reset the status is true", GET_STATUS, "The board was reset; it is at 000.")
+    eventually(browser, "after a reset the status is true", GET_STATUS, "The board was reset; the program counter is at 000.")
     browser.script(COUNT_MARKS)
     browser.click("#run")
     eventually(browser, "a long run ends at its breakpoint", GET_STATUS, "Paused at 00C, at a breakpoint.", 40)
@@ -200,7 +200,7 @@ def check_marks(browser):
     browser.until(GET_STATUS, STEPPED)
     verdict("the next stop marks what it changed alone", "R5" in browser.script(GET_MARKED_REGISTERS).split(), False)
     browser.click("#reset")
-    eventually(browser, "Reset says where the board stands", GET_STATUS, "The board was reset; it is at 000.")
+    eventually(browser, "Reset says where the board stands", GET_STATUS, "The board was reset; the program counter is at 000.")
 
 
 GET_EDITED_CELL = "return document.getElementById('cell-editor').hidden ? '' : document.querySelector('#cell-editor label').textContent"

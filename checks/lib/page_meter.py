@@ -21,7 +21,7 @@ window.requestAnimationFrame = (act) => ask.call(window, measured(act));
 const listen = Worker.prototype.addEventListener;
 Worker.prototype.addEventListener = function (kind, act) {
   listen.call(this, kind, measured(act, ({ data }) => {
-    if (!data || !data.result || !data.result.ran) return;
+    if (!data || !data.result || !data.result.runEntries) return;
     window.frames.push([spent, data.took]);
     spent = 0;
   }));

@@ -198,7 +198,7 @@ def check_notices(browser, folder):
     browser.click("#run")
     browser.until(GET_STATUS, re.compile("at a breakpoint"))
     browser.click("#reset")
-    eventually(browser, "the status after a reset", GET_STATUS, "The board was reset; it is at 000.")
+    eventually(browser, "the status after a reset", GET_STATUS, "The board was reset; the program counter is at 000.")
     check_many_notices(browser, folder)
 
 

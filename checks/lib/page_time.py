@@ -301,8 +301,8 @@ BBL 6
 
 
 def check_wait_for_key(browser):
-    """Checks a step over a subroutine that waits for a key: time runs until the key is pressed. Outside a subroutine, Step out reports that no call
-    is open."""
+    """Checks a step over a subroutine that waits for a key: time runs until the key is pressed. Also checks a step over a plain instruction, and one
+    over an instruction that jumps to itself."""
     choose_example(browser, "empty bench")
     browser.click("#first-board")
     browser.until("return document.querySelectorAll('#keys button').length", 2)

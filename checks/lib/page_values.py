@@ -77,7 +77,7 @@ def check_pointer(browser):
             ("FIM P2", "P2", "P2 = 61: R4 6, R5 1"),
             ("SRC P0", "P0", "P0 = 12: R0 1, R1 2; selects ROM 1; bank 0, chip 0, register 1, character 2 = 7"),
             ("sum:    RDM", "RDM", re.compile(r"^bank 0, chip 0, register 1, character 2 = 7; acc 7, cy 0$")),
-            ("FIM P0", "digit", re.compile(r"^digit = 0x12, 18, 0001 0010; by SRC it selects ROM 1; bank 0, chip 0, register 1, char")),
+            ("FIM P0", "digit", re.compile(r"^digit = 0x12, 18, 0001 0010; sent by SRC, it selects ROM 1; bank 0, chip 0, register 1, char")),
             ("JUN turn", "turn", "turn: address 0x002, line 3"),
             ("LDM 7", "7", "7 = 0x7, 0111")):
         point_until_shown(browser, line_of(text), word, GET_TIP, expected)

@@ -361,8 +361,8 @@ def turn_wheel(browser, x, row, delta_y, delta_x=0):
 
 
 def check_pointer(browser):
-    """Checks the measurement under the pointer, the zoom with the wheel, and that rows can be dragged, named, grouped and coloured. All of this must
-    be saved."""
+    """Checks the measurement under the pointer and the zoom with the wheel, and that rows can be moved, named and grouped. After a reload, the rows
+    must be arranged as before."""
     choose_example(browser, "stopwatch")
     send_lines(browser, "test 0")
     record(browser, 5000)

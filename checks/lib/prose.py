@@ -65,8 +65,8 @@ def blocks_of(text):
 
 
 def sentences_of(text):
-    """Yields each sentence with the number of the first line of its block. Omits the targets of links, and in PROOF's promises the contracts after
-    the dash."""
+    """Yields each sentence with the number of the first line of its block. Omits the targets of links, and the rest of a block after an em dash: in
+    PROOF's promises, the contracts follow one."""
     for number, block in blocks_of(text):
         prose = re.sub(CODE, "CODE", re.sub(r"\]\([^)]*\)", "]", block)).partition(" \u2014 ")[0]
         yield from ((number, sentence) for sentence in re.split(r"(?<=[.?!])[*)\"]*\s+", prose))

@@ -109,7 +109,7 @@ class Program:
             at += size
 
     def put_end_of_page(self, page: int) -> None:
-        """Adds instructions in the last words of a page. Their targets are on the next page."""
+        """Adds NOPs and one more instruction in the last words of a page. The page to which this instruction refers is usually the next one."""
         if (page >> 8) + 1 in self.wiring.pages and {page + 0xFC, page + 0xFD, page + 0xFE, page + 0xFF, page + 0x100} <= self.free:
             name = self.rng.choice(["ISZ R3", "JCN 12", "JCN 4", "JIN P2", "FIN P2"])
             self.put(page + 0xFC, [*self.rng.randrange(2, 4) * ["NOP"], name])

@@ -20,7 +20,7 @@ from seeded_boards import INVALID_CODES, Program, Seeded, Wiring
 CHIPLESS = ["CLB", "CLC", "IAC", "CMC", "CMA", "RAL", "RAR", "TCC", "DAC", "TCS", "STC", "DAA", "KBP"]
 LENGTHS = {"character": 2048, "status": 512, "ramport": 32, "romport": 16, "banksrc": 8, "register": 16, "counter": 14,
            "chain0": 256, "chain1": 256, "chain2": 256, "chain3": 256}
-# The maximum number of states in a random walk that records values, and the number of random walks that measure a time.
+# The maximum length of a random walk in states (twice as long in `marks_on_way`), and the number of random walks that measure a time.
 MAX_WALK_STATES, TIMED_WALKS = 12, 8
 
 

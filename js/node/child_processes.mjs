@@ -2,7 +2,7 @@
 // processes that a child has started.
 import { loadChildProcess } from "./lazy_child_process.mjs";
 
-/** The maximum output of a child in characters. A child that prints more is terminated. */
+/** The maximum length of each output stream of a child, in characters. A child that prints more to one of them is terminated. */
 const MAX_OUTPUT = 1048576;
 /**
  * The name of an environment variable that this module sets for children. If this variable is set, a command omits the messages that each user should

@@ -37,8 +37,8 @@ async function createUnknownOptionError(word, options) {
 }
 
 /**
- * @type {(value: string | undefined, isInline: boolean) => boolean} true if an option has no value, or if its value looks like another
- * option
+ * @type {(value: string | undefined, isInline: boolean) => boolean} true if an option has no value, or if its value is the next argument
+ * and looks like another option
  */
 const lacksValue = (value, isInline) => value === undefined || value === "" || (!isInline && /^-[^\d]/.test(value));
 

@@ -268,7 +268,7 @@ export class TerminalPrompt {
   }
 
   /**
-   * Inserts pasted characters into the line. None of them acts as a key.
+   * Inserts a pasted piece into the line. A line break at its end ends the line, as Return does; no other character acts as a key.
    * @param {string} piece
    */
   paste(piece) {

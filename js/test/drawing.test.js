@@ -138,7 +138,7 @@ testOnBench("a buzzer is added, wired, named and deleted, and is deleted with it
   assert.equal(addResult.text, '# buzzer rom0.0: buzzer\n\n[[rom]]\nchip = 0\nport = "0000"\n');
   assert.equal(addResult.message, "The buzzer was added, with ROM 0.");
   assert.match(applyAction(addResult.text, { kind: "add", part: "buzzer" }).refusal, /^A board has one buzzer/);
-  // The default line of this part is in use.
+  // The default clock line of a chain, rom0.0, is already in use by the buzzer.
   assert.match(checkAction("buzzer", addResult.text, { kind: "add", part: "chain" }).text, /clock = "rom0.1"/);
   const wireResult = checkAction("buzzer", addResult.text, { kind: "wire", line: "rom0.2", target: "buzzer 0" });
   assert.deepEqual([firstLine(wireResult), wireResult.message], ["# buzzer rom0.2: buzzer", "Line rom0.2 is wired to the buzzer."]);

@@ -189,11 +189,11 @@ test("each value that a field offers can be set, or is rejected with a reason; e
       for (const { label, value, options, createAction: act } of fields) {
         if (options) assert.ok(options.some((option) => option.value === value), `${name}: ${selection}: ${label} is ${value}`);
         for (const choice of options ? options.map((each) => each.value) : ["Other"]) {
-          const { refusalOf: refusal, message: words } = applyAction(text, act(choice));
+          const { refusal, message: words } = applyAction(text, act(choice));
           assert.ok(refusal !== "" || words !== "", `${name}: ${label} ${choice}`);
         }
       }
-      for (const { action: act } of buttons) assert.ok(applyAction(text, act).refusalOf !== "" || applyAction(text, act).edits.length > 0);
+      for (const { action: act } of buttons) assert.ok(applyAction(text, act).refusal !== "" || applyAction(text, act).edits.length > 0);
     }
   }
 });

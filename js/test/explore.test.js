@@ -167,7 +167,7 @@ test("properties that hold for all inputs are proved first, and not searched", a
   const summarizeProperties = () =>
     run.report({ names: { board: "", program: "", properties: "" }, sums: "", seconds: 1, isStopped: false })
     .properties.map(({ states, found }) => `${states} ${found !== null}`);
-  // In each snapshot, the accumulator and the lamp are both 0 or both 1.
+  // The proofs find two states: whenever TEST is read, the accumulator and the lamp are both 0 or both 1.
   const expected = ["2 false", "0 true", "2 false", "0 true", "0 false", "2 false", "2 false", "2 false"];
   const deadline = performance.now() + 60000;
   do await run.runFor(20); while (performance.now() < deadline && !isDeepStrictEqual(summarizeProperties(), expected));

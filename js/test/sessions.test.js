@@ -109,102 +109,102 @@ function createController(answers, programText, found) {
       return true;
     },
   });
-  const made = new TextsController(editor("# b"), editor(programText), editor(""), editor(""), ask, notice, {
+  const controller = new TextsController(editor("# b"), editor(programText), editor(""), editor(""), ask, notice, {
     handleEdit: () => {},
     session: () => shown.session, markChanged: () => {}, save: async () => "", updateNames: () => {}, source: async () => found,
     reportFailure: (fault) => { throw fault; },
     isProbablyNotProgram: async (text) => text.includes("prose"), handleLoadedTexts: () => {},
   });
-  return { made, seen, shown, session };
+  return { controller, seen, shown, session };
 }
 
 test("replacing a source needs a confirmation, and can be undone", async () => {
-  const { made, seen, session } = createController([false, true], "; mine", "\tNOP\n");
-  await made.disassembleRom();
-  assert.deepEqual([made.program.text, seen.notices.length], ["; mine", 0]);
-  await made.disassembleRom();
-  assert.deepEqual([made.program.text, session.record.programText, seen.asked], ["\tNOP\n", "\tNOP\n", 2]);
+  const { controller, seen, session } = createController([false, true], "; mine", "\tNOP\n");
+  await controller.disassembleRom();
+  assert.deepEqual([controller.program.text, seen.notices.length], ["; mine", 0]);
+  await controller.disassembleRom();
+  assert.deepEqual([controller.program.text, session.record.programText, seen.asked], ["\tNOP\n", "\tNOP\n", 2]);
   seen.notices.pop().action.act();
   assert.equal(session.record.programText, "; mine");
   seen.notices.pop().action.act();
   assert.equal(session.record.programText, "\tNOP\n");
-  clearTimeout(made.saveTimer);
+  clearTimeout(controller.saveTimer);
 });
 
 test("Undo uses the editor's history if nothing was typed since, and otherwise inserts the old text", async () => {
-  const { made, seen } = createController([true, true], "; mine", "\tNOP\n");
-  await made.disassembleRom();
+  const { controller, seen } = createController([true, true], "; mine", "\tNOP\n");
+  await controller.disassembleRom();
   seen.notices.pop().action.act();
-  assert.deepEqual([made.program.text, made.program.past], ["; mine", []]);
+  assert.deepEqual([controller.program.text, controller.program.past], ["; mine", []]);
   seen.notices.pop().action.act();
-  assert.deepEqual([made.program.text, made.program.past], ["\tNOP\n", ["; mine"]]);
-  made.program.replaceText("\tNOP\n; more");
+  assert.deepEqual([controller.program.text, controller.program.past], ["\tNOP\n", ["; mine"]]);
+  controller.program.replaceText("\tNOP\n; more");
   seen.notices.pop().action.act();
-  assert.deepEqual([made.program.text, made.program.past.length], ["; mine", 3]);
-  clearTimeout(made.saveTimer);
+  assert.deepEqual([controller.program.text, controller.program.past.length], ["; mine", 3]);
+  clearTimeout(controller.saveTimer);
 });
 
 test("an empty source is replaced at once, and an identical source is not replaced", async () => {
-  const { made, seen } = createController([], " \n", "\tNOP\n");
-  await made.disassembleRom();
-  assert.equal(made.program.text, "\tNOP\n");
-  await made.disassembleRom();
+  const { controller, seen } = createController([], " \n", "\tNOP\n");
+  await controller.disassembleRom();
+  assert.equal(controller.program.text, "\tNOP\n");
+  await controller.disassembleRom();
   assert.match(seen.notices.pop().words, /already/);
   assert.equal(seen.asked, 0);
-  clearTimeout(made.saveTimer);
+  clearTimeout(controller.saveTimer);
 });
 
 test("a source is not restored into another session", async () => {
-  const { made, seen, shown, session } = createController([true], "; mine", "\tNOP\n");
-  await made.disassembleRom();
+  const { controller, seen, shown, session } = createController([true], "; mine", "\tNOP\n");
+  await controller.disassembleRom();
   shown.session = { record: { id: "2", name: "two", boardText: "", programText: "; two" } };
-  made.show(shown.session.record);
+  controller.show(shown.session.record);
   seen.notices.pop().action.act();
-  assert.equal(made.program.text, "; two");
+  assert.equal(controller.program.text, "; two");
   assert.match(seen.notices.pop().words, /session "one"/);
   shown.session = session;
   seen.notices.pop().action.act();
-  assert.equal(made.program.text, "; mine");
-  clearTimeout(made.saveTimer);
+  assert.equal(controller.program.text, "; mine");
+  clearTimeout(controller.saveTimer);
 });
 
 const FROM_FILE = { board: null, program: "some prose\n", tests: null, properties: null, lines: "" };
 
 test("a file that is perhaps not a program needs a confirmation before it replaces the source", async () => {
-  const { made, seen, session } = createController([false, true], "; mine", "");
-  await made.open("notes", { ...FROM_FILE, isGuess: true });
-  assert.deepEqual([made.program.text, seen.asked, seen.notices.length], ["; mine", 1, 0]);
-  await made.open("notes", { ...FROM_FILE, isGuess: true });
-  assert.deepEqual([made.program.text, session.record.programText, seen.asked], ["some prose\n", "some prose\n", 2]);
-  clearTimeout(made.saveTimer);
+  const { controller, seen, session } = createController([false, true], "; mine", "");
+  await controller.open("notes", { ...FROM_FILE, isGuess: true });
+  assert.deepEqual([controller.program.text, seen.asked, seen.notices.length], ["; mine", 1, 0]);
+  await controller.open("notes", { ...FROM_FILE, isGuess: true });
+  assert.deepEqual([controller.program.text, session.record.programText, seen.asked], ["some prose\n", "some prose\n", 2]);
+  clearTimeout(controller.saveTimer);
 });
 
 test("a file with a program's name, or with a valid line, needs no confirmation", async () => {
   for (const [name, texts] of [["notes.asm", FROM_FILE], ["notes", { ...FROM_FILE, program: " NOP\n", isGuess: true }]]) {
-    const { made, seen } = createController([], "; mine", "");
-    await made.open(name, texts);
-    assert.deepEqual([made.program.text, seen.asked], [texts.program, 0]);
-    clearTimeout(made.saveTimer);
+    const { controller, seen } = createController([], "; mine", "");
+    await controller.open(name, texts);
+    assert.deepEqual([controller.program.text, seen.asked], [texts.program, 0]);
+    clearTimeout(controller.saveTimer);
   }
 });
 
 test("an opened file has one notice, which can undo all replacements", async () => {
-  const { made, seen } = createController([], "; mine", "");
-  await made.open("both.txt", { ...FROM_FILE, board: "# new", program: "\tNOP\n" });
-  assert.deepEqual([made.board.text, made.program.text, seen.notices.length], ["# new", "\tNOP\n", 1]);
+  const { controller, seen } = createController([], "; mine", "");
+  await controller.open("both.txt", { ...FROM_FILE, board: "# new", program: "\tNOP\n" });
+  assert.deepEqual([controller.board.text, controller.program.text, seen.notices.length], ["# new", "\tNOP\n", 1]);
   const [{ words, kind, action }] = seen.notices;
   assert.match(words, /^both\.txt is in Board and Source\./);
   assert.equal(kind, "undo");
   action.act();
-  assert.deepEqual([made.board.text, made.program.text, seen.notices.length], ["# b", "; mine", 2]);
+  assert.deepEqual([controller.board.text, controller.program.text, seen.notices.length], ["# b", "; mine", 2]);
   seen.notices[1].action.act();
-  assert.deepEqual([made.board.text, made.program.text], ["# new", "\tNOP\n"]);
-  clearTimeout(made.saveTimer);
+  assert.deepEqual([controller.board.text, controller.program.text], ["# new", "\tNOP\n"]);
+  clearTimeout(controller.saveTimer);
 });
 
 test("if a file replaces nothing, its notice has no Undo", async () => {
-  const { made, seen } = createController([], " \n", "");
-  await made.open("a.asm", { ...FROM_FILE, program: "\tNOP\n" });
+  const { controller, seen } = createController([], " \n", "");
+  await controller.open("a.asm", { ...FROM_FILE, program: "\tNOP\n" });
   assert.deepEqual(seen.notices.map(({ kind, action }) => [kind, action]), [["file", undefined]]);
-  clearTimeout(made.saveTimer);
+  clearTimeout(controller.saveTimer);
 });

@@ -91,7 +91,7 @@ test("values of numbers and names", async () => {
   const opened = await open();
   assert.equal(joinPieces(piecesOf("  LDM 6", "6", opened)), "6 = 0x6, 0110");
   assert.equal(joinPieces(piecesOf("  FIM P0, k", "k", opened)),
-    "k 18, 0001 0010; by SRC it selects ROM 1; bank 0, chip 0, register 1, character 2 = 7");
+    "k 18, 0001 0010; sent by SRC, it selects ROM 1; bank 0, chip 0, register 1, character 2 = 7");
   assert.equal(joinPieces(piecesOf("  JUN end", "end", opened)), "end 5, and comes next");
   assert.deepEqual(piecesOf("  JUN other", "other", opened), []);
 });

@@ -104,7 +104,7 @@ export const NEVER_CHANGES = "it uses no place of the machine, so it never becom
 export const statusAt = (bank, chip, register, character) => (
   `bank ${bank}, chip ${chip}, register ${register}, status character ${character}`);
 /** @type {(value: string, binary: string) => string} */
-export const bySource = (value, binary) => `${value}, ${binary}; by SRC it selects `;
+export const bySource = (value, binary) => `${value}, ${binary}; sent by SRC, it selects `;
 /** @type {(description: string) => string} */
 export const comesNext = (description) => `${description}, and comes next`;
 

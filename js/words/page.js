@@ -14,7 +14,7 @@ export const SENDING_LINES = "Sending the lines.";
 export const TOO_MANY_BYTES = "Not all lines were done: at most 16,777,216 bytes are read at once.";
 export const RESET_RUNNING = "Running. The board was reset.";
 /** @type {(counter: string) => string} */
-export const resetAt = (counter) => `The board was reset; it is at ${counter}.`;
+export const resetTo = (counter) => `The board was reset; the program counter is at ${counter}.`;
 
 // --- ui/confirm_dialog.js ---
 export const YES = "Yes";

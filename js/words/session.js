@@ -220,7 +220,7 @@ export const OPEN_AS_NEW = "Open it as a new session";
 export const linkNotOpened = (reason) => `Cannot open the link: ${reason}. Nothing was changed.`;
 /** @type {(isBoard: boolean, reason: string) => string} */
 export const benchRefusesText = (isBoard, reason) => (
-  `The bench rejects its ${isBoard ? "board" : "source"} (${reason}). The text is opened anyway.`);
+  `The bench rejects the ${isBoard ? "board" : "source"} (${reason}). The text is opened anyway.`);
 /** @type {(board: string, source: string, tests: string, properties: string) => string} */
 export const sizesOfTexts = (board, source, tests, properties) => (
   `The board's text has ${board}, the source ${source}${tests && `, the text of tests ${tests}`}${
@@ -272,4 +272,4 @@ export const LEAVE_AS_IS = "Leave it unchanged";
 export const textRestored = (text) => `${text} is restored.`;
 export const TEXTS_RESTORED = "The board's text and the source are restored.";
 /** @type {(name: string) => string} */
-export const inOtherSession = (name) => `That was in the session "${name}". Open it first; then you can undo this.`;
+export const inOtherSession = (name) => `That change was made in the session "${name}". Open the session to undo the change.`;

@@ -112,7 +112,7 @@ export const takesNoArgument = (word) => `\`${word}\` takes no argument`;
 /** @type {(word: string, firstWords: string) => string} */
 export const unknownFirstWord = (word, firstWords) => `a line of a test cannot begin with \`${word}\`; it can begin with ${firstWords}`;
 /** @type {(word: string) => string} */
-export const stateSyntax = (word) => `write \`${word} STATE\`, a word`;
+export const stateSyntax = (word) => `write \`${word} STATE\`: the name of a state is one word`;
 export const SAVED_ONCE = "a state is saved once: `save` cannot be in a `repeat`";
 /** @type {(word: string) => string} */
 export const noStates = (word) => `shared steps have no states: \`${word}\` belongs in a test`;

@@ -101,10 +101,10 @@ def create_initramfs(folder: pathlib.Path, kernel: Kernel, names: list[str], fil
         (root / name).mkdir(parents=True)
     busybox = shutil.which("busybox") or "/bin/busybox"
     files = {"bin/busybox": busybox, **libraries_of(busybox), **files}
-    order = modules_of(kernel, names)
-    for name, data in order.items():
+    modules = modules_of(kernel, names)
+    for name, data in modules.items():
         (root / "modules" / f"{name}.ko").write_bytes(data)
-    (root / "modules/order").write_text(" ".join(order))
+    (root / "modules/order").write_text(" ".join(modules))
     for place, file in files.items():
         (root / place).parent.mkdir(parents=True, exist_ok=True)
         shutil.copy(file, root / place)

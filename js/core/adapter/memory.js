@@ -133,12 +133,12 @@ export async function writeMemory(args, session, addressOf) {
   if (!isWhole && !optionalFlag(args, "allowPartial", false)) fail(say.OUTSIDE_OF_MEMORY);
   const dataInRange = end > first ? newBytes.subarray(first - from, end - from) : new Uint8Array(0);
   const lines = [...dataInRange].map((byte, index) => `poke ${place(first + index)} ${byte}\n`).join("");
-  const bench = session.debugger.session;
+  const workerSession = session.debugger.session;
   // `ask` executes the lines on a copy of the session. If the bench rejects a line there, nothing is written.
-  const answers = lines === "" ? [] : bench.ask(lines);
+  const answers = lines === "" ? [] : workerSession.ask(lines);
   const rejectedIndex = answers.findIndex((answer) => parseRefusal(answer));
   if (rejectedIndex >= 0) fail(say.benchAnswered(lines.split("\n")[rejectedIndex], answers[rejectedIndex]));
-  if (lines !== "") await bench.serve(lines, async () => true);
+  if (lines !== "") await workerSession.serve(lines, async () => true);
   return { offset: first - from, bytesWritten: dataInRange.length };
 }
 

@@ -180,8 +180,8 @@ export class QueryHandlers {
     const { expressionContext } = this;
     const isHover = context === "hover";
     const result = isHover ? expressionHover(expression, expressionContext) : evaluateExpression(expression, expressionContext, base);
-    const memory = referenceNumberForPlace(expression);
-    return { result, variablesReference: 0, ...(memory >= 0 ? { memoryReference: formatReference(memory) } : {}) };
+    const referenceNumber = referenceNumberForPlace(expression);
+    return { result, variablesReference: 0, ...(referenceNumber >= 0 ? { memoryReference: formatReference(referenceNumber) } : {}) };
   }
 
   /** @param {any} args */

@@ -267,8 +267,8 @@ function checkRom(session, engine, { program, session: file }, messages) {
   if (refusal) throw refusalError(program, refusal, messages);
   const differenceText = describeDifference(session);
   if (differenceText === "") return;
-  const difference = say.notInRomOf(baseName(program), baseName(file), differenceText);
-  throw new AdapterError(say.loadHint(difference), true);
+  const message = say.notInRomOf(baseName(program), baseName(file), differenceText);
+  throw new AdapterError(say.loadHint(message), true);
 }
 
 /**

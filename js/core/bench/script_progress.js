@@ -56,8 +56,7 @@ export function differingLines(actual, expected) {
 }
 
 /**
- * Returns the number of script lines up to the end of the last of the first `commands` accepted inputs; -1 if the script has fewer accepted
- * inputs.
+ * Returns the number of script lines after which `commands` inputs have been accepted; -1 if the script has fewer accepted inputs.
  * @param {import("./script_answers.js").AnsweredInput[]} inputs
  * @param {number} commands
  */

@@ -123,17 +123,17 @@ export class PerceivedDigit {
 
   /** The pattern with the largest share; 0 (dark) if the mixture is empty. */
   get pattern() {
-    return this.largestShare.pattern;
+    return this.largestComponent.pattern;
   }
 
   /** True if no pattern makes up at least half of the mixture. */
   get isSmeared() {
     const total = [...this.shares.values()].reduce((sum, share) => sum + share, 0);
-    return this.largestShare.share < MIN_ON_DUTY * total;
+    return this.largestComponent.share < MIN_ON_DUTY * total;
   }
 
   /** The pattern with the largest share, and that share. */
-  get largestShare() {
+  get largestComponent() {
     const largest = { pattern: 0, share: 0 };
     for (const [pattern, share] of this.shares) if (share > largest.share) Object.assign(largest, { pattern, share });
     return largest;

@@ -17,7 +17,8 @@ import * as say from "../../words/debug.js";
  */
 
 /**
- * Returns whether a breakpoint has a condition, a note or a hit count. Such a breakpoint does not stop the machine at every arrival.
+ * Returns whether a breakpoint has a condition or a note, or lets its first hits pass. Such a breakpoint need not stop the machine at
+ * every arrival.
  * @param {LocatedBreakpoint} placed
  */
 export function isSoft({ condition, from, note }) {

@@ -237,13 +237,14 @@ export class BrightnessMeter {
     return litShares;
   }
 
-  /** @param {string[]} answers the lines of the answer to one `trace` query; an instruction takes effect after its first cycle */
+  /** @param {string[]} answers the lines of the answer to one `trace` query */
   add(answers) {
     const { row, lines, cycles } = new ForecastAnswers(answers).takeTrace();
     const startCycles = this.cycles;
     this.recordChange(row.slice(1), startCycles);
     for (const line of lines) {
       const traced = parseTraceLine(line);
+      // An instruction takes effect after its first cycle.
       this.recordChange(traced.row.slice(1), startCycles + traced.cycles + 1);
     }
     // An empty run counts as one cycle, so that the lamps that are on are counted for at least one cycle.

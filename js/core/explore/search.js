@@ -449,7 +449,8 @@ class EstimatedState {
   }
 
   /**
-   * Updates the memory of a `within` property after a step. Returns whether the program counter can have reached the second label too late.
+   * Updates the memory of a `within` property after a step. Returns whether the limit may have passed before the program counter
+   * reached the second label.
    * @param {Property} property
    * @param {number[]} memory
    * @param {import("./properties.js").Moment} moment the moment at the end of the wait

@@ -27,7 +27,7 @@ import * as say from "../../words/help.js";
  * The session at the start of the tour, as an example.
  * @type {import("../engine/examples.js").Example}
  */
-export const FIRST_PROGRAM = {
+export const TOUR_EXAMPLE = {
   ...say.FIRST_PROGRAM, board: say.TOUR_BOARD, program: "", tests: "", properties: "",
   lines: "", project: "",
 };

@@ -139,10 +139,10 @@ function splitStatement(label, code) {
 export function readSource(texts) {
   let isEnded = false;
   return texts.map((text) => {
-    const emptyLine = { text, label: "", word: "", operand: "", isLong: false };
-    if (isEnded) return { ...emptyLine, comment: text };
+    const lineWithoutStatement = { text, label: "", word: "", operand: "", isLong: false };
+    if (isEnded) return { ...lineWithoutStatement, comment: text };
     const { code, comment } = splitComment(text);
-    if (code.length > MAX_CODE_LENGTH) return { ...emptyLine, comment, isLong: true };
+    if (code.length > MAX_CODE_LENGTH) return { ...lineWithoutStatement, comment, isLong: true };
     const { label, code: afterLabel } = splitLabel(code);
     const statement = splitStatement(label, afterLabel);
     isEnded = statement.word === "END";

@@ -25,11 +25,11 @@ export class BoardKeyNames {
   /** The names of all keys. The name of a key without a name on the front panel is its row and column, such as `3.0`. */
   get names() {
     const { rows, columns } = readBoard(this.session.debugger.session.statusQueries.board);
-    const namedKeys = new Set([...this.namedKeys.values()].map(({ key }) => formatKey(key)));
+    const namedPositions = new Set([...this.namedKeys.values()].map(({ key }) => formatKey(key)));
     const unnamed = [];
     for (let at = 0; at < rows * columns; at++) {
       const [row, column] = [Math.floor(at / columns), at % columns];
-      if (!namedKeys.has(formatKey(matrixKey(row, column)))) unnamed.push(`${row}.${column}`);
+      if (!namedPositions.has(formatKey(matrixKey(row, column)))) unnamed.push(`${row}.${column}`);
     }
     return [...this.namedKeys.keys(), ...unnamed];
   }

@@ -204,11 +204,11 @@ const QUESTIONS_BY_FORM = {
  * @returns {PropertyQuestion}
  */
 export function createQuestion(property, { from }, subject) {
-  const form = QUESTIONS_BY_FORM[property.form];
-  if (!form) return { question: null, reason: say.unprovableForm(property.form) };
+  const create = QUESTIONS_BY_FORM[property.form];
+  if (!create) return { question: null, reason: say.unprovableForm(property.form) };
   if (from) return { question: null, reason: say.STARTS_AFTER_POWER_ON };
   try {
-    return { question: form(/** @type {Property & { condition: Condition }} */ (property), subject.names.board, subject), reason: "" };
+    return { question: create(/** @type {Property & { condition: Condition }} */ (property), subject.names.board, subject), reason: "" };
   } catch (thrown) {
     if (!(thrown instanceof UnsupportedQuestion)) throw thrown;
     return { question: null, reason: thrown.message };
@@ -253,7 +253,7 @@ export function questionText({ board, program }, { forbidden: nevers, mistakes, 
   return `${[...limitLines, ...texts, ...neverLines, ...mistakeLines, ...stopwatchLines, ...pressLines, "prove"].join("\n")}\n`;
 }
 
-/** @type {[RegExp, NoAnswer][]} the answers that contain no variable numbers, each with the pattern of its line */
+/** @type {[RegExp, NoAnswer][]} the answers whose text is always the same, each with the pattern of its line */
 const FIXED_ANSWERS = [[/^too many$/, { kind: "more" }], [/^gave up$/, { kind: "lost" }], [/^no 90$/, { kind: "full", states: 0 }]];
 
 /**

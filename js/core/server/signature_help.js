@@ -60,8 +60,8 @@ function createStatementSignature(head, instructions) {
  */
 export function signatureAt(line, column, instructions) {
   const textBefore = line.slice(0, column);
-  const { head, comment } = splitStatement(textBefore);
-  if (!head || head.to === column || comment < textBefore.length) return null;
+  const { head, comment: commentStart } = splitStatement(textBefore);
+  if (!head || head.to === column || commentStart < textBefore.length) return null;
   const signature = createStatementSignature(head.text.toUpperCase(), instructions);
   if (!signature) return null;
   const commas = textBefore.slice(head.to).split(",").length - 1;

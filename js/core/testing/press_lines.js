@@ -19,8 +19,8 @@ import { listNamedKeys } from "./test_text.js";
 export const DEFAULT_PACE = { down: TOOL_KEY_DOWN_CYCLES, up: TOOL_KEY_UP_CYCLES };
 
 /**
- * Returns the bench lines that press and release keys one after another. Splits a word that is not a key name into letters, each of which
- * must be a key name.
+ * Returns the bench lines that press and release keys one after another. Splits a word that is not a key name into characters, each of
+ * which must be a key name.
  * @param {Face} face
  * @param {string} text key names, separated by blanks
  * @param {Pace} pace

@@ -247,7 +247,7 @@ class TestReader {
 
   // --- repetitions ---
 
-  /** Reports an error for each repetition without an end. */
+  /** Reports an error for each repetition whose `end` is missing, and closes the repetition. */
   closeRepeats() {
     for (const { line } of this.openRepeats.splice(0)) this.addFault(line, say.NO_END);
   }

@@ -60,7 +60,7 @@ function formatGap(from, to, { tabSize, insertSpaces }) {
 /**
  * Splits a line into its parts. Returns null if the form of the line is invalid.
  * @param {string} line
- * @param {(word: string) => boolean} canStartStatement returns whether a statement can start with an upper-case word
+ * @param {(word: string) => boolean} canStartStatement returns whether a statement can start with a word, which is given in upper case
  * @param {Layout} layout
  * @returns {SplitLine | null}
  */
@@ -123,7 +123,7 @@ function chooseCommentColumn(end, indent, last) {
 /**
  * Returns the formatted lines of a program.
  * @param {string[]} lines
- * @param {(word: string) => boolean} canStartStatement returns whether a statement can start with an upper-case word
+ * @param {(word: string) => boolean} canStartStatement returns whether a statement can start with a word, which is given in upper case
  * @param {Layout} layout
  * @returns {string[]}
  */

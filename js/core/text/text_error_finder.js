@@ -1,4 +1,4 @@
-// Finds all errors in the texts of a board and a program, with their positions and messages. The page's editors and the language server use
+// Finds the errors in the texts of a board and a program, with their positions and messages. The page's editors and the language server use
 // this module.
 
 import { findFaceErrors } from "../board/face.js";

@@ -72,7 +72,7 @@ export function findLineNameInEdge(text) {
 export function readTrigger(text, lines, names) {
   if (text.trim() === "") return { trigger: null, fault: "" };
   const match = EDGE_SYNTAX.exec(text.trim());
-  if (match) return parseEdge(match[1], /** @type {Edge} */ (match[2]), lines);
+  if (match) return makeEdgeTrigger(match[1], /** @type {Edge} */ (match[2]), lines);
   const { condition, error: fault, column } = compileTracedCondition(text, names);
   if (!condition) return { trigger: null, fault: errorInColumn(fault, column) };
   const { places, address, holds } = condition;
@@ -86,7 +86,7 @@ export function readTrigger(text, lines, names) {
  * @param {WaveLine[]} lines
  * @returns {{ trigger: Trigger | null, fault: string }}
  */
-function parseEdge(name, edge, lines) {
+function makeEdgeTrigger(name, edge, lines) {
   const line = findLineByName(name, lines);
   if (line < 0) return { trigger: null, fault: say.noSuchName(name) };
   const { kind, members, width } = lines[line];

@@ -60,7 +60,7 @@ export function readSearch(text, waves, markedLine) {
     return { search: { line: counter, matches: (value) => value === label.address, findsEachMatch: false }, fault: "" };
   }
   const edge = /^(?:(.*\S)\s+)?(rises|falls|changes)$/.exec(trimmed);
-  if (edge) return parseEdge(edge[1], edge[2], waves, markedLine);
+  if (edge) return makeEdgeSearch(edge[1], edge[2], waves, markedLine);
   const comparison = /^(.*?)\s*(!=|<=|>=|=|<|>)\s*(\S+)$/.exec(trimmed);
   const [, name, sign, value] = comparison || ["", "", "=", trimmed];
   return parseValue(name, sign, value, waves, markedLine);
@@ -86,7 +86,7 @@ function findSearchLine(name, waves, markedLine) {
  * @param {Waves} waves
  * @param {number} markedLine
  */
-function parseEdge(name, edge, waves, markedLine) {
+function makeEdgeSearch(name, edge, waves, markedLine) {
   const { line, fault } = findSearchLine(name || "", waves, markedLine);
   if (fault) return searchError(fault);
   const { width } = waves.lines[line];

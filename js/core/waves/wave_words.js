@@ -77,8 +77,8 @@ export function describeCursor(name, moment, waves) {
  * @param {number} line the index of the marked line; -1 for none
  */
 export function screenReaderText(moment, waves, line) {
-  const value = line < 0 ? "" : say.valueIs(waves.lines[line].name, waves.valueAt(line, moment));
-  return say.cursorDescription(value, formatNumber(moment), instructionText(waves.instructionAt(moment)));
+  const markedLineText = line < 0 ? "" : say.valueIs(waves.lines[line].name, waves.valueAt(line, moment));
+  return say.cursorDescription(markedLineText, formatNumber(moment), instructionText(waves.instructionAt(moment)));
 }
 
 /**

@@ -1,4 +1,4 @@
-// Drags parts from the shelf onto the sheet, which is the area with the board's picture, by mouse, pen or touch. A lamp or a buzzer is
+// Drags parts by mouse, pen or touch from the shelf onto the sheet, which is the area with the board's picture. A lamp or a buzzer is
 // wired to the line on which it is dropped. A click adds a part at its default position. Shift+Enter adds a part and focuses it on the
 // sheet, where arrow keys can move it.
 

@@ -2,7 +2,7 @@
 
 import { PointerRing } from "./pointer_ring.js";
 import { Cell, block, button, element, onClick } from "../ui/dom.js";
-import { FIRST_PROGRAM, TOUR, TourProgress } from "../../core/help/tour.js";
+import { TOUR_EXAMPLE, TOUR, TourProgress } from "../../core/help/tour.js";
 import * as say from "../../words/help.js";
 
 /**
@@ -58,7 +58,7 @@ export class TourView {
   }
 
   async begin() {
-    if (await this.calls.begin(FIRST_PROGRAM)) this.open(TOUR);
+    if (await this.calls.begin(TOUR_EXAMPLE)) this.open(TOUR);
   }
 
   /** @param {TourStep[]} steps */

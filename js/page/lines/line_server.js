@@ -133,7 +133,7 @@ export class LineServer {
     const isReset = entries.some(({ line, answers }) => line.trim() === "reset" && parseRefusal(answers[0]) === null);
     const isRunning = calls.isRunning();
     if (isReset) calls.forgetGoal();
-    if (isReset) calls.showMessage(isRunning ? say.RESET_RUNNING : say.resetAt(counter));
+    if (isReset) calls.showMessage(isRunning ? say.RESET_RUNNING : say.resetTo(counter));
     else if (counter !== previousCounter && !isRunning) calls.showMessage(stoppedAt(counter));
   }
 }

@@ -5,7 +5,7 @@ import { Trash, formatNames } from "./trash.js";
 import { shortName } from "../../core/session/names.js";
 import { OpeningGuard } from "./opening_guard.js";
 import { SessionManager } from "./session_manager.js";
-import { FIRST_PROGRAM } from "../../core/help/tour.js";
+import { TOUR_EXAMPLE } from "../../core/help/tour.js";
 import { OfferedLines } from "./offered_lines.js";
 import { Persistence } from "./persistence.js";
 import { SessionsView } from "./sessions_view.js";
@@ -142,7 +142,7 @@ export class SessionsController {
 
   /** @param {string} name the name of an example */
   async beginExampleByName(name) {
-    const example = [...this.examples, FIRST_PROGRAM].find((candidate) => candidate.name === name);
+    const example = [...this.examples, TOUR_EXAMPLE].find((candidate) => candidate.name === name);
     if (example) return this.begin(example);
     this.notice.show(say.noSuchExample(shortName(name)), "session");
     return false;

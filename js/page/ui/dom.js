@@ -14,7 +14,7 @@ export function byId(id, kind) {
 }
 
 /**
- * Returns the element with the given ID, whatever its class.
+ * Returns the element with an id. It can be any HTML element.
  * @param {string} id
  */
 export const block = (id) => byId(id, HTMLElement);

@@ -30,7 +30,7 @@ export class WaveChoice {
     this.status = new Cell(block("signals-status"));
     /** @type {Map<string, HTMLInputElement>} the check boxes, by line name */
     this.checkBoxes = new Map();
-    onClick(button("waves-changing"), () => this.selectChanging());
+    onClick(button("waves-changing"), () => this.selectChangingLines());
     onClick(button("waves-all"), () => this.waves && this.setSelection(this.waves.lines.map(({ name }) => name), true));
     onClick(button("waves-none"), () => this.setSelection([], true));
     field("signal-search").addEventListener("input", () => this.draw());
@@ -72,7 +72,7 @@ export class WaveChoice {
     return true;
   }
 
-  selectChanging() {
+  selectChangingLines() {
     this.isUserSelection = false;
     if (this.waves && this.selectChangingIn(this.waves)) this.showSelection();
   }
