@@ -25,7 +25,7 @@ const OF_PAGE = { comment: "c", instruction: "i", directive: "d", register: "r",
 function byPage() {
   if (isBoard) {
     const letters = { comment: "c", class: "t", property: "p", string: "s", number: "n" };
-    const colours = new BoardLanguage({ queries: () => ({}) }, new Map(), () => "").colours({ lines, text });
+    const colours = new BoardLanguage({ createQueries: () => ({}) }, new Map(), () => "").colours({ lines, text });
     return lines.map((line, at) => marked(line, colours.filter((each) => each.line === at).map((each) => ({ ...each, letter: letters[each.type] }))));
   }
   const instructions = readInstructions(readPageData().manual);
