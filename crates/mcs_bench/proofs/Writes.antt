@@ -1,4 +1,4 @@
--- Only WRM changes a RAM character, and WRM changes only the selected RAM character.
+-- Only WRM changes a RAM nibble, and WRM changes only the selected RAM nibble.
 use Rattle.std.proofs.Common.{◌≡◌, ◌≢◌, ℕ, ◌+◌, ◌*◌, ◌/◌, ◌<◌, Bool, true, false, ◌||◌, ◌&&◌, not, cond, List, [], ◌∷◌, Option, Some, None, slice_index, slice_set, length, unwrap_or, inl, inr, refl, sym, ap, ◌∙◌, arith, eqb, eq-eqb, nat_lt}
 use Rattle.std.proofs.lemmas.Bool.{cases_eq}
 use Rattle.std.proofs.lemmas.List.{get_or-set_other, get_or-set_same, set-get_or}
@@ -38,7 +38,7 @@ ram-unchanged-by-rom-port-write : (m : BusState) (n : ℕ) → (after_rom_port m
 unfolding after_rom_port after_chain_clocks
 ram-unchanged-by-rom-port-write m n = ram-unchanged-for-any-masks (rom_masks m.board (m.rom_src / 16)) m _ (λ mask. refl)
 
--- an instruction other than WRM changes no RAM character
+-- an instruction other than WRM changes no RAM nibble
 ram-unchanged-by-other-op : (op : Op) (s : Regs) (m : BusState) → op ≢ Wrm → (bus_after op s m).ram ≡ m.ram
 ram-unchanged-by-other-op Nop s m h = refl
 ram-unchanged-by-other-op (Jcn a b) s m h = refl
@@ -90,7 +90,7 @@ ram-unchanged-unless-wrm : (o : Option Op) (s : Machine) → o ≢ Some Wrm → 
 ram-unchanged-unless-wrm None s h = refl
 ram-unchanged-unless-wrm (Some op) s h = ram-unchanged-by-other-op op _ s.1 (λ e. h (ap Some e))
 
--- a cycle changes no RAM character if the instruction at the program counter is not WRM
+-- a cycle changes no RAM nibble if the instruction at the program counter is not WRM
 pub cycle-keeps : (s : Machine) → instruction_at s.0 s.1 ≢ Some Wrm → (after_cycles 1 s).1.ram ≡ s.1.ram
 unfolding cycle_of
 cycle-keeps s h =
@@ -99,7 +99,7 @@ cycle-keeps s h =
       | false ↦ ram-unchanged-unless-wrm (instruction_at s.0 s.1) s h
     ]
 
--- a pending second cycle changes no RAM character
+-- a pending second cycle changes no RAM nibble
 pub ram-unchanged-by-second-cycle : (s : Machine) → s.0.owed ≡ 1 → (after_cycles 1 s).1.ram ≡ s.1.ram
 unfolding cycle_of
 ram-unchanged-by-second-cycle s e = rw e refl
@@ -110,7 +110,7 @@ pub cycle-has-effect-of-wrm : (s : Machine) → s.0.owed ≢ 1 → instruction_a
 unfolding cycle_of
 cycle-has-effect-of-wrm s free at = let e : eqb s.0.owed 1 ≡ false = grind (arith, nat_tests) in rw (e, at) refl
 
--- ---- changes of watched RAM characters
+-- ---- changes of watched RAM nibbles
 
 pub no-watch-changed-if-ram-equal : (watches : List ℕ) (s t : Machine) → s.1.ram ≡ t.1.ram → has_changed watches s t ≡ false
 no-watch-changed-if-ram-equal [] s t e = refl
@@ -121,8 +121,8 @@ or-absorbs-and true x = refl
 or-absorbs-and false true = refl
 or-absorbs-and false false = refl
 
--- If no RAM character changed except the one at the index `place`, `has_changed` is true exactly if
--- that RAM character changed and is watched.
+-- If no RAM nibble changed except the one at the index `place`, `has_changed` is true exactly when
+-- that RAM nibble changed and is watched.
 pub has_changed-if-one-index-changed : (watches : List ℕ) (s t : Machine) (place : ℕ) → ((w : ℕ) → w ≢ place → slice_index s.1.ram w ≡ slice_index t.1.ram w) → has_changed watches s t ≡ (is_listed watches place && not (eqb (slice_index s.1.ram place) (slice_index t.1.ram place)))
 has_changed-if-one-index-changed [] s t place others = refl
 has_changed-if-one-index-changed (w ∷ ws) s t place others =
@@ -140,12 +140,12 @@ other-index-unchanged-by-set : (b : Bool) (m : BusState) (place n w : ℕ) → w
 other-index-unchanged-by-set true m place n w ne = sym (get_or-set_other m.ram place w n 0 ne)
 other-index-unchanged-by-set false m place n w ne = refl
 
--- a write changes only the selected RAM character
+-- a write changes only the selected RAM nibble
 pub write-keeps-other-characters : (m : BusState) (bank n w : ℕ) → w ≢ bank * 256 + src_of m bank → slice_index m.ram w ≡ slice_index (after_ram m bank n).ram w
 unfolding after_ram with_ram
 write-keeps-other-characters m bank n w ne = other-index-unchanged-by-set (has_chip m bank (src_of m bank)) m (bank * 256 + src_of m bank) n w ne
 
--- ---- the value of the selected RAM character after a write
+-- ---- the value of the selected RAM nibble after a write
 
 value-after-conditional-same-write : (b : Bool) (m : BusState) (place n : ℕ) → slice_index m.ram place ≡ n → slice_index (cond b (record m { ram = slice_set m.ram place n }) m).ram place ≡ n
 value-after-conditional-same-write true m place n e = ap (λ v. slice_index (slice_set m.ram place v) place) (sym e) ∙ ap (λ (xs : List ℕ). slice_index xs place) (set-get_or m.ram place 0) ∙ e
@@ -155,7 +155,7 @@ pub ram-unchanged-by-write-to-absent-chip : (m : BusState) (bank n : ℕ) → ha
 unfolding after_ram with_ram
 ram-unchanged-by-write-to-absent-chip m bank n off = rw off refl
 
--- if the selected RAM character has the value `n`, writing `n` leaves its value unchanged
+-- if the selected RAM nibble has the value `n`, writing `n` leaves its value unchanged
 pub value-after-same-write : (m : BusState) (bank n : ℕ) → slice_index m.ram (bank * 256 + src_of m bank) ≡ n → slice_index (after_ram m bank n).ram (bank * 256 + src_of m bank) ≡ n
 unfolding after_ram with_ram
 value-after-same-write m bank n e = value-after-conditional-same-write (has_chip m bank (src_of m bank)) m (bank * 256 + src_of m bank) n e

@@ -13,8 +13,8 @@ use Rattle.mcs_bench.specs.declared.running.InstructionResult.{InstructionResult
 use Rattle.mcs_model.specs.Running.{Machine, StopConditions, is_outside_table, after_cycles, at_break, has_changed, stop_reason_after, run_length, after_run, run_stop_reason, step_length, after_step, step_stop_reason}
 use Rattle.mcs_cpu4004.specs.IsInstructionRun.{IsInstructionRun}
 
--- the debug stop after a cycle: a breakpoint if `at_breakpoint`, else a changed watch if
--- `changed_watch`, else none
+-- the debug stop after a cycle: a breakpoint if `at_breakpoint` is true, otherwise a changed watch
+-- if `changed_watch` is true, otherwise none
 abbrev pub debug_stop_of : Bool → Bool → Option Stop
 debug_stop_of at_breakpoint changed_watch = if at_breakpoint then Some Breakpoint else if changed_watch then Some Watched else None
 
@@ -35,7 +35,7 @@ pub record RunStopsAt (stops : StopConditions) (n : ℕ) (s t : Machine) (k : �
 
 -- Holds if a run of at most `n` cycles from `s` reaches `t` after `k` cycles, with no earlier
 -- reason to stop. There is no debug stop at `t`: neither a breakpoint nor a change of a watched RAM
--- character.
+-- nibble.
 pub record RunContinuesAt (stops : StopConditions) (n k : ℕ) (s t : Machine) : Type 0 where
   pub at : t ≡ after_cycles k s
   pub within : k ≤ n
@@ -47,26 +47,26 @@ pub record RunContinuesAt (stops : StopConditions) (n k : ℕ) (s t : Machine) :
 abbrev pub RunReaches : StopConditions → ℕ → Machine → Machine → ℕ → Option Stop → Type 0
 RunReaches stops n s t k mark = MatchOption mark (RunContinuesAt stops n k s t) (λ why. RunStopsAt stops n s t k (Some why))
 
--- the index of the RAM character that the SRC byte of the designated bank selects
+-- the index of the RAM nibble that the SRC byte of the designated bank selects
 abbrev pub selected_index : Machine → ℕ
 selected_index t = ram_index t.0.dcl (src_of t.1 t.0.dcl)
 
--- true if WRM would change the value of the selected RAM character
+-- true if WRM would change the value of the selected RAM nibble
 abbrev pub wrm_changes_selected_character : Machine → Bool
 wrm_changes_selected_character t =
     not (slice_index t.1.ram (selected_index t)
     == slice_index (after_ram t.1 t.0.dcl t.0.acc).ram (selected_index t))
 
 -- holds if `b` is true exactly when the instruction at the program counter changes the value of the
--- selected RAM character and that RAM character is watched
+-- selected RAM nibble and that RAM nibble is watched
 abbrev pub PredictsWatchChange : List ℕ → Machine → Bool → Type 0
 PredictsWatchChange watches t b =
     (((watches ≡ []) ⊎ (instruction_at t.0 t.1 ≢ Some Wrm)) × (b ≡ false))
     ⊎ ((instruction_at t.0 t.1 ≡ Some Wrm) ×
     (b ≡ (is_listed watches (selected_index t) && wrm_changes_selected_character t)))
 
--- Holds if none of the `d` cycles from `t`, except the last, changes a watched RAM character.
--- `changed_watch` is true exactly if the last cycle changes one.
+-- Holds if none of the `d` cycles from `t`, except the last, changes a watched RAM nibble.
+-- `changed_watch` is true exactly when the last cycle changes one.
 pub record WatchChanges (watches : List ℕ) (t : Machine) (d : ℕ) (changed_watch : Bool) : Type 0 where
   pub before : (j : ℕ) → 0 < j → j < d → has_changed watches (after_cycles (j - 1) t) (after_cycles j t) ≡ false
   pub last : 0 < d → has_changed watches (after_cycles (d - 1) t) (after_cycles d t) ≡ changed_watch
@@ -78,8 +78,8 @@ pub record IsRunResult (stops : StopConditions) (n : ℕ) (s t : Machine) (k : �
   pub machine : t ≡ after_run stops n s
   pub stop : why ≡ run_stop_reason stops n s
 
--- the reason that a run stops at the machine `t`: `Outside` if no cycle is possible, else `mark`,
--- else `Ended`
+-- the reason why a run stops at the machine `t`: `Outside` if no cycle is possible, otherwise
+-- `mark`, or `Ended` if `mark` is `None`
 abbrev pub stop_reason : Machine → Option Stop → Stop
 stop_reason t mark = if is_outside_table t then Outside else unwrap_or mark Ended
 
@@ -89,7 +89,7 @@ pub record IsInstructionResult (stops : StopConditions) (left : ℕ) (s t : Mach
   -- `t` is the machine after `w.cycles` cycles
   pub ran : IsInstructionRun left s t w.cycles
   pub some : 0 < w.cycles
-  -- no watched RAM character changes before the last of these cycles
+  -- no watched RAM nibble changes before the last of these cycles
   pub unchanged : (j : ℕ) → 0 < j → j < w.cycles →
       has_changed stops.watches (after_cycles (j - 1) s) (after_cycles j s) ≡ false
   pub mark : w.mark ≡ debug_stop_at stops w.cycles (after_cycles (w.cycles - 1) s) t
@@ -101,8 +101,8 @@ pub record IsStepResult (s t : Machine) (k : ℕ) (why : Stop) : Type 0 where
   pub machine : t ≡ after_step s
   pub stop : why ≡ step_stop_reason s
 
--- if no breakpoint is set and no RAM character is watched, two runs reach the same state as one run
--- of their total cycles
+-- if no breakpoint is set and no RAM nibble is watched, two runs reach the same state as one run of
+-- their total cycles
 abbrev pub RunsAddUp : Type 0
 RunsAddUp =
     (s : BenchState) (a b : ℕ) → s.breakpoints ≡ [] → s.watches ≡ [] →

@@ -11,8 +11,8 @@ use mcs_model::limits::BREAKPOINTS;
 use mcs_nibble::Addr;
 use std::marker::Model;
 
-/// The breakpoint addresses in ascending order, with a flag for each of the 4,096 addresses. With the flags, a run
-/// checks an address in constant time.
+/// The breakpoint addresses in ascending order, with a flag for each of the 4,096 addresses. The flags let a run
+/// check an address in constant time.
 #[derive(Drop)]
 pub(crate) struct BreakpointSet {
     list: ArrayVec<Addr, BREAKPOINTS>,
@@ -132,7 +132,8 @@ impl BreakpointSet {
         self.flags[usize::from(at.get())] = false;
     }
 
-    /// Proves that there are at most `BREAKPOINTS` breakpoints, and that they are addresses in ascending order.
+    /// Proves that there are at most `BREAKPOINTS` breakpoints, and that they are addresses in strictly ascending
+    /// order.
     pub(crate) fn show_state_is_valid(&self)
         ensures { AreBreakpoints self.now }
     {

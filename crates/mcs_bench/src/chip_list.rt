@@ -12,7 +12,7 @@ use mcs_nibble::{Addr, Nibble};
 pub enum ChipList {
     /// The ROM bytes, indexed by address.
     RomBytes,
-    /// The RAM characters, at index bank * 256 + SRC byte.
+    /// The RAM nibbles, at index bank * 256 + SRC byte.
     RamCharacters,
     /// The status characters. Character `k`, 0 to 3, is at index (bank * 16 + upper nibble of the SRC byte) * 4 + k.
     StatusCharacters,

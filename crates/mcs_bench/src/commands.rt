@@ -15,14 +15,14 @@ use mcs_model::limits::{ACCEPTED_COMMANDS, BREAKPOINTS, RUN_CYCLES};
 use mcs_model::refusals::BenchFault;
 use mcs_nibble::{Addr, BankNo};
 
-/// Returns `None` if `is_allowed` is true, else `fault`.
+/// Returns `None` if `is_allowed` is true, otherwise `fault`.
 fn fault_unless(is_allowed: bool, fault: BenchFault) -> Option<BenchFault>
     ensures { result ≡ (if is_allowed then None else Some fault) }
 {
     if is_allowed { None } else { Some(fault) }
 }
 
-/// Returns `fault` if `is_forbidden` is true, else `None`.
+/// Returns `fault` if `is_forbidden` is true, otherwise `None`.
 fn fault_if(is_forbidden: bool, fault: BenchFault) -> Option<BenchFault>
     ensures { result ≡ (if is_forbidden then Some fault else None) }
 {
@@ -55,7 +55,7 @@ fn load(rig: &mut BenchRig, image: &Image) -> Reply
 }
 
 impl Bench {
-    /// Returns the reason that the bench rejects a poke of `place`, or `None` if the bench accepts the poke.
+    /// Returns the reason why the bench rejects a poke of `place`, or `None` if the bench accepts the poke.
     fn place_refusal(&self, place: Place) -> Option<BenchFault>
         ensures { result ≡ place_refusal self.now.bus place }
     {
@@ -77,7 +77,7 @@ impl Bench {
         }
     }
 
-    /// Returns the reason that the bench rejects a command, or `None` if there is none. Does not check the limit on
+    /// Returns the reason why the bench rejects a command, or `None` if there is none. Does not check the limit on
     /// the number of accepted commands.
     fn refusal_of_command(&self, command: &Command) -> Option<BenchFault>
         ensures { result ≡ refusal_of_command self.now command.now }
@@ -119,7 +119,7 @@ impl Bench {
     /// - `NoSuchPlace` if the command pokes a RAM chip that the board lacks
     /// - `BadCount` for a run of 0 cycles or of more than 100,000
     /// - `BreaksFull` if a 33rd breakpoint would be set
-    /// - `WatchesFull` if a ninth RAM character would be watched
+    /// - `WatchesFull` if a ninth RAM nibble would be watched
     pub fn check(&self, command: &Command) -> Result<(), BenchFault>
         ensures { MatchOption (refusal self.now command.now) (IsOk result)
             (λ fault. result ≡ Err fault) }
@@ -184,8 +184,8 @@ impl Bench {
         Reply::Ran { cycles, stop }
     }
 
-    /// Executes the pending second cycle if there is one, else one instruction. Returns the number of cycles done and
-    /// the reason for the stop.
+    /// Executes the pending second cycle if there is one, otherwise one instruction. Returns the number of cycles
+    /// done and the reason for the stop.
     fn step(&mut self) -> Reply
         ensures state { self.new ≡ after_change self.old Command.Step }
         ensures reply { result ≡ reply self.old Command.Step }

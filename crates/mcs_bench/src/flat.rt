@@ -73,7 +73,7 @@ pub struct Flat {
     pub board: Board,
     /// The ROM bytes, indexed by address: 4,096 bytes, 0 for absent ROMs.
     pub rom: Cells,
-    /// The RAM characters, at index bank * 256 + SRC byte: 2,048 nibbles, 0 for absent chips.
+    /// The RAM nibbles, at index bank * 256 + SRC byte: 2,048 nibbles, 0 for absent chips.
     pub ram: Cells,
     /// The status characters: 512 nibbles, 0 for absent chips. Character `k`, 0 to 3, is at index (bank * 16 + upper
     /// nibble of the SRC byte) * 4 + k.
@@ -99,17 +99,17 @@ pub struct Flat {
     pub rom_src: u8,
     /// The SRC bytes latched in the banks, 0 in a bank without chips.
     pub ram_src: [u8; 8],
-    /// 1 if the second cycle of an instruction is pending, else 0.
+    /// 1 if the second cycle of an instruction is pending, otherwise 0.
     pub owed: u8,
     /// The bits of each shift-register chain of the board, bit 0 first.
     pub chains: ArrayVec<ArrayVec<u8, CHAIN_SOCKETS>, CHAINS>,
-    /// The states of the board's keys, row by row: 1 for a key that is down, else 0.
+    /// The states of the board's keys, row by row: 1 for a key that is down, otherwise 0.
     pub keys: ArrayVec<u8, KEYS>,
     /// The level of the TEST pin, 0 or 1.
     pub test: u8,
     /// The breakpoint addresses in ascending order.
     pub breakpoints: ArrayVec<u16, BREAKPOINTS>,
-    /// The indices of the watched RAM characters (bank * 256 + SRC byte) in ascending order.
+    /// The indices of the watched RAM nibbles (bank * 256 + SRC byte) in ascending order.
     pub watches: ArrayVec<u16, WATCHES>,
 }
 

@@ -79,7 +79,7 @@ impl Bench {
         Ok(rom)
     }
 
-    /// Returns the RAM character that an SRC byte selects in a bank, or 0 if the chip is absent. `bank` is 0 to 7.
+    /// Returns the RAM nibble that an SRC byte selects in a bank, or 0 if the chip is absent. `bank` is 0 to 7.
     pub fn ram(&self, bank: u8, src: u8) -> Nibble
         requires { bank < 8 }
         ensures { result ≡ slice_index self.now.bus.ram (ram_index bank src) }
@@ -206,7 +206,7 @@ impl Bench {
         self.breaks.list()
     }
 
-    /// Returns the indices of the watched RAM characters (bank * 256 + SRC byte) in ascending order.
+    /// Returns the indices of the watched RAM nibbles (bank * 256 + SRC byte) in ascending order.
     pub fn watches(&self) -> &[Addr]
         ensures same { result.now ≡ self.now.watches }
         ensures valid { AreWatches result.now }

@@ -9,9 +9,9 @@ use crate::running::{InstructionResult, continue_run, stop_reason};
 use mcs_model::stop::Stop;
 
 impl Bench {
-    /// Executes the pending second cycle if there is one, else the instruction at the program counter, for at most
-    /// `left` cycles. Returns `None` and changes nothing if no second cycle is pending and the opcode at the program
-    /// counter is not in the instruction table. The call does not count as a command and allocates no memory.
+    /// Executes the pending second cycle if there is one, otherwise the instruction at the program counter, for at
+    /// most `left` cycles. Returns `None` and changes nothing if no second cycle is pending and the opcode at the
+    /// program counter is outside the opcode table. The call does not count as a command and allocates no memory.
     #[inline(always)]
     pub fn continue_run(&mut self, left: u32) -> Option<InstructionResult>
         requires { 0 < left }
@@ -29,8 +29,9 @@ impl Bench {
         )
     }
 
-    /// Returns the reason that a run stops in the current state: `Outside` if no second cycle is pending and the opcode
-    /// at the program counter is not in the instruction table, else `mark`, else `Ended`.
+    /// Returns the reason why a run stops in the current state: `Outside` if no second cycle is pending and the
+    /// opcode at the program counter is outside the opcode table. Otherwise returns `mark`, or `Ended` if `mark` is
+    /// `None`.
     pub fn stop_reason(&self, mark: Option<Stop>) -> Stop
         ensures { result ≡ stop_reason (machine_of self.now) mark }
     {

@@ -8,7 +8,8 @@ use mcs_model::regs::Regs;
 use mcs_nibble::{Addr, Nibble};
 
 /// Proves that two runs reach the same state as one run of their total cycles, if no breakpoint is set and no RAM
-/// character is watched. The number of accepted commands is not part of the comparison.
+/// nibble is watched. The law is about the effect of the runs (`after_change`), which does not count them as
+/// commands.
 pub fn runs_add_up()
     ensures { RunsAddUp }
 {

@@ -138,7 +138,7 @@ fn breakpoints(list: &[u16]) -> BreakpointSet
     breaks
 }
 
-/// Converts a list of RAM character indices to watches.
+/// Converts a list of RAM nibble indices to watches.
 fn watches(list: &[u16]) -> Watches
     requires { AreWatches list.now }
     ensures { result ≡ list.now }
@@ -150,8 +150,8 @@ fn watches(list: &[u16]) -> Watches
     watches
 }
 
-/// Gives a rig the board of a flat state. Then sets all chip values, the key states and the TEST level to those of the
-/// flat state.
+/// Wires a rig to the board of a flat state. Then sets all chip values, the key states and the TEST level to those of
+/// the flat state.
 fn restore_rig(rig: &mut BenchRig, flat: &Flat)
     requires { IsValidBus (state_of flat.now).bus }
     ensures { rig.new ≡ (state_of flat.now).bus }

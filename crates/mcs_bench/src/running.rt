@@ -15,7 +15,7 @@ use mcs_model::stop::Stop;
 use mcs_nibble::Addr;
 
 /// Returns whether the processor cannot continue: no second cycle is pending, and the opcode at the program counter
-/// is not in the instruction table.
+/// is outside the opcode table.
 fn is_outside_table(cpu: &Cpu, rig: &BenchRig) -> bool
     ensures { result ≡ is_outside_table (cpu.now, rig.now) }
 {
@@ -23,7 +23,7 @@ fn is_outside_table(cpu: &Cpu, rig: &BenchRig) -> bool
 }
 
 /// Returns the debug stop after a cycle that leads to the address `at`. The stop is `Breakpoint` if `at` is a
-/// breakpoint and no second cycle is pending, else `Watched` if `changed` is true. Otherwise returns `None`.
+/// breakpoint and no second cycle is pending. Otherwise it is `Watched` if `changed` is true, and `None` if not.
 #[inline(always)]
 fn debug_stop_at(cpu: &Cpu, at: Addr, breaks: &BreakpointSet, changed: bool) -> Option<Stop>
     ensures mark { result ≡ debug_stop_of (cpu.now.owed == 0 && is_listed breaks.now at) changed }
@@ -39,7 +39,7 @@ fn debug_stop_at(cpu: &Cpu, at: Addr, breaks: &BreakpointSet, changed: bool) -> 
     }
 }
 
-/// Returns whether an instruction is WRM, the only one that writes a RAM character.
+/// Returns whether an instruction is WRM, the only instruction that writes a RAM nibble.
 #[inline(always)]
 fn is_wrm(op: &Op) -> bool
     ensures { result ≡ true ↔ op.now ≡ Wrm }
@@ -47,7 +47,7 @@ fn is_wrm(op: &Op) -> bool
     matches!(op, Op::Wrm)
 }
 
-/// Returns whether `op`, the instruction at the address `at`, will change the value of a watched RAM character.
+/// Returns whether `op`, the instruction at the address `at`, will change the value of a watched RAM nibble.
 #[inline(always)]
 fn op_changes_watch(cpu: &Cpu, rig: &BenchRig, watches: &Watches, op: &Op, at: Addr) -> bool
     requires { instruction_at (record cpu.now { pc = at }) rig.now ≡ Some op.now }
@@ -69,8 +69,9 @@ fn op_changes_watch(cpu: &Cpu, rig: &BenchRig, watches: &Watches, op: &Op, at: A
     src / 64 < rig.board().bank_chips(bank)
 }
 
-/// Returns whether `op`, the instruction at the address `at`, will change the value of a watched RAM character. If
-/// `WATCHED` is false, no RAM character may be watched, and the function returns false at once.
+/// Returns whether `op`, the instruction at the address `at`, will change the value of a watched RAM nibble. The
+/// caller must set `WATCHED` to true if any RAM nibble is watched. If `WATCHED` is false, the function returns false
+/// at once.
 #[inline(always)]
 fn op_changes_watch_if<const WATCHED: bool>(
     cpu: &Cpu,
@@ -89,8 +90,8 @@ fn op_changes_watch_if<const WATCHED: bool>(
     op_changes_watch(cpu, rig, watches, op, at)
 }
 
-/// Returns whether `op`, the instruction at the address `at`, will change the value of a watched RAM character.
-/// Returns false at once if no RAM character is watched.
+/// Returns whether `op`, the instruction at the address `at`, will change the value of a watched RAM nibble. Returns
+/// false at once if no RAM nibble is watched.
 #[inline(always)]
 fn op_changes_any_watch(cpu: &Cpu, rig: &BenchRig, watches: &Watches, op: &Op, at: Addr) -> bool
     requires { instruction_at (record cpu.now { pc = at }) rig.now ≡ Some op.now }
@@ -102,8 +103,8 @@ fn op_changes_any_watch(cpu: &Cpu, rig: &BenchRig, watches: &Watches, op: &Op, a
     op_changes_watch(cpu, rig, watches, op, at)
 }
 
-/// Returns the reason that a run stops in the current state: `Outside` if the processor cannot continue
-/// (`is_outside_table`), else `mark`, else `Ended`.
+/// Returns the reason why a run stops in the current state: `Outside` if the processor cannot continue
+/// (`is_outside_table`). Otherwise returns `mark`, or `Ended` if `mark` is `None`.
 pub(crate) fn stop_reason(cpu: &Cpu, rig: &BenchRig, mark: Option<Stop>) -> Stop
     ensures { result ≡ stop_reason (cpu.now, rig.now) mark }
 {
@@ -121,7 +122,7 @@ pub(crate) fn stop_reason(cpu: &Cpu, rig: &BenchRig, mark: Option<Stop>) -> Stop
 pub struct InstructionResult {
     /// The number of cycles done, at least 1.
     pub cycles: u32,
-    /// The reason to stop the run after these cycles, if any: a breakpoint or a change of a watched RAM character.
+    /// The reason to stop the run after these cycles, if any: a breakpoint or a change of a watched RAM nibble.
     pub mark: Option<Stop>,
     /// The instruction, or `None` if only a pending second cycle was done.
     pub op: Option<Op>,
@@ -144,8 +145,8 @@ fn run_second_cycle(cpu: &mut Cpu, breaks: &BreakpointSet) -> InstructionResult
     }
 }
 
-/// Executes the pending second cycle if there is one, else the instruction at the program counter, for at most `left`
-/// cycles. Returns `None` and changes nothing if the processor cannot continue (`is_outside_table`).
+/// Executes the pending second cycle if there is one, otherwise the instruction at the program counter, for at most
+/// `left` cycles. Returns `None` and changes nothing if the processor cannot continue (`is_outside_table`).
 #[inline(always)]
 pub(crate) fn continue_run(
     cpu: &mut Cpu,
@@ -182,7 +183,7 @@ pub(crate) fn continue_run(
 
 /// Runs for at most `n` cycles. Stops at a breakpoint, or before an instruction that can end the run for another
 /// reason. Returns the number of cycles done, the address reached, and the breakpoint stop, if any. The caller must
-/// set the program counter to the address reached. `WATCHED` may be false only if no RAM character is watched.
+/// set the program counter to the address reached. `WATCHED` must be true if any RAM nibble is watched.
 #[inline(always)]
 fn fast_loop<const WATCHED: bool>(
     cpu: &mut Cpu,
@@ -223,7 +224,7 @@ fn fast_loop<const WATCHED: bool>(
     (n - left, at, None)
 }
 
-/// Runs `fast_loop` and then sets the program counter. If no RAM character is watched, uses the variant of `fast_loop`
+/// Runs `fast_loop` and then sets the program counter. If no RAM nibble is watched, uses the variant of `fast_loop`
 /// that does not check for changes. Returns the number of cycles done and the breakpoint stop, if any.
 fn run_fast(
     cpu: &mut Cpu,
@@ -247,7 +248,7 @@ fn run_fast(
     (done, mark)
 }
 
-/// Runs for at most `n` cycles. Returns the number of cycles done and the reason that the run stopped.
+/// Runs for at most `n` cycles. Returns the number of cycles done and the reason why the run stopped.
 pub(crate) fn run(
     cpu: &mut Cpu,
     rig: &mut BenchRig,
@@ -259,8 +260,8 @@ pub(crate) fn run(
         (cpu.new, rig.new) result.0 result.1 }
 {
     let (mut done, mut mark) = run_fast(cpu, rig, breaks, watches, n);
-    // The next instruction can end the run: it is the last one, it changes a watched RAM character, or its opcode is
-    // not in the instruction table.
+    // The next instruction can end the run: it is the last one, it changes a watched RAM nibble, or its opcode is
+    // outside the opcode table.
     while done < n && mark.is_none() {
         match continue_run(cpu, rig, breaks, watches, n - done) {
             None => return (done, Stop::Outside),
@@ -286,8 +287,8 @@ fn run_cycle(cpu: &mut Cpu, rig: &mut BenchRig) -> bool
     }
 }
 
-/// Executes the pending second cycle if there is one, else one instruction. Returns the number of cycles done and the
-/// reason that the step stopped.
+/// Executes the pending second cycle if there is one, otherwise one instruction. Returns the number of cycles done
+/// and the reason why the step stopped.
 pub(crate) fn step(cpu: &mut Cpu, rig: &mut BenchRig) -> (u32, Stop)
     ensures { IsStepResult (cpu.old, rig.old) (cpu.new, rig.new) result.0 result.1 }
 {

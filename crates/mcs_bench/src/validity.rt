@@ -135,7 +135,7 @@ impl Flat {
         are_numbers_below(&self.ret, 4096)
     }
 
-    /// Returns whether the lists of ROM bytes, RAM characters, status characters and port latches have their fixed
+    /// Returns whether the lists of ROM bytes, RAM nibbles, status characters and port latches have their fixed
     /// lengths, with each value in its range.
     fn has_valid_chip_values(&self) -> bool
         ensures { IsTrue result
@@ -226,7 +226,7 @@ impl Flat {
         self.are_absent_values_zero()
     }
 
-    /// Returns whether the breakpoints are addresses in ascending order.
+    /// Returns whether the breakpoints are addresses in strictly ascending order.
     fn has_valid_breakpoints(&self) -> bool
         ensures { IsTrue result ↔ AreBreakpoints self.now.breakpoints.items }
     {
@@ -237,7 +237,7 @@ impl Flat {
         is_strictly_increasing(breakpoints)
     }
 
-    /// Returns whether the watches are indices of RAM characters in ascending order.
+    /// Returns whether the watches are indices of RAM nibbles in strictly ascending order.
     fn has_valid_watches(&self) -> bool
         ensures { IsTrue result ↔ AreWatches self.now.watches.items }
     {

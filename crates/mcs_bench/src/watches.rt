@@ -1,4 +1,4 @@
-//! The watched RAM characters of a bench.
+//! The watched RAM nibbles of a bench.
 ghost use Rattle.std.specs.Prelude.{◌≡◌, ◌<◌, ◌+◌, ◌*◌, ◌||◌, true, [], length, nat_lt};
 ghost use Rattle.mcs_model.specs.Listed.{is_listed, with_listed, without_listed};
 ghost use Rattle.mcs_model.specs.Bus.{ram_index};
@@ -9,8 +9,8 @@ use mcs_model::limits::WATCHES;
 use mcs_nibble::Addr;
 use std::marker::Model;
 
-/// The indices of the watched RAM characters (bank * 256 + SRC byte) in ascending order. With a flag for each index,
-/// a run checks a RAM character in constant time.
+/// The indices of the watched RAM nibbles (bank * 256 + SRC byte) in ascending order. A flag for each index lets a
+/// run check a RAM nibble in constant time.
 #[derive(Drop)]
 pub(crate) struct Watches {
     indices: BreakpointSet,
@@ -27,7 +27,7 @@ impl Model for Watches {
     ghost invariant = { λ w. AreRamIndices w.indices };
 }
 
-/// Returns the index of the RAM character that an SRC byte selects in a bank.
+/// Returns the index of the RAM nibble that an SRC byte selects in a bank.
 #[inline(always)]
 fn ram_character_index(bank: u8, src: u8) -> Addr
     requires { bank < 8 }
@@ -55,7 +55,7 @@ impl Watches {
         }
     }
 
-    /// Returns the indices of the watched RAM characters in ascending order.
+    /// Returns the indices of the watched RAM nibbles in ascending order.
     pub(crate) fn list(&self) -> &[Addr]
         ensures same { result.now ≡ self.now }
         ensures valid { AreWatches result.now }
@@ -63,14 +63,14 @@ impl Watches {
         self.indices.list()
     }
 
-    /// Returns whether no RAM character is watched.
+    /// Returns whether no RAM nibble is watched.
     pub(crate) fn is_empty(&self) -> bool
         ensures { result ≡ true → self.now ≡ [] }
     {
         self.indices.list().is_empty()
     }
 
-    /// Returns whether a RAM character is watched.
+    /// Returns whether a RAM nibble is watched.
     #[inline(always)]
     pub(crate) fn contains(&self, bank: u8, src: u8) -> bool
         requires { bank < 8 }
@@ -79,7 +79,7 @@ impl Watches {
         self.indices.contains(ram_character_index(bank, src))
     }
 
-    /// Returns whether a RAM character can be watched: it is watched already, or fewer than `WATCHES` are.
+    /// Returns whether a RAM nibble can be watched: it is watched already, or fewer than `WATCHES` are.
     pub(crate) fn has_room_for(&self, bank: u8, src: u8) -> bool
         requires { bank < 8 }
         ensures { result ≡ (is_listed self.now (ram_index bank src)
@@ -88,7 +88,7 @@ impl Watches {
         self.contains(bank, src) || self.indices.list().len() < WATCHES
     }
 
-    /// Watches a RAM character. Does nothing if it is already watched.
+    /// Watches a RAM nibble. Does nothing if it is already watched.
     pub(crate) fn set(&mut self, bank: u8, src: u8)
         requires bank { bank < 8 }
         requires src { src < 256 }
@@ -99,7 +99,7 @@ impl Watches {
         self.indices.set(ram_character_index(bank, src));
     }
 
-    /// Stops watching a RAM character. Does nothing if it is not watched.
+    /// Stops watching a RAM nibble. Does nothing if it is not watched.
     pub(crate) fn clear(&mut self, bank: u8, src: u8)
         requires { bank < 8 }
         ensures { self.new ≡ without_listed self.old (ram_index bank src) }
@@ -107,7 +107,7 @@ impl Watches {
         self.indices.clear(ram_character_index(bank, src));
     }
 
-    /// Proves that there are at most `WATCHES` indices, each of a RAM character, in ascending order.
+    /// Proves that there are at most `WATCHES` indices, each of a RAM nibble, in strictly ascending order.
     pub(crate) fn show_state_is_valid(&self)
         ensures { AreWatches self.now }
     {

@@ -32,7 +32,7 @@ pub is_pulled-no_keys : (s : BusState) (chip k : ℕ) → s.board.keys ≡ None 
 unfolding is_pulled
 is_pulled-no_keys s chip k is = rw (is, is_pulled) refl
 
--- A rig's keys pull a line to 1 exactly if the line is pulled in the rig's flat state.
+-- A rig's keys pull a line to 1 exactly when the line is pulled in the rig's flat state.
 pub is_pulled-in_rig : (p : RigParts) (m : KeyMatrix) (chip k : ℕ) → board_fault_of p.board ≡ None → p.board.keys ≡ Some m → is_pulled_by (get_or p.chains m.chain []) p.keys m chip k ≡ is_pulled (state_of_rig p) chip k
 is_pulled-in_rig p m chip k v is =
     ap (λ row. is_pulled_by row p.keys m chip k) (sym (wired_chains-at_index p.board p.chains m.chain (key_chain-exists p.board m v is)))

@@ -59,9 +59,10 @@ state_of_rig p = record {
   test = p.test;
 }
 
--- Holds if a rig's chips match its board. Each list of sockets has the given length. Each ROM has
--- the board's line masks, each bank the board's number of chips, and each chain the board's number
--- of bits. Each key has one bit. The bytes of absent ROMs are 0.
+-- Holds if a rig's chips match its board. Each list of sockets has the given length, and the
+-- board's chains fit the sockets. Each ROM has the board's line masks, each bank the board's number
+-- of chips, and each chain the board's number of bits. Each key has one bit. There are 4,096 ROM
+-- bytes, and those of absent ROMs are 0. The SRC byte of the ROMs is below 256.
 pub record MatchesBoard (p : RigParts) (rom_sockets bank_sockets chain_sockets : ℕ) : Type 0 where
   pub roms_len : length p.roms ≡ rom_sockets
   pub banks_len : length p.banks ≡ bank_sockets

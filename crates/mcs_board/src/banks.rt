@@ -61,7 +61,7 @@ pub(crate) fn rewire_banks(banks: &mut Vec<Bank<4>>, board: &Board)
     }
 }
 
-/// Clears the banks: RAM characters, status characters, port latches and SRC bytes become 0.
+/// Clears the banks: RAM nibbles, status characters, port latches and SRC bytes become 0.
 pub(crate) fn clear_banks(banks: &mut Vec<Bank<4>>)
     ensures count { length banks.new.items ≡ length banks.old.items }
     ensures banks { (k : ℕ) → k < length banks.old.items → slice_index_or banks.new.items k absent_bank
@@ -112,7 +112,7 @@ impl<const ROMS: usize, const BANKS: usize, const CHAINS: usize, const MAX: usiz
         }
     }
 
-    /// Returns the RAM character that an SRC byte selects in bank `bank` (0 to 7), or 0 if the chip is absent.
+    /// Returns the RAM nibble that an SRC byte selects in bank `bank` (0 to 7), or 0 if the chip is absent.
     pub fn ram(&self, bank: u8, src: u8) -> Nibble
         requires { bank < 8 }
         ensures { result ≡ slice_index self.now.ram (ram_index bank src) }
@@ -125,7 +125,7 @@ impl<const ROMS: usize, const BANKS: usize, const CHAINS: usize, const MAX: usiz
         }
     }
 
-    /// Sets the RAM character that an SRC byte selects in bank `bank` (0 to 7). Has no effect if the chip is absent.
+    /// Sets the RAM nibble that an SRC byte selects in bank `bank` (0 to 7). Has no effect if the chip is absent.
     pub fn set_ram(&mut self, bank: u8, src: u8, n: Nibble)
         requires { bank < 8 }
         ensures { self.new ≡ with_ram self.old bank src n }

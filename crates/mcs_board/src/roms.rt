@@ -85,7 +85,7 @@ pub(crate) fn rewire_roms(roms: &mut Vec<Option<RomPort>>, board: &Board)
     }
 }
 
-/// Sets all bytes of each ROM that the board lacks to 0. `program` must have 4096 bytes.
+/// Sets to 0 all bytes of each ROM that the board lacks. `program` must have 4096 bytes.
 pub(crate) fn clear_absent_roms(program: &mut Vec<u8>, board: &Board)
     requires { length program.old.items ≡ 4096 }
     ensures { program.new.items ≡ rom_of_board board.now program.old.items }

@@ -2,10 +2,10 @@
 
 /// Passes `$head` and the rows of the opcode table to the macro `$with`.
 ///
-/// A row contains, in this order: patterns for the upper and the lower nibble of its opcodes, the instruction, and the
-/// kind of its operands. The number of words and the number of instruction cycles follow. The last two entries are the
-/// group in which a name is looked up, and the instruction's name as text. If a row has several opcodes, the pattern
-/// for the lower nibble begins with the lowest of these nibbles.
+/// A row contains, in this order: patterns for the upper and the lower nibble of its opcodes, the instruction, and
+/// the kind of its operands. The number of words and the number of instruction cycles follow. The last two entries
+/// are the group in which the assembler looks up the name, and the instruction's name as text. If a row has several
+/// opcodes, the pattern for the lower nibble begins with the lowest of these nibbles.
 #[macro_export]
 macro_rules! instructions {
     ($with:ident! $head:tt) => {

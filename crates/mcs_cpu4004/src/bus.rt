@@ -6,8 +6,8 @@ ghost use Rattle.mcs_model.specs.Levels.{after_ram_port, after_rom_port, port_of
 use mcs_nibble::{Addr, Bit, Nibble};
 
 /// The chips that the processor accesses, and the TEST pin. Contracts describe a call by the flat state of the bus
-/// before and after the call. The bank number is the value of the command register, 0 to 7. (Fethsaim defines this
-/// numbering, not Intel.)
+/// before and after the call. The bank number is the value of the command register, 0 to 7. (Fethsaim, not Intel,
+/// defines this numbering.)
 pub trait Bus {
     ghost flat: { Self → BusState };
 
@@ -52,7 +52,7 @@ pub trait Bus {
     fn rom_port(&mut self, n: Nibble)
         ensures { flat self.new ≡ after_rom_port (flat self.old) n };
 
-    /// Returns the value at the port of the ROM that the last SRC selected.
+    /// Returns the value that the processor reads from the port of the ROM that the last SRC selected.
     fn port_read(&self) -> Nibble
         ensures { result ≡ port_of (flat self.now) };
 

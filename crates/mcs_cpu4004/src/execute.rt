@@ -86,7 +86,8 @@ fn increment_register(regs: &mut Regs, r: RegNo)
 }
 
 /// Returns `next` unchanged. `increment_and_jump` calls this function when ISZ does not jump, which is rare. The call
-/// makes the decision a branch: the host can predict a branch, and a branch does not wait for a register.
+/// makes the compiler emit a branch for this decision. The host can predict a branch, so it need not wait for the
+/// value of a register.
 ///
 /// The emulated registers are not parameters, because the compiler would assume that the call can change each of
 /// them. The compiler cannot see that adding 0 has no effect, so it keeps the call.
@@ -188,9 +189,9 @@ fn decimal_adjust(regs: &mut Regs)
 }
 
 /// Expands to the program counter after an instruction, whose name is the first argument. The result is `$next`, the
-/// address after the instruction, unless the instruction is a jump, JMS or BBL. The expression is evaluated before the
-/// instruction's other effects. For ISZ, it also increments the register, because the sum decides whether ISZ jumps.
-/// `$a` and `$b` are the operands.
+/// address after the instruction, unless the instruction is a jump, JMS or BBL. The expression is evaluated before
+/// the instruction's other effects. For ISZ, it also increments the register, because the new value decides whether
+/// ISZ jumps. `$a` and `$b` are the operands.
 macro_rules! next_pc {
     (Jcn $regs:ident $bus:ident $next:ident $a:ident $b:ident) => {
         pc_after_jcn($regs, $a, $b, $bus.test(), $next)
@@ -384,8 +385,8 @@ macro_rules! execute_rows {
     };
 }
 
-/// Executes the instruction `op` at an address, but changes neither the stored program counter nor the pending second
-/// cycle. Returns the next program counter, and the number of cycles that the instruction takes, 1 or 2.
+/// Executes the instruction `op` at an address, but does not change the stored program counter or `owed`. Returns the
+/// next program counter, and the number of cycles that the instruction takes, 1 or 2.
 ///
 /// Each match arm does all the work of its instruction, and the program counter is passed by value. The host
 /// therefore needs only one jump from a decoded opcode to the code of its instruction.

@@ -119,7 +119,7 @@ any-of_range_with_last p a (suc n) =
     ∙ sym (or_assoc (p a) (list_any p (range_with_len (a + 1) n)) (p (a + 1 + n)))
     ∙ ap (λ k. list_any p (range_with_len a (suc n)) || p k) (let e : a + 1 + n ≡ a + suc n = omega arith in e)
 
--- A test holds for some number below `n + 1` exactly if it holds for some number below `n`, or for
--- `n`.
+-- A test holds for some number below `n + 1` exactly when it holds for some number below `n`, or
+-- for `n`.
 pub any-below_next_number : (p : ℕ → Bool) (n : ℕ) → list_any p (range_with_len 0 (n + 1)) ≡ (list_any p (range_with_len 0 n) || p n)
 any-below_next_number p n = ap (λ k. list_any p (range_with_len 0 k)) (add-one n) ∙ any-of_range_with_last p 0 n ∙ ap (λ k. list_any p (range_with_len 0 n) || p k) (zero-add n)

@@ -46,7 +46,7 @@ driven_mask-after_idle_rows bits down m driven_columns r (suc d) x low =
     let idle = driven_mask-after_idle_row bits down m driven_columns driven_columns (r + d) before (λ e. let z = low (r + d) (omega arith) (omega arith) in omega arith) refl in
     subst (λ n. IsColumnMask driven_columns (length m.columns.items) (is_driven_by_first_rows bits down m n)) (let e : r + d + 1 ≡ r + suc d = omega arith in e) idle
 
--- If shifting a number right by `r` bits gives 0, its bits from bit `r` on are 0.
+-- If shifting a number right by `r` bits gives 0, bit `r` and all bits above it are 0.
 bit-zero_if_shifted_out : (n r j : ℕ) → n / 2 ^ r ≡ 0 → bit_of n (r + j) ≡ 0
 bit-zero_if_shifted_out n r j none = ap (λ m. n / m % 2) (pow-add 2 r j) ∙ ap (λ m. m % 2) (sym (div-div-eq-div-mul n (2 ^ r) (2 ^ j))) ∙ ap (λ m. bit_of m j) none ∙ bit_at-zero j
 

@@ -1,8 +1,9 @@
 //! Key states, and the column masks from which a read of a port is computed.
 //!
-//! A column mask is a byte in which bit `j` represents column `j`. Each row has a mask of the columns in which its key
-//! is down. Each line of each ROM has a mask of the columns that pull this line. A read of a port takes about ten ORs
-//! of row masks and four ANDs with line masks. The number of these operations does not depend on the number of keys.
+//! A column mask is a byte in which bit `j` represents column `j`. Each row has a mask of the columns in which its
+//! key is down. Each line of each ROM has a mask of the columns that are connected to this line. A read of a port
+//! takes at most ten ORs of row masks, and four ANDs with line masks. The number of these operations does not depend
+//! on the number of keys.
 
 ghost use Rattle.std.specs.Prelude.{◌≡◌, ℕ, ◌+◌, ◌*◌, ◌/◌, ◌%◌, ◌<◌, ◌≤◌, Bool, ◌&&◌, All, length, replicate, slice_index, slice_index_or, slice_set};
 ghost use Rattle.std.specs.List.{list_any, range_with_len};
@@ -32,7 +33,7 @@ pub(crate) struct ScannedKeys {
     down: ArrayVec<Bit, KEYS>,
     // For each row, the mask of the columns in which its key is down.
     rows: [u8; ROW_MASKS],
-    // At index `4 * c + k`, the mask of the columns that pull line `k` of ROM `c`.
+    // At index `4 * c + k`, the mask of the columns that are connected to line `k` of ROM `c`.
     lines: [u8; LINE_MASKS],
 }
 
@@ -44,7 +45,7 @@ impl Model for ScannedKeys {
     ghost view = { λ k. record { down = k.down.items; row_masks = k.rows; line_masks = k.lines } };
 }
 
-/// Returns true if `column`, the line that a key column pulls, is line `k` of ROM `chip`.
+/// Returns true if `column`, the line to which a key column is connected, is line `k` of ROM `chip`.
 fn matches_rom_line(column: Line, chip: u8, k: u8) -> bool
     ensures { result ≡ is_rom_line chip k column }
 {
@@ -66,7 +67,7 @@ fn is_down(down: &[Bit], at: usize) -> bool
 }
 
 /// Returns the column mask of a row with `columns` keys: bit `j` is 1 if the key at index `from + j` is down. The
-/// first key of the row has index `from`. Bits from `columns` on are 0.
+/// first key of the row has index `from`. Bit `columns` and all bits above it are 0.
 fn row_mask(down: &[Bit], from: usize, columns: usize) -> u8
     requires columns { columns ≤ KEY_COLUMNS }
     requires from { from ≤ KEYS }
@@ -81,7 +82,7 @@ fn row_mask(down: &[Bit], from: usize, columns: usize) -> u8
     byte
 }
 
-/// Returns the column mask of one ROM line: bit `j` is 1 if column `j` pulls line `k` of ROM `chip`.
+/// Returns the column mask of one ROM line: bit `j` is 1 if column `j` is connected to line `k` of ROM `chip`.
 fn line_mask(columns: &[Line], chip: u8, k: u8) -> u8
     requires { length columns.now ≤ KEY_COLUMNS }
     ensures { IsColumnMask result (length columns.now)
@@ -111,7 +112,7 @@ fn row_masks(down: &[Bit], rows: u8, columns: usize) -> [u8; ROW_MASKS]
 }
 
 /// Returns the column masks of all ROM lines. The mask of line `k` of ROM `c` is at index `4 * c + k`: bit `j` is 1
-/// if column `j` pulls this line.
+/// if column `j` is connected to this line.
 fn line_masks(columns: &[Line]) -> [u8; LINE_MASKS]
     requires { length columns.now ≤ KEY_COLUMNS }
     ensures { (i : ℕ) → i < LINE_MASKS →

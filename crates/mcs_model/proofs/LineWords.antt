@@ -13,7 +13,7 @@ is_word_piece w = nat_lt 0 (length w)
 empty_piece-skipped : (ps : List (List ℕ)) → filter is_word_piece ([] ∷ ps) ≡ filter is_word_piece ps
 empty_piece-skipped ps = refl
 
--- a blank in front of a line does not change the words of the line
+-- a blank before a line does not change the words of the line
 pub words_of-blank : (b : ℕ) (bs : List ℕ) → is_blank b ≡ true → words_of (b ∷ bs) ≡ words_of bs
 unfolding words_of
 words_of-blank b bs e = ap (filter is_word_piece) (split-leading_separator is_blank b bs e) ∙ empty_piece-skipped (slice_split is_blank bs)
@@ -52,7 +52,7 @@ words_of-word_at_front (b ∷ bs) zero some begins ends = absurd (is_blank-contr
 words_of-word_at_front (b ∷ bs) (suc n) some begins ends =
     ap words_of (sym (take-append-drop (suc n) (b ∷ bs))) ∙ words_of-word_and_rest b (take n bs) (drop n bs) ends
 
--- if byte `n` of a line is a blank, the rest of the line from byte `n` on begins with a blank
+-- if byte `n` of a line is a blank, the rest of the line, starting at byte `n`, begins with a blank
 pub at_piece_end-at_blank : (line : List ℕ) (n : ℕ) → n < length line → is_blank (get_or line n 0) ≡ true → IsAtPieceEnd is_blank (drop n line)
 at_piece_end-at_blank [] n inside e = absurd (omega arith)
 at_piece_end-at_blank (b ∷ bs) zero inside e = e

@@ -110,7 +110,7 @@ after_rom_port s n =
       | None ↦ s
     ]
 
--- the value that the processor reads at the port of a ROM (4001 data sheet, RDR); an absent ROM
+-- the value that the processor reads from the port of a ROM (4001 data sheet, RDR); an absent ROM
 -- reads as 0 (defined by Fethsaim, not by Intel)
 unfoldable pub port_at : BusState → ℕ → ℕ
 port_at s chip =
@@ -119,6 +119,6 @@ port_at s chip =
       | None ↦ 0
     ]
 
--- the value that the processor reads at the port of the selected ROM
+-- the value that the processor reads from the port of the selected ROM
 abbrev pub port_of : BusState → ℕ
 port_of s = port_at s (s.rom_src / 16)

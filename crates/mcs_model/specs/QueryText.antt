@@ -116,7 +116,7 @@ bank_items s bank =
     else []
 
 -- a list with the item of a ROM: the chip number, the contents of the port latch, and the value
--- that the processor reads at the port; empty if the ROM is absent
+-- that the processor reads from the port; empty if the ROM is absent
 abbrev pub rom_items : BusState → ℕ → List (List ℕ)
 rom_items s chip =
     elim (rom_masks s.board chip) [

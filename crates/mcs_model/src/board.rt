@@ -15,14 +15,14 @@ use mcs_nibble::LineMask;
 use std::marker::Model;
 use thiserror::Error;
 
-/// A line, identified by its numbers. The numbers can have any values, so a board does not necessarily have the line.
+/// A line, identified by its numbers. The numbers are not checked, so the line need not exist on any board.
 #[derive(Clone, Copy, Debug, PartialEq, Eq)]
 pub enum Line {
     /// A port line of a ROM: the chip, 0 to 15, and the line, 0 to 3.
     Rom(u8, u8),
     /// An output line of a RAM chip: the bank, 0 to 7, the chip, 0 to 3, and the line, 0 to 3.
     Ram(u8, u8, u8),
-    /// An output of a shift-register chain: the chain and the bit.
+    /// An output of a shift-register chain: the chain, 0 to 3, and the bit, 0 to 79.
     Chain(u8, u8),
 }
 
@@ -102,8 +102,8 @@ pub enum BoardFault {
     /// A number is out of range, or a key matrix has no columns (refusal 23).
     #[error("a number is out of its range, or a key matrix has no column")]
     BadValue,
-    /// A line that the parts name is not on the board, or the chain of the key matrix is not. This error is also
-    /// reported if that chain has too few bits for the key rows (refusal 25).
+    /// A line that the parts name, or the chain of the key matrix, is not on the board. This error is also reported
+    /// if that chain has too few bits for the key rows (refusal 25).
     #[error("a line, a chain or a row's bit is not on the board")]
     NoSuchLine,
     /// An input line is used where an output line is required, or an output line where an input line is required

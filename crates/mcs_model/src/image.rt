@@ -24,7 +24,7 @@ impl Model for Image {
 }
 
 impl Image {
-    /// Returns an empty image with capacity for one page of bytes. Fails if the allocation fails.
+    /// Returns an empty image with capacity for one page of bytes. Fails if memory cannot be allocated.
     pub fn new(alloc: Global) -> Result<Image, AllocError>
         ensures { IfOk result (λ i. i ≡ []) }
     {
@@ -33,8 +33,8 @@ impl Image {
         })
     }
 
-    /// Appends `byte` with the address `at`, which must be above all addresses in the image. If an allocation fails,
-    /// the image is unchanged.
+    /// Appends `byte` with the address `at`, which must be above all addresses in the image. Fails and leaves the
+    /// image unchanged if memory cannot be allocated.
     pub fn push(&mut self, at: Addr, byte: u8) -> Result<(), AllocError>
         requires { All (λ p. p.0 < at) self.old }
         ensures added { OnOk result (self.new ≡ self.old ++ (at, byte) ∷ []) }

@@ -19,7 +19,7 @@ pub fn runs_compose()
 {}
 
 /// Proves the values of the refusal numbers, with one clause for each group: lines and texts, boards, programs,
-/// commands, and sessions with memory.
+/// commands, and sessions. The last group includes the number for a failed memory allocation.
 pub fn refusal_numbers_are()
     ensures lines { NOT_A_COMMAND ∷ BAD_NUMBER ∷ LINE_TOO_LONG ∷ TEXT_TOO_LONG ∷ NOT_ASCII
         ∷ NO_END ∷ []
@@ -37,7 +37,8 @@ pub fn refusal_numbers_are()
         ≡ 50 ∷ 51 ∷ 53 ∷ 54 ∷ 55 ∷ 90 ∷ [] }
 {}
 
-/// Proves the values of the limits on boards, debugging, runs, sessions and texts.
+/// Proves the values of the limits on boards, debugging, runs, sessions and texts. The sizes of the parts of a
+/// session file (`SNAPSHOT_BYTES`, `RECORD_BYTES`, `LOG_BYTES`) are not included.
 pub fn limits_are()
     ensures boards { ROMS ∷ BANKS ∷ BANK_CHIPS ∷ CHAINS ∷ CHAIN_CHIPS ∷ CHAIN_BITS ∷ CHAIN_SOCKETS
         ∷ KEY_ROWS ∷ KEY_COLUMNS ∷ KEYS ∷ LAMPS ∷ []

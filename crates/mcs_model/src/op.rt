@@ -95,8 +95,8 @@ pub enum Op {
     Stc,
     /// Decimal adjust the accumulator.
     Daa,
-    /// Keyboard process: replace the accumulator by the number, 1 to 4, of its only bit that is 1. The result is 0 if
-    /// no bit is 1, and 15 if several bits are 1.
+    /// Keyboard process: replace the accumulator with the number, 1 to 4, of its only bit that is 1. The result is 0
+    /// if no bit is 1, and 15 if several bits are 1.
     Kbp,
     /// Designate command line: select the RAM bank.
     Dcl,

@@ -9,7 +9,7 @@ pub enum Query {
     Lamps,
     /// The registers of the processor, and the TEST pin.
     Regs,
-    /// The RAM contents of a bank.
+    /// The contents of a bank's RAM chips: nibbles, status characters and port latches.
     Ram(BankNo),
     /// The breakpoints.
     Breaks,

@@ -93,7 +93,7 @@ pub const WATCHES_FULL: u8 = 47;
 /// The refusal number for a file that is not a session file: its size, or the name inside it, is wrong.
 pub const NOT_A_SESSION: u8 = 50;
 
-/// The refusal number for a damaged session file: it represents no state.
+/// The refusal number for a damaged session file, which represents no state.
 pub const DAMAGED: u8 = 51;
 
 /// The refusal number for a device call that failed: an I/O error.
@@ -102,7 +102,7 @@ pub const DEVICE: u8 = 53;
 /// The refusal number for a command to a session that is closed because an earlier device call failed.
 pub const CLOSED: u8 = 54;
 
-/// The refusal number for a disk that is not blank, so no session can be created on it.
+/// The refusal number for the creation of a session on a disk that is not blank.
 pub const NOT_BLANK: u8 = 55;
 
 /// The refusal number for a failed memory allocation.

@@ -1,4 +1,4 @@
--- Reads and writes of a list that a function of the index defines (`table_of`).
+-- Reads and writes of a list whose elements are a function of the index (`table_of`).
 use Rattle.std.proofs.Common.{◌≡◌, ◌≢◌, ℕ, ◌<◌, inl, inr, List, length, get_or, slice_set, sym, ap, ◌∙◌, arith, get_or-set_other}
 use Rattle.std.proofs.lemmas.List.FromFn.{get_or-map-range_with_len, length-map-range_with_len, fill_by_all}
 use Rattle.std.proofs.lemmas.Grind.{get_or-set_at}

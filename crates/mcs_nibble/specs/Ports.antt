@@ -1,7 +1,7 @@
 -- The port of a 4001, line by line: the contents of its latch, and the value that the processor
 -- reads. (4001 data sheet: the mask makes each line an input or an output. WRR writes the latch,
 -- and RDR reads the input lines. Defined by Fethsaim, not by Intel: logic is positive, the latch
--- bit of an input line is 0, and the processor reads the constant of the mask at an output line.)
+-- bit of an input line is 0, and the processor reads an output line as the constant of its mask.)
 use Rattle.std.specs.Prelude.{ℕ, Bool, true, false, ◌==◌, List, Option, Some, None, slice_index_or, if◌then◌else◌}
 use Rattle.mcs_nibble.specs.Bits.{bit_of, nibble_of}
 use Rattle.mcs_nibble.specs.declared.lines.LineMask.{LineMask}
@@ -14,8 +14,8 @@ is_input Zero = false
 is_input One = false
 
 -- The character that represents a mask option in board texts and session files (defined by
--- Fethsaim, not by Intel): `i` for an input line, `0` or `1` for an output line at which the
--- processor reads 0 or 1.
+-- Fethsaim, not by Intel): `i` for an input line, `0` or `1` for an output line that the processor
+-- reads as 0 or 1.
 abbrev pub mask_character : LineMask → ℕ
 mask_character Input = 105
 mask_character Zero = 48
@@ -42,8 +42,8 @@ latch_bit mask n k = if is_input (mask_at mask k) then 0 else bit_of n k
 unfoldable pub latch_value : List LineMask → ℕ → ℕ
 latch_value mask n = nibble_of (latch_bit mask n)
 
--- bit `k` of the value that the processor reads at the port; `inputs` gives the level of each input
--- line
+-- bit `k` of the value that the processor reads from the port; `inputs` gives the level of each
+-- input line
 abbrev pub read_bit : (ℕ → ℕ) → List LineMask → ℕ → ℕ
 read_bit inputs mask k = elim (mask_at mask k) [ Input ↦ inputs k | Zero ↦ 0 | One ↦ 1 ]
 

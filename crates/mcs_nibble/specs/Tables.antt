@@ -1,4 +1,5 @@
--- Lists that a function of the index defines, and flat lists of the contents of several chips.
+-- Lists whose elements are a function of the index, and flat lists of the contents of several
+-- chips.
 use Rattle.std.specs.Prelude.{ℕ, ◌*◌, ◌/◌, ◌%◌, List, map, slice_index, slice_index_or}
 use Rattle.std.specs.List.{range_with_len}
 

@@ -4,16 +4,16 @@ ghost use Rattle.mcs_nibble.specs.Ports.{mask_character, mask_of};
 
 /// The mask option of a ROM port line, fixed when the chip is made. The mask makes each line an input or an output
 /// (Intel MCS-4 Users Manual, 4001). Fethsaim, not Intel, defines that the mask also fixes the constant that the
-/// processor reads at an output line.
+/// processor reads from an output line.
 #[derive(Clone, Copy, Debug, PartialEq, Eq)]
 pub enum LineMask {
     /// An input line. The processor reads the level of the line, and the latch bit of the line is 0.
     Input,
 
-    /// An output line at which the processor reads 0.
+    /// An output line that the processor reads as 0.
     Zero,
 
-    /// An output line at which the processor reads 1.
+    /// An output line that the processor reads as 1.
     One,
 }
 

@@ -2,9 +2,8 @@
 //! chip's storage holds two nibbles.
 //!
 //! `src` stores the SRC byte of the bank, as the instruction SRC does. `read`, `write`, `read_status`, `write_status`
-//! and `write_port` access the location that this byte selects. A rig accesses a bank by index instead (`at`,
-//! `status_at`, `port`, `store`), as an observer of the board does. The rig can then define once, for all banks, which
-//! location an SRC byte selects.
+//! and `write_port` access the location that this byte selects. A rig instead passes the location itself (`at`,
+//! `status_at`, `port`, `store`). The rig can then define once, for all banks, which location an SRC byte selects.
 #![tactic(auto)]
 
 ghost use Rattle.std.specs.Prelude.{◌≡◌, ℕ, ◌+◌, ◌-◌, ◌*◌, ◌/◌, ◌%◌, ◌<◌, ◌≤◌, All, replicate, slice_index};

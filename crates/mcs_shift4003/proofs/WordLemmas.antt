@@ -206,7 +206,7 @@ chain_bits-after_shift bits level old new moved =
     sym (table_of-unique bits (packed_bit new) (take (length (chain_bits_of bits old)) (level ∷ chain_bits_of bits old)) 0 taken (λ k l.
     get_or-take (length (chain_bits_of bits old)) (level ∷ chain_bits_of bits old) k 0 (omega arith) ∙ prepended_level-at_index bits level old k l ∙ sym (moved k l)))
 
--- ---- ten bits from a given bit on
+-- ---- ten bits that start at a given bit
 
 bit_of-quotient : (n s j : ℕ) → bit_of (n / 2 ^ s) j ≡ bit_of n (s + j)
 bit_of-quotient n s j = ap (λ m. m % 2) (div-div-eq-div-mul n (2 ^ s) (2 ^ j) ∙ ap (λ m. n / m) (sym (pow-add 2 s j)))

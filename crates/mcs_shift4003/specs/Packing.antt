@@ -18,7 +18,7 @@ unfoldable pub chain_bits_of : ℕ → List ℕ → List ℕ
 chain_bits_of bits words = table_of bits (packed_bit words)
 
 -- holds if the words store exactly `bits` bits: no word is unused, each word is below 1024, and all
--- bits from index `bits` on are 0
+-- bits at index `bits` and above are 0
 pub record IsPacked (bits : ℕ) (words : List ℕ) : Type 0 where
   pub used : length words ≡ (bits + 9) / 10
   pub ten : (k : ℕ) → slice_index words k < 1024

@@ -168,8 +168,8 @@ impl<const MAX: usize> Chain<MAX> {
         }
     }
 
-    /// Returns ten bits of the chain, from bit `first` on. Bit `j` of the result is bit `first + j` of the chain, or
-    /// 0 past the end of the chain.
+    /// Returns ten bits of the chain, starting at bit `first`. Bit `j` of the result is bit `first + j` of the chain,
+    /// or 0 past the end of the chain.
     pub fn ten_bits_from(&self, first: usize) -> u16
         ensures bits { (j : ℕ) → j < 10 → bit_of result j ≡ slice_index self.now (first + j) }
         ensures ten { result < 1024 }

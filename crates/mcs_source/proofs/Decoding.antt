@@ -212,7 +212,7 @@ word_count_is_one_or_two (Isz _ _) = inr refl
 word_count_is_one_or_two _ = inl refl
 
 -- If one or two words decode to an instruction, the words are the encoding of the instruction. A
--- second word must be given exactly if the instruction has two words.
+-- second word must be given exactly when the instruction has two words.
 pub decoded_words_are_spelling : (first : ℕ) (second : Option ℕ) (o : Op) → instruction_of first (unwrap_or second 0) ≡ Some o → IsSome second ↔ (word_count_of o ≡ 2) → first ∷ option_to_list second ≡ spelling o
 decoded_words_are_spelling first None o e both = elim (word_count_is_one_or_two o) [
   | inl one ↦ sym ((decoded_instruction_is_encoding first 0 o e).1 ∙ rw one refl)

@@ -50,8 +50,8 @@ board_fault_of_1 b =
     else if has_wrong_direction b then Some WrongDirection
     else None
 
--- holds if version 1 finds no errors in the parts, their lists have the lengths that their types
--- imply, and there are at most two chains
+-- holds if version 1 finds no errors in the parts, their lists have lengths that their types allow,
+-- and there are at most two chains
 pub record IsValidBoard1 (b : BoardParts) : Type 0 where
   pub sized : HasDeclaredLengths b
   pub few : length b.chains.items ≤ 2

@@ -49,7 +49,7 @@ number_in_reversed_numbers_or_seen : {A : Type 0} (n : ℕ) (seen : List ℕ) (p
 number_in_reversed_numbers_or_seen n seen [] = refl
 number_in_reversed_numbers_or_seen n seen (p ∷ ps) = number_in_reversed_numbers_or_seen n (p.number ∷ seen) ps ∙ or_swap (list_any (λ q. eqb q.number n) ps) (eqb p.number n) (list_any (λ k. eqb k n) seen)
 
--- a number is in `reversed_numbers` of a list exactly if one of the parts has that number
+-- a number is in `reversed_numbers` of a list exactly when one of the parts has that number
 pub number_in_reversed_numbers : {A : Type 0} (n : ℕ) (ps : List (Numbered A)) → list_any (λ k. eqb k n) (reversed_numbers [] ps) ≡ list_any (λ q. eqb q.number n) ps
 number_in_reversed_numbers n ps = number_in_reversed_numbers_or_seen n [] ps ∙ or_false (list_any (λ q. eqb q.number n) ps)
 

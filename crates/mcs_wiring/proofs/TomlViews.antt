@@ -16,12 +16,13 @@ pub values_in_view : (vs : List Value) → map view vs ≡ values_of (items_view
 values_in_view [] = refl
 values_in_view (v ∷ vs) = ap (λ ds. view v ∷ ds) (values_in_view vs)
 
--- a test holds for some key of a map exactly if it holds for some key of the map's view
+-- a test holds for some key of a map exactly when it holds for some key of the map's view
 pub any_key_test_in_view : (p : List ℕ → Bool) (es : List Entry) → list_any (λ k. p (string_bytes k)) (map_keys es) ≡ list_any p (keys_of (members_view es))
 any_key_test_in_view p [] = refl
 any_key_test_in_view p (e ∷ es) = ap (λ b. p (string_bytes e.0) || b) (any_key_test_in_view p es)
 
--- a test holds for the view of some value exactly if it holds for some member of the list of views
+-- a test holds for the view of some value exactly when it holds for some member of the list of
+-- views
 pub any_value_in_view : (p : Data → Bool) (vs : List Value) → list_any (λ v. p (view v)) vs ≡ list_any p (map view vs)
 any_value_in_view p [] = refl
 any_value_in_view p (v ∷ vs) = ap (λ b. p (view v) || b) (any_value_in_view p vs)
@@ -30,8 +31,8 @@ pub length_of_views : (vs : List Value) → length (map view vs) ≡ length vs
 length_of_views [] = refl
 length_of_views (v ∷ vs) = ap suc (length_of_views vs)
 
--- for a non-empty list of columns, `are_malformed_columns` is true exactly if some column does not
--- name a line
+-- for a non-empty list of columns, `are_malformed_columns` is true exactly when some column does
+-- not name a line
 pub columns_in_view : (vs : List Value) → eqb (length vs) 0 ≡ false → list_any (λ v. names_no_line (view v)) vs ≡ are_malformed_columns (map view vs)
 columns_in_view [] some = absurd (true≢false some)
 columns_in_view (v ∷ vs) some = any_value_in_view names_no_line (v ∷ vs)
