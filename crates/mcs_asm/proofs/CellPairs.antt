@@ -55,8 +55,8 @@ stays_free_after_write pairs x b y other free c h = elim (Contains-push_cases pa
   | inr e ↦ other (ap (λ (p : ℕ × ℕ). p.0) e)
 ]
 
--- If no pair has one of the addresses from `x` on, cells and pairs still agree after the bytes at
--- these addresses are added to both.
+-- If no pair has an address of the given bytes, which start at address `x`, cells and pairs still
+-- agree after the bytes are added to both.
 pub cells_hold_pairs_after_all_writes : (bytes : List ℕ) (x : ℕ) (cells : List (Option ℕ)) (pairs : List (ℕ × ℕ)) → x + length bytes ≤ 4096 → HoldsPairs cells pairs → ((y : ℕ) → x ≤ y → y < x + length bytes → IsAddressFree pairs y)
     → HoldsPairs (cells_after_write x bytes cells) (pairs ++ from_address x bytes)
 cells_hold_pairs_after_all_writes [] x cells pairs le kept free = subst (λ (ps : List (ℕ × ℕ)). HoldsPairs cells ps) (sym (append-nil pairs)) kept
@@ -69,14 +69,15 @@ cells_hold_pairs_after_all_writes (b ∷ bytes) x cells pairs le kept free =
     (λ y low high. stays_free_after_write pairs x b y (λ e. omega (arith, e, low)) (free y (omega (arith, low)) (omega (arith, high)))) in
     subst (λ (ps : List (ℕ × ℕ)). HoldsPairs (cells_after_write (x + 1) bytes (set cells x (Some b))) ps) (append_assoc pairs ((x, b) ∷ []) (from_address (x + 1) bytes)) rest
 
--- If bytes at the `n` addresses from `x` on overlap no pairs, no pair has any of these addresses.
+-- If bytes at the `n` addresses that start at `x` overlap no pairs, no pair has any of these
+-- addresses.
 pub free_if_no_overlap : (pairs : List (ℕ × ℕ)) (x n : ℕ) → overlaps pairs x n ≡ false → (y : ℕ) → x ≤ y → y < x + n → IsAddressFree pairs y
 free_if_no_overlap pairs x n untaken y low high b has =
     let P : ℕ × ℕ → Bool = λ p. leb x p.0 && ltb p.0 (x + n) in
     let yes : list_any P pairs ≡ true = list_any_at P pairs has.0 (y, b) (has.1) (rw has.2 (rw (le-leb x y low, lt-ltb y (x + n) high) refl)) in
     absurd (true≢false (sym yes ∙ untaken))
 
--- ---- by ascending address
+-- ---- the pairs in ascending order of address
 
 Contains-cons_cases : (p : ℕ × ℕ) (ps : List (ℕ × ℕ)) (q : ℕ × ℕ) → Contains (p ∷ ps) q → (p ≡ q) ⊎ Contains ps q
 Contains-cons_cases p ps q has = elim (Contains-append_cases (p ∷ []) ps q has) [
@@ -112,7 +113,7 @@ contained_pair_is_found (q ∷ pairs) a b has e =
       ]
     ]) refl e
 
--- The cell at an address determines what `find` returns: `None` if the cell is empty, else the
+-- The cell at an address determines what `find` returns: `None` if the cell is empty, otherwise the
 -- pair.
 finds_none_if_empty : (pairs : List (ℕ × ℕ)) (a : ℕ) → ((b : ℕ) → (None ≡ Some b) ↔ Contains pairs (a, b)) → find (λ (q : ℕ × ℕ). eqb q.0 a) pairs ≡ None
 finds_none_if_empty pairs a h =
@@ -147,7 +148,7 @@ pairs_in_address_order pairs (Some v ∷ cells) at h =
     let more = pairs_in_address_order pairs cells (at + 1) (λ k b. subst (λ (n : ℕ). (get_or cells k None ≡ Some b) ↔ Contains pairs (n, b)) (omega arith) (h (suc k) b)) in
     rw here (ap (λ (l : List (ℕ × ℕ)). (at, v) ∷ l) more)
 
--- the image that is read from the cells has the pairs in ascending order of addresses
+-- the image that is read from the cells has the pairs in ascending order of address
 pub image_is_by_address : (cells : List (Option ℕ)) (pairs : List (ℕ × ℕ)) → HoldsPairs cells pairs → pairs_from 0 cells ≡ by_address pairs
 unfolding by_address
 image_is_by_address cells pairs kept =

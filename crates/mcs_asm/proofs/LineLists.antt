@@ -6,7 +6,7 @@ use Rattle.std.specs.Str.Lines.{strip_carriage_return}
 use Rattle.mcs_model.specs.TextLines.{is_line_feed, last_line, lines, lines_of}
 use Rattle.mcs_model.proofs.LineLemmas.{byte_by_byte, lines_after, last_line-nonempty}
 
--- the lines of a text, given its first line and the bytes from the first line feed on
+-- the lines of a text, given its first line and the bytes that start at the first line feed
 abbrev pub lines_from_first : List ℕ → List ℕ → List (List ℕ)
 lines_from_first line [] = last_line true line
 lines_from_first line (b ∷ bytes) = strip_carriage_return line ∷ lines_of bytes

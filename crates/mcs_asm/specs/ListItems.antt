@@ -4,7 +4,7 @@ use Rattle.mcs_source.specs.Lexical.{Token, Word, Comma}
 use Rattle.mcs_source.specs.Lines.{Operand, operand_of}
 use Rattle.mcs_model.specs.Options.{◌>>=◌}
 
--- the remaining tokens if a comma precedes them (the first argument is true), else `None`
+-- the remaining tokens if a comma precedes them (the first argument is true), otherwise `None`
 abbrev pub tokens_if_comma : Bool → List Token → Option (List Token)
 tokens_if_comma true ts = Some ts
 tokens_if_comma false ts = None

@@ -38,7 +38,7 @@ impl ByteCells {
         Ok(ByteCells { bytes })
     }
 
-    /// Returns true if at least one of the `count` addresses from `at` on has a byte.
+    /// Returns true if at least one of the `count` addresses that start at `at` has a byte.
     pub fn is_taken(&self, at: usize, count: usize) -> bool
         requires { at + count ≤ 4096 }
         ensures { result ≡ list_any is_some (take count (drop at self.now)) }
@@ -46,7 +46,7 @@ impl ByteCells {
         any_taken(&self.bytes[at..at + count])
     }
 
-    /// Stores bytes at consecutive addresses from `at` on.
+    /// Stores bytes at consecutive addresses, starting at `at`.
     pub fn write(&mut self, at: usize, bytes: &[u8])
         requires { at + length bytes.now ≤ 4096 }
         ensures { self.new ≡ cells_after_write at bytes.now self.old }
@@ -56,8 +56,8 @@ impl ByteCells {
         }
     }
 
-    /// Returns the stored bytes with their addresses, by ascending address. Fails if allocation
-    /// fails.
+    /// Returns the stored bytes with their addresses, in ascending order of address. Fails if
+    /// allocation fails.
     pub fn image(&self, alloc: Global) -> Result<Image, AllocError>
         ensures { IfOk result (λ i. i ≡ pairs_from 0 self.now) }
     {

@@ -186,8 +186,8 @@ fn both_passes<'a>(alloc: Global, source: &'a str) -> Result<(Survey<'a>, ByteCe
 
 /// Returns the image of a source text, or its first error with the line number, from 1.
 ///
-/// A line is an optional label `NAME:`, an optional statement and an optional comment that begins
-/// with `;`, or it is a definition `NAME = NUMBER`. If allocation fails, the error is
+/// A line is an optional label `NAME:` and an optional statement, or a definition `NAME = NUMBER`.
+/// Each line can end with a comment, which begins with `;`. If allocation fails, the error is
 /// [`FaultKind::NoMemory`] with line 0.
 pub fn assemble(alloc: Global, source: &str) -> Result<Image, AsmFault>
     ensures { Assembles result (assembly_of_text source.now) }

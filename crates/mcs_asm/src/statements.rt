@@ -15,7 +15,7 @@ use mcs_nibble::{PairNo, RegNo};
 use mcs_source::mnemonic::Mnemonic;
 use std::alloc::{AllocError, Global};
 
-/// An operand as written in the source. The parser replaces a number above 4,294,967,296 by
+/// An operand as written in the source. The parser replaces a number above 4,294,967,296 with
 /// 4,294,967,296.
 #[derive(Clone, Copy)]
 pub enum Operand<'a> {

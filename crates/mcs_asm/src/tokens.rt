@@ -8,7 +8,8 @@ ghost use Rattle.mcs_asm.specs.View.{token_view};
 use mcs_model::text_lines::is_blank;
 use std::marker::Model;
 
-/// A token of a source line. `Other` is any other byte; a line that contains such a byte does not parse.
+/// A token of a source line. `Other` is any other byte that is not a blank. A line with this token
+/// does not parse.
 #[derive(Clone, Copy)]
 pub enum Token<'a> {
     Word(&'a [u8]),
@@ -112,7 +113,7 @@ impl<'a> Model for Tokens<'a> {
 }
 
 impl<'a> Tokens<'a> {
-    /// Returns a reader at the first token of a line.
+    /// Returns a reader that starts at the first token of a line.
     pub fn new(line: &'a [u8]) -> Tokens<'a>
         ensures { result ≡ tokens line.now }
     {

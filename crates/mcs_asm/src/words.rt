@@ -17,7 +17,7 @@ fn equals_ignoring_case(word: &[u8], name: &str) -> bool
     word.eq_ignore_ascii_case(name.as_bytes())
 }
 
-/// Expands to the mnemonic for a row of the instruction table.
+/// Expands to the mnemonic for a row of the opcode table.
 macro_rules! mnemonic_of_row {
     ($name:ident none) => {
         Mnemonic::Bare(Op::$name)
@@ -40,8 +40,8 @@ macro_rules! return_if_equal {
 /// Expands to a comparison of the word with the name in a row, if the row is in the group
 /// `$wanted`. Otherwise expands to nothing.
 ///
-/// The instruction table is split into six groups for the proofs: one proof about 45 names takes
-/// far longer than six proofs about eight names each.
+/// The opcode table is split into six groups for the proofs: one proof about 45 names takes far
+/// longer than six proofs, each about eight names.
 macro_rules! test_row_in_group {
     (group1 group1 $word:ident $name:ident $kind:ident $text:literal) => {
         return_if_equal!($word $name $kind $text)

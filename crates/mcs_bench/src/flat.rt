@@ -73,7 +73,7 @@ pub struct Flat {
     pub board: Board,
     /// The ROM bytes, indexed by address: 4,096 bytes, 0 for absent ROMs.
     pub rom: Cells,
-    /// The RAM nibbles, at index bank * 256 + SRC byte: 2,048 nibbles, 0 for absent chips.
+    /// The RAM nibbles, at index bank * 256 + SRC byte: 2,048 numbers, 0 for absent chips.
     pub ram: Cells,
     /// The status characters: 512 nibbles, 0 for absent chips. Character `k`, 0 to 3, is at index (bank * 16 + upper
     /// nibble of the SRC byte) * 4 + k.

@@ -178,7 +178,7 @@ piece_texts_are_lines (suc fuel) at (b ∷ rest) all =
     let p : IsPiece at b rest (op_at b rest) = op_at_is_piece at b rest all.0 (second_word_is_byte rest all.1) in
     (is_line_if_no_line_ends (piece_text at b (op_at b rest)) p.clean, piece_texts_are_lines fuel (at + piece_size (op_at b rest)) (drop (piece_size (op_at b rest) - 1) rest) (drop_of_bytes_are_bytes (piece_size (op_at b rest) - 1) rest all.1))
 
--- the source text for some bytes assembles to exactly these bytes, from address `from` on
+-- the source text for some bytes assembles to exactly these bytes, starting at address `from`
 pub source_assembles_back : (from : ℕ) (bytes : List ℕ) → from < 4096 → from + length bytes ≤ 4096 → AreBytes bytes → assembly_of_text (source_of from bytes) ≡ Ok (from_address from bytes)
 unfolding address_of names_before pairs_before
 source_assembles_back from bytes lt le all =

@@ -1,4 +1,4 @@
-//! Decodes the piece at the start of some bytes: an instruction with all its words, or else a single byte.
+//! Decodes the piece at the start of some bytes: an instruction with all its words, or a single byte.
 ghost use Rattle.std.specs.Prelude.{◌≡◌, ◌<◌, ◌≤◌, [], length, drop};
 ghost use Rattle.std.specs.Option.{option_to_list};
 ghost use Rattle.mcs_source.specs.Text.{op_at, piece_size, second_word_of_piece};
@@ -31,8 +31,8 @@ pub fn op_of(first: u8, second: Option<u8>) -> Option<Op>
     }
 }
 
-/// Decodes the instruction at the start of some bytes. Returns `None` if the first byte is not an opcode, or if the
-/// second word is missing.
+/// Decodes the instruction at the start of some bytes. Returns `None` if the opcode is outside the opcode table, or
+/// if the second word is needed but missing.
 #[tactic(auto, using(crate::proofs::Loops::op_of_two_bytes, crate::proofs::Loops::op_of_one_byte))]
 pub fn op_at_start(bytes: &[u8]) -> Option<Op>
     requires { 0 < length bytes.now }

@@ -12,8 +12,8 @@ use mcs_code::{Op, instructions, operand_pattern};
 use mcs_nibble::{Addr, Nibble};
 use std::alloc::AllocError;
 
-/// Expands to a match expression that returns the mnemonic of an instruction, with an arm for each row of the
-/// instruction table.
+/// Expands to a match expression that returns the mnemonic of an instruction, with an arm for each row of the opcode
+/// table.
 macro_rules! name_rows {
     (($op:ident) $($codes:pat, $name:ident $kind:ident $words:literal $cycles:literal $group:ident $text:literal;)*) => {
         match *$op {
@@ -102,8 +102,8 @@ macro_rules! push_by_kind {
     };
 }
 
-/// Expands to a match expression that appends the operands of an instruction, with an arm for each row of the
-/// instruction table.
+/// Expands to a match expression that appends the operands of an instruction, with an arm for each row of the opcode
+/// table.
 macro_rules! operand_rows {
     (($out:ident, $at:ident, $op:ident) $($codes:pat, $name:ident $kind:ident $words:literal $cycles:literal $group:ident $text:literal;)*) => {
         match $op {

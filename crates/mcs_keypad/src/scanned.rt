@@ -3,7 +3,7 @@
 //! A column mask is a byte in which bit `j` represents column `j`. Each row has a mask of the columns in which its
 //! key is down. Each line of each ROM has a mask of the columns that are connected to this line. A read of a port
 //! takes at most ten ORs of row masks, and four ANDs with line masks. The number of these operations does not depend
-//! on the number of keys.
+//! on the number of columns or on the number of keys that are down.
 
 ghost use Rattle.std.specs.Prelude.{◌≡◌, ℕ, ◌+◌, ◌*◌, ◌/◌, ◌%◌, ◌<◌, ◌≤◌, Bool, ◌&&◌, All, length, replicate, slice_index, slice_index_or, slice_set};
 ghost use Rattle.std.specs.List.{list_any, range_with_len};

@@ -47,6 +47,6 @@ latch_value mask n = nibble_of (latch_bit mask n)
 abbrev pub read_bit : (ℕ → ℕ) → List LineMask → ℕ → ℕ
 read_bit inputs mask k = elim (mask_at mask k) [ Input ↦ inputs k | Zero ↦ 0 | One ↦ 1 ]
 
--- the value that the processor reads at the port; `inputs` gives the level of each input line
+-- the value that the processor reads from the port; `inputs` gives the level of each input line
 unfoldable pub read_lines : (ℕ → ℕ) → List LineMask → ℕ
 read_lines inputs mask = nibble_of (read_bit inputs mask)

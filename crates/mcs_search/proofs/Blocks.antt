@@ -12,7 +12,7 @@ IsFullBlock width n b = (b.width ≡ width) × (length b.keys ≡ n)
 first_block-length : (width n : ℕ) (b : KeyStore) (bs : List KeyStore) → AreFull width n (b ∷ bs) → length b.keys ≡ n
 first_block-length width n b bs all = (all 0 b (omega arith)).1
 
--- If each block has n keys, the blocks together have `length bs * n` keys.
+-- If each block has `n` keys, the blocks together have `length bs * n` keys.
 pub length-keys_of_blocks : (width n : ℕ) (bs : List KeyStore) → AreFull width n bs → length (keys_of_blocks bs) ≡ length bs * n
 unfolding keys_of_blocks
 length-keys_of_blocks width n [] all = omega arith
@@ -23,7 +23,7 @@ length-keys_of_blocks width n (b ∷ bs) all =
     let q = suc-mul (length bs) n in
     omega arith
 
--- The key at index q * n + r of the arena is the key at index r of full block q.
+-- The key at index `q * n + r` of the arena is the key at index `r` of full block `q`.
 pub key-in_full_block : (width n q r : ℕ) (bs : List KeyStore) (ys : List (List ℕ)) (d : KeyStore) → AreFull width n bs → q < length bs → r < n →
     get_or (keys_of_blocks bs ++ ys) (q * n + r) [] ≡ get_or (get_or bs q d).keys r []
 unfolding keys_of_blocks
@@ -43,7 +43,7 @@ key-in_full_block width n (suc q) r (b ∷ bs) ys d all h k =
     ∙ ap (λ i. get_or (keys_of_blocks bs ++ ys) i []) at
     ∙ key-in_full_block width n q r bs ys d (All-tail (IsFullBlock width n) b bs all) (omega arith) k
 
--- The key at index r after the full blocks is the key at index r of the last block.
+-- The key at index `r` after the full blocks is the key at index `r` of the last block.
 pub key-after_full_blocks : (width n r : ℕ) (bs : List KeyStore) (ys : List (List ℕ)) → AreFull width n bs →
     get_or (keys_of_blocks bs ++ ys) (length bs * n + r) [] ≡ get_or ys r []
 key-after_full_blocks width n r bs ys all =

@@ -30,7 +30,7 @@ all-after_add : (P : List ℕ → Type 0) (old new : List (List ℕ)) (key : Lis
 all-after_add P old new key all k (inl same) = All-same P new old same all
 all-after_add P old new key all k (inr more) = All-same P new (old ++ key ∷ []) more (All-push P old key all k)
 
--- If P holds for all keys and for the key that is added, P holds for all keys afterwards.
+-- If `P` holds for all keys and for the key that is added, `P` holds for all keys afterwards.
 pub all_keys-after_add : (P : List ℕ → Type 0) {old new : KeyStore} {key : List ℕ} → All P old.keys → P key → Adds old key new → All P new.keys
 all_keys-after_add P {old = old} {new = new} {key = key} all k a = all-after_add P old.keys new.keys key all k a.keys
 
@@ -49,7 +49,7 @@ length-not_less_after_growth {old = old} {new = new} g = let e = ap length g.key
 pub key_unchanged-after_growth : {old new : KeyStore} (k : ℕ) → Grows old new → k < length old.keys → get_or new.keys k [] ≡ get_or old.keys k []
 key_unchanged-after_growth {old = old} {new = new} k g h = ap (λ (ks : List (List ℕ)). get_or ks k []) g.keys.1 ∙ get_or_append_left old.keys g.keys.0 [] k h
 
--- If the first `next` keys and the key at index `next` are followed, the first next + 1 keys are
+-- If the first `next` keys and the key at index `next` are followed, the first `next + 1` keys are
 -- followed.
 pub first_keys_followed-with_next_key : (r : Rules) {old new : KeyStore} (next : ℕ) → Grows old new → next < length old.keys →
     ((k : ℕ) → k < next → IsFollowed r old.keys (get_or old.keys k [])) → IsFollowed r new.keys (get_or old.keys next []) →

@@ -17,7 +17,7 @@ key_end-within_bytes width n i len h e =
     let q = suc-mul i width in
     omega arith
 
--- Key i has the `width` bytes that begin at byte i * width.
+-- Key `i` has the `width` bytes that begin at byte `i * width`.
 pub key-at_index : (width n i : ℕ) (bytes : List ℕ) → i < n → get_or (keys_in_bytes width n bytes) i [] ≡ take width (drop (i * width) bytes)
 unfolding keys_in_bytes
 key-at_index width zero i bytes h = absurd (omega arith)

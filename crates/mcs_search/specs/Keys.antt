@@ -1,9 +1,9 @@
--- The way in which a search stores keys of one width.
+-- The storage of a search's keys, which all have the same width.
 use Rattle.std.specs.Prelude.{◌≡◌, ◌<◌, ◌⊎◌, ◌+◌, ℕ, zero, suc, List, [], ◌∷◌, ◌++◌, take, drop, length}
 use Rattle.std.specs.List.{All}
 use Rattle.mcs_search.specs.declared.block.TheConstants.{KEYS_PER_BLOCK}
 
--- the first n keys that are stored back to back in a list of bytes; each key has `width` bytes
+-- the first `n` keys that are stored back to back in a list of bytes; each key has `width` bytes
 unfoldable pub keys_in_bytes : ℕ → ℕ → List ℕ → List (List ℕ)
 keys_in_bytes width zero bytes = []
 keys_in_bytes width (suc n) bytes = take width bytes ∷ keys_in_bytes width n (drop width bytes)
@@ -18,7 +18,7 @@ unfoldable pub keys_of_blocks : List KeyStore → List (List ℕ)
 keys_of_blocks [] = []
 keys_of_blocks (b ∷ bs) = b.keys ++ keys_of_blocks bs
 
--- holds if each block has n keys of the given width
+-- holds if each block has `n` keys of the given width
 abbrev pub AreFull : ℕ → ℕ → List KeyStore → Type 0
 AreFull width n = All (λ (b : KeyStore). (b.width ≡ width) × (length b.keys ≡ n))
 

@@ -1,4 +1,4 @@
--- What a verdict of a search claims, and the invariants of a search.
+-- The claims that the verdicts of a search make, and the invariants of a search.
 use Rattle.std.specs.Prelude.{◌≡◌, ◌<◌, ◌≤◌, ℕ, List, [], length, slice_index_or}
 use Rattle.std.specs.List.{All, Contains}
 use Rattle.mcs_search.specs.Rules.{Rules, LeadsInto, IsFollowed, Closure, IsCounterexample}
@@ -11,7 +11,7 @@ use Rattle.mcs_search.specs.declared.following.FollowOutcome.TheVariants as foll
 use Rattle.mcs_search.specs.declared.visited.AddOutcome.{AddOutcome}
 use Rattle.mcs_search.specs.declared.visited.AddOutcome.TheVariants as added
 
--- what a verdict on a search from the key `start` claims; only `Holds` and `Broken` claim anything
+-- the claim of a verdict on a search from the key `start`; only `Holds` and `Broken` make a claim
 abbrev pub IsProved : Rules → List ℕ → Verdict → Type 0
 IsProved r start (verdict.Holds n) = Closure r start n
 IsProved r start (verdict.Broken choices) = IsCounterexample r start choices.items
@@ -35,13 +35,14 @@ pub record IsUnderWay (r : Rules) (p : SearchProgress) : Type 0 where
   pub states : All r.is_state p.keys
   pub followed : (k : ℕ) → k < p.followed → IsFollowed r p.keys (slice_index_or p.keys k [])
 
--- what the result of adding a key claims, if at most `max_states` keys may be stored
+-- the claim of the result of adding a key, if the store can have at most `max_states` keys
 abbrev pub IsAddOutcome : ℕ → List (List ℕ) → List (List ℕ) → List ℕ → AddOutcome → Type 0
 IsAddOutcome max_states old new key added.New = Contains new key
 IsAddOutcome max_states old new key added.Known = Contains new key
 IsAddOutcome max_states old new key added.Full = max_states ≤ length old
 
--- what the result of following the given choices of a state claims
+-- the claim of the result of following the given choices of a state; only `All` and `Broken` make a
+-- claim
 abbrev pub IsFollowOutcome : Rules → List (List ℕ) → List ℕ → List ℕ → FollowOutcome → Type 0
 IsFollowOutcome r keys key choices followed.All = All (LeadsInto r keys key) choices
 IsFollowOutcome r keys key choices (followed.Broken c) = r.fails key c

@@ -189,7 +189,7 @@ impl Search {
 }
 
 /// Searches all states that a system can reach from `start`, up to `max_states` states. Fails only if memory for the
-/// first state cannot be allocated.
+/// first state cannot be allocated. Returns `NoMemory` if a later allocation fails.
 pub fn search_all<S: System>(
     alloc: Global,
     system: &mut S,

@@ -7,7 +7,7 @@ use Rattle.mcs_model.specs.Cutting.{IsAtPieceEnd, HasNoSeparator}
 use Rattle.mcs_model.proofs.LineWords.{words_of-blank, words_of-word_and_rest}
 use Rattle.mcs_source.specs.Lexical.{Token, Word, is_word_byte, with_symbol_spaced, symbol, token_of, tokens}
 
--- a word token in front of some tokens, or only these tokens if the word is empty
+-- a word token followed by the given tokens, or only these tokens if the word is empty
 abbrev pub word_token_before : List ℕ → List Token → List Token
 word_token_before [] more = more
 word_token_before (b ∷ word) more = Word (b ∷ word) ∷ more

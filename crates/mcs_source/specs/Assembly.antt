@@ -113,7 +113,8 @@ has_bad_number (Define w n) = not (nat_lt n 4096)
 has_bad_number (Code label s) = is_bad_origin s
 
 -- True if a line at address `at` has a label at 4096 or above, or emits a byte at 4096 or above
--- (error 36). The address `at` is above 4096 only if an earlier line has an error.
+-- (error 36). The address `at` is above 4096 only if an earlier line has an error. The result is
+-- then true for every line except `NAME = NUMBER`.
 abbrev pub passes_end : SourceLine → ℕ → Bool
 passes_end (Define w n) at = false
 passes_end (Code label s) at =
@@ -149,19 +150,19 @@ abbrev pub values_in : Names → List Operand → Option (List ℕ)
 values_in names [] = Some []
 values_in names (v ∷ vs) = value_in names v >>= λ n. values_in names vs >>= λ ns. Some (n ∷ ns)
 
--- error 32 (undefined name) if there is no value, else the result of the function `next` for the
--- value
+-- error 32 (undefined name) if there is no value, otherwise the result of the function `next` for
+-- the value
 abbrev pub with_known_value : {A B : Type 0} → Option A → (A → Result B SourceFault) → Result B SourceFault
 with_known_value None next = Err UnknownName
 with_known_value (Some x) next = next x
 
--- error 33 (value out of range) if the condition is false, else the result `next`
+-- error 33 (value out of range) if the condition is false, otherwise the result `next`
 abbrev pub if_in_range : {B : Type 0} → Bool → Result B SourceFault → Result B SourceFault
 if_in_range false next = Err OutOfRange
 if_in_range true next = next
 
--- error 34 (the instruction cannot reach the page of an address) if the condition is false, else
--- the result `next`
+-- error 34 (the instruction cannot reach the page of an address) if the condition is false,
+-- otherwise the result `next`
 abbrev pub if_on_page : {B : Type 0} → Bool → Result B SourceFault → Result B SourceFault
 if_on_page false next = Err WrongPage
 if_on_page true next = next
@@ -256,8 +257,8 @@ abbrev pub unless_fault : {A E : Type 0} → Option E → Result A E → Result 
 unless_fault (Some f) answer = Err f
 unless_fault None answer = answer
 
--- the first error of the first pass, else the first error of the second pass, else the pairs of all
--- lines
+-- the first error of the first pass; if there is none, the first error of the second pass; if there
+-- is none, the pairs of all lines
 unfoldable pub assembly_of : List (Option SourceLine) → Result (List (ℕ × ℕ)) (ℕ × SourceFault)
 assembly_of lines =
     unless_fault (earliest_first_pass_fault lines)

@@ -4,8 +4,8 @@ use Rattle.std.specs.List.{before_first, flat_map}
 use Rattle.std.specs.Char.{is_ascii_digit, is_ascii_uppercase, is_ascii_lowercase}
 use Rattle.mcs_model.specs.TextLines.{is_blank, words_of}
 
--- A token of a source line. A word is a run of letters, digits and `_`. `Other` is any other byte,
--- for example a non-ASCII byte.
+-- A token of a source line. A word is a run of letters, digits and `_`. `Other` is any other byte
+-- that is not a blank, for example a non-ASCII byte.
 pub data Token : Type 0 where
   Word : List ℕ → Token
   Comma : Token

@@ -67,8 +67,8 @@ is_name w = (begins_name w && nat_le (length w) NAME_BYTES) && not (is_reserved 
 abbrev pub name_of : List ℕ → Option Operand
 name_of w = if is_name w then Some (Name w) else None
 
--- the first argument as an operand, capped at 2^32, if it is a number; else the second argument. No
--- word is both a number and a name.
+-- the first argument as an operand, capped at 2^32, if it is a number; otherwise the second
+-- argument. No word is both a number and a name.
 abbrev pub number_or_name : Option ℕ → Option Operand → Option Operand
 number_or_name (Some n) name = Some (Number (capped_number n))
 number_or_name None name = name

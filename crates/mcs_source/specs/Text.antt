@@ -46,8 +46,8 @@ abbrev pub instruction_text : ℕ → Op → List ℕ
 instruction_text at o = name o ++ operands at o
 
 -- The decoded instruction, if the byte `b` and the bytes `rest` contain all its words. Otherwise
--- `None`, and `b` is listed as a single byte: `b` is not an opcode, or the second word is past the
--- end.
+-- `None`, and `b` is listed as a single byte: `b` is an opcode outside the opcode table, or the
+-- second word is past the end of the bytes.
 abbrev pub complete_op : Option Op → ℕ → List ℕ → Option Op
 complete_op None b rest = None
 complete_op (Some o) b rest = if nat_le (word_count_of o) (1 + length rest) then Some o else None
@@ -106,7 +106,7 @@ listing_lines (suc most) at (b ∷ rest) =
     ∷ listing_lines most (at + piece_size (op_at b rest))
     (drop (piece_size (op_at b rest) - 1) rest)
 
--- the listing of a ROM from address `from` on: at most `lines` lines, each ended by LF; the listing
--- stops after address FFF
+-- the listing of a ROM that starts at address `from`: at most `lines` lines, each followed by LF;
+-- the listing stops after address FFF
 abbrev pub listing_text : List ℕ → ℕ → ℕ → List ℕ
 listing_text rom from lines = text_of (listing_lines lines from (drop from rom))

@@ -12,8 +12,8 @@ use Rattle.mcs_trace.specs.RunCounts.{AreCountsOfRun, IsTally, incremented_if}
 use Rattle.mcs_trace.proofs.Steps.{instructions_begun-after_instruction, after_cycles-next, rests}
 use Rattle.mcs_trace.proofs.Tallies.{instruction_begun_at, count_by-in_one_more_cycle, count_by-at_most_cycles, one-when, tally-after_increment}
 
--- holds if a run of n cycles from s is at t after k cycles, and the tallies contain the counts of
--- these k cycles
+-- holds if a run of `n` cycles from `s` is at `t` after `k` cycles, and the tallies contain the
+-- counts of these `k` cycles
 pub record CountedSoFar (stops : StopConditions) (n k : ℕ) (s t : Machine) (runs jumps : List ℕ) : Type 0 where
   pub going : RunContinuesAt stops n k s t
   pub run_tally : IsTally runs (runs_at (instructions_begun_within k s))
@@ -48,7 +48,7 @@ counts_of_run-if_tallies stops n s t k c ran e runs jumps = record {
 pub tally-of_equal_list : (s : Machine) (k : ℕ) (xs ys : List ℕ) (p : ℕ → BegunInstruction → Bool) → ys ≡ xs → IsTally xs (λ a. count_by (p a) (instructions_begun_within k s)) → IsTally ys (λ a. count_by (p a) (instructions_begun_within k s))
 tally-of_equal_list s k xs ys p e t = subst (λ v. IsTally v (λ a. count_by (p a) (instructions_begun_within k s))) (sym e) t
 
--- after k cycles, each number in a tally is at most k
+-- after `k` cycles, each number in a tally is at most `k`
 pub tally_number-at_most_cycles : (k : ℕ) (s : Machine) (xs : List ℕ) (p : ℕ → BegunInstruction → Bool) (at : ℕ) → at < 4096 → IsTally xs (λ a. count_by (p a) (instructions_begun_within k s)) → slice_index xs at ≤ k
 tally_number-at_most_cycles k s xs p at l t = let e = t.each at l in let f = count_by-at_most_cycles k s (p at) in omega arith
 

@@ -17,7 +17,7 @@ use Rattle.mcs_trace.proofs.Tallies.{instructions_begun-in_one_more_cycle, instr
 abbrev begun_instruction : ℕ → Machine → Machine → BegunInstruction
 begun_instruction k s t = record { cycles = k; before = s; after = t }
 
--- cycle m + n of the run from s is cycle n of the run that starts m cycles later
+-- cycle `m + n` of the run from `s` is cycle `n` of the run that starts `m` cycles later
 cycle_at-from_later_start : (m n : ℕ) (s : Machine) → cycle_at s (m + n) ≡ later m (cycle_at (after_cycles m s) n)
 cycle_at-from_later_start m n s =
     let next : m + n + 1 ≡ m + (n + 1) = omega arith in
@@ -55,7 +55,7 @@ instructions_begun_within-sum m (suc n) s =
 
 -- ---- the lengths of the two parts
 
--- in a range, p is false for each number below the first number that satisfies p
+-- in a range, `p` is false for each number below the first number that satisfies `p`
 false-before_first_found : (p : ℕ → Bool) (a k d j : ℕ) → a ≤ j → j < a + k → j < unwrap_or (find p (range_with_len a k)) d → p j ≡ false
 false-before_first_found p a zero d j l h e = absurd (omega arith)
 false-before_first_found p a (suc k) d j l h e =
@@ -71,7 +71,7 @@ none-if_not_some : (o : Option Stop) → is_some o ≡ false → o ≡ None
 none-if_not_some None e = refl
 none-if_not_some (Some why) e = absurd (cc)
 
--- if a run of at most n cycles executes n cycles, nothing stops the run before cycle n
+-- if a run of at most `n` cycles executes `n` cycles, nothing stops the run before cycle `n`
 no_stop_reason-before_end : (stops : StopConditions) (n : ℕ) (s : Machine) → run_length stops n s ≡ n → (j : ℕ) → j < n → stop_reason_after stops n s j ≡ None
 no_stop_reason-before_end stops n s e j l =
     none-if_not_some (stop_reason_after stops n s j) (false-before_first_found (λ k. is_some (stop_reason_after stops n s k)) 0 (n + 1) n j (omega arith) (omega arith) (subst (λ k. j < k) (sym e) l))
@@ -91,7 +91,7 @@ some_stop_reason-if_ended false false true ended e = refl
 some_stop_reason-if_ended false false false true e = refl
 some_stop_reason-if_ended false false false false e = absurd (cc)
 
--- holds if nothing stops a run of at most n cycles from s before it has executed n cycles
+-- holds if nothing stops a run of at most `n` cycles from `s` before it has executed `n` cycles
 record IsUninterrupted (stops : StopConditions) (n : ℕ) (s : Machine) : Type 0 where
   pub inside : 0 < n → is_outside_table s ≡ false
   pub early : (j : ℕ) → 0 < j → j < n → early_stop_reason stops (after_cycles (j - 1) s) (after_cycles j s) ≡ None
@@ -109,21 +109,21 @@ no_stop_reason-if_uninterrupted stops n s w j l =
       | inr ne ↦ stop_reason-before_last_cycle stops n j (after_cycles (j - 1) s) (after_cycles j s) (omega arith) l ∙ w.early j (omega arith) l
     ]
 
--- if nothing stops a run of n cycles early, the run executes n cycles
+-- if nothing stops a run of `n` cycles early, the run executes `n` cycles
 full_run_length-if_uninterrupted : (stops : StopConditions) (n : ℕ) (s : Machine) → IsUninterrupted stops n s → run_length stops n s ≡ n
 full_run_length-if_uninterrupted stops n s w =
     let end : is_some (stop_reason_after stops n s n) ≡ true = some_stop_reason-if_ended (is_outside_table (after_cycles n s)) (at_break stops.breaks n (after_cycles n s)) (has_changed stops.watches (after_cycles (n - 1) s) (after_cycles n s)) (eqb n n) (eq-eqb n n refl) in
     ap (λ o. unwrap_or o n) (find_at (λ k. is_some (stop_reason_after stops n s k)) 0 (n + 1) n (omega arith) (omega arith) (λ j l. ap is_some (no_stop_reason-if_uninterrupted stops n s w j l)) end)
 
--- if nothing stops a run of m + n cycles early, nothing stops a run of m cycles early
+-- if nothing stops a run of `m + n` cycles early, nothing stops a run of `m` cycles early
 first_part-uninterrupted : (stops : StopConditions) (m n : ℕ) (s : Machine) → IsUninterrupted stops (m + n) s → IsUninterrupted stops m s
 first_part-uninterrupted stops m n s w = record {
   inside = λ l. w.inside (omega arith);
   early = λ j some l. w.early j some (omega arith);
 }
 
--- if a run of at most m + n cycles executes all of them, nothing stops a run of its last n cycles
--- early
+-- if a run of at most `m + n` cycles executes all of them, nothing stops a run of its last `n`
+-- cycles early
 second_part-uninterrupted : (stops : StopConditions) (m n : ℕ) (s : Machine) → run_length stops (m + n) s ≡ m + n → IsUninterrupted stops n (after_cycles m s)
 second_part-uninterrupted stops m n s e = record {
   inside = λ l. inside_table-if_no_stop_reason stops (m + n) m (after_cycles (m - 1) s) (after_cycles m s) (no_stop_reason-before_end stops (m + n) s e m (omega arith));

@@ -6,8 +6,8 @@ use Rattle.mcs_model.specs.Running.{Machine, StopConditions, is_outside_table, s
 use Rattle.mcs_bench.proofs.Writes.{no-watch-changed-if-ram-equal}
 use Rattle.mcs_probe.specs.Forecast.{early_stop_reason}
 
--- a run of at most n cycles, with n above 0, does not stop at its start if the machine can execute
--- a cycle
+-- a run of at most `n` cycles, with `n` above 0, does not stop at its start if the machine can
+-- execute a cycle
 pub no_stop_reason-at_start : (stops : StopConditions) (n : ℕ) (s : Machine) → 0 < n → is_outside_table s ≡ false → stop_reason_at stops n 0 s s ≡ None
 no_stop_reason-at_start stops n s l inside =
     let same = no-watch-changed-if-ram-equal stops.watches s s refl in

@@ -9,7 +9,7 @@ use Rattle.mcs_model.proofs.RunLemmas.{after_cycles-add}
 use Rattle.mcs_probe.specs.Forecast.{instructions_begun_within}
 use Rattle.mcs_trace.proofs.Tallies.{instructions_begun-in_one_more_cycle, instruction_begun_at}
 
--- the machine with `owed` set to n
+-- the machine with `owed` set to `n`
 abbrev pub with_owed : Machine → ℕ → Machine
 with_owed s n = (record s.0 { owed = n }, s.1)
 
@@ -17,8 +17,8 @@ second_cycle-clears_owed : (s : Machine) → s.0.owed ≡ 1 → after_cycles 1 s
 unfolding cycle_of
 second_cycle-clears_owed s e = rw e refl
 
--- the machine after j cycles of an instruction, with j above 0, differs from the machine after the
--- first of these cycles only in `owed`
+-- the machine after `j` cycles of an instruction, with `j` above 0, differs from the machine after
+-- the first of these cycles only in `owed`
 only_owed_changes-after_first_cycle : (left d : ℕ) (t u : Machine) → IsInstructionRun left t u d → (j : ℕ) → 0 < j → j ≤ d → after_cycles j t ≡ with_owed (after_cycles 1 t) (after_cycles j t).0.owed
 only_owed_changes-after_first_cycle left d t u ran zero some l = absurd (omega arith)
 only_owed_changes-after_first_cycle left d t u ran (suc zero) some l = refl
@@ -31,7 +31,7 @@ pub rests : (left d : ℕ) (t u : Machine) → IsInstructionRun left t u d → 0
 rests left d t u ran some =
     ran.machine ∙ only_owed_changes-after_first_cycle left d t u ran d some (omega arith) ∙ ap (λ (m : Machine). with_owed (after_cycles 1 t) m.0.owed) (sym ran.machine)
 
--- one cycle after k cycles gives the machine after k + 1 cycles
+-- one cycle after `k` cycles gives the machine after `k + 1` cycles
 pub after_cycles-next : (k : ℕ) (s t : Machine) → t ≡ after_cycles k s → after_cycles 1 t ≡ after_cycles (k + 1) s
 after_cycles-next k s t e = ap (after_cycles 1) e ∙ (let one : suc k ≡ k + 1 = omega arith in ap (λ j. after_cycles j s) one)
 

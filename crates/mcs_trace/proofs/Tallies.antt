@@ -12,12 +12,12 @@ use Rattle.mcs_model.proofs.ListLemmas.{range-one-more}
 use Rattle.mcs_probe.specs.Forecast.{BegunInstruction, begins, instructions_begun_within, cycle_at}
 use Rattle.mcs_trace.specs.RunCounts.{IsTally, incremented_if}
 
--- a list of the instruction that cycle k from s begins; empty if the cycle begins none
+-- a list with the instruction that cycle `k` from `s` begins; empty if the cycle begins none
 abbrev pub instruction_begun_at : Machine → ℕ → List BegunInstruction
 instruction_begun_at s k = cond (begins (cycle_at s k)) (cycle_at s k ∷ []) []
 
--- k + 1 cycles begin the instructions that the first k cycles begin, and then the instruction that
--- cycle k begins, if any
+-- `k + 1` cycles begin the instructions that the first `k` cycles begin, and then the instruction
+-- that cycle `k` begins, if any
 pub instructions_begun-in_one_more_cycle : (k : ℕ) (s : Machine) → instructions_begun_within (k + 1) s ≡ instructions_begun_within k s ++ instruction_begun_at s k
 unfolding instructions_begun_within
 instructions_begun-in_one_more_cycle k s =
@@ -32,7 +32,7 @@ length-filter p (x ∷ xs) =
     let h = length-filter p xs in
     elim (p x) as (λ v. length (cond v (x ∷ filter p xs) (filter p xs)) ≤ length (x ∷ xs)) [ true ↦ omega arith | false ↦ omega arith ]
 
--- k cycles begin at most k instructions
+-- `k` cycles begin at most `k` instructions
 pub instruction_count-at_most_cycles : (k : ℕ) (s : Machine) → length (instructions_begun_within k s) ≤ k
 unfolding instructions_begun_within
 instruction_count-at_most_cycles k s =
@@ -41,7 +41,7 @@ instruction_count-at_most_cycles k s =
     let r = length-range_with_len 0 k in
     omega arith
 
--- 1 if b is true, otherwise 0
+-- 1 if `b` is true, otherwise 0
 abbrev pub one-when : Bool → ℕ
 one-when b = cond b 1 0
 
@@ -51,9 +51,9 @@ count_by-of_optional_instruction true false e p h = rw h refl
 count_by-of_optional_instruction false true e p h = refl
 count_by-of_optional_instruction false false e p h = refl
 
--- suppose that m cycles begin the instructions that k cycles begin, and then the instruction that
--- cycle k begins, if any. The count for m cycles is then 1 higher than the count for k cycles if
--- cycle k begins an instruction for which p is true. Otherwise the counts are equal.
+-- Suppose that `m` cycles begin the instructions that `k` cycles begin, and then the instruction
+-- that cycle `k` begins, if any. The count for `m` cycles is then 1 higher than the count for `k`
+-- cycles if cycle `k` begins an instruction for which `p` is true. Otherwise the counts are equal.
 pub count_by-in_one_more_cycle : (k m : ℕ) (s : Machine) (p : BegunInstruction → Bool) → instructions_begun_within m s ≡ instructions_begun_within k s ++ instruction_begun_at s k → count_by p (instructions_begun_within m s) ≡ count_by p (instructions_begun_within k s) + one-when (begins (cycle_at s k) && p (cycle_at s k))
 count_by-in_one_more_cycle k m s p e =
     ap (count_by p) e
@@ -63,7 +63,8 @@ count_by-in_one_more_cycle k m s p e =
 pub count_by-at_most_cycles : (k : ℕ) (s : Machine) (p : BegunInstruction → Bool) → count_by p (instructions_begun_within k s) ≤ k
 count_by-at_most_cycles k s p = let a = count_by-le-length p (instructions_begun_within k s) in let b = instruction_count-at_most_cycles k s in omega arith
 
--- `incremented_if` adds 1 to the number at index `place` if b is true, and changes no other number
+-- `incremented_if` adds 1 to the number at index `place` if `b` is true, and changes no other
+-- number
 number-after_increment : (xs : List ℕ) (b : Bool) (place at : ℕ) → place < length xs → get_or (incremented_if xs b place) at 0 ≡ get_or xs at 0 + one-when (b && eqb place at)
 number-after_increment xs false place at l = omega arith
 number-after_increment xs true place at l =
@@ -76,8 +77,8 @@ length-incremented_if : (xs : List ℕ) (b : Bool) (place : ℕ) → length (inc
 length-incremented_if xs true place = length-set xs place (get_or xs place 0 + 1)
 length-incremented_if xs false place = refl
 
--- suppose that g equals f, except that g is 1 higher at `place` if b is true. If xs is a tally of
--- f, `incremented_if` then gives a tally of g.
+-- Suppose that `g` equals `f`, except that `g` is 1 higher at `place` if `b` is true. If `xs` is a
+-- tally of `f`, `incremented_if` then gives a tally of `g`.
 pub tally-after_increment : (xs : List ℕ) (b : Bool) (place : ℕ) (f g : ℕ → ℕ) → place < 4096 → IsTally xs f → ((at : ℕ) → at < 4096 → g at ≡ f at + one-when (b && eqb place at)) → IsTally (incremented_if xs b place) g
 tally-after_increment xs b place f g l t more = record {
   len = length-incremented_if xs b place ∙ t.len;

@@ -4,7 +4,7 @@ use Rattle.mcs_model.specs.Running.{Machine, StopConditions, run_length, run_sto
 use Rattle.mcs_probe.specs.Forecast.{instructions_begun_in, runs_at, jumps_at}
 use Rattle.mcs_trace.specs.declared.counting.Counts.{Counts}
 
--- the list xs, with the element at index `at` increased by 1 if `counts` is true
+-- the list `xs`, with the element at index `at` increased by 1 if `counts` is true
 abbrev pub incremented_if : List ℕ → Bool → ℕ → List ℕ
 incremented_if xs counts at = if counts then slice_set xs at (slice_index xs at + 1) else xs
 
@@ -13,8 +13,8 @@ pub record IsTally (xs : List ℕ) (count : ℕ → ℕ) : Type 0 where
   pub len : length xs ≡ 4096
   pub each : (at : ℕ) → at < 4096 → slice_index xs at ≡ count at
 
--- holds if c contains the number of cycles, the reason to stop, and the counts of a run of at most
--- n cycles from s
+-- holds if `c` contains the number of cycles, the reason to stop, and the counts of a run of at
+-- most `n` cycles from `s`
 pub record AreCountsOfRun (stops : StopConditions) (n : ℕ) (s : Machine) (c : Counts) : Type 0 where
   pub cycles : c.cycles ≡ run_length stops n s
   pub stop : c.stop ≡ run_stop_reason stops n s

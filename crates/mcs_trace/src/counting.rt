@@ -62,9 +62,8 @@ fn count_instruction(runs: &mut Vec<u32>, jumps: &mut Vec<u32>, before: &Regs, a
     }
 }
 
-/// Returns the result of a run that ended in the current state of the bench. The reason to stop is `Outside` if the
-/// bench is at an opcode outside the instruction table. Otherwise the reason is `mark`, or the end of the run if
-/// `mark` is `None`.
+/// Returns the result of a run that ended in the current state of the bench. The reason to stop is `Outside` if no
+/// cycle is possible. Otherwise the reason is `mark`, or `Ended` if `mark` is `None`.
 fn counts_of(
     bench: &Bench,
     cycles: u32,

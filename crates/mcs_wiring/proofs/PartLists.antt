@@ -53,8 +53,8 @@ number_in_reversed_numbers_or_seen n seen (p ∷ ps) = number_in_reversed_number
 pub number_in_reversed_numbers : {A : Type 0} (n : ℕ) (ps : List (Numbered A)) → list_any (λ k. eqb k n) (reversed_numbers [] ps) ≡ list_any (λ q. eqb q.number n) ps
 number_in_reversed_numbers n ps = number_in_reversed_numbers_or_seen n [] ps ∙ or_false (list_any (λ q. eqb q.number n) ps)
 
--- The search from part `i` on returns `i` if an earlier part has the number of part `i`. Otherwise
--- it returns the same as the search from part `i + 1` on.
+-- The search that starts at part `i` returns `i` if an earlier part has the number of part `i`.
+-- Otherwise it returns the same as the search that starts at part `i + 1`.
 pub first_repeated_from_index : {A : Type 0} (ps : List (Numbered A)) (i : ℕ) (p : Numbered A) → i < length ps → p ≡ get_or ps i p
     → first_repeated_from (reversed_numbers [] (take i ps)) i (drop i ps) ≡ (if list_any (λ q. eqb q.number p.number) (take i ps) then Some i else first_repeated_from (reversed_numbers [] (take (i + 1) ps)) (i + 1) (drop (i + 1) ps))
 first_repeated_from_index {A} ps i p lt is =
@@ -67,14 +67,14 @@ first_repeated_from_index {A} ps i p lt is =
     ∙ ap (λ ns. if list_any (λ q. eqb q.number p.number) (take i ps) then Some i else first_repeated_from ns (i + 1) (drop (i + 1) ps)) (sym more)))
 
 -- The search of all parts returns `i` if an earlier part has the number of part `i`. The search
--- from part `i` on must return the same as the search of all parts.
+-- that starts at part `i` must return the same as the search of all parts.
 pub first_repeated_is_index : {A : Type 0} (ps : List (Numbered A)) (i : ℕ) (p : Numbered A) (any : Bool) → i < length ps → p ≡ get_or ps i p → any ≡ list_any (λ q. eqb q.number (get_or ps i p).number) (take i ps) → any ≡ true
     → first_repeated_from (reversed_numbers [] (take i ps)) i (drop i ps) ≡ first_repeated_from [] 0 ps → Some i ≡ first_repeated_from [] 0 ps
 first_repeated_is_index {A} ps i p any lt is test held inv =
     sym (sym inv ∙ (first_repeated_from_index ps i p lt is ∙ ap (λ b. if b then Some i else first_repeated_from (reversed_numbers [] (take (i + 1) ps)) (i + 1) (drop (i + 1) ps)) (ap (λ (r : Numbered A). list_any (λ q. eqb q.number r.number) (take i ps)) is ∙ (sym test ∙ held))))
 
--- If no earlier part has the number of part `i`, the search from part `i + 1` on returns the same
--- as the search of all parts. The search from part `i` on must also return the same.
+-- If no earlier part has the number of part `i`, the search that starts at part `i + 1` returns the
+-- same as the search of all parts. The search that starts at part `i` must also return the same.
 pub first_repeated_is_after_index : {A : Type 0} (ps : List (Numbered A)) (i : ℕ) (p : Numbered A) (any : Bool) → i < length ps → p ≡ get_or ps i p → any ≡ list_any (λ q. eqb q.number (get_or ps i p).number) (take i ps) → any ≡ false
     → first_repeated_from (reversed_numbers [] (take i ps)) i (drop i ps) ≡ first_repeated_from [] 0 ps → first_repeated_from (reversed_numbers [] (take (i + 1) ps)) (i + 1) (drop (i + 1) ps) ≡ first_repeated_from [] 0 ps
 first_repeated_is_after_index {A} ps i p any lt is test fails inv =

@@ -5,7 +5,7 @@ use Rattle.mcs_model.specs.declared.board.BoardParts.{BoardParts}
 use Rattle.mcs_model.specs.TextLines.{as_line}
 use Rattle.mcs_wiring.specs.BoardText.{board_lines, board_text, query_text}
 
--- lines joined by LF, with one LF added at the end, equal the same lines each ended by LF
+-- lines joined by LF, with one LF added at the end, equal the same lines, each followed by LF
 pub joined_lines_equal_ended_lines : (x : List ℕ) (xs : List (List ℕ)) → join_with_byte 10 (x ∷ xs) ++ 10 ∷ [] ≡ flat_map as_line (x ∷ xs)
 joined_lines_equal_ended_lines x [] = sym (append-nil (as_line x))
 joined_lines_equal_ended_lines x (y ∷ ys) =

@@ -43,7 +43,7 @@ pub has_double_from_index : {A : Type 0} (ps : List (Numbered A)) (i : ℕ) (p :
 has_double_from_index ps i p lt is =
     ap has_double (drop_more ps i p lt) ∙ ap (λ r. list_any (λ q. eqb q.number r.number) (drop (i + 1) ps) || has_double (drop (i + 1) ps)) (sym is)
 
--- For the parts from index `i`, `part_at` gives the properties of part `i` if part `i` has the
+-- For the parts from index `i`, `part_at` gives the field `part` of part `i` if part `i` has the
 -- number `n`. Otherwise it gives the same value as for the parts from index `i + 1`.
 pub part_at_from_index : {A : Type 0} (none : A) (ps : List (Numbered A)) (n i : ℕ) (p : Numbered A) → i < length ps → p ≡ get_or ps i p → part_at none (drop i ps) n ≡ (if eqb p.number n then p.part else part_at none (drop (i + 1) ps) n)
 part_at_from_index none ps n i p lt is =

@@ -6,7 +6,7 @@ use Rattle.std.specs.Str.{bytes_eq}
 use Rattle.mcs_wiring.specs.declared.sections.Section.{Section}
 use Rattle.mcs_wiring.specs.declared.sections.Section.TheVariants.{Rom, Ram, Chain, Keys, Lamp}
 
--- the sections, in the order in which a board text lists them
+-- the sections, in the order in which `board_text` lists them
 abbrev pub sections : List Section
 sections = Rom ∷ Ram ∷ Chain ∷ Keys ∷ Lamp ∷ []
 

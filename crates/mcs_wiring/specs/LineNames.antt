@@ -81,8 +81,8 @@ line_name (Chain n i) = codes "chain" ++ (decimal n ++ (codes "." ++ decimal i))
 
 -- ---- ports: four characters, line 3 first
 
--- the masks that the text of a port gives, in the order from line 0 to line 3, or none if the text
--- is not valid
+-- the masks that the text of a port represents, in the order from line 0 to line 3, or none if the
+-- text is not valid
 abbrev pub masks_named : List ℕ → Option (List LineMask)
 masks_named (c3 ∷ c2 ∷ c1 ∷ c0 ∷ []) =
     mask_of c0 >>= (λ m0.

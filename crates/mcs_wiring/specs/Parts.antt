@@ -1,6 +1,7 @@
 -- The part of a board text that has an error, and the report on a text. The report says that the
--- text is valid, or gives the refusal number, the part, and the line on which the part begins.
--- (Defined by Fethsaim, not by Intel.)
+-- text is valid, or gives the refusal number, a line number (`line_of_part`) and the part. If the
+-- text is not TOML, the report has no part, and the line number is `line_after_toml`. (Defined by
+-- Fethsaim, not by Intel.)
 use Rattle.std.specs.Prelude.{ℕ, ◌+◌, ◌-◌, Bool, true, false, not, ◌&&◌, ◌||◌, List, [], ◌∷◌, ◌++◌, length, take, find, codes, Option, Some, None, is_some, is_none, option_map, Result, Ok, Err, nat_lt, nat_le, ◌==◌, if◌then◌else◌}
 use Rattle.std.specs.List.{list_any, list_all, slice_split, range_with_len}
 use Rattle.std.specs.Option.{option_or}
@@ -63,7 +64,7 @@ first_unknown_table_key s ms = find (λ key. not (is_table_key s key)) (keys_of 
 abbrev pub first_missing_key : Section → Members → Option (List ℕ)
 first_missing_key s ms = find (λ key. is_none (get_member key ms)) (table_keys s)
 
--- the key if the condition is true, else `next`
+-- the key if the condition is true, otherwise `next`
 abbrev pub key_if_bad : Bool → List ℕ → Option (List ℕ) → Option (List ℕ)
 key_if_bad true key next = Some key
 key_if_bad false key next = next
@@ -247,9 +248,9 @@ line_from holds n before (l ∷ []) = n
 line_from holds n before (l ∷ next ∷ ls) =
     if holds (before ++ as_line l) then n else line_from holds (n + 1) (before ++ as_line l) (next ∷ ls)
 
--- Let the found line be the last line for which `holds` is true of the text up to the end of the
--- line. The result is the number of the line after the found line, or `found` if no line is found.
--- The last line in the list is not tested. The other arguments are as in `line_from`.
+-- The number of the line after the last line for which `holds` is true of the text up to and
+-- including that line. The number is `found` if `holds` is true for no line. The last line in the
+-- list is not tested. The other arguments are as in `line_from`.
 abbrev pub line_after : (List ℕ → Bool) → ℕ → ℕ → List ℕ → List (List ℕ) → ℕ
 line_after holds n found before [] = found
 line_after holds n found before (l ∷ []) = found

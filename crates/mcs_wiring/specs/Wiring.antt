@@ -208,7 +208,7 @@ has_double_chip ms = has_double (roms_of ms) || has_double (rams_of ms)
 
 -- ---- the board
 
--- the properties of the first part with the number `n`, or `none` if no part has this number
+-- the field `part` of the first entry with the number `n`, or `none` if no entry has this number
 abbrev pub part_at : {A : Type 0} → A → List (Numbered A) → ℕ → A
 part_at none [] n = none
 part_at none (p ∷ ps) n = if p.number == n then p.part else part_at none ps n
@@ -237,8 +237,8 @@ board_of_table ms =
     else if has_wrong_direction (parts_in ms) then Err WrongDirection
     else Ok (parts_in ms)
 
--- the board that a text describes, or its first error: error 20 if the text is not TOML, else the
--- first error of its table
+-- the board that a text describes, or its first error: error 20 if the text is not TOML, otherwise
+-- the first error of its table
 abbrev pub board_of_text : List ℕ → Result BoardParts WiringFault
 board_of_text text =
     elim (parse_document text) [ None ↦ Err BadToml | Some ms ↦ board_of_table ms ]

@@ -32,7 +32,7 @@ pub enum WiringFault {
     /// that the text uses.
     #[error("a line, a chain or a row's bit is not on the board")]
     NoSuchLine,
-    /// A clock or data line is not an output line, a column is not an input line, or a lamp is at
+    /// A clock or data line is not an output line, a column is not an input line, or a lamp shows
     /// an input line.
     #[error("an input line is used as an output line, or an output line as an input line")]
     WrongDirection,

@@ -26,7 +26,7 @@ use mcs_nibble::LineMask;
 use toml::{Table, Value};
 
 /// A location in a board text: a top-level key, the value at a section's key, or one of the
-/// section's tables. A location in a table can also give one of the table's keys.
+/// section's tables. A location in a table can also include one of the table's keys.
 #[derive(Clone, Copy)]
 pub(crate) struct Part<'a> {
     /// The section, or none for a top-level key.
@@ -34,7 +34,7 @@ pub(crate) struct Part<'a> {
     /// The number of the table within its section, from 1. None for the key matrix, and if the
     /// location is not a table.
     pub(crate) number: Option<usize>,
-    /// The key: the top-level key if there is no section, else a key of the table.
+    /// The key: the top-level key if there is no section, otherwise a key of the table.
     pub(crate) key: Option<&'a str>,
 }
 
@@ -401,7 +401,7 @@ pub(crate) enum LineFlaw {
     Input,
 }
 
-/// Returns the masks of a ROM's four I/O lines, or none if the board lacks that ROM.
+/// Returns the masks of a ROM's four port lines, or none if the board lacks that ROM.
 fn rom_masks(parts: &BoardParts, chip: u8) -> Option<[LineMask; 4]>
     ensures { result ≡ rom_masks parts.now chip }
 {
@@ -505,7 +505,7 @@ fn has_wrong_line(flaw: LineFlaw, parts: &BoardParts, lines: &[Line]) -> bool
     lines.iter().any(|line| is_wrong(flaw, parts, *line))
 }
 
-/// Returns the part for the key matrix if one of its columns has the error, else none.
+/// Returns the part for the key matrix if one of its columns has the error, otherwise none.
 fn wrong_column<'a>(flaw: LineFlaw, parts: &BoardParts) -> Option<Part<'a>>
     ensures { option_map part_view result ≡ wrong_column_of flaw parts.now parts.now.keys }
 {

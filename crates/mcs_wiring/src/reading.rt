@@ -248,7 +248,7 @@ fn has_double<T: Copy>(parts: &[Numbered<T>]) -> bool
     false
 }
 
-/// Returns the properties of the first part with the given number, or `none` if no part has the
+/// Returns the field `part` of the first entry with the given number, or `none` if no entry has the
 /// number.
 #[tactic(auto, using(crate::proofs::TomlViews::part_at_from_index))]
 fn part_at<T: Copy>(parts: &[Numbered<T>], none: T, number: u8) -> T
@@ -262,8 +262,8 @@ fn part_at<T: Copy>(parts: &[Numbered<T>], none: T, number: u8) -> T
     none
 }
 
-/// Returns an array with one element for each number from 0 to `N` - 1. The element is the
-/// properties of the first part with that number, or `none` if no part has the number.
+/// Returns an array with one element for each number from 0 to `N` - 1. The element is the field
+/// `part` of the first entry with that number, or `none` if no entry has the number.
 fn indexed_by_number<T: Copy, const N: usize>(parts: &[Numbered<T>], none: T) -> [T; N]
     requires { N ≤ 256 }
     ensures { result ≡ table_of N (part_at none parts.now) }
@@ -355,7 +355,7 @@ pub(crate) fn board_of_table(table: &Table) -> Result<Board, WiringFault>
 pub fn board_of(alloc: Global, text: &str) -> Result<Board, WiringFault>
     ensures answers { ReadsBoard result (board_of_text text.now) }
 
-    // A text that contains only blanks and comments never gives `NoMemory`.
+    // A text that contains only white space and comments never gives `NoMemory`.
     ensures memory { result ≡ Err WiringFault.NoMemory → ¬ IsBlank text.now }
 {
     match toml::table_from_str(alloc, text) {

@@ -94,7 +94,7 @@ fn line_of_part(alloc: Global, text: &str, part: Part<'_>) -> Result<usize, Allo
     Ok(number)
 }
 
-/// Returns `n` + 1 for the largest `n` such that the first `n` lines, each ended by a line feed,
+/// Returns `n` + 1 for the largest `n` such that the first `n` lines, each followed by a line feed,
 /// are TOML. Fails if allocation fails.
 #[tactic(auto, using(crate::proofs::LineSteps::line_after_of_split_text), unfolding(crate::specs::Parts::line_after_toml))]
 fn line_after_toml(alloc: Global, text: &str) -> Result<usize, AllocError>
@@ -231,8 +231,8 @@ fn toml_report(alloc: Global, text: &str) -> Result<String, AllocError>
 }
 
 /// Returns the report on a board text: `wiring valid`, or the refusal number with the line number
-/// and the part that has the error, as in `no 25 line 6 lamp 2 key line`. Fails if allocation
-/// fails.
+/// and the part that has the error, as in `no 25 line 6 lamp 2 key line`. The report on a text that
+/// is not TOML names no part. Fails if allocation fails.
 #[tactic(auto, unfolding(crate::specs::Parts::wiring_text))]
 pub fn wiring_text(alloc: Global, text: &str) -> Result<String, AllocError>
     ensures { IfOk result (λ report. string_bytes report ≡ wiring_text text.now) }

@@ -17,7 +17,7 @@ pub(crate) enum Section {
     Lamp,
 }
 
-/// An error that one section has regardless of the other sections.
+/// A kind of error in one section that does not depend on the other sections.
 #[derive(Clone, Copy)]
 pub(crate) enum Flaw {
     /// A table has a key that its section does not allow.
@@ -45,7 +45,7 @@ pub(crate) fn is_board_key(key: &str) -> bool
 }
 
 impl Section {
-    /// All sections, in the order in which a board text lists them.
+    /// All sections, in the order in which `board_text` writes them.
     pub(crate) const ALL: [Section; 5] = [
         Section::Rom,
         Section::Ram,
