@@ -1,4 +1,4 @@
-//! Recognises the words of a source text: mnemonics, numbers, registers, pairs and names.
+//! Recognises the words of a source text: mnemonics, registers, pairs and names.
 ghost use Rattle.std.specs.Prelude.{◌≡◌, ◌<◌, IfSome};
 ghost use Rattle.std.specs.Str.{str_eq_ignore_ascii_case};
 ghost use Rattle.mcs_source.specs.Mnemonics.{mnemonic_in_group1, mnemonic_in_group2, mnemonic_in_group3, mnemonic_in_group4, mnemonic_in_group5, mnemonic_in_group6, mnemonic_of};

@@ -1,7 +1,7 @@
 -- The bus after a change of one location, after a reset, and after a change of the board. In the
--- definitions whose names begin with `with_`, the last argument is the new value. (Defined by
--- Fethsaim, not by Intel: writes to absent chips are lost, and latch bits of input lines stay 0.
--- Fethsaim also defines which contents a reset and a new board clear.)
+-- definitions whose names begin with `with_`, except `with_rom_bytes`, the last argument is the new
+-- value. (Defined by Fethsaim, not by Intel: writes to absent chips are lost, and latch bits of
+-- input lines stay 0. Fethsaim also defines which contents a reset and a new board clear.)
 use Rattle.std.specs.Prelude.{ℕ, ◌*◌, ◌/◌, List, [], ◌∷◌, Some, None, is_some, map, replicate, slice_index, slice_index_or, slice_set, if◌then◌else◌, nat_lt}
 use Rattle.mcs_nibble.specs.Tables.{table_of}
 use Rattle.mcs_nibble.specs.Ports.{latch_value}
@@ -49,7 +49,7 @@ with_ram_src s bank byte =
     then record s { ram_src = slice_set s.ram_src bank byte }
     else s
 
--- the bus after bit `i` of chain `n` is set; nothing is shifted
+-- the bus after bit `i` of chain `n` is set to `bit`; nothing is shifted
 abbrev pub with_chain_bit : BusState → ℕ → ℕ → ℕ → BusState
 with_chain_bit s n i bit =
     record s { chains = slice_set s.chains n (slice_set (slice_index_or s.chains n []) i bit) }

@@ -31,7 +31,7 @@ abbrev pub row_drives_column : List ℕ → List ℕ → KeyMatrix → ℕ → �
 row_drives_column bits keys m j r =
     slice_index bits (m.first + r) == 1 && slice_index keys (r * length m.columns.items + j) == 1
 
--- true if at least one row drives a column that is line `k` of ROM `chip`
+-- true if at least one row drives a column that is connected to line `k` of ROM `chip`
 abbrev pub is_pulled_by : List ℕ → List ℕ → KeyMatrix → ℕ → ℕ → Bool
 is_pulled_by bits keys m chip k =
     list_any

@@ -90,7 +90,7 @@ pub const WORN: u8 = 46;
 /// The refusal number for a new watch if the maximum number is already set.
 pub const WATCHES_FULL: u8 = 47;
 
-/// The refusal number for a file that is not a session file: its size, or the name inside it, is wrong.
+/// The refusal number for a file that is not a session file: its size, or the name at its start, is wrong.
 pub const NOT_A_SESSION: u8 = 50;
 
 /// The refusal number for a damaged session file, which represents no state.

@@ -1,4 +1,4 @@
--- How `column` and `flat_rows` change if one element of a list is replaced.
+-- The effect on `column` and `flat_rows` of replacing one element of a list.
 use Rattle.std.proofs.Common.{◌≡◌, ◌≢◌, ℕ, ◌+◌, ◌*◌, ◌/◌, ◌%◌, ◌<◌, inl, inr, List, length, get_or, slice_set, slice_index, refl, sym, ap, ◌∙◌, arith, get_or-set_same, get_or-set_other, replicate}
 use Rattle.std.proofs.Math.Nat.{div-add-mod, mul-le-mul_right}
 use Rattle.std.proofs.lemmas.Nat.{div-mul-add, mod-mul-add}

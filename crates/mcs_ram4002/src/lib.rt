@@ -359,7 +359,8 @@ impl<const CHIPS: usize> Bank<CHIPS> {
     }
 
     /// Proves that the bank's state is valid: each list has its fixed length, and each main nibble, status character
-    /// and port latch is 0 to 15. The contents of absent chips are 0.
+    /// and port latch is 0 to 15. The contents of absent chips are 0. The SRC byte is below 256, and is 0 in a bank
+    /// without chips.
     pub fn show_state_is_valid(&self)
         ensures { IsValidBank self.now }
     {

@@ -79,7 +79,7 @@ impl Arena {
         ensures width { self.new.width ≡ self.old.width }
         ensures err { OnErr result (self.new ≡ self.old) }
     {
-        // If this key fills the last block, that block is pushed to `full`. Space in `full` is reserved first, so that
+        // If this key fills the last block, that block is moved to `full`. Space in `full` is reserved first, so that
         // this push cannot fail.
         self.full.reserve(1)?;
         self.last.push(key, parent)?;

@@ -258,9 +258,9 @@ line_after holds n found before (l ∷ next ∷ ls) =
     line_after holds (n + 1) (if holds (before ++ as_line l) then n + 1 else found)
     (before ++ as_line l) (next ∷ ls)
 
--- `line_of_part`: the smallest `n` such that the first `n` lines are TOML and contain the part, or
--- the number of the line after the last line feed if there is no such `n`. `line_after_toml`: `n` +
--- 1 for the largest `n` such that the first `n` lines are TOML.
+-- `line_of_part`: the smallest `n` such that the first `n` lines are TOML and contain the part. If
+-- there is no such `n`, it is the number of the line after the last line feed. `line_after_toml`:
+-- `n` + 1 for the largest `n` such that the first `n` lines are TOML.
 unfoldable pub line_of_part : List ℕ → Part → ℕ
 line_of_part text p = line_from (has_part p) 1 [] (slice_split is_line_feed text)
 

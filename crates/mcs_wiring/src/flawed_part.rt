@@ -323,8 +323,8 @@ fn section_without_array(table: &Table) -> Option<Section>
     None
 }
 
-/// Returns the part for the first section that requires an array but has another value. If there is
-/// no such section, returns the part for the first entry with a bad value.
+/// Returns the part for the first section that requires an array but has a value that is not an
+/// array. If there is no such section, returns the part for the first entry with a bad value.
 fn bad_value_part<'a>(table: &'a Table) -> Option<Part<'a>>
     ensures { option_map part_view result ≡ bad_value_part (table_view table.now) }
 {

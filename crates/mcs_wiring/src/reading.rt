@@ -275,8 +275,8 @@ fn indexed_by_number<T: Copy, const N: usize>(parts: &[Numbered<T>], none: T) ->
     indexed_by_number
 }
 
-/// Returns the key matrix that the table of a board text describes, or none if there is no table at
-/// the key `keys` or one of the matrix's numbers is invalid.
+/// Returns the key matrix that the table of a board text describes. Returns none if there is no
+/// table at the key `keys`, or if one of the matrix's numbers is invalid.
 fn matrix_of(table: &Table) -> Option<KeyMatrix>
     requires { length (column_values (table_view table.now)) ≤ KEY_COLUMNS }
     ensures { result ≡ option_and_then matrix_in (keys_table (table_view table.now)) }
