@@ -175,7 +175,7 @@ impl Bench {
         self.rig.reset();
     }
 
-    /// Runs for at most `n` cycles. Returns the number of cycles done and the reason for the stop.
+    /// Runs for at most `n` cycles. Returns the number of cycles done and the reason why the run stopped.
     fn run(&mut self, n: u32) -> Reply
         ensures state { self.new ≡ after_change self.old (Command.Run n) }
         ensures reply { result ≡ reply self.old (Command.Run n) }
@@ -185,7 +185,7 @@ impl Bench {
     }
 
     /// Executes the pending second cycle if there is one, otherwise one instruction. Returns the number of cycles
-    /// done and the reason for the stop.
+    /// done and the reason why the step stopped.
     fn step(&mut self) -> Reply
         ensures state { self.new ≡ after_change self.old Command.Step }
         ensures reply { result ≡ reply self.old Command.Step }

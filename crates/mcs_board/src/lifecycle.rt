@@ -79,9 +79,9 @@ impl<const ROMS: usize, const BANKS: usize, const CHAINS: usize, const MAX: usiz
         })
     }
 
-    /// Wires the rig to another board. The board must fit the rig's sockets. Releases all keys, clears everything that
-    /// `reset` clears, and sets the bytes of ROMs that the board lacks to 0. The other ROM bytes and the TEST level do
-    /// not change.
+    /// Wires the rig to another board. The board must fit the rig's sockets. Releases all keys, clears everything
+    /// that `reset` clears, and sets to 0 the bytes of ROMs that the board lacks. The other ROM bytes and the TEST
+    /// level do not change.
     pub fn wire(&mut self, board: &Board)
         requires { FitsSockets board.now ROMS BANKS CHAINS MAX }
         ensures { self.new ≡ after_board_change self.old board.now }

@@ -68,9 +68,9 @@ instruction_run-of_second_cycle left s m counter l owed same =
     let there : (record s { owed = 0 }, m) ≡ (record s { pc = counter; owed = 0 }, m) = ap (λ p. (record s { pc = p; owed = 0 }, m)) (sym same) in
     instruction_run-of_one_cycle left (s, m) (record s { pc = counter; owed = 0 }, m) l (ap (λ (r : Regs). cycle_of r m) begun ∙ second_cycle-clears_owed s m ∙ ap Some there)
 
--- If a run executes all cycles of an instruction, no second cycle is pending at the end of the run.
--- `regs`, with the program counter set to `counter`, are the registers after the instruction. `m`
--- is the bus after the instruction.
+-- If no second cycle is pending, all cycles of the instruction at the program counter are a run of
+-- one instruction. No second cycle is pending after the run. `regs`, with the program counter set
+-- to `counter`, are the registers after the run, and `m` is the bus after the run.
 pub instruction_run-of_all_cycles : (left : ℕ) (op : Op) (s : Machine) (regs : Regs) (m : BusState) (counter cycles : ℕ) → cycles ≤ left → s.0.owed ≢ 1 → instruction_at s.0 s.1 ≡ Some op → (record regs { pc = counter; owed = cycles - 1 }, m) ≡ effect op s.0 s.1 → 0 < cycles → cycles < 3 → regs.owed ≡ 0 → IsInstructionRun left s (record regs { pc = counter }, m) cycles
 instruction_run-of_all_cycles left op s regs m counter cycles l free at done some few none =
     let t : Machine = (record regs { pc = counter; owed = cycles - 1 }, m) in

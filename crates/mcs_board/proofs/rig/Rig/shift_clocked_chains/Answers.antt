@@ -18,7 +18,8 @@ all_chains-clocked s t port before after same l h = same ∙ ap (λ cs. record s
 abbrev after_chain_clock : BusState → Line → ℕ → ℕ → ℕ → BusState
 after_chain_clock s port before after i = record s { chains = slice_set s.chains i (bits_after_latch_change s port before after i (get_or s.chains i [])) }
 
--- If two states differ only in their chains, clocking chain `i` gives the same bits in both.
+-- If the states `s` and `t` differ only in their chains, both give the same new bits for chain `i`
+-- of `t`.
 clocked_chains-equal : (s t u : BusState) (port : Line) (before after i : ℕ) → board_fault_of s.board ≡ None → i < chain_count s.board → t ≡ record s { chains = t.chains } → u ≡ after_chain_clock t port before after i → u.chains ≡ slice_set t.chains i (bits_after_latch_change s port before after i (get_or t.chains i []))
 clocked_chains-equal s t u port before after i v l same new =
     ap (λ (x : BusState). x.chains) new
