@@ -155,7 +155,8 @@ image_is_by_address cells pairs kept =
     pairs_in_address_order pairs cells 0 (λ k b. subst (λ (n : ℕ). (get_or cells k None ≡ Some b) ↔ Contains pairs (n, b)) (omega arith) (kept.1 k b))
     ∙ ap (λ (n : ℕ). filter_map (λ a. find (λ (q : ℕ × ℕ). eqb q.0 a) pairs) (range_with_len 0 n)) kept.0
 
--- If cells contain exactly these pairs, no address has two different bytes.
+-- If cells contain exactly these pairs, each address is below 4096, and no address has two
+-- different bytes.
 pub has_one_byte_each : (cells : List (Option ℕ)) (pairs : List (ℕ × ℕ)) → HoldsPairs cells pairs → HaveOneByteEach pairs
 has_one_byte_each cells pairs kept = record {
   within = λ a b has. elim (cases_lt a 4096) [

@@ -45,8 +45,8 @@ pub record HaveOneByteEach (pairs : List (ℕ × ℕ)) : Type 0 where
   pub once : (at one other : ℕ) → Contains pairs (at, one) → Contains pairs (at, other) → one ≡ other
 
 -- Holds if the result agrees with `wanted`: either the result is the image with the pairs of
--- `wanted`, in ascending order of address, or both are the same error. No address has two different
--- bytes in the pairs.
+-- `wanted`, in ascending order of address, or both are the same error. Each address in the pairs is
+-- below 4096, and no address has two different bytes.
 abbrev pub Assembles : Result (List (ℕ × ℕ)) AsmFault → Result (List (ℕ × ℕ)) (ℕ × SourceFault)
     → Type 0
 Assembles (Ok image) wanted =

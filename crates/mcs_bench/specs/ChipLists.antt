@@ -58,8 +58,8 @@ with_chip_value s h i n =
     then s
     else with_chip_list s h (slice_set (chip_list_in s h) i n)
 
--- holds if the board has a key at row `i / columns` and column `i % columns`, and the index of this
--- key is `i`
+-- holds if `columns` is above 0, the board has a key at row `i / columns` and column `i % columns`,
+-- and the index of this key is `i`
 pub record IsKeyAt (b : BoardParts) (columns i : ℕ) : Type 0 where
   pub some : 0 < columns
   pub there : has_key b (i / columns) (i % columns) ≡ true

@@ -55,8 +55,8 @@ fn push_listing_line(out: &mut String, at: Addr, bytes: &[u8]) -> Result<usize, 
     Ok(size)
 }
 
-/// Returns the listing of a ROM from the address `from`. The listing has `lines` lines `AAA BB BB TEXT`, each
-/// followed by LF, or fewer if the ROM ends first. Two spaces replace the second word of a one-byte piece.
+/// Returns the listing of a ROM from the address `from`. The listing has `lines` lines of the form `AAA BB BB TEXT`,
+/// each followed by LF, or fewer if the ROM ends first. Two spaces replace the second word of a one-byte piece.
 pub fn listing(alloc: Global, rom: &[u8], from: Addr, lines: usize) -> Result<String, AllocError>
     requires { length rom.now ≡ 4096 }
     ensures { IfOk result (λ s. string_bytes s ≡ listing_text rom.now from lines) }

@@ -1,4 +1,4 @@
--- The words of a line, taken from the front of the line one after another.
+-- The words of a line, read from the front of the line one after another.
 use Rattle.std.proofs.Common.{◌≡◌, ℕ, zero, suc, ◌+◌, ◌<◌, List, [], ◌∷◌, ◌++◌, Bool, true, false, length, filter, nat_lt, take, drop, get_or, ap, sym, ◌∙◌, refl, subst, arith, rules, take-append-drop}
 use Rattle.std.proofs.lemmas.List.{drop_more, append-nil}
 use Rattle.std.specs.List.{slice_split}

@@ -106,7 +106,7 @@ pub enum BoardFault {
     /// if that chain has too few bits for the key rows (refusal 25).
     #[error("a line, a chain or a row's bit is not on the board")]
     NoSuchLine,
-    /// An input line is used where an output line is required, or an output line where an input line is required
+    /// A clock or data line is not an output line, a column is not an input line, or a lamp shows an input line
     /// (refusal 26).
     #[error("an input line is used as an output line, or an output line as an input line")]
     WrongDirection,

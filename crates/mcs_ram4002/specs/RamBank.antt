@@ -82,7 +82,7 @@ pub record IsValidBank (b : BankState) : Type 0 where
   pub absent_port : (chip : ℕ) → chip < 4 → b.chip_count ≤ chip → slice_index b.ports chip ≡ 0
   pub absent_src : b.chip_count ≡ 0 → b.src ≡ 0
 
--- ---- how a bank stores its chips
+-- ---- the storage of the chips in a bank
 
 -- half `k` of a byte: the lower half if `k` is 0, the upper half if `k` is 1
 abbrev pub half_of : ℕ → ℕ → ℕ

@@ -22,8 +22,8 @@ keys_of_blocks (b ∷ bs) = b.keys ++ keys_of_blocks bs
 abbrev pub AreFull : ℕ → ℕ → List KeyStore → Type 0
 AreFull width n = All (λ (b : KeyStore). (b.width ≡ width) × (length b.keys ≡ n))
 
--- the invariant of an arena: all blocks but the last are full, the last is not full, and `len` is
--- the number of keys
+-- the invariant of an arena: each block has the key width `width`, all blocks but the last are
+-- full, the last is not full, and `len` is the number of keys
 pub record ArenaInvariant (width len : ℕ) (full : List KeyStore) (last : KeyStore) : Type 0 where
   pub blocks : AreFull width KEYS_PER_BLOCK full
   pub last_width : last.width ≡ width

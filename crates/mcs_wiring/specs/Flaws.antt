@@ -44,7 +44,7 @@ ram_text b bank = text_of (bank_lines bank (slice_index b.banks bank))
 abbrev pub rams_text : BoardParts → ℕ → List ℕ
 rams_text b n = flat_map (ram_text b) (range_with_len 0 n)
 
--- the given parts if there is no fault, otherwise the fault as an error of a board text
+-- the given parts if they have no error, otherwise their error as an error of a board text
 abbrev pub board_or_error : BoardParts → Option BoardFault → Result BoardParts WiringFault
 board_or_error parts None = Ok parts
 board_or_error parts (Some fault) = Err (refusal_of fault)

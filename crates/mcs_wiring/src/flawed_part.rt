@@ -397,7 +397,7 @@ pub(crate) enum LineFlaw {
     NotOutput,
     /// The line is not an input line of the board.
     NotInput,
-    /// The line is an input line of the board, where an input line is not allowed.
+    /// The line is an input line of the board, but an input line is not allowed.
     Input,
 }
 
