@@ -159,8 +159,8 @@ key_count b = elim b.keys [ Some m ↦ m.rows * length m.columns.items | None �
 abbrev pub key_index : BoardParts → ℕ → ℕ → ℕ
 key_index b row column = elim b.keys [ Some m ↦ row * length m.columns.items + column | None ↦ 0 ]
 
--- holds if each list in the parts has the length, or at most the length, that the type of the list
--- fixes
+-- holds if each list in the parts has a length that its type allows: exactly the declared length
+-- for an array, and at most the declared capacity for an `ArrayVec`
 pub record HasDeclaredLengths (b : BoardParts) : Type 0 where
   pub roms : length b.roms ≡ ROMS
   pub masks : (chip : ℕ) (mask : List LineMask) → rom_masks b chip ≡ Some mask → length mask ≡ 4

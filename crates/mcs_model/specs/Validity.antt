@@ -16,8 +16,7 @@ pub record AreBelow (count limit : ℕ) (items : List ℕ) : Type 0 where
 
 -- ---- the board
 
--- holds if the parts have no errors, and each list in the parts has the length, or at most the
--- length, that the type of the list fixes
+-- holds if the parts have no errors, and each list in the parts has a length that its type allows
 pub record IsValidBoard (b : BoardParts) : Type 0 where
   pub sized : HasDeclaredLengths b
   pub valid : board_fault_of b ≡ None

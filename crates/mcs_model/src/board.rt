@@ -447,8 +447,8 @@ impl BoardParts {
         }
     }
 
-    /// Proves that each list in the parts has the length, or at most the length, that the type of the list fixes.
-    /// Callers get these facts from the contract.
+    /// Proves that each list in the parts has a length that its type allows (`HasDeclaredLengths`). Callers get these
+    /// facts from the contract.
     fn prove_lengths(&self)
         ensures { HasDeclaredLengths self.now }
     {

@@ -31,7 +31,7 @@ use toml::{Table, Value};
 pub(crate) struct Part<'a> {
     /// The section, or none for a top-level key.
     pub(crate) section: Option<Section>,
-    /// The number of the table within its section, from 1. None for the key matrix, and if the
+    /// The number of the table within its section, from 1. None for the key matrix, or if the
     /// location is not a table.
     pub(crate) number: Option<usize>,
     /// The key: the top-level key if there is no section, otherwise a key of the table.

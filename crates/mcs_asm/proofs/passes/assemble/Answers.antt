@@ -7,7 +7,7 @@ use Rattle.mcs_asm.specs.View.{Assembles, IsErrorAtLine}
 use Rattle.mcs_asm.proofs.CellPairs.{image_is_by_address, has_one_byte_each}
 use Rattle.mcs_asm.proofs.passes.assemble.Goals as goal
 
--- If `f` is the error that `assemble` must return, a result that returns `f` is correct.
+-- If `f` is the error that `assemble` must return, a result with the error `f` is correct.
 returned_error_is_correct : (r : Result (List (ℕ × ℕ)) AsmFault) (f : AsmFault) (wanted : Result (List (ℕ × ℕ)) (ℕ × SourceFault)) → IsErrAnd r (λ e. e ≡ f) → IsErrorAtLine f.kind f.line wanted → Assembles r wanted
 returned_error_is_correct (Ok image) f wanted is fails = absurd is
 returned_error_is_correct (Err e) f wanted is fails = subst (λ (x : AsmFault). IsErrorAtLine x.kind x.line wanted) (sym is) fails

@@ -9,7 +9,7 @@ use Rattle.mcs_asm.specs.Passes.{FirstPassState, IsResultOfBothPasses}
 use Rattle.mcs_asm.proofs.PassLists.{texts, parsed_lines, assembly_fails_if_first_pass_fails, second_pass_result_is_final}
 use Rattle.mcs_asm.proofs.passes.both_passes.Goals as goal
 
--- If `f` is the error that both passes must return, a result that returns `f` is correct.
+-- If `f` is the error that both passes must return, a result with the error `f` is correct.
 returned_error_is_correct : (r : Result (Survey × List (Option ℕ)) AsmFault) (f : AsmFault) (text : List ℕ) → IsErrAnd r (λ e. e ≡ f) → IsErrorAtLine f.kind f.line (assembly_of_text text) → IsResultOfBothPasses r text
 returned_error_is_correct (Ok found) f text is fails = absurd is
 returned_error_is_correct (Err e) f text is fails = subst (λ (x : AsmFault). IsErrorAtLine x.kind x.line (assembly_of_text text)) (sym is) fails

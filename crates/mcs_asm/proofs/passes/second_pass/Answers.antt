@@ -8,7 +8,7 @@ use Rattle.mcs_asm.specs.Passes.{IsFirstError, IsLineNumber, IsSecondPassResult}
 use Rattle.mcs_asm.proofs.PassLists.{parsed_lines, second_pass_invariant_at_start, valid_ith_line_if_no_first_pass_fault, second_pass_invariant_at_next_line, earliest_error_if_line_rejected, all_lines_emitted}
 use Rattle.mcs_asm.proofs.passes.second_pass.Goals as goal
 
--- If `f` is the error that the second pass must return, a result that returns `f` is correct.
+-- If `f` is the error that the second pass must return, a result with the error `f` is correct.
 returned_error_is_correct : (r : Result (Survey × List (Option ℕ)) AsmFault) (f : AsmFault) (lines : List (Option SourceLine)) (names : Names) → IsErrAnd r (λ e. e ≡ f) → IsFirstError f.kind f.line (earliest_second_pass_fault lines names) → IsSecondPassResult r lines names
 returned_error_is_correct (Ok found) f lines names is fails = absurd is
 returned_error_is_correct (Err e) f lines names is fails = subst (λ (x : AsmFault). IsFirstError x.kind x.line (earliest_second_pass_fault lines names)) (sym is) fails
