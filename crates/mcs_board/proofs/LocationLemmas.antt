@@ -43,6 +43,6 @@ with_chain_bit-past_chain_end s n i bit h =
     sym (ap (λ row. record s { chains = slice_set s.chains n row }) (set_past (get_or s.chains n []) i bit h)
     ∙ ap (λ cs. record s { chains = cs }) (set-get_or s.chains n []))
 
--- If `n` elements together take less than 2^63 bytes, one element takes less than 2^63 bytes, too.
+-- If `n` elements together take less than 2^63 bytes, one element also takes less than 2^63 bytes.
 pub element_size-bounded : (i n size : ℕ) → i < n → n * size < 2 ^ 63 → size < 2 ^ 63
 element_size-bounded i n size l all = let one : 1 * size ≤ n * size = mul-le-mul_right {m = 1} {n = n} size (omega arith) in omega (arith, one)

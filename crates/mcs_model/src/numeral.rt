@@ -2,7 +2,7 @@
 ghost use Rattle.std.specs.Prelude.{◌≡◌, ◌⊎◌, min, option_map};
 ghost use Rattle.mcs_model.specs.Numerals.{value_of_digits, number_in_word, number_up_to};
 
-/// The largest number that `number` returns: 2^32. It returns 2^32 for every larger number.
+/// The largest number that `number` returns: 2^32. `number` returns 2^32 for every larger number.
 pub const NUMBER_CAP: u64 = 4_294_967_296;
 
 fn digits(ds: &[u8], base: u32) -> Option<u64>

@@ -145,7 +145,7 @@ impl Chip {
         }
     }
 
-    /// Proves that the port latch, each main nibble and each status character are 0 to 15.
+    /// Proves that the port latch, each main nibble and each status character are below 16.
     fn show_state_is_valid(&self)
         ensures { IsValidChip self.now }
     {
@@ -153,7 +153,7 @@ impl Chip {
     }
 }
 
-/// Proves that the port latch, main nibbles and status characters of each chip are 0 to 15.
+/// Proves that the port latch, main nibbles and status characters of each chip are below 16.
 fn show_chips_are_valid(chips: &[Chip])
     ensures { All IsValidChip chips.now }
 {
@@ -359,7 +359,7 @@ impl<const CHIPS: usize> Bank<CHIPS> {
     }
 
     /// Proves that the bank's state is valid: each list has its fixed length, and each main nibble, status character
-    /// and port latch is 0 to 15. The contents of absent chips are 0. The SRC byte is below 256, and is 0 in a bank
+    /// and port latch is below 16. The contents of absent chips are 0. The SRC byte is below 256, and is 0 in a bank
     /// without chips.
     pub fn show_state_is_valid(&self)
         ensures { IsValidBank self.now }

@@ -136,7 +136,7 @@ impl RomPort {
         self.port = Nibble::ZERO;
     }
 
-    /// Proves that the port latch is 0 to 15, and that the latch bits of input lines are 0.
+    /// Proves that the port latch is below 16, and that the latch bits of input lines are 0.
     pub fn show_state_is_valid(&self)
         ensures { IsValidPort self.now }
     {
@@ -238,7 +238,7 @@ impl Rom {
         self.lines.clear_port();
     }
 
-    /// Proves that the ROM has 256 bytes, each below 256, and that the port latch is 0 to 15. Also proves that the
+    /// Proves that the ROM has 256 bytes, each below 256, and that the port latch is below 16. Also proves that the
     /// latch bits of input lines are 0.
     pub fn show_state_is_valid(&self)
         ensures { IsValidRom self.now }

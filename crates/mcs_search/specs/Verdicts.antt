@@ -11,7 +11,8 @@ use Rattle.mcs_search.specs.declared.following.FollowOutcome.TheVariants as foll
 use Rattle.mcs_search.specs.declared.visited.AddOutcome.{AddOutcome}
 use Rattle.mcs_search.specs.declared.visited.AddOutcome.TheVariants as added
 
--- the claim of a verdict on a search from the key `start`; only `Holds` and `Broken` make a claim
+-- the claim that a verdict makes about a search from the key `start`; only `Holds` and `Broken`
+-- make a claim
 abbrev pub IsProved : Rules → List ℕ → Verdict → Type 0
 IsProved r start (verdict.Holds n) = Closure r start n
 IsProved r start (verdict.Broken choices) = IsCounterexample r start choices.items
@@ -35,14 +36,15 @@ pub record IsUnderWay (r : Rules) (p : SearchProgress) : Type 0 where
   pub states : All r.is_state p.keys
   pub followed : (k : ℕ) → k < p.followed → IsFollowed r p.keys (slice_index_or p.keys k [])
 
--- the claim of the result of adding a key, if the store can have at most `max_states` keys
+-- the claim that an `AddOutcome` makes about adding a key, if the store can have at most
+-- `max_states` keys
 abbrev pub IsAddOutcome : ℕ → List (List ℕ) → List (List ℕ) → List ℕ → AddOutcome → Type 0
 IsAddOutcome max_states old new key added.New = Contains new key
 IsAddOutcome max_states old new key added.Known = Contains new key
 IsAddOutcome max_states old new key added.Full = max_states ≤ length old
 
--- the claim of the result of following the given choices of a state; only `All` and `Broken` make a
--- claim
+-- the claim that a `FollowOutcome` makes about following the given choices of a state; only `All`
+-- and `Broken` make a claim
 abbrev pub IsFollowOutcome : Rules → List (List ℕ) → List ℕ → List ℕ → FollowOutcome → Type 0
 IsFollowOutcome r keys key choices followed.All = All (LeadsInto r keys key) choices
 IsFollowOutcome r keys key choices (followed.Broken c) = r.fails key c

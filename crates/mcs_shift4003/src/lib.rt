@@ -1,4 +1,5 @@
-//! The 4003 shift register: ten bits for each chip. Chips in a row form a chain, which is one sequence of bits.
+//! The 4003 shift register: ten bits for each chip. Chips connected in series form a chain, which is one sequence of
+//! bits.
 //!
 //! A chain stores ten bits in each word, because a chip has ten bits. A shift processes the chain word by word.
 #![tactic(auto)]

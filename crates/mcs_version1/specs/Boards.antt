@@ -1,5 +1,5 @@
 -- The conditions under which parts form a valid board in version 1, which allows fewer and shorter
--- chains than version 2. The tests that all lines exist and have the right direction are those of
+-- chains than version 2. The checks that all lines exist and have the right direction are those of
 -- version 2.
 use Rattle.std.specs.Prelude.{◌≡◌, ◌≤◌, ◌↔◌, Bool, true, false, ◌&&◌, ◌||◌, not, Option, Some, None, length, nat_lt, nat_le, if◌then◌else◌}
 use Rattle.std.specs.List.{list_any}
