@@ -1,8 +1,8 @@
 //! The opcode table of the 4004, and functions that decode and encode instructions.
 //!
-//! `instructions!` is the only list of the 45 instructions. Each function of this crate passes the list to a macro
-//! that expands to the body of the function. Other crates use the list in the same way. Source: Intel MCS-4 Users
-//! Manual, instruction set.
+//! Apart from tests, `instructions!` is the only list in the code that has the opcodes, word counts, cycle counts and
+//! names of the 45 instructions. Each function of this crate passes the list to a macro that expands to the body of
+//! the function. Other crates use the list in the same way. Source: Intel MCS-4 Users Manual, instruction set.
 #![tactic(auto)]
 
 ghost use Rattle.std.specs.Prelude.{◌≡◌, ◌↔◌, IsSome, Some, unwrap_or};

@@ -8,8 +8,9 @@ use Rattle.mcs_model.specs.declared.board.BoardParts.{BoardParts}
 use Rattle.mcs_model.specs.Boards.{empty_parts}
 
 -- The state of the bus. The comments give the length of each list in a valid state (`IsInRange` of
--- Validity), and the entries that are 0 because a part is absent (`AbsentPartsAreZero`).
--- `fetch_of`, `ram_of` and `status_of` give 0 for absent chips only because these entries are 0.
+-- the module `Validity`), and the entries that are 0 because a part is absent
+-- (`AbsentPartsAreZero`). `fetch_of`, `ram_of` and `status_of` give 0 for absent chips only because
+-- these entries are 0.
 pub record BusState : Type 0 where
   pub board : BoardParts
   -- the 4,096 ROM bytes, indexed by address; the bytes of absent ROMs are 0

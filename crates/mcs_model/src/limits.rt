@@ -1,4 +1,4 @@
-//! All limits of a bench and of its session.
+//! The limits of a bench and of its session.
 
 /// The maximum number of 4001 chips on a board: one for each page of addresses.
 pub const ROMS: usize = 16;
