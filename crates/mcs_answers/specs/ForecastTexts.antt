@@ -1,4 +1,5 @@
--- The answers to `count` and `trace`. They report what a run would do, without doing the run.
+-- The answers to `count` and `trace`. They report what a run would do, but the bench does not
+-- change.
 use Rattle.std.specs.Prelude.{ℕ, Bool, true, not, List, [], ◌∷◌, ◌++◌, codes, length, nat_lt, if◌then◌else◌}
 use Rattle.std.specs.Fmt.{decimal}
 use Rattle.std.specs.List.{flat_map, range_with_len}

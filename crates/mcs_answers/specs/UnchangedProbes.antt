@@ -66,7 +66,7 @@ pub record IncludesProbeKind (probe_kinds more : ProbeKinds) (probe : Probe) : T
   pub place : more.registers ≡ false → (op : Op) → touches more op ≡ false → AlwaysStaysSame op probe
 
 -- Holds if an instruction that touches no kind in `probe_kinds` leaves the row unchanged. If the
--- kinds include other registers than the return addresses, the definition always holds.
+-- kinds include registers other than the return addresses, the condition always holds.
 abbrev pub CoversProbes : ProbeKinds → List Probe → Type 0
 CoversProbes probe_kinds probes =
     probe_kinds.registers ≡ false → (op : Op) → touches probe_kinds op ≡ false → (regs : Regs) (m : BusState)

@@ -62,7 +62,7 @@ pub enum FileFault {
     /// The host rejected the file for a reason that has no variant of its own.
     #[error("refused")]
     Device,
-    /// Memory ran out for the file's bytes, or for the name that a link leads to.
+    /// Memory ran out for the file's bytes, or for the path that a link leads to.
     #[error("out of memory")]
     NoMemory,
 }

@@ -25,7 +25,7 @@ const STANDARD_ERROR: i32 = 2;
 ///
 /// If `create_if_missing` is true, creates a missing file, and fills an empty file with
 /// [`FILE_SIZE`] zero bytes. If filling fails, makes the file empty again. If the function created
-/// the file and then fails, it removes the file if the file is empty and no other program uses it.
+/// the file and then fails with an error other than `InUse`, it removes the file if it is empty.
 ///
 /// Does not open a file that is also a standard stream. Opens no file if the host does not say
 /// whether the file is a standard stream.
@@ -283,7 +283,7 @@ pub(crate) fn folder_of(name: &str) -> &str
 
 // Syncs the folder of a file, so that the file's name survives a power cut, and returns true.
 // Returns false if the program cannot read the folder, if the host does not sync folders, or if a
-// link leads to a folder whose name is not valid UTF-8. Any other error is returned as a fault.
+// link leads to a path that is not valid UTF-8. Any other error is returned as a fault.
 fn try_sync_folder<N: Host>(
     host: &N,
     alloc: Global,
