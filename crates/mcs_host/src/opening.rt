@@ -25,7 +25,7 @@ const STANDARD_ERROR: i32 = 2;
 ///
 /// If `create_if_missing` is true, creates a missing file, and fills an empty file with
 /// [`FILE_SIZE`] zero bytes. If filling fails, makes the file empty again. If the function created
-/// the file and then fails with an error other than `InUse`, it removes the file if it is empty.
+/// the file and then fails with an error other than `InUse`, removes the file if the file is empty.
 ///
 /// Does not open a file that is also a standard stream. Opens no file if the host does not say
 /// whether the file is a standard stream.

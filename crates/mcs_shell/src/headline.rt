@@ -32,7 +32,7 @@ pub fn a_file_survives_power_cuts()
 
 /// Proves the headline for any number of runs. A power cut ends each run, and the next run opens a session on the disk
 /// that the cut left. A cut can happen at any moment, even while a session is opened or converted from version 1. A
-/// refused opening counts as a run, too. The session opened at the end has executed the commands kept from each run, in
+/// refused opening also counts as a run. The session opened at the end has executed the commands kept from each run, in
 /// order. The commands kept from a run are a prefix of a list: those answered `ok`, followed by the one answered
 /// `no 53` (device failed), if there is one. The prefix includes every command that was acknowledged before the power
 /// cut.

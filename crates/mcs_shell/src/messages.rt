@@ -156,8 +156,8 @@ fn has_folder(rt: &HostRuntime, file: &str) -> bool {
     }
 }
 
-/// Prints why a session ended. Prints nothing if the session reached the end of its input. `ended` has the reason for
-/// the end of the shell, and a Bool that is true if the session's device is full. Prints nothing if `ended` is `None`.
+/// Prints why a session ended. `ended` has the reason for the end of the shell, and a Bool that is true if the
+/// session's device is full. Prints nothing if the session reached the end of its input, or if `ended` is `None`.
 pub fn print_end_reason(rt: &HostRuntime, file: &str, ended: Option<(ShellEnd, bool)>) {
     let Some((end, is_full)) = ended else {
         return;
@@ -173,7 +173,7 @@ pub fn print_end_reason(rt: &HostRuntime, file: &str, ended: Option<(ShellEnd, b
     let _ = eprintln!(rt; "mcs4: {file}: {reason}");
 }
 
-/// Prints that there was no memory to read the arguments.
+/// Prints that memory ran out while the arguments were read.
 pub fn print_no_memory(rt: &HostRuntime) {
     let _ = eprintln!(rt; "mcs4: out of memory");
 }

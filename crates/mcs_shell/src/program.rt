@@ -36,7 +36,7 @@ const WRONG_ARGUMENTS_STATUS: u8 = 2;
 /// The exit status if the session is refused.
 const REFUSED_STATUS: u8 = 3;
 
-/// Returns the command-line arguments, with the program's name first. Arguments that are not valid text are a usage
+/// Returns the command-line arguments, with the program's name first. An argument that is not valid UTF-8 is a usage
 /// error.
 fn given_arguments(rt: &HostRuntime) -> Result<Vec<String>, WordsFault> {
     match env::args(rt) {
@@ -77,9 +77,9 @@ pub fn refuse_streams(rt: &HostRuntime, refused: StreamsError) -> ExitCode
     status
 }
 
-/// If the arguments are invalid, reports this error and returns exit status 2. If there was no memory to read the
-/// arguments, reports this error and returns exit status 3. The exit status is the same if the message cannot be
-/// written.
+/// Reports an error in the arguments. Prints the usage and returns exit status 2 if the arguments are invalid. Prints
+/// `no 90` and a message and returns exit status 3 if there was no memory to read them. The exit status is the same if
+/// the report cannot be written.
 pub fn refuse_arguments(rt: &HostRuntime, fault: WordsFault) -> ExitCode
     ensures usage { fault ≡ WordsFault.Usage → exit_status result ≡ 2 }
     ensures no_memory { fault ≡ WordsFault.NoMemory → exit_status result ≡ 3 }

@@ -41,8 +41,8 @@ fn read_some<R: InputSource>(
     reader.read_some(&mut buffer[..max_count])
 }
 
-/// If a text is open, answers it with refusal 15, because input has ended inside the text. The unfinished line must be
-/// empty. Fails with the reason why the shell ends, if the answer cannot be written.
+/// Answers the open text, if there is one, with refusal 15, because input has ended inside the text. The unfinished
+/// line must be empty. Fails with the reason why the shell ends, if the answer cannot be written.
 fn finish_text<W: AnswerSink, D: Disk + Drop>(
     unfinished: &UnfinishedInput,
     writer: &mut W,

@@ -149,7 +149,7 @@ pub(crate) fn expect_bytes<D: Disk>(rt: &impl Abort, disk: &mut D, at: usize, wa
     assert_eq!(rt; &*found, want, "at {at}");
 }
 
-/// Overwrites bytes of a disk at an offset, like an interrupted write.
+/// Overwrites bytes of a disk at an offset, as an interrupted write would.
 pub(crate) fn overwrite<D: Disk>(rt: &impl Abort, disk: &mut D, at: usize, bytes: &[u8]) {
     assert!(rt; at <= disk.size() && bytes.len() <= disk.size() - at);
     assert!(rt; disk.write(at, bytes).is_ok());
