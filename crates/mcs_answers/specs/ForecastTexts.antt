@@ -42,6 +42,7 @@ abbrev pub count_lines : BenchState → ℕ → List (List ℕ)
 count_lines b n =
     flat_map (count_line (instructions_begun_in (stops_of b) n (machine_of b)) (machine_of b)) (addresses 4096)
 
+-- the answer to `count`: its first line, and then the lines of the addresses
 abbrev pub count_answer : ℕ → BenchState → List ℕ
 count_answer n b =
     as_line (forecast_head (codes "count") b n (count_lines b n)) ++ text_of (count_lines b n)

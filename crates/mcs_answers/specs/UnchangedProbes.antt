@@ -9,9 +9,11 @@ use Rattle.mcs_probe.specs.declared.probe.Probe.{Probe}
 use Rattle.mcs_probe.specs.Probes.{probe_text, row}
 use Rattle.mcs_answers.specs.declared.traces.ProbeKinds.{ProbeKinds}
 
+-- holds if an instruction writes a port: WMP (a RAM chip's port) or WRR (a ROM's port)
 abbrev pub WritesPort : Op → Type 0
 WritesPort op = (op ≡ Wmp) ⊎ (op ≡ Wrr)
 
+-- holds if an instruction writes a status character: WR0 to WR3
 abbrev pub WritesStatus : Op → Type 0
 WritesStatus op = (op ≡ Wr0) ⊎ ((op ≡ Wr1) ⊎ ((op ≡ Wr2) ⊎ (op ≡ Wr3)))
 

@@ -26,6 +26,7 @@ board_line_bytes (Rom chip k) = 0 ∷ chip ∷ k ∷ 0 ∷ []
 board_line_bytes (Ram bank chip k) = 1 ∷ bank ∷ chip ∷ k ∷ []
 board_line_bytes (Chain n i) = 2 ∷ n ∷ i ∷ 0 ∷ []
 
+-- the bytes of a chain: its clock line, its data line, and its number of chips
 abbrev pub chain_bytes : ChainPart → List ℕ
 chain_bytes c = board_line_bytes c.clock ++ (board_line_bytes c.data_in ++ c.chips ∷ [])
 

@@ -27,6 +27,7 @@ status_nibble_at = do
   n ← number_below_at 16
   give (Status bank high k n)
 
+-- reads the fields of a `Place` after its tag; fails for an unknown tag
 abbrev pub place_after_tag : ℕ → Reading Place
 place_after_tag tag =
     if tag == 0 then (do n ← number_below_at 16; give (Acc n)) else
@@ -57,6 +58,7 @@ addressed_bytes_at marks (suc n) at =
     then (do byte ← byte_at; others ← addressed_bytes_at marks n (at + 1); give ((at, byte) ∷ others))
     else addressed_bytes_at marks n (at + 1)
 
+-- reads an image: the marks of the 4,096 addresses, and then one byte for each marked address
 unfoldable pub image_at : Reading (List (ℕ × ℕ))
 image_at = do
   marks ← bytes_at 512

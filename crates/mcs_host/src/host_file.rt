@@ -61,8 +61,8 @@ pub trait Host {
     type File: HostFile + Drop;
 
     /// Returns the standard streams that refer to the file of this name, or no streams if the file
-    /// is missing. Fails for a file that is not regular, for any other error of the host about the
-    /// file, and if the host does not say which files the streams refer to.
+    /// is missing. Fails if the file is not regular, or if the host returns another error for the
+    /// name. Also fails if the host does not say which files the streams refer to.
     fn streams_of_file(&self, name: &str) -> Result<Streams, FileFault>;
 
     /// Checks that a file created under this name can be removed again. If the name is a symbolic

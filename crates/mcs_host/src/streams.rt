@@ -238,8 +238,8 @@ pub(crate) fn is_session_name(found: &[u8]) -> bool
 }
 
 /// Returns the standard streams that refer to the file of this name, or no streams if the file is
-/// missing. Fails for a file that is not regular, for any other error of the host about the file,
-/// and if the host does not say which files the streams are.
+/// missing. Fails if the file is not regular, or if the host returns another error for the name.
+/// Also fails if the host does not say which files the streams refer to.
 pub(crate) fn streams_of_file<R: Files>(rt: &R, file: &str) -> Result<Streams, FileFault> {
     match regular_file(fs::metadata(rt, file))? {
         Some(named) => streams_matching(rt, &named),

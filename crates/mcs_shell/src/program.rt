@@ -328,8 +328,8 @@ fn run_given_arguments(rt: &HostRuntime) -> ProgramResult<FileDisk>
 }
 
 /// Runs the program with the command-line arguments, standard input and standard output. Returns the exit status, and
-/// the session as its shell left it. The exit status is 3 if a standard stream may go into a session file, or if
-/// `/dev/null` cannot replace a closed stream.
+/// the session as its shell left it. The exit status is 3 if an output stream is a session file, or if the host does
+/// not say which file a stream is. It is also 3 if `/dev/null` cannot replace a closed stream.
 pub fn run_program(rt: &HostRuntime) -> ProgramResult<FileDisk>
     ensures served { IfSome result.session (λ after.
         ServedBySomeArguments as_disk (exit_status result.status) after) }
