@@ -11,7 +11,7 @@ use std::path::Path;
 pub struct Refusal {
     /// The reason for the refusal.
     pub fault: BeginFault,
-    /// True if the device has no space left.
+    /// True if the device is full or a quota is used up.
     pub is_full: bool,
     /// True if the file has as many bytes as a session file and starts with the name of the session format.
     pub is_named_session: bool,

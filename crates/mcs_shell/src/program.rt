@@ -77,9 +77,9 @@ pub fn refuse_streams(rt: &HostRuntime, refused: StreamsError) -> ExitCode
     status
 }
 
-/// Reports an error in the arguments. Prints the usage and returns exit status 2 if the arguments are invalid. Prints
-/// `no 90` and a message and returns exit status 3 if there was no memory to read them. The exit status is the same if
-/// the report cannot be written.
+/// Reports an error in the arguments. If the arguments are invalid, prints the usage and returns exit status 2. If
+/// there was no memory to read them, prints `no 90` and a message, and returns exit status 3. The exit status is the
+/// same if the report cannot be written.
 pub fn refuse_arguments(rt: &HostRuntime, fault: WordsFault) -> ExitCode
     ensures usage { fault ≡ WordsFault.Usage → exit_status result ≡ 2 }
     ensures no_memory { fault ≡ WordsFault.NoMemory → exit_status result ≡ 3 }

@@ -129,9 +129,9 @@ fn run_loop<R: InputSource, W: AnswerSink, D: Disk + Drop>(
 /// Serves the lines of a reader on a session until input ends, a call fails, or the input limit is reached. Returns the
 /// reason for the end of the shell.
 ///
-/// The shell records each accepted command before it writes the command's answer. The machine can stop at any moment. A
-/// session that is then opened on the disk has executed a prefix of the accepted commands. The prefix includes each
-/// acknowledged command.
+/// The shell records each accepted command before it writes the command's answer. The machine can stop at any moment.
+/// If the session was open on an honest disk, a session that is opened afterwards has executed a prefix of the accepted
+/// commands. The prefix includes each acknowledged command.
 pub fn run_shell<R: InputSource, W: AnswerSink, D: Disk + Drop>(
     alloc: Global,
     reader: &mut R,
