@@ -32,7 +32,7 @@ pub enum FileFault {
     /// No file has this name, or a folder in the name does not exist or is not a folder.
     #[error("not there")]
     FileMissing,
-    /// The program is not permitted to read and write the file.
+    /// The program is not permitted to read and write the file, or the file system is read-only.
     #[error("no permission")]
     Denied,
     /// The name refers to a folder, not to a file.
