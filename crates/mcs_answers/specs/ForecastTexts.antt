@@ -53,8 +53,8 @@ abbrev pub is_reported : List Probe → List ℕ → List ℕ → Bool
 is_reported [] before after = true
 is_reported probes before after = not (bytes_eq after before)
 
--- The lines of `trace` for an instruction: one or none. A line has the number of cycles done before
--- the instruction, the address of the instruction, and the row after it.
+-- The lines of `trace` for an instruction: one or none. A line has the number of cycles executed
+-- before the instruction, the address of the instruction, and the row after it.
 abbrev pub trace_line : List Probe → BegunInstruction → List (List ℕ)
 trace_line probes b =
     if is_reported probes (row probes b.before) (row probes b.after)

@@ -91,7 +91,7 @@ fn put_row(answer: &mut ArrayVec<u8, ANSWER_BYTES>, probes: &[Probe], bench: &Be
     }
 }
 
-/// Appends the trace line of an instruction: the number of cycles done before it, its address, and the row
+/// Appends the trace line of an instruction: the number of cycles executed before it, its address, and the row
 /// after it. Uses `start` as a scratch buffer.
 fn add_line(
     text: &mut Vec<u8>,

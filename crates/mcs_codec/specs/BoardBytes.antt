@@ -9,7 +9,7 @@ use Rattle.mcs_model.specs.declared.board.KeyMatrix.{KeyMatrix}
 use Rattle.mcs_model.specs.declared.board.Line.{Line}
 use Rattle.mcs_model.specs.declared.board.Line.TheVariants.{Rom, Ram, Chain}
 
--- the characters of a ROM's port lines 3, 2, 1, 0, in this order, or `----` if the ROM is absent
+-- the characters of a ROM's port lines 3, 2, 1 and 0, in that order, or `----` if the ROM is absent
 abbrev pub rom_bytes : Option (List LineMask) → List ℕ
 rom_bytes (Some mask) =
     mask_character (mask_at mask 3)

@@ -23,8 +23,8 @@ pub fn a_run_answers_and_survives_power_cuts<D: Disk, E: Disk>()
 {}
 
 /// Proves the headline for a run on a file of the host. A close, a kill or a power cut stops the run. The law covers
-/// all contents that are possible in the file after the stop. The session opened afterwards is the one that the
-/// program's `open` begins on these contents.
+/// all contents that are possible in the file after the stop. The program's `open` then begins a session on these
+/// contents.
 pub fn a_file_survives_power_cuts()
     ensures { (run : ShellRun as_disk) → IsOpenOnHonestDisk (session_state as_disk run.before)
         → SurvivesInFile run }
