@@ -148,7 +148,8 @@ pub fn begin_session_on<D: Disk + Drop>(
     }
 }
 
-/// Creates or opens the session in the chosen file. Fails with the reason if no session began.
+/// Creates or opens the session in the chosen file. Prints a warning if the file's folder was not synced. Fails with
+/// the reason if no session began.
 pub fn begin_session_in(
     rt: &HostRuntime,
     choice: &Choice,
@@ -168,7 +169,8 @@ pub fn begin_session_in(
     begin_session_on(alloc, choice, opened)
 }
 
-/// Serves a session with a reader and a writer. Returns the reason for the end of the shell, and the exit status.
+/// Serves a session with a reader and a writer. Returns the reason for the end of the shell, and the exit status. Prints
+/// `no 90` if the shell could not allocate its buffer.
 pub fn serve<R: InputSource, W: AnswerSink, D: Disk + Drop>(
     rt: &HostRuntime,
     reader: &mut R,
@@ -199,8 +201,8 @@ pub struct ProgramResult<D: Disk + Drop> {
     pub end: Option<ShellEnd>,
 }
 
-/// Serves the session that began, with a reader and a writer. If no session began, prints the refusal number and
-/// returns exit status 3.
+/// Serves the session that began, with a reader and a writer. If no session began, prints the refusal number, unless
+/// standard output is the session's file, and returns exit status 3.
 pub fn serve_if_begun<R: InputSource, W: AnswerSink, D: Disk + Drop>(
     rt: &HostRuntime,
     reader: &mut R,

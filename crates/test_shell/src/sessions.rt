@@ -193,7 +193,7 @@ fn push_state(rt: &impl Abort, states: &mut Vec<Vec<u8>>, state: Vec<u8>) {
     states.push(state).expect(rt, "memory");
 }
 
-/// Executes `times` commands, each of which sets register R0 to 1.
+/// Executes `times` commands that each set register R0 to 1.
 fn poke_often<D: Disk + Drop>(rt: &impl Abort, session: &mut Session<D>, times: usize) {
     for i in 0..times {
         expect(rt, poke(session).is_ok(), i);
