@@ -169,8 +169,8 @@ pub fn begin_session_in(
     begin_session_on(alloc, choice, opened)
 }
 
-/// Serves a session with a reader and a writer. Returns the reason for the end of the shell, and the exit status. Prints
-/// `no 90` if the shell could not allocate its buffer.
+/// Serves a session with a reader and a writer. Returns the reason for the end of the shell, and the exit status.
+/// Prints `no 90` if the shell could not allocate its buffer.
 pub fn serve<R: InputSource, W: AnswerSink, D: Disk + Drop>(
     rt: &HostRuntime,
     reader: &mut R,
