@@ -80,8 +80,7 @@ impl From<io::Error> for FileFault {
     }
 }
 
-// Returns the fault for an error of this kind, or `None` if [`FileFault`] has no variant for the
-// kind.
+// Returns the [`FileFault`] for an error of this kind, or `None` if it has no variant for the kind.
 fn fault_for_kind(kind: ErrorKind) -> Option<FileFault>
     ensures { result ≡ fault_of_kind kind }
 {
@@ -98,7 +97,7 @@ fn fault_for_kind(kind: ErrorKind) -> Option<FileFault>
     }
 }
 
-// Returns the fault for an error whose kind has no variant, given the error number of the host.
+// Returns the [`FileFault`] for an error whose kind has no variant, given the host's error number.
 fn fault_for_number(number: Option<i32>) -> FileFault
     ensures { IsFaultOfNumber number result }
 {

@@ -23,7 +23,7 @@ pub(crate) fn blank_disk(alloc: Global, rt: &impl Abort) -> MemDisk {
     MemDisk::new(alloc, FILE_SIZE).expect(rt, "memory")
 }
 
-/// Creates a session on a disk. Returns the session, or the fault and the disk.
+/// Creates a session on a disk. Returns the session, or the error and the disk.
 pub(crate) fn create<D: Disk + Drop>(
     alloc: Global,
     disk: D,
@@ -43,7 +43,7 @@ pub(crate) fn create_session<D: Disk + Drop>(
     }
 }
 
-/// Opens the session on a disk. Returns the session, or the fault and the disk.
+/// Opens the session on a disk. Returns the session, or the error and the disk.
 pub(crate) fn open<D: Disk + Drop>(alloc: Global, disk: D) -> Result<Session<D>, (StoreFault, D)> {
     Session::open(alloc, disk)
 }
@@ -87,7 +87,7 @@ pub(crate) fn expect_register<D: Disk + Drop>(
     expect_equal(rt, bench.regs().r[register].get(), value);
 }
 
-/// Applies a command to a session. Returns the reply, or the fault.
+/// Applies a command to a session. Returns the reply, or the error.
 fn apply_command<D: Disk + Drop>(
     session: &mut Session<D>,
     command: &Command,
@@ -95,7 +95,7 @@ fn apply_command<D: Disk + Drop>(
     session.apply(command)
 }
 
-/// Checks that applying a command to a session fails with the given fault.
+/// Checks that applying a command to a session fails with the given error.
 pub(crate) fn expect_fault<D: Disk + Drop>(
     rt: &impl Abort,
     session: &mut Session<D>,
