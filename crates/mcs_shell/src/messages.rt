@@ -1,5 +1,6 @@
-//! Messages for the user on standard error: the usage, and the reason why a session is refused or ends early. The
-//! program ignores an error in writing a message. Standard output and the exit status do not depend on these messages.
+//! Messages for the user on standard error: the usage, and the reason why a session is refused or ends early. If a
+//! message cannot be written, the program ignores the error. Standard output and the exit status do not depend on
+//! these messages.
 use crate::ends::ShellEnd;
 use crate::faults::BeginFault;
 use mcs_host::{Choice, FileDisk, FileFault, StreamsError, StreamsFault};
