@@ -1,4 +1,4 @@
-//! The program `mcs4`, which runs the bench at a terminal: `mcs4 new FILE` or `mcs4 open FILE`.
+//! The program `mcs4`, which runs the bench from the command line: `mcs4 new FILE` or `mcs4 open FILE`.
 #![tactic(auto)]
 
 use mcs_shell::program::run_program;

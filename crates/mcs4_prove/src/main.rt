@@ -1,5 +1,5 @@
-//! A program that tries to prove that, for all inputs, a program on a board never reaches a given condition. It reads
-//! a question from standard input and writes the answer to standard output.
+//! A program that tries to prove that a program on a board has a given property for all inputs. It reads a question
+//! from standard input and writes the answer to standard output.
 #![tactic(auto)]
 
 use mcs_prove::{Answer, answer_to};

@@ -24,7 +24,7 @@ stop_name Watched = codes "watch"
 stop_name Ended = codes "end"
 
 -- The text of the reply to a command. In an answer, it follows the number of accepted commands. It
--- gives the number of bytes loaded, or the number of cycles done and the reason to stop. For
+-- gives the number of bytes loaded, or the number of cycles executed and the reason to stop. For
 -- `Done`, it is empty.
 abbrev pub reply_text : Reply → List ℕ
 reply_text Done = []

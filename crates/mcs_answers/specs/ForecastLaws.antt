@@ -37,8 +37,8 @@ TracesAddUp =
     trace_lines probes b (m + n)
     ≡ trace_lines probes b m ++ trace_lines_from probes m (after b (Run m)) n
 
--- True if a line of a trace without probes is the line of an instruction at address `at`. This is
--- so if the line ends with the text of the address.
+-- True if a line of a trace without probes reports an instruction at address `at`, which means that
+-- the line ends with the text of this address.
 abbrev pub is_line_at : ℕ → List ℕ → Bool
 is_line_at at line = bytes_eq (drop (length line - 3) line) (address_text at)
 

@@ -1,4 +1,5 @@
--- The answers to `count` and `trace`. They report what a run would do, without doing the run.
+-- The answers to `count` and `trace`. They report what a run would do, but the bench does not
+-- change.
 use Rattle.std.specs.Prelude.{ℕ, Bool, true, not, List, [], ◌∷◌, ◌++◌, codes, length, nat_lt, if◌then◌else◌}
 use Rattle.std.specs.Fmt.{decimal}
 use Rattle.std.specs.List.{flat_map, range_with_len}
@@ -41,6 +42,7 @@ abbrev pub count_lines : BenchState → ℕ → List (List ℕ)
 count_lines b n =
     flat_map (count_line (instructions_begun_in (stops_of b) n (machine_of b)) (machine_of b)) (addresses 4096)
 
+-- the answer to `count`: its first line, and then the lines of the addresses
 abbrev pub count_answer : ℕ → BenchState → List ℕ
 count_answer n b =
     as_line (forecast_head (codes "count") b n (count_lines b n)) ++ text_of (count_lines b n)
@@ -51,8 +53,8 @@ abbrev pub is_reported : List Probe → List ℕ → List ℕ → Bool
 is_reported [] before after = true
 is_reported probes before after = not (bytes_eq after before)
 
--- The lines of `trace` for an instruction: one or none. A line has the number of cycles done before
--- the instruction, the address of the instruction, and the row after it.
+-- The lines of `trace` for an instruction: one or none. A line has the number of cycles executed
+-- before the instruction, the address of the instruction, and the row after it.
 abbrev pub trace_line : List Probe → BegunInstruction → List (List ℕ)
 trace_line probes b =
     if is_reported probes (row probes b.before) (row probes b.after)

@@ -9,9 +9,11 @@ use Rattle.mcs_probe.specs.declared.probe.Probe.{Probe}
 use Rattle.mcs_probe.specs.Probes.{probe_text, row}
 use Rattle.mcs_answers.specs.declared.traces.ProbeKinds.{ProbeKinds}
 
+-- holds if an instruction writes a port: WMP (a RAM chip's port) or WRR (a ROM's port)
 abbrev pub WritesPort : Op → Type 0
 WritesPort op = (op ≡ Wmp) ⊎ (op ≡ Wrr)
 
+-- holds if an instruction writes a status character: WR0 to WR3
 abbrev pub WritesStatus : Op → Type 0
 WritesStatus op = (op ≡ Wr0) ⊎ ((op ≡ Wr1) ⊎ ((op ≡ Wr2) ⊎ (op ≡ Wr3)))
 
@@ -66,7 +68,7 @@ pub record IncludesProbeKind (probe_kinds more : ProbeKinds) (probe : Probe) : T
   pub place : more.registers ≡ false → (op : Op) → touches more op ≡ false → AlwaysStaysSame op probe
 
 -- Holds if an instruction that touches no kind in `probe_kinds` leaves the row unchanged. If the
--- kinds include other registers than the return addresses, the definition always holds.
+-- kinds include registers other than the return addresses, the condition always holds.
 abbrev pub CoversProbes : ProbeKinds → List Probe → Type 0
 CoversProbes probe_kinds probes =
     probe_kinds.registers ≡ false → (op : Op) → touches probe_kinds op ≡ false → (regs : Regs) (m : BusState)

@@ -21,7 +21,7 @@ pub fn heads_report_the_run()
 {}
 
 /// Proves that a trace of `m + n` cycles is a trace of `m` cycles, followed by a trace of `n` cycles that
-/// starts after `run m`. This applies if nothing stops the run of `m + n` cycles early.
+/// starts after `run m`. The premise is that nothing stops the run of `m + n` cycles early.
 pub fn traces_add_up()
     ensures { TracesAddUp }
 {}

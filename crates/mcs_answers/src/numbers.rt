@@ -32,8 +32,8 @@ pub fn put_number(answer: &mut ArrayVec<u8, ANSWER_BYTES>, word: &[u8], n: u64)
     put(answer, b"\n");
 }
 
-/// Writes the answer to a text with an error. The buffer must be empty. The answer consists of the refusal
-/// number and of `line`, the line number of the error, counted from 1.
+/// Writes the answer to a rejected text into an empty buffer. The answer consists of the refusal number and of
+/// `line`, the line number of the error, counted from 1.
 pub fn put_refusal_at(answer: &mut ArrayVec<u8, ANSWER_BYTES>, number: u8, line: u64)
     requires { answer.old.items ≡ [] }
     ensures { answer.new.items ≡ no_line_text number line }

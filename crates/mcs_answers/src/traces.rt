@@ -91,7 +91,7 @@ fn put_row(answer: &mut ArrayVec<u8, ANSWER_BYTES>, probes: &[Probe], bench: &Be
     }
 }
 
-/// Appends the trace line of an instruction: the number of cycles done before it, its address, and the row
+/// Appends the trace line of an instruction: the number of cycles executed before it, its address, and the row
 /// after it. Uses `start` as a scratch buffer.
 fn add_line(
     text: &mut Vec<u8>,
@@ -258,8 +258,8 @@ fn kinds_of_probes(probes: &[Probe]) -> ProbeKinds
     probe_kinds
 }
 
-/// Returns true only if an instruction cannot change the row, whatever values the registers have. Decides
-/// this from the kinds of probes in the row. Returns false if no instruction was begun.
+/// Returns true only if the kinds of probes in the row show that an instruction cannot change the row, for
+/// any values of the registers. Returns false if no instruction was begun.
 #[inline(always)]
 fn kinds_stay_same(probes: &[Probe], probe_kinds: &ProbeKinds, op: Option<Op>) -> bool
     requires { CoversProbes probe_kinds.now probes.now }
@@ -403,7 +403,7 @@ fn add_line_if_reported(
 
 /// Appends the trace line of a cycle that began at address `at`, if the cycle has one. Returns the number of
 /// lines appended (0 or 1). A pending second cycle (`owed` is not 0) has no line. `rows.last` becomes the
-/// row after the cycle. Fails if allocation fails. This function is not inlined because a row is seldom
+/// row after the cycle. Fails if allocation fails. This function is not inlined because a row is rarely
 /// built.
 #[inline(never)]
 fn add_cycle_line(
@@ -527,9 +527,9 @@ fn add_lines_for_probes(
     }
 }
 
-/// Returns the lines of a trace of a run of at most `n` cycles, in allocated memory, without doing the run.
-/// Writes the first line of the answer into the empty buffer `head`. An instruction has a line if it changes
-/// the row, or if there are no probes. Fails if allocation fails; the contents of `head` are then
+/// Traces a run of at most `n` cycles on a copy of the bench, and returns the trace lines in allocated
+/// memory. Writes the first line of the answer into the empty buffer `head`. An instruction has a line if it
+/// changes the row, or if there are no probes. Fails if allocation fails; the contents of `head` are then
 /// unspecified.
 pub fn put_trace(
     alloc: Global,

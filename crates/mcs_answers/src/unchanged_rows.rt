@@ -12,7 +12,8 @@ use mcs_bench::Bench;
 use mcs_nibble::{Addr, Bit};
 use mcs_probe::Probe;
 
-/// If `text` begins with the byte `byte`, returns the rest of the text. Otherwise returns `None`.
+/// Returns the rest of `text` after its first byte. Returns `None` if this byte is not `byte`, or if `text`
+/// is empty.
 #[inline(always)]
 fn strip_byte(text: &[u8], byte: u8) -> Option<&[u8]>
     ensures { IfSome result (λ rest. text.now ≡ byte ∷ rest.now) }
@@ -23,8 +24,8 @@ fn strip_byte(text: &[u8], byte: u8) -> Option<&[u8]>
     }
 }
 
-/// If `text` begins with a space and the hexadecimal digit of `digit`, returns the rest of the text.
-/// Otherwise returns `None`.
+/// Returns the rest of `text` after a space and the hexadecimal digit of `digit`. Returns `None` if `text`
+/// does not begin with them.
 #[inline(always)]
 fn strip_digit(text: &[u8], digit: u8) -> Option<&[u8]>
     requires { digit < 16 }
@@ -42,8 +43,8 @@ fn strip_digit(text: &[u8], digit: u8) -> Option<&[u8]>
     }
 }
 
-/// If `text` begins with the byte `byte` and the address `at`, returns the rest of the text. Otherwise
-/// returns `None`.
+/// Returns the rest of `text` after the byte `byte` and the address `at`. Returns `None` if `text` does not
+/// begin with them.
 #[inline(always)]
 fn strip_address(text: &[u8], byte: u8, at: Addr) -> Option<&[u8]>
     ensures { IfSome result (λ rest. text.now ≡ byte ∷ address_text at ++ rest.now) }
@@ -65,8 +66,8 @@ fn strip_address(text: &[u8], byte: u8, at: Addr) -> Option<&[u8]>
     }
 }
 
-/// If `text` begins with a space and the three return addresses, separated by commas, returns the rest of
-/// the text. Otherwise returns `None`.
+/// Returns the rest of `text` after a space and the three return addresses, separated by commas. Returns
+/// `None` if `text` does not begin with them.
 fn strip_returns(text: &[u8], ret: [Addr; 3]) -> Option<&[u8]>
     ensures { IfSome result (λ rest. text.now ≡ codes " " ++ comma_list (map address_text ret) ++ rest.now) }
 {
@@ -76,8 +77,8 @@ fn strip_returns(text: &[u8], ret: [Addr; 3]) -> Option<&[u8]>
     strip_address(rest, b',', third)
 }
 
-/// If `text` begins with the marks of the board's lamps, returns the rest of the text. Otherwise returns
-/// `None`.
+/// Returns the rest of `text` after the marks of the board's lamps. Returns `None` if `text` does not begin
+/// with them.
 fn strip_marks<'a>(text: &'a [u8], bench: &Bench) -> Option<&'a [u8]>
     ensures { IfSome result (λ rest. text.now
         ≡ map (λ line. lamp_mark (level bench.now.bus line)) bench.now.bus.board.lamps.items ++ rest.now) }
@@ -98,8 +99,8 @@ fn strip_marks<'a>(text: &'a [u8], bench: &Bench) -> Option<&'a [u8]>
     Some(rest)
 }
 
-/// If `text` begins with a space and the marks of the board's lamps, returns the rest of the text. Returns
-/// `None` in all other cases, and if the board has no lamps.
+/// Returns the rest of `text` after a space and the marks of the board's lamps. Returns `None` if `text` does
+/// not begin with them, or if the board has no lamps.
 fn strip_lamps<'a>(text: &'a [u8], bench: &Bench) -> Option<&'a [u8]>
     ensures { IfSome result (λ rest. text.now ≡ codes " "
         ++ or_dash (map (λ line. lamp_mark (level bench.now.bus line)) bench.now.bus.board.lamps.items)
@@ -112,8 +113,8 @@ fn strip_lamps<'a>(text: &'a [u8], bench: &Bench) -> Option<&'a [u8]>
     strip_marks(marks, bench)
 }
 
-/// If `text` begins with a space and the value of a probe, returns the rest of the text. Returns `None` in
-/// all other cases, and if the value cannot be compared without building its text.
+/// Returns the rest of `text` after a space and the value of a probe. Returns `None` if `text` does not begin
+/// with them, or if the value cannot be compared without building its text.
 fn strip_probe<'a>(text: &'a [u8], probe: Probe, bench: &Bench) -> Option<&'a [u8]>
     ensures { IfSome result (λ rest. text.now
         ≡ codes " " ++ probe_text (machine_of bench.now) probe ++ rest.now) }

@@ -292,7 +292,7 @@ row_of_tag_table {C} {P} {s} {f} {read} {tag} {bytes} {x} spell fits k make othe
       | false ↦ λ no h. otherwise h
     ]) refl e
 
--- ---- values that take all of the bytes
+-- ---- values that all of the bytes encode
 
 all_bytes_read_by_whole_value : {A : Type 0} (r : Read A) (a : A) → whole_value r ≡ Some a → r ≡ Some (a, [])
 all_bytes_read_by_whole_value (Some (x, [])) a e = let same : x ≡ a = cc in ap (λ v. Some (v, [])) same

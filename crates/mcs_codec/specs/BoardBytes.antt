@@ -9,7 +9,7 @@ use Rattle.mcs_model.specs.declared.board.KeyMatrix.{KeyMatrix}
 use Rattle.mcs_model.specs.declared.board.Line.{Line}
 use Rattle.mcs_model.specs.declared.board.Line.TheVariants.{Rom, Ram, Chain}
 
--- the characters of a ROM's port lines 3, 2, 1, 0, in this order, or `----` if the ROM is absent
+-- the characters of a ROM's port lines 3, 2, 1 and 0, in that order, or `----` if the ROM is absent
 abbrev pub rom_bytes : Option (List LineMask) → List ℕ
 rom_bytes (Some mask) =
     mask_character (mask_at mask 3)
@@ -26,6 +26,7 @@ board_line_bytes (Rom chip k) = 0 ∷ chip ∷ k ∷ 0 ∷ []
 board_line_bytes (Ram bank chip k) = 1 ∷ bank ∷ chip ∷ k ∷ []
 board_line_bytes (Chain n i) = 2 ∷ n ∷ i ∷ 0 ∷ []
 
+-- the bytes of a chain: its clock line, its data line, and its number of chips
 abbrev pub chain_bytes : ChainPart → List ℕ
 chain_bytes c = board_line_bytes c.clock ++ (board_line_bytes c.data_in ++ c.chips ∷ [])
 

@@ -59,6 +59,7 @@ chain_at = do
   chips ← byte_at
   give (record { clock = clock; data_in = data_in; chips = chips })
 
+-- reads a key matrix: its chain, the chain bit of row 0, its number of rows, and its columns
 unfoldable pub matrix_at : Reading KeyMatrix
 matrix_at = do
   chain ← byte_at
@@ -72,6 +73,7 @@ matrix_at = do
     columns = record { items = columns };
   })
 
+-- reads the keys after their tag, which is 0 if the board has no keys and 1 if it has a key matrix
 abbrev pub keys_after_tag : ℕ → Reading (Option KeyMatrix)
 keys_after_tag tag =
     if tag == 0 then give None else

@@ -72,5 +72,6 @@ version_at_start (b ∷ bytes) =
     else if b == 2 then Some Two
     else None
 
+-- the version of the encoding of a state, which the fifth byte determines, or `None`
 abbrev pub version_of : List ℕ → Option Version
 version_of bytes = version_at_start (drop 4 bytes)

@@ -40,6 +40,7 @@ byte_of_bits f = f 0 + 2 * f 1 + 4 * f 2 + 8 * f 3 + 16 * f 4 + 32 * f 5 + 64 * 
 unfoldable pub mark_bytes : List (ℕ × ℕ) → List ℕ
 mark_bytes image = table_of 512 (λ i. byte_of_bits (λ k. mark image (8 * i + k)))
 
+-- the bytes of an image, without their addresses
 abbrev pub values : List (ℕ × ℕ) → List ℕ
 values image = map (λ p. p.1) image
 
@@ -47,6 +48,7 @@ values image = map (λ p. p.1) image
 abbrev pub image_bytes : List (ℕ × ℕ) → List ℕ
 image_bytes image = mark_bytes image ++ values image
 
+-- the bytes of a command: its tag, 1 to 13, and then its fields
 abbrev pub command_bytes : Command → List ℕ
 command_bytes (Wire board) = 1 ∷ board_bytes board
 command_bytes (Load image) = 2 ∷ image_bytes image

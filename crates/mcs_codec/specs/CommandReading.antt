@@ -27,6 +27,7 @@ status_nibble_at = do
   n ← number_below_at 16
   give (Status bank high k n)
 
+-- reads the fields of a `Place` after its tag; fails for an unknown tag
 abbrev pub place_after_tag : ℕ → Reading Place
 place_after_tag tag =
     if tag == 0 then (do n ← number_below_at 16; give (Acc n)) else
@@ -48,8 +49,8 @@ place_at = do
 unfoldable pub mark_bit : List ℕ → ℕ → ℕ
 mark_bit marks at = bit_of (slice_index marks (at / 8)) (at % 8)
 
--- Reads one byte for each marked address among the `n` addresses from `at` on (`n` is the second
--- argument). Gives each byte with its address.
+-- Reads one byte for each marked address among `n` consecutive addresses (`n` is the second
+-- argument). The first of them is `at`. Gives each byte with its address.
 unfoldable pub addressed_bytes_at : List ℕ → ℕ → ℕ → Reading (List (ℕ × ℕ))
 addressed_bytes_at marks zero at = give []
 addressed_bytes_at marks (suc n) at =
@@ -57,6 +58,7 @@ addressed_bytes_at marks (suc n) at =
     then (do byte ← byte_at; others ← addressed_bytes_at marks n (at + 1); give ((at, byte) ∷ others))
     else addressed_bytes_at marks n (at + 1)
 
+-- reads an image: the marks of the 4,096 addresses, and then one byte for each marked address
 unfoldable pub image_at : Reading (List (ℕ × ℕ))
 image_at = do
   marks ← bytes_at 512

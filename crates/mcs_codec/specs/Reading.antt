@@ -10,11 +10,14 @@ use Rattle.std.specs.Int.{Width, w16, byte_len, from_be_bytes}
 abbrev pub Read : Type 0 → Type 0
 Read A = Option (A × List ℕ)
 
+-- a function that reads a value from the start of a list of bytes
 abbrev pub Reading : Type 0 → Type 0
 Reading A = List ℕ → Read A
 
 -- ---- steps
 
+-- the result of the step `next`, which gets the value just read and reads the bytes after it;
+-- `None` if no value was read
 abbrev pub and_then : {A B : Type 0} → Read A → (A → Reading B) → Read B
 and_then (Some x) next = next x.0 x.1
 and_then None next = None

@@ -49,6 +49,7 @@ unfoldable pub watches_at : Version → Reading (List ℕ)
 watches_at One = give []
 watches_at Two = counted_at WATCHES (wide_number_at w16)
 
+-- reads a state and its version; the fields are in the order of the bytes
 unfoldable pub state_at : Reading (Version × BenchState)
 state_at = do
   seq ← wide_number_at w32

@@ -26,6 +26,8 @@ pub trait Decode: Sized + Drop {
     /// start with the encoding of a value.
     ghost reading: { List ℕ → Option (Self × List ℕ) };
 
+    /// Reads a value and consumes its bytes. Returns `None` if the reader's bytes do not start with
+    /// the encoding of a value.
     fn read(reader: &mut Reader<'_>) -> Option<Self>
         ensures { option_map (λ x. (x, reader.new)) result ≡ reading reader.old };
 }

@@ -31,8 +31,8 @@ fn marks_of(image: &[AddressedByte]) -> [Bit; ADDRESSES]
     marks
 }
 
-/// Returns a byte with the marks of the eight addresses from `at` on. The mark of `at` is the
-/// lowest bit.
+/// Returns a byte with the marks of eight consecutive addresses. The first address is `at`, and its
+/// mark is the lowest bit.
 fn mark_byte(marks: &[Bit], at: usize) -> u8
     requires { at + 8 ≤ length marks.now }
     ensures { result ≡ byte_of_bits (λ k. slice_index marks.now (at + k)) }

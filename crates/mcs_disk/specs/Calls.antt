@@ -8,7 +8,7 @@ use Rattle.std.specs.Prelude.{◌≡◌, ◌⊎◌, ℕ, zero, suc, ◌+◌, ◌
 -- A call in a list of calls: a call that returned Ok, or a failed write. Failed reads and syncs are
 -- not listed. A failed write that had no effect can be missing too (`MakesCalls` in CallList).
 pub data DiskCall : Type 0 where
-  -- a read that returned Ok; on an honest disk it returned the bytes that the disk holds
+  -- a read that returned Ok; on an honest disk it returned the bytes that the disk held
   WasRead : DiskCall
   -- a write of these bytes at this offset that returned Ok
   Wrote : ℕ → List ℕ → DiskCall
@@ -18,7 +18,7 @@ pub data DiskCall : Type 0 where
   -- the bytes `seen`, truncated to the length of `tried`. If `seen` is shorter, a read of the rest
   -- of the range returns the same bytes as before.
   Failed : ℕ → List ℕ → List ℕ → DiskCall
-  -- a sync that returned Ok: it has made all bytes of the disk stable
+  -- a sync that returned Ok: it made all bytes of the disk stable
   Synced : DiskCall
 
 -- the `n` bytes of `file` that start at offset `at`; fewer if the file ends before that

@@ -27,8 +27,8 @@ pub trait Disk {
         ensures { result ≡ size_of (state self.now) };
 
     /// Fills `into` with the bytes that start at offset `at`. The range must lie within the disk.
-    /// Fails if the device fails. On an honest disk, these are the bytes that the calls so far have
-    /// left.
+    /// Fails if the device fails. On an honest disk, a read that returns Ok returns the bytes that
+    /// the calls so far have left.
     fn read(&mut self, at: usize, into: &mut [u8]) -> Result<(), DiskFault>
         requires { at + length into.old ≤ size_of (state self.old) }
         ensures call { CountsFault (state self.old) (state self.new) (IsErr result) }

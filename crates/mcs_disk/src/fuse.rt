@@ -6,7 +6,7 @@ ghost use Rattle.mcs_disk.specs.Calls.{WasRead, Wrote, Synced};
 
 use crate::{Disk, DiskFault, MemDisk};
 
-/// A schedule: it decides which calls will fail.
+/// A schedule that decides which calls fail.
 #[derive(Clone, Copy)]
 enum Fuse {
     /// No call fails.

@@ -33,8 +33,8 @@ pub fn reads_and_syncs_add_no_image<D: Disk>()
         → images_since time (D.state new) image → images_since time (D.state old) image }
 {}
 
-/// Shows for an honest disk: if a power cut since time `later` can leave the disk `found`, then a
-/// power cut since the time `earlier` can leave `found` too.
+/// Shows for an honest disk: if a power cut since the time `later` can leave the disk `found`, then
+/// a power cut since the time `earlier` can also leave `found`.
 pub fn cut_since_later_is_since_earlier<D: Disk, E: Disk>()
     ensures { (earlier later : ℕ) (disk : D) (found : E) → earlier ≤ later
         → (D.state disk).honest → IsLeftByCut later (D.state disk) (E.state found)

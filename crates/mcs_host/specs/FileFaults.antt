@@ -8,7 +8,7 @@ use Rattle.std.specs.IoError.{error_kind, raw_os_error}
 use Rattle.mcs_host.specs.declared.file_fault.FileFault.{FileFault}
 use Rattle.mcs_host.specs.declared.file_fault.FileFault.TheVariants.{Denied, Device, Folder, FolderUnsynced, NameTooLong, NoMemory, NoSpace, NotAFile, FileMissing, TooManyFiles}
 
--- the fault for an error of this kind, or `None` if `FileFault` has no variant for the kind
+-- the `FileFault` for an error of this kind, or `None` if it has no variant for the kind
 abbrev pub fault_of_kind : ErrorKind → Option FileFault
 fault_of_kind NotFound = Some FileMissing
 fault_of_kind NotADirectory = Some FileMissing
@@ -22,30 +22,30 @@ fault_of_kind QuotaExceeded = Some NoSpace
 fault_of_kind FileTooLarge = Some NoSpace
 fault_of_kind _ = None
 
--- holds if `fault` is the fault for an error whose kind has no variant, given its error number; 23
--- and 24 are ENFILE and EMFILE (too many open files)
+-- holds if `fault` is the `FileFault` for an error whose kind has no variant, given its error
+-- number; 23 and 24 are ENFILE and EMFILE (too many open files)
 pub record IsFaultOfNumber (number : Option ℤ) (fault : FileFault) : Type 0 where
   pub full : (number ≡ Some (pos 23)) ⊎ (number ≡ Some (pos 24)) → fault ≡ TooManyFiles
   pub other : number ≢ Some (pos 23) → number ≢ Some (pos 24) → fault ≡ Device
 
--- holds if `fault` is the fault for this error of the host
+-- holds if `fault` is the `FileFault` for this error of the host
 pub record IsHostFault (error : Error) (fault : FileFault) : Type 0 where
   pub named : (f : FileFault) → fault_of_kind (error_kind error) ≡ Some f → fault ≡ f
   pub unnamed : fault_of_kind (error_kind error) ≡ None → IsFaultOfNumber (raw_os_error error) fault
 
--- holds if `fault` is the fault for an error of a call that resolves symbolic links; such a call
--- allocates memory
+-- holds if `fault` is the `FileFault` for an error of a call that resolves symbolic links; such a
+-- call allocates memory
 pub record IsNameFault (error : Error) (fault : FileFault) : Type 0 where
   pub memory : error_kind error ≡ OutOfMemory → fault ≡ NoMemory
   pub other : error_kind error ≢ OutOfMemory → IsHostFault error fault
 
--- holds if `fault` is the fault for an error of `check_removable`: `FolderUnsynced` for
+-- holds if `fault` is the `FileFault` for an error of `check_removable`: `FolderUnsynced` for
 -- `InvalidFilename` (for example, the target of a link is not valid UTF-8)
 pub record IsLinkFault (error : Error) (fault : FileFault) : Type 0 where
   pub no_text : error_kind error ≡ InvalidFilename → fault ≡ FolderUnsynced
   pub other : error_kind error ≢ InvalidFilename → IsNameFault error fault
 
--- The two kinds of errors of a look-up by name: no file has the name (`IsAbsent`), or any other
+-- The two kinds of errors of a lookup by name: no file has the name (`IsAbsent`), or any other
 -- error (`IsOtherNameError`).
 abbrev pub IsAbsent : Error → Type 0
 IsAbsent error = (error_kind error ≡ NotFound) ⊎ (error_kind error ≡ NotADirectory)

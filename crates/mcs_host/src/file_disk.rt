@@ -33,9 +33,9 @@ impl FileDisk {
     /// the file's contents are on the device. The file's name is there too if
     /// [`FileDisk::is_name_stable`] returns true.
     ///
-    /// It fails with:
+    /// Fails with:
     ///
-    /// - `NoMemory` if memory runs out for the bytes, or for the name that a link leads to
+    /// - `NoMemory` if memory runs out for the file's bytes, or for the path that a link leads to
     /// - `Stream` if the file is also a standard stream (checked before the file is opened)
     /// - `StreamsUnknown` if the host does not say whether the file is a standard stream (also
     ///   checked before the file is opened)
@@ -60,7 +60,7 @@ impl FileDisk {
 
     /// Returns true if the file's name survives a power cut, because its folder was synced. For an
     /// existing file, returns false if the program cannot read the folder, or if the host does not
-    /// sync folders. Also returns false if a link leads to a folder whose name is not valid UTF-8.
+    /// sync folders. Also returns false if a link leads to a path that is not valid UTF-8.
     pub fn is_name_stable(&self) -> bool
         ensures { result ≡ self.now.inner_disk.is_name_stable }
     {

@@ -22,16 +22,17 @@ const HOST_FILE_LIMIT_ERROR: i32 = 23;
 /// The reason why a file was not opened. Each error that a user can act on has its own variant.
 #[derive(Clone, Copy, Debug, PartialEq, Eq, Error)]
 pub enum FileFault {
-    /// Another program is using the file and holds its lock.
+    /// Another program is using the file: it holds the lock, or it has just removed or replaced the
+    /// file.
     #[error("in use")]
     InUse,
     /// The host cannot lock this file. Some network file systems have no locks.
     #[error("no lock")]
     CannotLock,
-    /// No file has this name, or the folder in the name does not exist.
+    /// No file has this name, or a folder in the name does not exist or is not a folder.
     #[error("not there")]
     FileMissing,
-    /// The program is not permitted to read and write the file.
+    /// The program is not permitted to read and write the file, or the file system is read-only.
     #[error("no permission")]
     Denied,
     /// The name refers to a folder, not to a file.
@@ -43,7 +44,7 @@ pub enum FileFault {
     /// The file's name, or a part of it, is too long.
     #[error("name too long")]
     NameTooLong,
-    /// The device has no space for the file.
+    /// The device has no space for the file, or the file exceeds a quota or a size limit.
     #[error("no space")]
     NoSpace,
     /// The file was to be created or filled, but its folder cannot be synced. A power cut could
@@ -59,10 +60,11 @@ pub enum FileFault {
     /// The host does not say whether a standard stream is this file.
     #[error("standard streams unknown")]
     StreamsUnknown,
-    /// The host rejected the file for a reason that has no variant of its own.
+    /// The host rejected the file for a reason that has no variant of its own, or the file has the
+    /// descriptor of a standard stream.
     #[error("refused")]
     Device,
-    /// Memory ran out for the file's bytes, or for the name that a link leads to.
+    /// Memory ran out for the file's bytes, or for the path that a link leads to.
     #[error("out of memory")]
     NoMemory,
 }
@@ -78,8 +80,7 @@ impl From<io::Error> for FileFault {
     }
 }
 
-// Returns the fault for an error of this kind, or `None` if [`FileFault`] has no variant for the
-// kind.
+// Returns the [`FileFault`] for an error of this kind, or `None` if it has no variant for the kind.
 fn fault_for_kind(kind: ErrorKind) -> Option<FileFault>
     ensures { result ≡ fault_of_kind kind }
 {
@@ -96,7 +97,7 @@ fn fault_for_kind(kind: ErrorKind) -> Option<FileFault>
     }
 }
 
-// Returns the fault for an error whose kind has no variant, given the error number of the host.
+// Returns the [`FileFault`] for an error whose kind has no variant, given the host's error number.
 fn fault_for_number(number: Option<i32>) -> FileFault
     ensures { IsFaultOfNumber number result }
 {

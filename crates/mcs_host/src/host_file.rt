@@ -60,14 +60,14 @@ pub trait Host {
     /// The type of an open file on this host.
     type File: HostFile + Drop;
 
-    /// Returns the standard streams that refer to the file of this name. The file must be regular
-    /// or missing. The call fails for any other file, and if the host does not say which files the
-    /// streams refer to.
+    /// Returns the standard streams that refer to the file of this name, or no streams if the file
+    /// is missing. Fails if the file is not regular, or if the host returns another error for the
+    /// name. Also fails if the host does not say which files the streams refer to.
     fn streams_of_file(&self, name: &str) -> Result<Streams, FileFault>;
 
     /// Checks that a file created under this name can be removed again. If the name is a symbolic
-    /// link, the host must give the real path of the folder that the link leads to; otherwise the
-    /// check fails. Allocates memory.
+    /// link, the check fails unless the host gives the real path of the folder that contains the
+    /// link's target. Allocates memory.
     fn check_removable(&self, alloc: Global, name: &str) -> io::Result<()>;
 
     /// Opens the existing file of this name for reading and writing. Fails if the host returns an

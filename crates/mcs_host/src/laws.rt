@@ -45,8 +45,8 @@ pub fn each_image_can_be_found()
         → (like : FileDisk) × (as_disk like).honest × AgreesButEndsWith image file like }
 {}
 
-/// Shows that no open `FileDisk` has the descriptor of a standard stream. So a write to descriptor
-/// 0, 1 or 2 never uses the descriptor of a session file.
+/// Shows that no open `FileDisk` has the descriptor of a standard stream. Therefore a write to
+/// descriptor 0, 1 or 2 never uses the descriptor of a session file.
 pub fn no_file_is_a_standard_stream()
     ensures { (file : FileDisk) → IsNotStandardStream (as_host_file file).number }
 {}

@@ -25,7 +25,7 @@ const STANDARD_ERROR: i32 = 2;
 ///
 /// If `create_if_missing` is true, creates a missing file, and fills an empty file with
 /// [`FILE_SIZE`] zero bytes. If filling fails, makes the file empty again. If the function created
-/// the file and then fails, it removes the file if the file is empty and no other program uses it.
+/// the file and then fails with an error other than `InUse`, removes the file if the file is empty.
 ///
 /// Does not open a file that is also a standard stream. Opens no file if the host does not say
 /// whether the file is a standard stream.
@@ -190,8 +190,8 @@ fn are_zeros(bytes: &[u8]) -> bool
     bytes.iter().all(|byte| *byte == 0)
 }
 
-// Returns the fault for an error that occurs while a file's folder is synced. The error can be a lack
-// of memory, because a request for the real path of a link allocates memory.
+// Returns the `FileFault` for an error that occurs while a file's folder is synced. The error can be
+// a lack of memory, because a request for the real path of a link allocates memory.
 fn fault_for_name_error(error: io::Error) -> FileFault
     ensures { IsNameFault error result }
 {
@@ -201,8 +201,8 @@ fn fault_for_name_error(error: io::Error) -> FileFault
     }
 }
 
-// Returns the fault for an error of `check_removable`. If the target of a link is not valid UTF-8,
-// for example, the fault is `FolderUnsynced`.
+// Returns the `FileFault` for an error of `check_removable`. If the target of a link is not valid
+// UTF-8, for example, it is `FolderUnsynced`.
 fn fault_for_link_error(error: io::Error) -> FileFault
     ensures { IsLinkFault error result }
 {
@@ -283,7 +283,7 @@ pub(crate) fn folder_of(name: &str) -> &str
 
 // Syncs the folder of a file, so that the file's name survives a power cut, and returns true.
 // Returns false if the program cannot read the folder, if the host does not sync folders, or if a
-// link leads to a folder whose name is not valid UTF-8. Any other error is returned as a fault.
+// link leads to a path that is not valid UTF-8. Fails for any other error of the host.
 fn try_sync_folder<N: Host>(
     host: &N,
     alloc: Global,

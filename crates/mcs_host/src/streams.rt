@@ -237,8 +237,9 @@ pub(crate) fn is_session_name(found: &[u8]) -> bool
     found == b"MCS4BEN1".as_slice()
 }
 
-/// Returns the standard streams that refer to the file of this name. Fails if the name refers to
-/// something that is not a regular file, or if the host does not say which files the streams are.
+/// Returns the standard streams that refer to the file of this name, or no streams if the file is
+/// missing. Fails if the file is not regular, or if the host returns another error for the name.
+/// Also fails if the host does not say which files the streams refer to.
 pub(crate) fn streams_of_file<R: Files>(rt: &R, file: &str) -> Result<Streams, FileFault> {
     match regular_file(fs::metadata(rt, file))? {
         Some(named) => streams_matching(rt, &named),

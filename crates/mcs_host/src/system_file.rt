@@ -1,6 +1,6 @@
 //! Files of the operating system. The methods make the host calls that the method names describe,
-//! and record each call on an open file together with its answer. No contract can check this, so a
-//! human reviewer must.
+//! and record each call on an open file together with its answer. No contract can check this: a
+//! human reviewer must check it.
 ghost use Rattle.mcs_host.specs.SystemFile.{system_state};
 ghost use Rattle.std.specs.Prelude.{◌≡◌, [], length};
 

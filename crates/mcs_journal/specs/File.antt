@@ -41,9 +41,11 @@ abbrev pub frames_of : List (List ℕ) → List ℕ
 frames_of [] = []
 frames_of (r ∷ rs) = frame_of r ++ frames_of rs
 
+-- holds if a record has a valid length: at least 1 byte and at most `MOST_RECORD` bytes
 abbrev pub IsRecord : List ℕ → Type 0
 IsRecord r = (1 ≤ length r) × (length r ≤ MOST_RECORD)
 
+-- holds if each record has a valid length
 abbrev pub AreRecords : List (List ℕ) → Type 0
 AreRecords [] = Unit {0}
 AreRecords (r ∷ rs) = IsRecord r × AreRecords rs

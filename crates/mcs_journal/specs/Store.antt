@@ -8,6 +8,7 @@ use Rattle.mcs_journal.specs.File.{Holds, slot_of, frames_of}
 use Rattle.mcs_journal.specs.declared.format.TheConstants.{FILE_SIZE, LOG_SIZE, AREA_WITH_COMMIT_SIZE}
 use Rattle.mcs_journal.specs.declared.slot.Slot.{Slot}
 
+-- a store as contracts see it, on a disk of type D
 pub record StoreView (D : Type 0) : Type 0 where
   pub disk : D
   -- true if no call on the store has returned a device fault

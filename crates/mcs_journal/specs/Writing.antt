@@ -28,7 +28,7 @@ pub record IsRecordAt (file : List ℕ) (at : ℕ) (r : List ℕ) : Type 0 where
   pub is : part at (length r + 3) file ≡ frame_of r
 
 -- Holds if the commit byte at the offset `at` is 1, but no record that fits follows. A record fits
--- if `room` bytes hold its frame and the next commit byte.
+-- if its frame and the next commit byte have at most `room` bytes.
 pub record HasNoRecordAt (file : List ℕ) (at room : ℕ) : Type 0 where
   pub opened : slice_index file at ≡ 1
   pub none : (r : List ℕ) → length r + 4 ≤ room → IsRecordAt file at r → ⊥

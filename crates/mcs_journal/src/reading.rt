@@ -34,9 +34,9 @@ pub fn read_at<D: Disk>(disk: &mut D, at: usize, into: &mut [u8]) -> Result<(), 
     disk.read(at, into)
 }
 
-/// Reads the record whose commit byte is at offset `at`. From that offset on, the log has `room`
-/// bytes. Returns `None` if the commit byte is not 1. Fails if the commit byte is 1 but no record
-/// that fits into the log follows, if the device fails, or if memory runs out.
+/// Reads the record whose commit byte is at offset `at`. The log has `room` bytes from that offset
+/// to its end. Returns `None` if the commit byte is not 1. Fails if the commit byte is 1 but no
+/// record that fits into the log follows, if the device fails, or if memory runs out.
 pub fn read_record<D: Disk>(
     alloc: Global,
     disk: &mut D,

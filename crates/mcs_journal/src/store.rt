@@ -57,7 +57,7 @@ pub struct Opened<D: Disk + Drop> {
 
 impl<D: Disk + Drop> Store<D> {
     /// Creates a store with the snapshot `snap`, of at most 16,380 bytes, and no records. The disk
-    /// must have [`FILE_SIZE`](crate::FILE_SIZE) bytes, of which the first 16 are 0.
+    /// must have [`FILE_SIZE`](crate::FILE_SIZE) bytes, and its first 16 bytes must be 0.
     ///
     /// An error returns the disk. If the error is not `Device`, nothing was written. A power cut
     /// during the call can leave any bytes.

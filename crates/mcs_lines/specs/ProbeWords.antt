@@ -109,8 +109,8 @@ number_after_prefix start name = elim (after_prefix start name) [
   | Some n ↦ if is_number n then Some n else None
 ]
 
--- The number in `name` after the prefix `start`, if a later part of the word, `k`, is a number,
--- too. `None` if `k` is not a number, or if `name` does not consist of the prefix and a number.
+-- The number in `name` after the prefix `start`, if a later part of the word, `k`, is also a
+-- number. `None` if `k` is not a number, or if `name` does not consist of the prefix and a number.
 abbrev pub number_before_number : List ℕ → List ℕ → List ℕ → Option (List ℕ)
 number_before_number start name k = if is_number k then number_after_prefix start name else None
 

@@ -136,7 +136,7 @@ fn number_after_prefix<'a>(start: &[u8], name: &'a [u8]) -> Option<&'a [u8]>
     if is_number(n) { Some(n) } else { None }
 }
 
-/// Returns the number that follows the prefix `start` in `name`, if a later part of the word, `k`, is a number, too.
+/// Returns the number that follows the prefix `start` in `name`, if a later part of the word, `k`, is also a number.
 /// Returns `None` if `k` is not a number, or if `name` does not consist of that prefix and a number.
 fn number_before_number<'a>(start: &[u8], name: &'a [u8], k: &[u8]) -> Option<&'a [u8]>
     ensures { MatchOption result (number_before_number start.now name.now k.now ≡ None)

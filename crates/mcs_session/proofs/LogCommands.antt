@@ -22,7 +22,7 @@ use Rattle.mcs_session.proofs.Records.{records_represent_appended_command, start
 
 -- ---- the commands of a log
 
--- a file's log holds exactly one list of commands
+-- the log of a file holds at most one list of commands
 pub held_commands_are_unique : (file : List ℕ) (a b : List Command) → LogHolds file a → LogHolds file b → a ≡ b
 held_commands_are_unique file a b x y =
     let snap = snapshot_is_unique _ _ _ _ _ x.represents.holds y.represents.holds in

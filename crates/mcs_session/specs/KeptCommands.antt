@@ -29,10 +29,10 @@ pub record RepresentsPrefix
 
 -- ---- a run
 
--- The commands that a disk keeps, executed from the state `s` on. `done` are the acknowledged
--- commands, each with its moment. `failed` are the commands after `done` that can also have reached
--- the disk. `reached` is `done` followed by `failed`. (In `KeepsAllCommands`, `failed` is empty. In
--- `ClosesSession` of mcs_shell, `failed` is the command at which the device failed.)
+-- The commands that a disk keeps, executed one after another from the state `s`. `done` are the
+-- acknowledged commands, each with its moment. `failed` are the commands after `done` that can also
+-- have reached the disk. `reached` is `done` followed by `failed`. (In `KeepsAllCommands`, `failed`
+-- is empty. In `ClosesSession` of mcs_shell, `failed` is the command at which the device failed.)
 pub record KeepsCommands
     (old new : DiskState) (s : BenchState) (done reached : List Command) : Type 0 where
   pub acknowledged : Acknowledgements old new done

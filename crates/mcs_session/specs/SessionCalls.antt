@@ -30,9 +30,9 @@ pub record MigratesSession (old new : DiskState) (s : BenchState) : Type 0 where
   pub adds_no_image : Represents (bytes_of old) s → AddsNoImage old new
   pub migrated : RepresentsConverted (bytes_of old) s → HoldsState (bytes_of new) s
 
--- Holds if the file on `old` represents a state in version 1. A power cut since then leaves an
--- image of `old`, or a file that represents the same state in either version. (`FailedOpenLeaves`
--- uses this record if the device failed while the contents were replaced.)
+-- Holds if the file on `old` represents a state in version 1. A power cut between `old` and `new`
+-- leaves an image of `old`, or a file that represents the same state in either version.
+-- (`FailedOpenLeaves` uses this record if the device failed while the contents were replaced.)
 pub record FailsMigrating (old new : DiskState) : Type 0 where
   pub state : BenchState
   pub represents : RepresentsConverted (bytes_of old) state

@@ -24,8 +24,9 @@ use std::marker::Model;
 
 /// A bench and the disk on which it records each accepted command before it answers.
 ///
-/// A command that is answered with a device fault closes the session. The disk then represents the
-/// state before that command or the state after it. Opening the disk again shows which of the two.
+/// A command that is answered with a device fault closes the session. An honest disk then
+/// represents the state before that command or the state after it. Opening the disk again shows
+/// which of the two it represents.
 #[derive(Drop)]
 pub struct Session<D: Disk + Drop> {
     log: CommandLog<D>,
@@ -100,8 +101,8 @@ impl<D: Disk + Drop> Session<D> {
     }
 
     /// Opens the session that a disk holds. `open` writes nothing to a file of version 2. In a file of
-    /// version 1, a snapshot of version 2 replaces the contents, after all memory was allocated.
-    /// The file represents the same state at every moment.
+    /// version 1, a snapshot of version 2 replaces the contents, after all memory was allocated. An
+    /// honest disk represents the same state at every moment.
     ///
     /// It fails if memory runs out (refusal 90), or if the size or the first eight bytes are not
     /// those of a session file (refusal 50). It also fails if the file is damaged and represents no
@@ -179,7 +180,7 @@ impl<D: Disk + Drop> Session<D> {
     }
 
     /// Records a command on the disk and then executes it. `Ok` acknowledges the command: from then
-    /// on, no power cut loses it.
+    /// on, no power cut loses it if the disk is honest.
     ///
     /// If the log has no room for the record or for the cycles of the command, `apply` first writes
     /// a snapshot of the state before the command. This snapshot replaces the old snapshot and all
@@ -217,8 +218,8 @@ impl<D: Disk + Drop> Session<D> {
     }
 
     /// Replaces the contents of the disk with a snapshot of the bench, so that a later `open` has
-    /// no commands to replay. The state of the bench does not change, and the disk represents this
-    /// state at every moment.
+    /// no commands to replay. The state of the bench does not change, and an honest disk represents
+    /// this state at every moment.
     ///
     /// It fails on a closed session (refusal 54), or if a call on the disk fails (refusal 53).
     pub fn settle(&mut self) -> Result<(), SessionFault>

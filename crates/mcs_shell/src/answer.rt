@@ -165,7 +165,7 @@ impl Answer {
         Ok(())
     }
 
-    /// Sets the answer to the given lines, each of which ends with a line feed.
+    /// Sets the answer to the given lines. Each line ends with a line feed.
     pub(crate) fn set_lines(&mut self, lines: Vec<u8>)
         ensures { self.new ≡ lines.items }
     {

@@ -51,8 +51,8 @@ fn answer_change<D: Disk + Drop>(
     }
 }
 
-/// Returns the outcome of a request whose answer needs memory. `put` is the result of putting the answer into `answer`.
-/// If an allocation failed, sets the answer to the refusal `NO_MEMORY` (90).
+/// Returns the outcome of a request whose answer needs memory. `put` is the result of the call that set `answer`. If an
+/// allocation failed in that call, sets the answer to the refusal `NO_MEMORY` (90).
 fn outcome_of_allocation(put: Result<(), AllocError>, answer: &mut Answer) -> Outcome
     ensures put { OnOk put ((result ≡ Outcome.Answered) × (answer.new ≡ answer.old)) }
     ensures refused { OnErr put ((result ≡ Outcome.NoMemory) × (answer.new ≡ no_text NO_MEMORY)) }

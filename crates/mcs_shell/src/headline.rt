@@ -23,8 +23,8 @@ pub fn a_run_answers_and_survives_power_cuts<D: Disk, E: Disk>()
 {}
 
 /// Proves the headline for a run on a file of the host. A close, a kill or a power cut stops the run. The law covers
-/// all contents that are possible in the file after the stop. The session opened afterwards is the one that the
-/// program's `open` begins on these contents.
+/// all contents that are possible in the file after the stop. The program's `open` then begins a session on these
+/// contents.
 pub fn a_file_survives_power_cuts()
     ensures { (run : ShellRun as_disk) → IsOpenOnHonestDisk (session_state as_disk run.before)
         → SurvivesInFile run }
@@ -32,7 +32,7 @@ pub fn a_file_survives_power_cuts()
 
 /// Proves the headline for any number of runs. A power cut ends each run, and the next run opens a session on the disk
 /// that the cut left. A cut can happen at any moment, even while a session is opened or converted from version 1. A
-/// refused opening counts as a run, too. The session opened at the end has executed the commands kept from each run, in
+/// refused opening also counts as a run. The session opened at the end has executed the commands kept from each run, in
 /// order. The commands kept from a run are a prefix of a list: those answered `ok`, followed by the one answered
 /// `no 53` (device failed), if there is one. The prefix includes every command that was acknowledged before the power
 /// cut.

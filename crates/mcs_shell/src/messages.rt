@@ -1,5 +1,6 @@
-//! Messages for the user on standard error: the usage, and the reason why a session is refused or ends early. The
-//! program ignores an error in writing a message. Standard output and the exit status do not depend on these messages.
+//! Messages for the user on standard error: the usage, and the reason why a session is refused or ends early. If a
+//! message cannot be written, the program ignores the error. Standard output and the exit status do not depend on
+//! these messages.
 use crate::ends::ShellEnd;
 use crate::faults::BeginFault;
 use mcs_host::{Choice, FileDisk, FileFault, StreamsError, StreamsFault};
@@ -11,7 +12,7 @@ use std::path::Path;
 pub struct Refusal {
     /// The reason for the refusal.
     pub fault: BeginFault,
-    /// True if the device has no space left.
+    /// True if the device is full or a quota is used up.
     pub is_full: bool,
     /// True if the file has as many bytes as a session file and starts with the name of the session format.
     pub is_named_session: bool,
@@ -156,8 +157,8 @@ fn has_folder(rt: &HostRuntime, file: &str) -> bool {
     }
 }
 
-/// Prints why a session ended. Prints nothing if the session reached the end of its input. `ended` has the reason for
-/// the end of the shell, and a Bool that is true if the session's device is full. Prints nothing if `ended` is `None`.
+/// Prints why a session ended. `ended` has the reason for the end of the shell, and a Bool that is true if the
+/// session's device is full. Prints nothing if the session reached the end of its input, or if `ended` is `None`.
 pub fn print_end_reason(rt: &HostRuntime, file: &str, ended: Option<(ShellEnd, bool)>) {
     let Some((end, is_full)) = ended else {
         return;
@@ -173,7 +174,7 @@ pub fn print_end_reason(rt: &HostRuntime, file: &str, ended: Option<(ShellEnd, b
     let _ = eprintln!(rt; "mcs4: {file}: {reason}");
 }
 
-/// Prints that there was no memory to read the arguments.
+/// Prints that memory ran out while the arguments were read.
 pub fn print_no_memory(rt: &HostRuntime) {
     let _ = eprintln!(rt; "mcs4: out of memory");
 }

@@ -36,7 +36,7 @@ const WRONG_ARGUMENTS_STATUS: u8 = 2;
 /// The exit status if the session is refused.
 const REFUSED_STATUS: u8 = 3;
 
-/// Returns the command-line arguments, with the program's name first. Arguments that are not valid text are a usage
+/// Returns the command-line arguments, with the program's name first. An argument that is not valid UTF-8 is a usage
 /// error.
 fn given_arguments(rt: &HostRuntime) -> Result<Vec<String>, WordsFault> {
     match env::args(rt) {
@@ -77,9 +77,9 @@ pub fn refuse_streams(rt: &HostRuntime, refused: StreamsError) -> ExitCode
     status
 }
 
-/// If the arguments are invalid, reports this error and returns exit status 2. If there was no memory to read the
-/// arguments, reports this error and returns exit status 3. The exit status is the same if the message cannot be
-/// written.
+/// Reports an error in the arguments. If the arguments are invalid, prints the usage and returns exit status 2. If
+/// there was no memory to read them, prints `no 90` and a message, and returns exit status 3. The exit status is the
+/// same if the report cannot be written.
 pub fn refuse_arguments(rt: &HostRuntime, fault: WordsFault) -> ExitCode
     ensures usage { fault ≡ WordsFault.Usage → exit_status result ≡ 2 }
     ensures no_memory { fault ≡ WordsFault.NoMemory → exit_status result ≡ 3 }
@@ -148,7 +148,8 @@ pub fn begin_session_on<D: Disk + Drop>(
     }
 }
 
-/// Creates or opens the session in the chosen file. Fails with the reason if no session began.
+/// Creates or opens the session in the chosen file. Prints a warning if the file's folder was not synced. Fails with
+/// the reason if no session began.
 pub fn begin_session_in(
     rt: &HostRuntime,
     choice: &Choice,
@@ -169,6 +170,7 @@ pub fn begin_session_in(
 }
 
 /// Serves a session with a reader and a writer. Returns the reason for the end of the shell, and the exit status.
+/// Prints `no 90` if the shell could not allocate its buffer.
 pub fn serve<R: InputSource, W: AnswerSink, D: Disk + Drop>(
     rt: &HostRuntime,
     reader: &mut R,
@@ -199,8 +201,8 @@ pub struct ProgramResult<D: Disk + Drop> {
     pub end: Option<ShellEnd>,
 }
 
-/// Serves the session that began, with a reader and a writer. If no session began, prints the refusal number and
-/// returns exit status 3.
+/// Serves the session that began, with a reader and a writer. If no session began, prints the refusal number, unless
+/// standard output is the session's file, and returns exit status 3.
 pub fn serve_if_begun<R: InputSource, W: AnswerSink, D: Disk + Drop>(
     rt: &HostRuntime,
     reader: &mut R,
@@ -328,8 +330,8 @@ fn run_given_arguments(rt: &HostRuntime) -> ProgramResult<FileDisk>
 }
 
 /// Runs the program with the command-line arguments, standard input and standard output. Returns the exit status, and
-/// the session as its shell left it. The exit status is 3 if a standard stream may go into a session file, or if
-/// `/dev/null` cannot replace a closed stream.
+/// the session as its shell left it. The exit status is 3 if an output stream is a session file, or if the host does
+/// not say which file a stream is. It is also 3 if `/dev/null` cannot replace a closed stream.
 pub fn run_program(rt: &HostRuntime) -> ProgramResult<FileDisk>
     ensures served { IfSome result.session (λ after.
         ServedBySomeArguments as_disk (exit_status result.status) after) }

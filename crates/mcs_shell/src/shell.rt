@@ -41,8 +41,8 @@ fn read_some<R: InputSource>(
     reader.read_some(&mut buffer[..max_count])
 }
 
-/// If a text is open, answers it with refusal 15, because input has ended inside the text. The unfinished line must be
-/// empty. Fails with the reason why the shell ends, if the answer cannot be written.
+/// Answers the open text, if there is one, with refusal 15, because input has ended inside the text. The unfinished
+/// line must be empty. Fails with the reason why the shell ends, if the answer cannot be written.
 fn finish_text<W: AnswerSink, D: Disk + Drop>(
     unfinished: &UnfinishedInput,
     writer: &mut W,
@@ -129,9 +129,9 @@ fn run_loop<R: InputSource, W: AnswerSink, D: Disk + Drop>(
 /// Serves the lines of a reader on a session until input ends, a call fails, or the input limit is reached. Returns the
 /// reason for the end of the shell.
 ///
-/// The shell records each accepted command before it writes the command's answer. The machine can stop at any moment. A
-/// session that is then opened on the disk has executed a prefix of the accepted commands. The prefix includes each
-/// acknowledged command.
+/// The shell records each accepted command before it writes the command's answer. The machine can stop at any moment.
+/// If the session was open on an honest disk, a session that is opened afterwards has executed a prefix of the accepted
+/// commands. The prefix includes each acknowledged command.
 pub fn run_shell<R: InputSource, W: AnswerSink, D: Disk + Drop>(
     alloc: Global,
     reader: &mut R,

@@ -77,8 +77,8 @@ pub record AnswersInBuffer (file input : List ℕ) (end : ShellEnd) (count : ℕ
   pub served : ServesFile file input end (take count buffer') after
   pub rest : drop count buffer' ≡ drop count buffer
 
--- Holds if opening a file can fail with this fault: because of the file's bytes, or because memory
--- ran out. An open on an in-memory disk has no other fault.
+-- Holds if opening a file can fail with this error: because of the file's bytes, or because memory
+-- ran out. Opening an in-memory disk cannot fail with any other error.
 abbrev pub IsFileRefused : StoreFault → List ℕ → Type 0
 IsFileRefused store_fault.NoMemory file = Unit {0}
 IsFileRefused store_fault.Device file = ⊥
@@ -97,7 +97,7 @@ pub record LacksBufferRoom (file input : List ℕ) (count room : ℕ) : Type 0 w
   pub counted : length answers ≡ count
   pub short : room < count
 
--- holds if a call with this file and this input can fail with this fault; `room` is the number of
+-- holds if a call with this file and this input can fail with this error; `room` is the number of
 -- bytes in the buffer
 abbrev pub IsServeFault : ServeFault → List ℕ → List ℕ → ℕ → Type 0
 IsServeFault (Refused fault) file input room = IsFileRefused fault file

@@ -14,7 +14,7 @@ use std::alloc::{AllocError, Global};
 fn disk_of(alloc: Global, file: &[u8]) -> Result<MemDisk, AllocError>
     ensures { IfOk result (λ disk. IsFresh file.now (mem_disk_state disk)) }
 {
-    // `to_vec` copies byte by byte, so the vector is filled with zeros first and then all bytes are copied at once
+    // `to_vec` would copy byte by byte. This code fills the vector with zeros and then copies all bytes at once.
     let mut bytes = vec![in alloc; 0u8; file.len()]?;
     bytes.copy_from_slice(file);
     Ok(MemDisk::with_bytes(bytes))

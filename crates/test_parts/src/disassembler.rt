@@ -44,7 +44,7 @@ fn address(at: u16) -> Addr {
     Addr::of(at).unwrap_or(Addr::ZERO)
 }
 
-/// Checks that the listing of a ROM from an address on consists of the given lines.
+/// Checks that the listing of a ROM that starts at an address consists of the given lines.
 fn expect_listing(
     rt: &impl Abort,
     alloc: Global,

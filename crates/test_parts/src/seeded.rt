@@ -1,6 +1,6 @@
 //! Tests of chips that pack several values into one word. Some tests use values that were worked
-//! out manually. Other tests make calls that a seeded generator chooses, and compare banks and
-//! chains of several sizes with reference models in plain lists.
+//! out manually. Other tests make pseudo-random calls from a fixed seed. They compare banks and
+//! chains of several sizes with reference models, which store one value in each list element.
 ghost use Rattle.std.specs.Prelude.{◌<◌, ◌≤◌};
 
 use crate::checks::expect_equal;

@@ -3,7 +3,8 @@ use mcs_lines::requests::{Request, parse_request};
 use mcs_model::query::Query;
 use std::process::Abort;
 
-/// Returns true if a line parses as the query `state`, which reports the whole state in one line.
+/// Returns true if a line parses as the query `state`, which reports all state except the board, the
+/// ROM and the RAM in one line.
 fn is_state_query(line: &[u8]) -> bool {
     matches!(parse_request(line), Request::Ask(Query::State))
 }

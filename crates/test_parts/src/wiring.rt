@@ -1,6 +1,6 @@
-//! Tests of refusal numbers, and of board texts that no session can pass to `board_of`. These texts
-//! contain bytes other than LF, tab and printable ASCII, or do not end with LF. All other texts are
-//! in checks/lib/scripts/board_texts.scripts.
+//! Tests of refusal numbers, of the answer to `wiring`, and of board texts that no session can pass
+//! to `board_of`. The texts of the last kind contain bytes other than LF, tab and printable ASCII,
+//! or do not end with LF. Other texts are in checks/lib/scripts/board_texts.scripts.
 use mcs_wiring::{WiringFault, board_of, board_text, wiring_text};
 use std::alloc::Global;
 use std::process::Abort;

@@ -1,5 +1,5 @@
-//! A test of a search in which one allocation fails. `checks/allocations` runs it repeatedly and makes another
-//! allocation fail each time. When `./test gate` runs it, no allocation fails.
+//! A test of a search in which one allocation fails. `checks/allocations` runs the test repeatedly and makes a
+//! different allocation fail each time. When `./test gate` runs the test, no allocation fails.
 use crate::wheels::{Wheels, resume};
 use mcs_search::{Search, Verdict};
 use std::alloc::Global;
@@ -14,7 +14,7 @@ const POSITION_COUNT: u8 = 41;
 /// The number of states: 41 * 41 * 41, one for each combination of positions.
 const STATES: usize = 68_921;
 
-/// A number of steps that is enough for all states.
+/// A number of steps that is sufficient to follow the choices of all states.
 const STEPS: usize = 100_000;
 
 /// Checks that the property holds, and that the search found all states.
@@ -42,7 +42,7 @@ fn run_to_end(rt: &impl Abort, search: &mut Search) -> &'static str {
     }
 }
 
-/// Begins a search, and begins again if an allocation fails. Then runs the search to its end. Returns the part whose
+/// Begins a search, and tries again if an allocation fails. Then runs the search to its end. Returns the part whose
 /// allocation failed, or `nothing`.
 fn run(alloc: Global, rt: &impl Abort) -> &'static str {
     match Search::begin(alloc, &START, STATES) {

@@ -82,7 +82,8 @@ pub(crate) fn resume(
     search.resume(wheels, steps)
 }
 
-/// Searches all states of the wheels from position 0 of each wheel, up to `most` states.
+/// Searches the states of the wheels. In the start state, all wheels are at position 0. The verdict is `TooMany` if the
+/// search finds more than `most` states.
 pub(crate) fn search_wheels(
     alloc: Global,
     rt: &impl Abort,

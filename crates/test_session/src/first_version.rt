@@ -1,4 +1,4 @@
-//! Tests in which the disk stops during the migration of a session of version 1. Opening such a
+//! Tests in which the disk fails during the migration of a session of version 1. Opening such a
 //! session migrates it.
 use crate::checks::expect_equal;
 use crate::session_helpers::{

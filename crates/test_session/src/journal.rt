@@ -1,3 +1,5 @@
+//! Tests of the journal: the bytes that a store writes, and the contents that `open` finds after a
+//! stop, an interrupted write or damage.
 use crate::checks::expect_equal;
 use mcs_disk::{
     Disk, FuseDisk, MemDisk, current_bytes_are_an_image,
@@ -39,7 +41,7 @@ fn expect_bytes(rt: &impl Abort, disk: &mut MemDisk, at: usize, want: &[u8]) {
     assert_eq!(rt; &*found, want, "at {at}");
 }
 
-/// Overwrites bytes of a disk at an offset, like another program or an interrupted write.
+/// Overwrites bytes of a disk at an offset, as another program or an interrupted write would.
 fn damage(rt: &impl Abort, disk: &mut MemDisk, at: usize, bytes: &[u8]) {
     assert!(rt; bytes.len() <= FILE_SIZE && at <= disk.size() && bytes.len() <= disk.size() - at);
     disk.write(at, bytes).expect(rt, "a write");
@@ -241,7 +243,7 @@ fn creates_a_store_only_on_a_blank_disk(rt: HostRuntime) {
     }
 }
 
-/// Applies the laws of power cuts to the two types of disks in memory. The laws are proved for all
+/// Applies the laws of power cuts to the two types of in-memory disks. The laws are proved for all
 /// types of disks.
 #[test]
 fn laws_of_power_cuts_hold_of_disks_in_memory(_rt: HostRuntime) {

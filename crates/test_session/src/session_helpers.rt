@@ -23,7 +23,7 @@ pub(crate) fn blank_disk(alloc: Global, rt: &impl Abort) -> MemDisk {
     MemDisk::new(alloc, FILE_SIZE).expect(rt, "memory")
 }
 
-/// Creates a session on a disk. Returns the session, or the fault and the disk.
+/// Creates a session on a disk. Returns the session, or the error and the disk.
 pub(crate) fn create<D: Disk + Drop>(
     alloc: Global,
     disk: D,
@@ -43,7 +43,7 @@ pub(crate) fn create_session<D: Disk + Drop>(
     }
 }
 
-/// Opens the session on a disk. Returns the session, or the fault and the disk.
+/// Opens the session on a disk. Returns the session, or the error and the disk.
 pub(crate) fn open<D: Disk + Drop>(alloc: Global, disk: D) -> Result<Session<D>, (StoreFault, D)> {
     Session::open(alloc, disk)
 }
@@ -87,7 +87,7 @@ pub(crate) fn expect_register<D: Disk + Drop>(
     expect_equal(rt, bench.regs().r[register].get(), value);
 }
 
-/// Applies a command to a session. Returns the reply, or the fault.
+/// Applies a command to a session. Returns the reply, or the error.
 fn apply_command<D: Disk + Drop>(
     session: &mut Session<D>,
     command: &Command,
@@ -95,7 +95,7 @@ fn apply_command<D: Disk + Drop>(
     session.apply(command)
 }
 
-/// Checks that applying a command to a session fails with the given fault.
+/// Checks that applying a command to a session fails with the given error.
 pub(crate) fn expect_fault<D: Disk + Drop>(
     rt: &impl Abort,
     session: &mut Session<D>,
@@ -149,7 +149,7 @@ pub(crate) fn expect_bytes<D: Disk>(rt: &impl Abort, disk: &mut D, at: usize, wa
     assert_eq!(rt; &*found, want, "at {at}");
 }
 
-/// Overwrites bytes of a disk at an offset, like an interrupted write.
+/// Overwrites bytes of a disk at an offset, as an interrupted write would.
 pub(crate) fn overwrite<D: Disk>(rt: &impl Abort, disk: &mut D, at: usize, bytes: &[u8]) {
     assert!(rt; at <= disk.size() && bytes.len() <= disk.size() - at);
     assert!(rt; disk.write(at, bytes).is_ok());

@@ -1,4 +1,4 @@
-//! Tests of whole sessions on disks in memory. Disks, readers, writers or allocations fail in these tests. Other
+//! Tests of whole sessions on in-memory disks. Disks, readers, writers or allocations fail in these tests. Other
 //! tests cover the calls that the page makes.
 #![tactic(auto)]
 

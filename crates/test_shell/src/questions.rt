@@ -13,7 +13,7 @@ const SCRIPT: &[u8] =
     b"map\na: JUN a\nb = 0x2F\n.\nmap\nJUN c\n.\ncount 2\ntrace 2 pc lamps\nseq\n";
 
 /// The answers to the script, each with the part of the script that failed. In the first row, no allocation fails. In
-/// the other rows, an allocation fails for the first program, the second program, the count or the trace, in this
+/// the other rows, an allocation fails for the first program, the second program, the count or the trace, in that
 /// order.
 const ANSWERS: [(&[u8], &str); 5] = [
     (

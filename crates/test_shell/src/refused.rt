@@ -40,7 +40,7 @@ const QUESTIONS: &[u8] = b"asm\nLDM 1\n.\nlist 0 1\nboard\nseq\n";
 const BOARD: &[u8] = b"board\n";
 
 /// The answers to the script, one row for each part that can fail. In the first row, every allocation succeeds. In
-/// the other rows, an allocation fails for the board, the program, the listing or the query `board`, in this order.
+/// the other rows, an allocation fails for the board, the program, the listing or the query `board`, in that order.
 /// The text of the board follows the line `BOARD` in the output.
 const ANSWERS: [[&[u8]; 6]; 5] = [
     [

@@ -1,4 +1,4 @@
-//! A script of commands with its answers, and the questions that show a session's state.
+//! A script of commands with its answers, and the queries that show a session's state.
 use mcs_fixtures::texts::WIRE_EXAMPLE;
 
 /// The commands of the script, in order. The first wires a board with three ROMs, two RAM banks, a shift-register
@@ -33,7 +33,7 @@ pub(crate) const ANSWERS: [&[u8]; 5] = [
     b"ok 5\n",
 ];
 
-/// Questions whose answers distinguish any two states.
+/// Queries whose answers distinguish any two of the states in these tests.
 pub(crate) const QUESTIONS: &[u8] = b"board
 list 0 12
 ram 0
@@ -49,5 +49,5 @@ regs
 pub(crate) const POKE: &[u8] = b"poke r0 1\n";
 
 /// The number of pokes that fill the log after the commands of `INPUTS`, so that no other poke fits. The records of
-/// the commands of `INPUTS` take 136, 527, 6, 8 and 7 of the log's 65,535 bytes.
+/// the commands of `INPUTS` take 136, 527, 6, 8 and 7 of the 65,535 bytes that a log has for records.
 pub(crate) const POKES: usize = 9_264;

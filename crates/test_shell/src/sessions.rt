@@ -1,4 +1,4 @@
-//! Helper functions for sessions on files in memory.
+//! Helper functions for sessions on in-memory files.
 ghost use Rattle.std.specs.Prelude.{◌≡◌, ◌≤◌, ◌+◌, length};
 
 use crate::scripts::QUESTIONS;
@@ -20,12 +20,12 @@ pub(crate) fn expect(rt: &impl Abort, holds: bool, at: usize) {
     assert!(rt; holds, "at {at}");
 }
 
-/// Returns a disk in memory with the size of a session file. All bytes are 0.
+/// Returns an in-memory disk with the size of a session file. All bytes are 0.
 pub(crate) fn blank_disk(alloc: Global, rt: &impl Abort) -> MemDisk {
     MemDisk::new(alloc, FILE_SIZE).expect(rt, "memory")
 }
 
-/// Returns a disk in memory with the given bytes.
+/// Returns an in-memory disk with the given bytes.
 pub(crate) fn disk_of(alloc: Global, rt: &impl Abort, bytes: &[u8]) -> MemDisk {
     let mut disk = MemDisk::new(alloc, bytes.len()).expect(rt, "memory");
     disk.write(0, bytes).expect(rt, "a write");
@@ -46,7 +46,7 @@ pub(crate) fn overwrite(rt: &impl Abort, file: &mut [u8], at: usize, bytes: &[u8
 }
 
 // The functions below wrap functions with long contracts, and have no contracts of their own. A test needs no
-// contracts, because it must only be proved safe. The proof of a call to a wrapper takes no time.
+// contracts, because only its safety is proved. The proof of a call to a wrapper takes no time.
 
 /// Creates a session with a new bench on a disk.
 pub(crate) fn create<D: Disk + Drop>(
@@ -114,7 +114,7 @@ pub(crate) fn new_session<D: Disk + Drop>(alloc: Global, rt: &impl Abort, disk: 
     }
 }
 
-/// Returns a session with a new bench on a disk in memory.
+/// Returns a session with a new bench on an in-memory disk.
 pub(crate) fn new_session_in_memory(alloc: Global, rt: &impl Abort) -> Session<MemDisk> {
     new_session(alloc, rt, blank_disk(alloc, rt))
 }
@@ -193,7 +193,7 @@ fn push_state(rt: &impl Abort, states: &mut Vec<Vec<u8>>, state: Vec<u8>) {
     states.push(state).expect(rt, "memory");
 }
 
-/// Executes the command that sets register R0 to 1, `times` times.
+/// Executes `times` commands that each set register R0 to 1.
 fn poke_often<D: Disk + Drop>(rt: &impl Abort, session: &mut Session<D>, times: usize) {
     for i in 0..times {
         expect(rt, poke(session).is_ok(), i);
@@ -234,7 +234,7 @@ pub(crate) fn open_or_panic<D: Disk + Drop>(alloc: Global, rt: &impl Abort, disk
     }
 }
 
-/// Returns the session that is stored in a file, on a disk in memory.
+/// Returns the session that is stored in a file, on an in-memory disk.
 pub(crate) fn open_in_memory(alloc: Global, rt: &impl Abort, file: &[u8]) -> Session<MemDisk> {
     open_or_panic(alloc, rt, disk_of(alloc, rt, file))
 }

@@ -83,9 +83,9 @@ fn expect_executed_before_stop(
     }
 }
 
-/// Checks a session whose disk stops after the first `calls` calls. Creating the session takes five device calls, and
+/// Checks a session whose disk fails after the first `calls` calls. Creating the session takes five device calls, and
 /// each command takes four. The last of these four calls acknowledges the command. A disk that fails only one call
-/// needs no mending.
+/// needs no mending after that call.
 fn expect_stop_in_commands(
     alloc: Global,
     rt: &impl Abort,

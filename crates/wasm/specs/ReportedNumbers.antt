@@ -32,34 +32,34 @@ pub record ReportsDryRun (file input : List ℕ) (number count : ℕ) (buffer bu
   pub number_reported : number ≡ exit_status_of end
   pub answers : WouldAnswer file input end count buffer buffer'
 
--- the number that a call reports for a fault: the refusal number, or 0 if the answers do not fit
+-- the number that a call reports for an error: the refusal number, or 0 if the answers do not fit
 -- into the buffer
 abbrev pub number_of_fault : ServeFault → ℕ
 number_of_fault (Refused fault) = store_fault_number fault
 number_of_fault (NoRoom count) = 0
 
--- the count that a call reports for a fault: the number of bytes in the answers if they do not fit
+-- the count that a call reports for an error: the number of bytes in the answers if they do not fit
 -- into the buffer, otherwise 0
 abbrev pub count_of_fault : ServeFault → ℕ
 count_of_fault (Refused fault) = 0
 count_of_fault (NoRoom count) = count
 
--- holds if the number and the count report a fault with which a call with this file and this input
--- can fail; `room` is the number of bytes in the buffer
+-- holds if a call with this file and this input can fail with the error that the number and the
+-- count report; `room` is the number of bytes in the buffer
 pub record ReportsFault (file input : List ℕ) (number count room : ℕ) : Type 0 where
   pub fault : ServeFault
   pub number_reported : number ≡ number_of_fault fault
   pub count_reported : count ≡ count_of_fault fault
   pub is_fault : IsServeFault fault file input room
 
--- Holds if this fault can prevent the prover from writing its answer line: memory ran out, or the
+-- Holds if this error can prevent the prover from writing its answer line: memory ran out, or the
 -- line has more than the `room` bytes of the buffer.
 abbrev pub IsProverFault : ServeFault → ℕ → Type 0
 IsProverFault (Refused store_fault.NoMemory) room = Unit {0}
 IsProverFault (Refused fault) room = ⊥
 IsProverFault (NoRoom count) room = room < count
 
--- holds if the number and the count report a fault that can prevent the prover from writing its
+-- holds if the number and the count report an error that can prevent the prover from writing its
 -- answer line
 pub record ReportsProverFault (number count room : ℕ) : Type 0 where
   pub fault : ServeFault

@@ -43,8 +43,8 @@ fn report_served(served: ServedInput, report: &mut CallResult) -> bool
     true
 }
 
-/// Writes a fault to `report`: the refusal number and the count 0, or, if the answers do not fit, the number 0 and the
-/// number of bytes in the answers. Returns false.
+/// Writes an error to `report`: the refusal number and the count 0. If the answers do not fit, writes the number 0 and
+/// the number of bytes in the answers instead. Returns false.
 fn report_fault(fault: ServeFault, report: &mut CallResult) -> bool
     ensures value { result ≡ false }
     ensures number { report.new.number ≡ number_of_fault fault }

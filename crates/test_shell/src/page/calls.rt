@@ -73,7 +73,7 @@ fn one_session_over_two_calls(rt: HostRuntime) {
     expect_answers(alloc, &rt, file.as_mut_slice(), (b"", b"session 4\n"));
 }
 
-/// Returns the commit byte of the first record in the active slot of a file. The selector (byte 8) of the file names
+/// Returns the commit byte of the first record in the active slot of a file. The selector (byte 8) of the file selects
 /// this slot.
 fn commit_byte(file: &[u8]) -> Option<u8> {
     let log = if file.get(8) == Some(&0) {
@@ -139,8 +139,8 @@ fn settling_converts_a_file_of_version_1(rt: HostRuntime) {
     expect_converted(alloc, &rt, file.as_mut_slice());
 }
 
-/// Compares a single call that serves an input and settles the file with two separate calls. Checks that both ways
-/// give the same answers and leave the same bytes in the file.
+/// Checks that a single call can serve an input and settle the file. It must give the same answers, and leave the same
+/// bytes in the file, as two separate calls.
 fn expect_serve_and_settle(alloc: Global, rt: &impl Abort, file: &mut [u8], row: (&[u8], &[u8])) {
     let mut other = copy(alloc, rt, file);
     expect_answers(alloc, rt, other.as_mut_slice(), row);
