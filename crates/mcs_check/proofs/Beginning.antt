@@ -1,32 +1,32 @@
 -- The machine at which a check begins.
-use Rattle.std.proofs.Common.{◌≡◌, ℕ, List, true, replicate, refl, sym, ap, subst}
-use Rattle.mcs_model.specs.Boards.{key_count}
+use Rattle.std.proofs.Common.{◌≡◌, ℕ, List, true, refl, sym, ap, subst}
 use Rattle.mcs_model.specs.Validity.{IsValidBus, IsValidRegs}
+use Rattle.mcs_drive.specs.DrivenRuns.{InputLimits}
 use Rattle.mcs_drive.specs.TrackedMachine.{TrackedMachine, without_levels, Holds}
 use Rattle.mcs_search.specs.Rules.{Closure}
 use Rattle.mcs_check.specs.declared.cells.KeyByte.{KeyByte}
 use Rattle.mcs_check.specs.Cells.{key_of}
 use Rattle.mcs_check.specs.Conditions.{PropertyConditions, meets_none, observer_of_property}
-use Rattle.mcs_check.specs.AllPressed.{with_all_pressed}
+use Rattle.mcs_check.specs.HighestLevels.{with_highest_keys}
 use Rattle.mcs_check.specs.Keys.{IsKeyOf, setting_of}
 use Rattle.mcs_check.specs.SearchRules.{rules_of}
 use Rattle.mcs_check.proofs.Always.{property_holds-if_only_levels_differ, property_holds-if_search_is_closed}
 use Rattle.mcs_check.proofs.Ignoring.{conditions-ignore}
 use Rattle.mcs_check.proofs.Steps.{on-own-board}
 
--- the key that is saved from the machine with all keys pressed identifies this machine
-pub is_key-of_machine_with_all_pressed : (layout : List KeyByte) (property : PropertyConditions) (key : List ℕ) (s m : TrackedMachine) → m ≡ with_all_pressed s → IsValidRegs m.0 → IsValidBus m.1 → meets_none property.never_lists m ≡ true → key ≡ key_of layout m → IsKeyOf (setting_of m layout property) key m
-is_key-of_machine_with_all_pressed layout property key s m e registers bus property_holds cells = record {
-  on = on-own-board m registers bus
-      (subst (λ (x : TrackedMachine). x.1.keys ≡ replicate (key_count x.1.board) 1) (sym e) refl)
+-- the key that is saved from the machine with each key at its highest level identifies this machine
+pub is_key-of_machine_with_highest_keys : (limits : InputLimits) (layout : List KeyByte) (property : PropertyConditions) (key : List ℕ) (s m : TrackedMachine) → m ≡ with_highest_keys limits s → IsValidRegs m.0 → IsValidBus m.1 → meets_none property.never_lists m ≡ true → key ≡ key_of layout m → IsKeyOf (setting_of m limits layout property) key m
+is_key-of_machine_with_highest_keys limits layout property key s m e registers bus property_holds cells = record {
+  on = on-own-board limits.keys m registers bus
+      (subst (λ (x : TrackedMachine). x.1.keys ≡ limits.keys) (sym e) refl)
       (subst (λ (x : TrackedMachine). x.1.test ≡ 0) (sym e) refl);
   property_holds = property_holds;
   cells = cells;
 }
 
--- suppose that a search from the machine with all keys pressed finds a closure. The property then
--- holds for the machine before its keys were pressed.
-pub property_holds-before_keys_pressed : (layout : List KeyByte) (property : PropertyConditions) (key : List ℕ) (n : ℕ) (s m : TrackedMachine) → m ≡ with_all_pressed s → IsKeyOf (setting_of m layout property) key m → Closure (rules_of (setting_of m layout property)) key n → Holds (observer_of_property property) (meets_none property.never_lists) s
-property_holds-before_keys_pressed layout property key n s m e is closure =
-    property_holds-if_only_levels_differ (observer_of_property property) (meets_none property.never_lists) m s (conditions-ignore property.never_lists) (ap without_levels e)
-    (property_holds-if_search_is_closed (setting_of m layout property) key n m (conditions-ignore property.never_lists) closure is)
+-- suppose that a search from the machine with each key at its highest level finds a closure. The
+-- property then holds for the machine before its keys were set.
+pub property_holds-before_keys_set : (limits : InputLimits) (layout : List KeyByte) (property : PropertyConditions) (key : List ℕ) (n : ℕ) (s m : TrackedMachine) → m ≡ with_highest_keys limits s → IsKeyOf (setting_of m limits layout property) key m → Closure (rules_of (setting_of m limits layout property)) key n → Holds limits (observer_of_property property) (meets_none property.never_lists) s
+property_holds-before_keys_set limits layout property key n s m e is closure =
+    property_holds-if_only_levels_differ limits (observer_of_property property) (meets_none property.never_lists) m s (conditions-ignore property.never_lists) (ap without_levels e)
+    (property_holds-if_search_is_closed (setting_of m limits layout property) key n m (conditions-ignore property.never_lists) closure is)

@@ -10,7 +10,8 @@ pub mod Going
 pub mod Steps
 pub mod Ignoring
 pub mod Always
-pub mod PressedKeys
+pub mod KeyLevels
+pub mod PulledLines
 pub mod Beginning
 pub mod Scoping
 pub mod Spinning

@@ -88,8 +88,8 @@ equal_cells-if_equal_key_bytes s t rs bs rt bt Counters i few e =
     let at : i % 18 ≡ i = mod-eq_of_lt few in
     ap (slice_index (values_in_list s Counters)) (sym at) ∙ e ∙ ap (slice_index (values_in_list t Counters)) at
 
-equal_cells-if_equal_keys : (b : BoardParts) (rom : List ℕ) (s t : TrackedMachine) (layout : List KeyByte) → IsOnBoard b rom s → IsOnBoard b rom t → IsComplete s.1.board layout → key_of layout s ≡ key_of layout t → (list : CellList) (i : ℕ) → i < max_cell_count list → board_has_cell s.1.board list i ≡ true → slice_index (values_in_list s list) i ≡ slice_index (values_in_list t list) i
-equal_cells-if_equal_keys b rom s t layout on-s on-t whole e list i few there =
+equal_cells-if_equal_keys : (b : BoardParts) (rom levels : List ℕ) (s t : TrackedMachine) (layout : List KeyByte) → IsOnBoard b rom levels s → IsOnBoard b rom levels t → IsComplete s.1.board layout → key_of layout s ≡ key_of layout t → (list : CellList) (i : ℕ) → i < max_cell_count list → board_has_cell s.1.board list i ≡ true → slice_index (values_in_list s list) i ≡ slice_index (values_in_list t list) i
+equal_cells-if_equal_keys b rom levels s t layout on-s on-t whole e list i few there =
     equal_cells-if_equal_key_bytes s t on-s.registers on-s.bus on-t.registers on-t.bus list i few (equal_key_bytes-if_equal_keys s t layout (key_byte_of list i) (whole list i few there) e)
 
 equal_lists-if_equal_numbers : (xs ys : List ℕ) (n : ℕ) → length xs ≡ n → length ys ≡ n → ((i : ℕ) → i < n → slice_index xs i ≡ slice_index ys i) → xs ≡ ys
@@ -180,10 +180,10 @@ board_has_cell-of_ram_port b bank chip small there =
 
 -- ---- the machine
 
-pub equal_machines-if_equal_keys : (b : BoardParts) (rom : List ℕ) (layout : List KeyByte) (s t : TrackedMachine) → IsComplete b layout → IsOnBoard b rom s → IsOnBoard b rom t → key_of layout s ≡ key_of layout t → s ≡ t
-equal_machines-if_equal_keys b rom layout s t complete on-s on-t e =
+pub equal_machines-if_equal_keys : (b : BoardParts) (rom levels : List ℕ) (layout : List KeyByte) (s t : TrackedMachine) → IsComplete b layout → IsOnBoard b rom levels s → IsOnBoard b rom levels t → key_of layout s ≡ key_of layout t → s ≡ t
+equal_machines-if_equal_keys b rom levels layout s t complete on-s on-t e =
     let whole : IsComplete s.1.board layout = subst (λ (d : BoardParts). IsComplete d layout) (sym on-s.board) complete in
-    let n : (list : CellList) (i : ℕ) → i < max_cell_count list → board_has_cell s.1.board list i ≡ true → slice_index (values_in_list s list) i ≡ slice_index (values_in_list t list) i = equal_cells-if_equal_keys b rom s t layout on-s on-t whole e in
+    let n : (list : CellList) (i : ℕ) → i < max_cell_count list → board_has_cell s.1.board list i ≡ true → slice_index (values_in_list s list) i ≡ slice_index (values_in_list t list) i = equal_cells-if_equal_keys b rom levels s t layout on-s on-t whole e in
     let k : (i : ℕ) → i < 18 → slice_index (counters_of s.0 s.1.rom_src s.2) i ≡ slice_index (counters_of t.0 t.1.rom_src t.2) i = λ i h. n Counters i h refl in
     let board : s.1.board ≡ t.1.board = on-s.board ∙ sym on-t.board in
     let banks : length s.1.board.banks ≡ 8 = on-s.bus.board.sized.banks in

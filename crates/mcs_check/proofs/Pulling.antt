@@ -1,8 +1,8 @@
--- A line of a port that reads 1 with some keys pressed also reads 1 with all keys pressed.
-use Rattle.std.proofs.Common.{◌≡◌, ◌<◌, ◌≤◌, ◌+◌, ◌*◌, ◌/◌, ℕ, inl, inr, Bool, true, false, ◌&&◌, ◌||◌, List, [], ◌∷◌, Option, Some, None, length, replicate, slice_index, slice_index_or, eqb, refl, ap, ◌∙◌, arith}
+-- A line of a port that reads 1 at input levels within the limits also reads 1 with each key at its
+-- highest level.
+use Rattle.std.proofs.Common.{◌≡◌, ◌<◌, ◌≤◌, ◌+◌, ◌*◌, ◌/◌, ℕ, inl, inr, Bool, true, false, ◌&&◌, ◌||◌, List, [], ◌∷◌, Option, Some, None, length, slice_index, slice_index_or, eqb, refl, sym, ap, subst, ◌∙◌, arith}
 use Rattle.std.specs.List.{list_any, range_with_len}
-use Rattle.std.proofs.lemmas.Bool.{cases_lt, le-leb, eqb-true, eq-eqb}
-use Rattle.std.proofs.lemmas.List.{get_or_past, get_or-replicate}
+use Rattle.std.proofs.lemmas.Bool.{le-leb, eqb-true, eq-eqb}
 use Rattle.mcs_nibble.specs.declared.lines.LineMask.{LineMask}
 use Rattle.mcs_nibble.specs.declared.lines.LineMask.TheVariants.{Input, Zero, One}
 use Rattle.mcs_nibble.specs.Bits.{bit_of}
@@ -11,9 +11,11 @@ use Rattle.mcs_model.specs.declared.board.KeyMatrix.{KeyMatrix}
 use Rattle.mcs_model.specs.declared.board.Line.TheVariants.{Rom}
 use Rattle.mcs_model.specs.Boards.{key_count, rom_masks}
 use Rattle.mcs_model.specs.Bus.{BusState}
+use Rattle.mcs_model.specs.Validity.{AreBelow}
 use Rattle.mcs_model.specs.Levels.{bit_when, row_drives_column, is_pulled, is_rom_line, port_at, port_of}
-use Rattle.mcs_drive.specs.DrivenRuns.{Levels, FitsBoard}
+use Rattle.mcs_drive.specs.DrivenRuns.{AreAllowed, InputLimits, Levels}
 use Rattle.mcs_drive.proofs.LevelLemmas.{at_levels}
+use Rattle.mcs_drive.proofs.ShownMarkLemmas.{key-level-below-two}
 use Rattle.mcs_check.specs.ReadPoints.{is_bit_subset, unpressed_port_value}
 
 or-monotone : (a b x y : Bool) → (a ≡ true → x ≡ true) → (b ≡ true → y ≡ true) → (a || b) ≡ true → (x || y) ≡ true
@@ -31,38 +33,37 @@ list_any-monotone : {X : Type 0} (p q : X → Bool) → ((x : X) → p x ≡ tru
 list_any-monotone p q h [] e = e
 list_any-monotone p q h (x ∷ xs) e = or-monotone (p x) (list_any p xs) (q x) (list_any q xs) (h x) (list_any-monotone p q h xs) e
 
-key_level_1-with_all_pressed : (keys : List ℕ) (n i : ℕ) → length keys ≡ n → eqb (slice_index keys i) 1 ≡ true → eqb (slice_index (replicate n 1) i) 1 ≡ true
-key_level_1-with_all_pressed keys n i len e =
-    elim (cases_lt i (length keys)) [
-      | inl within ↦ eq-eqb _ _ (get_or-replicate n i 1 0 (omega arith))
-      | inr past ↦ (let one = eqb-true _ _ e in let zero = get_or_past keys i 0 past in absurd (omega arith))
-    ]
+-- a key that is at 1 is also at 1 at its highest level
+key_level_1-at_highest_level : (keys highest : List ℕ) (n i : ℕ) → AreBelow n 2 highest → slice_index keys i ≤ slice_index highest i → eqb (slice_index keys i) 1 ≡ true → eqb (slice_index highest i) 1 ≡ true
+key_level_1-at_highest_level keys highest n i fit most e =
+    let one : slice_index keys i ≡ 1 = eqb-true _ _ e in
+    let low = key-level-below-two n i highest fit in
+    eq-eqb _ _ (omega arith)
 
-pulled-with_all_pressed_by_cases : (l : Levels) (s : BusState) (o : Option KeyMatrix) (n chip k : ℕ) → length l.keys ≡ n →
+pulled-at_highest_levels_by_cases : (l : Levels) (s : BusState) (o : Option KeyMatrix) (n chip k : ℕ) → AreBelow n 2 s.keys → ((i : ℕ) → slice_index l.keys i ≤ slice_index s.keys i) →
     elim o as (λ _. Bool) [ None ↦ false | Some m ↦ list_any (λ j. is_rom_line chip k (slice_index_or m.columns.items j (Rom 0 0)) && list_any (row_drives_column (slice_index_or s.chains m.chain []) l.keys m j) (range_with_len 0 m.rows)) (range_with_len 0 (length m.columns.items)) ] ≡ true →
-    elim o as (λ _. Bool) [ None ↦ false | Some m ↦ list_any (λ j. is_rom_line chip k (slice_index_or m.columns.items j (Rom 0 0)) && list_any (row_drives_column (slice_index_or s.chains m.chain []) (replicate n 1) m j) (range_with_len 0 m.rows)) (range_with_len 0 (length m.columns.items)) ] ≡ true
-pulled-with_all_pressed_by_cases l s None n chip k len e = e
-pulled-with_all_pressed_by_cases l s (Some m) n chip k len e =
+    elim o as (λ _. Bool) [ None ↦ false | Some m ↦ list_any (λ j. is_rom_line chip k (slice_index_or m.columns.items j (Rom 0 0)) && list_any (row_drives_column (slice_index_or s.chains m.chain []) s.keys m j) (range_with_len 0 m.rows)) (range_with_len 0 (length m.columns.items)) ] ≡ true
+pulled-at_highest_levels_by_cases l s None n chip k fit most e = e
+pulled-at_highest_levels_by_cases l s (Some m) n chip k fit most e =
     list_any-monotone _ _
     (λ j h. and-monotone (is_rom_line chip k (slice_index_or m.columns.items j (Rom 0 0))) _ _ _ (λ a. a)
-    (list_any-monotone (row_drives_column (slice_index_or s.chains m.chain []) l.keys m j) (row_drives_column (slice_index_or s.chains m.chain []) (replicate n 1) m j)
-    (λ r g. and-monotone (eqb (slice_index (slice_index_or s.chains m.chain []) (m.first + r)) 1) _ _ _ (λ a. a) (key_level_1-with_all_pressed l.keys n (r * length m.columns.items + j) len) g)
+    (list_any-monotone (row_drives_column (slice_index_or s.chains m.chain []) l.keys m j) (row_drives_column (slice_index_or s.chains m.chain []) s.keys m j)
+    (λ r g. and-monotone (eqb (slice_index (slice_index_or s.chains m.chain []) (m.first + r)) 1) _ _ _ (λ a. a) (key_level_1-at_highest_level l.keys s.keys n (r * length m.columns.items + j) fit (most (r * length m.columns.items + j))) g)
     (range_with_len 0 m.rows))
     h)
     (range_with_len 0 (length m.columns.items)) e
 
-pulled-with_all_pressed : (l : Levels) (s : BusState) (chip k : ℕ) → FitsBoard s.board l → s.keys ≡ replicate (key_count s.board) 1 → is_pulled (at_levels l s) chip k ≡ true → is_pulled s chip k ≡ true
+pulled-at_highest_levels : (l : Levels) (s : BusState) (chip k : ℕ) → AreBelow (key_count s.board) 2 s.keys → ((i : ℕ) → slice_index l.keys i ≤ slice_index s.keys i) → is_pulled (at_levels l s) chip k ≡ true → is_pulled s chip k ≡ true
 unfolding is_pulled
-pulled-with_all_pressed l s chip k fit all e =
-    rw all (pulled-with_all_pressed_by_cases l s s.board.keys (key_count s.board) chip k fit.keys.has_count e)
+pulled-at_highest_levels l s chip k fit most e = pulled-at_highest_levels_by_cases l s s.board.keys (key_count s.board) chip k fit most e
 
 -- ---- lines of a port
 
-bit_when-lt : (b : Bool) → bit_when b < 2
+pub bit_when-lt : (b : Bool) → bit_when b < 2
 bit_when-lt true = omega arith
 bit_when-lt false = omega arith
 
-bit_when-monotone : (a b : Bool) → (a ≡ true → b ≡ true) → bit_when a ≤ bit_when b
+pub bit_when-monotone : (a b : Bool) → (a ≡ true → b ≡ true) → bit_when a ≤ bit_when b
 bit_when-monotone true b h = rw (h refl) (omega arith)
 bit_when-monotone false b h = omega arith
 
@@ -70,17 +71,17 @@ read_bit-monotone : (f g : ℕ → ℕ) (mask : List LineMask) (k : ℕ) → f k
 read_bit-monotone f g mask k e =
     elim (mask_at mask k) as (λ m. elim m as (λ _. ℕ) [ Input ↦ f k | Zero ↦ 0 | One ↦ 1 ] ≤ elim m as (λ _. ℕ) [ Input ↦ g k | Zero ↦ 0 | One ↦ 1 ]) [ Input ↦ e | Zero ↦ omega arith | One ↦ omega arith ]
 
-read_bit-lt : (f : ℕ → ℕ) (mask : List LineMask) (k : ℕ) → f k < 2 → read_bit f mask k < 2
+pub read_bit-lt : (f : ℕ → ℕ) (mask : List LineMask) (k : ℕ) → f k < 2 → read_bit f mask k < 2
 read_bit-lt f mask k e =
     elim (mask_at mask k) as (λ m. elim m as (λ _. ℕ) [ Input ↦ f k | Zero ↦ 0 | One ↦ 1 ] < 2) [ Input ↦ e | Zero ↦ omega arith | One ↦ omega arith ]
 
-record Bits (n a b c d : ℕ) : Type 0 where
-  at_0 : bit_of n 0 ≡ a
-  at_1 : bit_of n 1 ≡ b
-  at_2 : bit_of n 2 ≡ c
-  at_3 : bit_of n 3 ≡ d
+pub record Bits (n a b c d : ℕ) : Type 0 where
+  pub at_0 : bit_of n 0 ≡ a
+  pub at_1 : bit_of n 1 ≡ b
+  pub at_2 : bit_of n 2 ≡ c
+  pub at_3 : bit_of n 3 ≡ d
 
-bits : (a b c d : ℕ) → a < 2 → b < 2 → c < 2 → d < 2 → Bits (a + 2 * b + 4 * c + 8 * d) a b c d
+pub bits : (a b c d : ℕ) → a < 2 → b < 2 → c < 2 → d < 2 → Bits (a + 2 * b + 4 * c + 8 * d) a b c d
 bits a b c d ha hb hc hd = record { at_0 = omega arith; at_1 = omega arith; at_2 = omega arith; at_3 = omega arith }
 
 bit_subset-if_bits_not_greater : (n m a b c d x y z w : ℕ) → Bits n a b c d → Bits m x y z w → a ≤ x → b ≤ y → c ≤ z → d ≤ w → is_bit_subset n m ≡ true
@@ -105,13 +106,14 @@ port_bit_subset-by_cases : (f g : ℕ → Bool) (o : Option (List LineMask)) →
 port_bit_subset-by_cases f g (Some mask) h = read_lines-monotone f g mask h
 port_bit_subset-by_cases f g None h = refl
 
--- at any input levels, the selected ROM's port reads 1 only on lines that read 1 with all keys
--- pressed
-pub port_bits-subset_of_all_pressed : (l : Levels) (s : BusState) → FitsBoard s.board l → s.keys ≡ replicate (key_count s.board) 1 → is_bit_subset (port_of (at_levels l s)) (port_of s) ≡ true
+-- at any input levels within the limits, the selected ROM's port reads 1 only on lines that read 1
+-- with each key at its highest level
+pub port_bits-subset_at_highest_levels : (limits : InputLimits) (l : Levels) (s : BusState) → AreAllowed limits s.board l → AreBelow (key_count s.board) 2 s.keys → s.keys ≡ limits.keys → is_bit_subset (port_of (at_levels l s)) (port_of s) ≡ true
 unfolding port_at
-port_bits-subset_of_all_pressed l s fit all =
+port_bits-subset_at_highest_levels limits l s allowed fit highest =
     let chip = s.rom_src / 16 in
-    port_bit_subset-by_cases (λ k. is_pulled (at_levels l s) chip k) (λ k. is_pulled s chip k) (rom_masks s.board chip) (λ k h. pulled-with_all_pressed l s chip k fit all h)
+    let most : (i : ℕ) → slice_index l.keys i ≤ slice_index s.keys i = subst (λ (xs : List ℕ). (i : ℕ) → slice_index l.keys i ≤ slice_index xs i) (sym highest) allowed.keys in
+    port_bit_subset-by_cases (λ k. is_pulled (at_levels l s) chip k) (λ k. is_pulled s chip k) (rom_masks s.board chip) (λ k h. pulled-at_highest_levels l s chip k fit most h)
 
 -- at any input levels, the selected ROM's port reads 1 on every line that reads 1 with no key
 -- pressed

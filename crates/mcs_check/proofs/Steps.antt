@@ -1,10 +1,10 @@
 -- One step of the search.
-use Rattle.std.proofs.Common.{◌≡◌, ◌<◌, ◌⊎◌, ℕ, inl, inr, Bool, true, replicate, List, None, refl, sym, ap, ◌∙◌, subst, arith}
-use Rattle.mcs_model.specs.Boards.{board_fault_of, key_count}
+use Rattle.std.proofs.Common.{◌≡◌, ◌<◌, ◌⊎◌, ℕ, inl, inr, Bool, true, List, None, refl, sym, ap, ◌∙◌, subst, arith}
+use Rattle.mcs_model.specs.Boards.{board_fault_of}
 use Rattle.mcs_model.specs.Validity.{IsValidBus, IsValidRegs}
 use Rattle.mcs_model.specs.declared.board.BoardParts.{BoardParts}
 use Rattle.mcs_model.specs.Bus.{BusState}
-use Rattle.mcs_drive.specs.DrivenRuns.{Levels, FitsBoard}
+use Rattle.mcs_drive.specs.DrivenRuns.{FitsBoard, Levels}
 use Rattle.mcs_drive.specs.TrackedMachine.{Observer, TrackedMachine, answer}
 use Rattle.mcs_drive.specs.RunsBetweenReads.{IgnoresLevels, LeadsTo}
 use Rattle.mcs_check.specs.Cells.{IsComplete, key_of}
@@ -18,44 +18,44 @@ use Rattle.mcs_check.proofs.Packed.{equal_machines-if_equal_keys}
 use Rattle.mcs_check.proofs.ValuesRead.{answer-lt, leads_to-if_read_and_reached}
 
 -- a machine on this board with the key `key` equals the machine that `key` identifies
-key-machine-unique : (g : Setting) (key : List ℕ) (m a : TrackedMachine) → IsComplete g.board g.layout → IsOnBoard g.board g.rom m → key ≡ key_of g.layout m → IsKeyOf g key a → m ≡ a
-key-machine-unique g key m a complete on is h = equal_machines-if_equal_keys g.board g.rom g.layout m a complete on h.on (sym is ∙ h.cells)
+key-machine-unique : (g : Setting) (key : List ℕ) (m a : TrackedMachine) → IsComplete g.board g.layout → IsOnBoard g.board g.rom g.limits.keys m → key ≡ key_of g.layout m → IsKeyOf g key a → m ≡ a
+key-machine-unique g key m a complete on is h = equal_machines-if_equal_keys g.board g.rom g.limits.keys g.layout m a complete on h.on (sym is ∙ h.cells)
 
 leads_to-by_read_and_run : (g : Setting) (next : List ℕ) (value : ℕ) (m x n : TrackedMachine) → IgnoresLevels (property_of g) → board_fault_of m.1.board ≡ None → HasRead (observer_of_property g.property) value m x → Reaches (observer_of_property g.property) (property_of g) x n → IsKeyOf g next n →
     (b : TrackedMachine) × IsKeyOf g next b × ((l : Levels) → FitsBoard m.1.board l → answer l m ≡ value → LeadsTo (observer_of_property g.property) (property_of g) m b l)
 leads_to-by_read_and_run g next value m x n ignores sound read reaches is = (n, is, λ l fit e. leads_to-if_read_and_reached (observer_of_property g.property) (property_of g) m x n l ignores sound (read l fit e) reaches)
 
-pub leads-by_read_and_run : (g : Setting) (key next : List ℕ) (value : ℕ) (m x n : TrackedMachine) → IgnoresLevels (property_of g) → IsComplete g.board g.layout → IsOnBoard g.board g.rom m → key ≡ key_of g.layout m → HasRead (observer_of_property g.property) value m x → Reaches (observer_of_property g.property) (property_of g) x n → IsKeyOf g next n → Leads g key value next
+pub leads-by_read_and_run : (g : Setting) (key next : List ℕ) (value : ℕ) (m x n : TrackedMachine) → IgnoresLevels (property_of g) → IsComplete g.board g.layout → IsOnBoard g.board g.rom g.limits.keys m → key ≡ key_of g.layout m → HasRead (observer_of_property g.property) value m x → Reaches (observer_of_property g.property) (property_of g) x n → IsKeyOf g next n → Leads g key value next
 leads-by_read_and_run g key next value m x n ignores complete on is read reaches to = λ a h.
     subst (λ (a : TrackedMachine). (b : TrackedMachine) × IsKeyOf g next b × ((l : Levels) → FitsBoard a.1.board l → answer l a ≡ value → LeadsTo (observer_of_property g.property) (property_of g) a b l))
     (key-machine-unique g key m a complete on is h)
     (leads_to-by_read_and_run g next value m x n ignores on.bus.board.valid read reaches to)
 
 -- `values` covers a key if `values` contains all 16 values (below: every value that the key's
--- machine can read)
+-- machine can read at input levels within the limits)
 pub covers-if_all_16_values : (g : Setting) (key values : List ℕ) → ((value : ℕ) → value < 16 → Contains values value) → Covers g key values
-covers-if_all_16_values g key values each = λ a h l fit. each (answer l a) (answer-lt l a fit)
+covers-if_all_16_values g key values each = λ a h l allowed. each (answer l a) (answer-lt l a allowed.fits)
 
-pub covers-if_all_readable_values : (g : Setting) (key values : List ℕ) (m : TrackedMachine) → IsComplete g.board g.layout → IsOnBoard g.board g.rom m → key ≡ key_of g.layout m → ((value : ℕ) → value < 16 → CannotRead value m ⊎ Contains values value) → Covers g key values
-covers-if_all_readable_values g key values m complete on is each = λ a h l fit.
-    elim (subst (λ (b : TrackedMachine). CannotRead (answer l a) b ⊎ Contains values (answer l a)) (key-machine-unique g key m a complete on is h) (each (answer l a) (answer-lt l a fit))) [
-      | inl cannot ↦ absurd (cannot l fit refl)
+pub covers-if_all_readable_values : (g : Setting) (key values : List ℕ) (m : TrackedMachine) → IsComplete g.board g.layout → IsOnBoard g.board g.rom g.limits.keys m → key ≡ key_of g.layout m → ((value : ℕ) → value < 16 → CannotRead g.limits value m ⊎ Contains values value) → Covers g key values
+covers-if_all_readable_values g key values m complete on is each = λ a h l allowed.
+    elim (subst (λ (b : TrackedMachine). CannotRead g.limits (answer l a) b ⊎ Contains values (answer l a)) (key-machine-unique g key m a complete on is h) (each (answer l a) (answer-lt l a allowed.fits))) [
+      | inl cannot ↦ absurd (cannot l allowed refl)
       | inr there ↦ there
     ]
 
--- a valid machine with all keys pressed and TEST at 0 satisfies `IsOnBoard` with its own board and
--- ROM bytes
-pub on-own-board : (m : TrackedMachine) → IsValidRegs m.0 → IsValidBus m.1 → m.1.keys ≡ replicate (key_count m.1.board) 1 → m.1.test ≡ 0 → IsOnBoard m.1.board m.1.rom m
-on-own-board m registers bus keys test = record { registers = registers; bus = bus; board = refl; rom = refl; keys = keys; test = test }
+-- a valid machine with TEST at 0 satisfies `IsOnBoard` with its own board and ROM bytes and the
+-- levels of its keys
+pub on-own-board : (levels : List ℕ) (m : TrackedMachine) → IsValidRegs m.0 → IsValidBus m.1 → m.1.keys ≡ levels → m.1.test ≡ 0 → IsOnBoard m.1.board m.1.rom levels m
+on-own-board levels m registers bus keys test = record { registers = registers; bus = bus; board = refl; rom = refl; keys = keys; test = test }
 
 -- a machine still satisfies `IsOnBoard` after a change that keeps the board, the ROM bytes, the
 -- keys and TEST
-pub on-board-kept : (m n : TrackedMachine) → IsValidRegs n.0 → IsValidBus n.1 → m.1.keys ≡ replicate (key_count m.1.board) 1 → m.1.test ≡ 0 → KeepsBoardAndInputs m.1 n.1 → IsOnBoard m.1.board m.1.rom n
-on-board-kept m n registers bus keys test k = record { registers = registers; bus = bus; board = k.board; rom = k.rom; keys = k.keys ∙ keys; test = k.test ∙ test }
+pub on-board-kept : (levels : List ℕ) (m n : TrackedMachine) → IsValidRegs n.0 → IsValidBus n.1 → m.1.keys ≡ levels → m.1.test ≡ 0 → KeepsBoardAndInputs m.1 n.1 → IsOnBoard m.1.board m.1.rom levels n
+on-board-kept levels m n registers bus keys test k = record { registers = registers; bus = bus; board = k.board; rom = k.rom; keys = k.keys ∙ keys; test = k.test ∙ test }
 
 pub property_holds-at_reached_machine : (w : Observer) (p : TrackedMachine → Bool) (s t : TrackedMachine) → Reaches w p s t → p t ≡ true
 property_holds-at_reached_machine w p s t r = ap p r.at ∙ r.property_holds r.cycles (omega arith)
 
--- all keys are still pressed after a change that keeps the board and the keys
-pub all_pressed-kept : (s t : BusState) → KeepsBoardAndInputs s t → s.keys ≡ replicate (key_count s.board) 1 → t.keys ≡ replicate (key_count t.board) 1
-all_pressed-kept s t k down = k.keys ∙ down ∙ ap (λ (b : BoardParts). replicate (key_count b) 1) (sym k.board)
+-- the keys are still at given levels after a change that keeps them
+pub levels-kept : (s t : BusState) (levels : List ℕ) → KeepsBoardAndInputs s t → s.keys ≡ levels → t.keys ≡ levels
+levels-kept s t levels k at = k.keys ∙ at

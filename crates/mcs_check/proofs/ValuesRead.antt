@@ -1,15 +1,18 @@
 -- The value read determines the run, so one run for each value covers all input levels.
-use Rattle.std.proofs.Common.{◌≡◌, ◌<◌, ◌≤◌, ◌%◌, ℕ, suc, Bool, true, false, not, ◌&&◌, cond, replicate, Option, Some, None, unwrap_or, length, slice_get, refl, sym, ap, ◌∙◌, arith, eqb}
+use Rattle.std.proofs.Common.{◌≡◌, ◌<◌, ◌≤◌, ◌%◌, ◌+◌, ◌-◌, ℕ, suc, Bool, true, false, not, ◌&&◌, cond, Option, Some, None, unwrap_or, length, nat_le, slice_get, subst, refl, sym, ap, ◌∙◌, arith, eqb}
+use Rattle.std.specs.List.{sum}
+use Rattle.std.proofs.lemmas.Bool.{le-leb}
 use Rattle.mcs_model.specs.declared.regs.Regs.{Regs}
 use Rattle.mcs_model.specs.declared.op.Op.{Op}
 use Rattle.mcs_model.specs.declared.op.Op.TheVariants.{Jcn, Rdr}
 use Rattle.mcs_model.specs.Boards.{board_fault_of, key_count}
+use Rattle.mcs_model.specs.Validity.{AreBelow}
 use Rattle.mcs_model.specs.Bus.{BusState, fetch_of}
 use Rattle.mcs_model.specs.Levels.{port_of}
 use Rattle.mcs_model.specs.Effect.{cycle_of, effect, instruction_at}
 use Rattle.mcs_model.specs.Running.{Machine}
 use Rattle.mcs_drive.specs.declared.marks.Mark.{Mark}
-use Rattle.mcs_drive.specs.DrivenRuns.{Levels, FitsBoard, with_levels as under_machine, cycled as cycled_machine}
+use Rattle.mcs_drive.specs.DrivenRuns.{AreAllowed, FitsBoard, InputLimits, Levels, with_levels as under_machine, cycled as cycled_machine}
 use Rattle.mcs_drive.specs.InputReads.{reads_input, value_read_by, without_levels as plain_machine}
 use Rattle.mcs_drive.specs.Marks.{port_shows, shows}
 use Rattle.mcs_drive.specs.TrackedMachine.{Observer, TrackedMachine, counts_after, machine_in, with_levels, without_levels, cycled, after_cycles, next_reads_input, answer, seen_count_after, next_op, condition_holds_at, seen_mark_count, seen_after_reading, shows_next_mark}
@@ -18,8 +21,9 @@ use Rattle.mcs_drive.proofs.LevelLemmas.{at_levels}
 use Rattle.mcs_drive.proofs.SeenMarkLemmas.{mark_satisfies-false-if-all-false, seen_after_reading-with_levels, mark_satisfies}
 use Rattle.mcs_drive.proofs.Tracking.{with_counts, cycled-with_levels-if-no-read, cycled-decided-by-value-read}
 use Rattle.mcs_drive.proofs.ReadPoints.{cycle-board}
-use Rattle.mcs_check.specs.ReadPoints.{Begins, CannotRead, ReadsTestPin, HasRead, Reaches, is_bit_subset, unpressed_port_value, with_seen}
-use Rattle.mcs_check.proofs.Pulling.{port-lt, port_bits-superset_of_unpressed, port_bits-subset_of_all_pressed}
+use Rattle.mcs_check.specs.ReadPoints.{Begins, CannotRead, ReadsTestPin, HasRead, Reaches, is_bit_subset, set_bits, unpressed_port_value, with_seen}
+use Rattle.mcs_check.proofs.PulledLines.{port_bits-at_most_keys_down}
+use Rattle.mcs_check.proofs.Pulling.{port-lt, port_bits-superset_of_unpressed, port_bits-subset_at_highest_levels}
 use Rattle.mcs_drive.proofs.EqualExceptLevels.{after_cycles-first, run-alike}
 
 -- ---- one cycle
@@ -108,23 +112,31 @@ reads_no_input-if_no_second_cycle : (b : Bool) (o : Option Op) → (not b && rea
 reads_no_input-if_no_second_cycle false o e h = e
 reads_no_input-if_no_second_cycle true o e h = absurd (cc)
 
-pub cannot_read-without_input : (value : ℕ) (s : TrackedMachine) → next_reads_input s ≡ false → eqb s.0.owed 1 ≡ false → (value ≡ 0 → ⊥) → CannotRead value s
-cannot_read-without_input value s quiet free other = λ l fit e. other (sym e ∙ value_read_without_input-is_0 (instruction_at s.0 s.1) l s.1 (reads_no_input-if_no_second_cycle (eqb s.0.owed 1) (instruction_at s.0 s.1) quiet free))
+pub cannot_read-without_input : (limits : InputLimits) (value : ℕ) (s : TrackedMachine) → next_reads_input s ≡ false → eqb s.0.owed 1 ≡ false → (value ≡ 0 → ⊥) → CannotRead limits value s
+cannot_read-without_input limits value s quiet free other = λ l allowed e. other (sym e ∙ value_read_without_input-is_0 (instruction_at s.0 s.1) l s.1 (reads_no_input-if_no_second_cycle (eqb s.0.owed 1) (instruction_at s.0 s.1) quiet free))
 
-pub jcn_cannot_read-above_1 : (value : ℕ) (s : TrackedMachine) → Begins ReadsTestPin s → 2 ≤ value → CannotRead value s
-jcn_cannot_read-above_1 value s begins large = λ l fit e.
+pub jcn_cannot_read-above_limit : (limits : InputLimits) (value : ℕ) (s : TrackedMachine) → Begins ReadsTestPin s → limits.test < value → CannotRead limits value s
+jcn_cannot_read-above_limit limits value s begins large = λ l allowed e.
     let is : instruction_at s.0 s.1 ≡ Some (Jcn begins.is.condition begins.is.word) = begins.next ∙ ap Some begins.is.is in
     let level = value_read_by_jcn-is_test_level l (instruction_at s.0 s.1) s.1 begins.is.condition begins.is.word is begins.is.odd in
-    let small = fit.test in
+    let most = allowed.test in
     absurd (omega arith)
 
-pub rdr_cannot_read-impossible_bits : (value : ℕ) (s : TrackedMachine) → Begins (λ op. op ≡ Rdr) s → s.1.keys ≡ replicate (key_count s.1.board) 1 → (is_bit_subset (unpressed_port_value s.1) value && is_bit_subset value (port_of s.1)) ≡ false → CannotRead value s
-rdr_cannot_read-impossible_bits value s begins all outside = λ l fit e.
+more-at-most-limit : (n least down together : ℕ) → n ≤ least + down → down ≤ together → n - least ≤ together
+more-at-most-limit n least down together h k = omega arith
+
+pub rdr_cannot_read-impossible_bits : (limits : InputLimits) (value : ℕ) (s : TrackedMachine) → Begins (λ op. op ≡ Rdr) s → AreBelow (key_count s.1.board) 2 s.1.keys → s.1.keys ≡ limits.keys →
+    ((is_bit_subset (unpressed_port_value s.1) value && is_bit_subset value (port_of s.1)) && nat_le (set_bits value - set_bits (unpressed_port_value s.1)) limits.together) ≡ false → CannotRead limits value s
+rdr_cannot_read-impossible_bits limits value s begins fit highest outside = λ l allowed e.
     let is : instruction_at s.0 s.1 ≡ Some Rdr = begins.next ∙ ap Some begins.is in
     let read : port_of (at_levels l s.1) ≡ value = sym (value_read_by_rdr-is_port_value l (instruction_at s.0 s.1) s.1 is) ∙ e in
-    let below : is_bit_subset value (port_of s.1) ≡ true = ap (λ n. is_bit_subset n (port_of s.1)) (sym read) ∙ port_bits-subset_of_all_pressed l s.1 fit all in
+    let below : is_bit_subset value (port_of s.1) ≡ true = ap (λ n. is_bit_subset n (port_of s.1)) (sym read) ∙ port_bits-subset_at_highest_levels limits l s.1 allowed fit highest in
     let above : is_bit_subset (unpressed_port_value s.1) value ≡ true = ap (λ n. is_bit_subset (unpressed_port_value s.1) n) (sym read) ∙ port_bits-superset_of_unpressed l s.1 in
-    let both : (is_bit_subset (unpressed_port_value s.1) value && is_bit_subset value (port_of s.1)) ≡ true = rw (above, below) refl in
+    let few : set_bits (port_of (at_levels l s.1)) ≤ set_bits (unpressed_port_value s.1) + sum l.keys = port_bits-at_most_keys_down l s.1 in
+    let down = allowed.together in
+    let counted : set_bits value ≤ set_bits (unpressed_port_value s.1) + sum l.keys = subst (λ (n : ℕ). set_bits n ≤ set_bits (unpressed_port_value s.1) + sum l.keys) read few in
+    let enough = le-leb _ _ (more-at-most-limit (set_bits value) (set_bits (unpressed_port_value s.1)) (sum l.keys) limits.together counted down) in
+    let all : ((is_bit_subset (unpressed_port_value s.1) value && is_bit_subset value (port_of s.1)) && nat_le (set_bits value - set_bits (unpressed_port_value s.1)) limits.together) ≡ true = rw (above, below, enough) refl in
     absurd (cc)
 
 level_or_0-lt : (b : Bool) (n : ℕ) → n < 2 → cond b n 0 < 16

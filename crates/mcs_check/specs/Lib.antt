@@ -8,5 +8,5 @@ pub mod ReadPoints
 pub mod SearchStep
 pub mod SearchRules
 pub mod OutcomeMeaning
-pub mod AllPressed
+pub mod HighestLevels
 pub mod Scopes

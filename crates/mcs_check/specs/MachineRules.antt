@@ -2,7 +2,7 @@
 use Rattle.std.specs.Prelude.{◌≡◌, ℕ, List, Bool, true, false, None}
 use Rattle.std.specs.List.{Contains}
 use Rattle.mcs_model.specs.Boards.{board_fault_of}
-use Rattle.mcs_drive.specs.DrivenRuns.{Levels, FitsBoard}
+use Rattle.mcs_drive.specs.DrivenRuns.{AreAllowed, FitsBoard, InputLimits, Levels}
 use Rattle.mcs_drive.specs.TrackedMachine.{Observer, TrackedMachine, with_levels, after_cycles, answer}
 use Rattle.mcs_drive.specs.RunsBetweenReads.{LeadsTo}
 use Rattle.mcs_search.specs.Rules.{Rules}
@@ -14,15 +14,16 @@ pub record MayHaveKey (p : TrackedMachine → Bool) (a : TrackedMachine) : Type 
 
 -- the rules of a search whose keys identify machines. A choice is the value that a machine reads in
 -- its next cycle.
--- `covers`: the choices include every value that a machine identified by `key` can read
+-- `covers`: the choices include every value that a machine identified by `key` can read at input
+-- levels within the limits
 -- `leads`: each machine identified by `key` runs to a machine identified by `next`, at all input
 -- levels at which the first machine reads the choice, and p holds at every step
 -- `fails`: for each machine identified by `key`, there are input levels l such that p fails after
 -- some number of cycles at l
-abbrev pub machine_rules : Observer → (TrackedMachine → Bool) → (List ℕ → Type 0) → (List ℕ → TrackedMachine → Type 0) → Rules
-machine_rules w p is_state is_key_of = record {
+abbrev pub machine_rules : InputLimits → Observer → (TrackedMachine → Bool) → (List ℕ → Type 0) → (List ℕ → TrackedMachine → Type 0) → Rules
+machine_rules limits w p is_state is_key_of = record {
   is_state = is_state;
-  covers = λ key choices. (a : TrackedMachine) → is_key_of key a → (l : Levels) → FitsBoard a.1.board l → Contains choices (answer l a);
+  covers = λ key choices. (a : TrackedMachine) → is_key_of key a → (l : Levels) → AreAllowed limits a.1.board l → Contains choices (answer l a);
   leads = λ key c next. (a : TrackedMachine) → is_key_of key a →
       (b : TrackedMachine) × is_key_of next b × ((l : Levels) → FitsBoard a.1.board l → answer l a ≡ c → LeadsTo w p a b l);
   fails = λ key c. (a : TrackedMachine) → is_key_of key a →

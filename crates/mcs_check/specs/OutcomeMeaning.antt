@@ -1,15 +1,16 @@
 -- The meaning of a search's outcome.
 use Rattle.std.specs.Prelude.{Bool}
+use Rattle.mcs_drive.specs.DrivenRuns.{InputLimits}
 use Rattle.mcs_drive.specs.TrackedMachine.{Observer, TrackedMachine, Holds}
 use Rattle.mcs_check.specs.declared.checking.Outcome.{Outcome}
 use Rattle.mcs_check.specs.declared.checking.Outcome.TheVariants as outcome
 
 -- the promise of an outcome. `Holds` promises that the property p holds at every moment, for all
--- levels of the keys and TEST. The property may refer to the counts of the machine. All other
--- outcomes promise nothing.
-abbrev pub IsProved : Observer → (TrackedMachine → Bool) → TrackedMachine → Outcome → Type 0
-IsProved w p s (outcome.Holds n) = Holds w p s
-IsProved w p s (outcome.MayFail values) = Unit {0}
-IsProved w p s outcome.TooMany = Unit {0}
-IsProved w p s (outcome.NoMemory n) = Unit {0}
-IsProved w p s outcome.GaveUp = Unit {0}
+-- levels of the keys and TEST within the limits. The property may refer to the counts of the
+-- machine. All other outcomes promise nothing.
+abbrev pub IsProved : InputLimits → Observer → (TrackedMachine → Bool) → TrackedMachine → Outcome → Type 0
+IsProved limits w p s (outcome.Holds n) = Holds limits w p s
+IsProved limits w p s (outcome.MayFail values) = Unit {0}
+IsProved limits w p s outcome.TooMany = Unit {0}
+IsProved limits w p s (outcome.NoMemory n) = Unit {0}
+IsProved limits w p s outcome.GaveUp = Unit {0}

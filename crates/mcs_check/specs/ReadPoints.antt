@@ -8,7 +8,7 @@ use Rattle.mcs_model.specs.Boards.{rom_masks}
 use Rattle.mcs_model.specs.Bus.{BusState}
 use Rattle.mcs_model.specs.Effect.{address_on_page_of, instruction_at}
 use Rattle.mcs_model.specs.Registers.{register_of, with_register}
-use Rattle.mcs_drive.specs.DrivenRuns.{Levels, FitsBoard}
+use Rattle.mcs_drive.specs.DrivenRuns.{AreAllowed, FitsBoard, InputLimits, Levels}
 use Rattle.mcs_drive.specs.InputReads.{reads_input}
 use Rattle.mcs_drive.specs.TrackedMachine.{Counts, Observer, TrackedMachine, with_levels, without_levels, cycled, after_cycles, next_reads_input, answer}
 use Rattle.mcs_check.specs.declared.reading.InputSource.{InputSource}
@@ -40,9 +40,13 @@ Reads s NoInput = next_reads_input s ≡ false
 Reads s Port = Begins (λ op. op ≡ Rdr) s
 Reads s Test = Begins ReadsTestPin s
 
--- holds if no input levels make the next instruction read this value
-abbrev pub CannotRead : ℕ → TrackedMachine → Type 0
-CannotRead value s = (l : Levels) → FitsBoard s.1.board l → answer l s ≡ value → ⊥
+-- holds if no input levels within the limits make the next instruction read this value
+abbrev pub CannotRead : InputLimits → ℕ → TrackedMachine → Type 0
+CannotRead limits value s = (l : Levels) → AreAllowed limits s.1.board l → answer l s ≡ value → ⊥
+
+-- the number of bits of nibble `n` that are 1
+abbrev pub set_bits : ℕ → ℕ
+set_bits n = bit_of n 0 + bit_of n 1 + bit_of n 2 + bit_of n 3
 
 -- true if every bit that is set in nibble `n` is also set in nibble `most`
 abbrev pub is_bit_subset : ℕ → ℕ → Bool

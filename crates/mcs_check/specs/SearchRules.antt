@@ -1,17 +1,17 @@
 -- The rules of the search through the machines of a setting.
 use Rattle.std.specs.Prelude.{ℕ, List}
 use Rattle.std.specs.List.{Contains}
-use Rattle.mcs_drive.specs.DrivenRuns.{Levels, FitsBoard}
+use Rattle.mcs_drive.specs.DrivenRuns.{AreAllowed, Levels}
 use Rattle.mcs_drive.specs.TrackedMachine.{TrackedMachine, answer}
 use Rattle.mcs_search.specs.Rules.{Rules}
 use Rattle.mcs_check.specs.Keys.{Setting, IsKeyOf}
 use Rattle.mcs_check.specs.SearchStep.{IsState, Leads}
 
 -- holds if `values` contains every value that a machine identified by `key` can read in its next
--- cycle
+-- cycle at input levels within the limits
 abbrev pub Covers : Setting → List ℕ → List ℕ → Type 0
 Covers g key values =
-    (a : TrackedMachine) → IsKeyOf g key a → (l : Levels) → FitsBoard a.1.board l → Contains values (answer l a)
+    (a : TrackedMachine) → IsKeyOf g key a → (l : Levels) → AreAllowed g.limits a.1.board l → Contains values (answer l a)
 
 -- the rules of the search. They promise nothing about a failure that the search reports, so a bench
 -- must replay the failure.

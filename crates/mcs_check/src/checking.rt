@@ -5,6 +5,7 @@ ghost use Rattle.mcs_check.specs.Conditions.{meets_none, observer_of_property};
 ghost use Rattle.mcs_check.specs.OutcomeMeaning.{IsProved};
 
 use crate::cells::layout_of;
+use crate::limits::InputLimits;
 use crate::machine_search::MachineSearch;
 use crate::property::Property;
 use crate::replica::SearchMachine;
@@ -14,7 +15,7 @@ use std::alloc::{AllocError, Global};
 /// The result of a search through all inputs.
 #[derive(Debug, Drop)]
 pub enum Outcome {
-    /// The property holds for all inputs. The field is the number of states found.
+    /// The property holds for all inputs within the limits. The field is the number of states found.
     Holds(usize),
     /// The property may fail after search steps with these values, one value per step. The value is what the first
     /// cycle of the step reads, and has no meaning if that cycle reads no input. If there are no values, the property
@@ -24,7 +25,7 @@ pub enum Outcome {
     TooMany,
     /// Memory ran out. The field is the number of states that fitted into memory. The machine may have more states.
     NoMemory(usize),
-    /// The search gave up without a result.
+    /// The search gave up without a result. It does so at once if the limits do not have one level for each key.
     GaveUp,
 }
 
@@ -36,21 +37,25 @@ fn states_that_fit(memory: usize, key_len: usize) -> usize {
     memory / key_len.saturating_add(STATE_BYTES)
 }
 
-/// Searches all runs of a machine, for all levels of its keys and its TEST pin, and checks the property after each
-/// cycle. The search stores at most `most` states and uses about `memory` bytes. It splits each run of cycles without
+/// Searches all runs of a machine, for all levels of its keys and its TEST pin within the limits, and checks the
+/// property after each cycle. The search stores at most `most` states and uses about `memory` bytes. It splits each run of cycles without
 /// reads into steps of `pause` cycles. Fails if memory for the layout or for the first state cannot be allocated.
 pub fn check_all(
     alloc: Global,
     mut replica: SearchMachine,
     property: Property,
+    limits: InputLimits,
     most: usize,
     memory: usize,
     pause: u32,
 ) -> Result<Outcome, AllocError>
     requires { most ≤ MAX_STATES }
-    ensures { IfOk result (IsProved (observer_of_property property) (meets_none property.never_lists) replica) }
+    ensures { IfOk result (IsProved limits (observer_of_property property) (meets_none property.never_lists) replica) }
 {
-    replica.press_all_keys();
+    if limits.keys().len() != replica.board().key_count() {
+        return Ok(Outcome::GaveUp);
+    }
+    replica.set_highest_keys(&limits);
     let layout = layout_of(alloc, replica.board())?;
     let mut key = vec![in alloc; 0u8; layout.len()]?;
     replica.save(&layout, &mut key);
@@ -61,6 +66,7 @@ pub fn check_all(
     }
     let mut machine_search = MachineSearch {
         replica,
+        limits,
         layout,
         last,
         property,

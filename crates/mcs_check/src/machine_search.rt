@@ -2,6 +2,7 @@
 ghost use Rattle.std.specs.Prelude.{◌≡◌};
 
 use crate::cells::KeyByte;
+use crate::limits::InputLimits;
 use crate::property::Property;
 use crate::replica::SearchMachine;
 use crate::search_step::{list_readable_values, run_to_next_key};
@@ -9,11 +10,12 @@ use mcs_search::System;
 use std::alloc::AllocError;
 use std::marker::Model;
 
-/// The machines with one board and one program, and the property to check in their runs. `replica` holds one of these
-/// machines at a time. `most` is the number of cycles after which a search step ends if the program reads no input.
+/// The machines with one board and one program, the limits of their inputs, and the property to check in their runs.
+/// `replica` holds one of these machines at a time. `most` is the number of cycles after which a search step ends if the program reads no input.
 #[derive(Drop)]
 pub struct MachineSearch {
     pub(crate) replica: SearchMachine,
+    pub(crate) limits: InputLimits,
     pub(crate) layout: Vec<KeyByte>,
     /// The key that `replica` last loaded or saved. All bytes are 0 before the first load.
     pub(crate) last: Vec<u8>,
@@ -22,16 +24,15 @@ pub struct MachineSearch {
 }
 
 impl Model for MachineSearch {
-    ghost use Rattle.std.specs.Prelude.{◌≡◌, replicate};
-    ghost use Rattle.mcs_model.specs.Boards.{key_count};
+    ghost use Rattle.std.specs.Prelude.{◌≡◌};
     ghost use Rattle.mcs_check.specs.Cells.{IsComplete};
     ghost use Rattle.mcs_check.specs.Keys.{Setting};
 
     ghost Value = { Setting };
 
-    ghost view = { λ w. record { board = w.replica.1.board; rom = w.replica.1.rom; layout = w.layout.items; property = w.property } };
+    ghost view = { λ w. record { board = w.replica.1.board; rom = w.replica.1.rom; limits = w.limits; layout = w.layout.items; property = w.property } };
 
-    ghost invariant = { λ w. (w.replica.1.keys ≡ replicate (key_count w.replica.1.board) 1)
+    ghost invariant = { λ w. (w.replica.1.keys ≡ w.limits.keys)
         × (w.replica.1.test ≡ 0) × IsComplete w.replica.1.board w.layout.items };
 }
 
@@ -46,7 +47,14 @@ impl System for MachineSearch {
     ghost rules = { rules_of };
 
     fn choices(&mut self, key: &[u8], into: &mut Vec<u8>) -> Result<(), AllocError> {
-        list_readable_values(&mut self.replica, &self.layout, &mut self.last, key, into)?;
+        list_readable_values(
+            &mut self.replica,
+            &self.limits,
+            &self.layout,
+            &mut self.last,
+            key,
+            into,
+        )?;
         Ok(())
     }
 

@@ -1,6 +1,7 @@
 //! Runs a machine from one read of an input to the next.
-ghost use Rattle.std.specs.Prelude.{◌≡◌, ◌<◌, ◌+◌, ◌%◌, ◌==◌, ℕ, ◌||◌, ◌&&◌, ◌⊎◌, true, false, length, nat_lt, IfSome, Some, IsTrue, replicate};
+ghost use Rattle.std.specs.Prelude.{◌≡◌, ◌<◌, ◌+◌, ◌%◌, ◌==◌, ℕ, ◌||◌, ◌&&◌, ◌⊎◌, true, false, length, nat_lt, IfSome, Some, IsTrue, nat_le, ◌-◌};
 ghost use Rattle.mcs_model.specs.Boards.{key_count};
+ghost use Rattle.mcs_model.specs.Validity.{AreBelow};
 ghost use Rattle.mcs_model.specs.Effect.{address_on_page_of, instruction_at};
 ghost use Rattle.mcs_model.specs.Levels.{port_of};
 ghost use Rattle.mcs_model.specs.Registers.{register_of};
@@ -10,10 +11,11 @@ ghost use Rattle.mcs_drive.specs.TrackedMachine.{calls_after, cycled, next_reads
 ghost use Rattle.mcs_check.specs.Conditions.{meets_none, observer_of_property};
 ghost use Rattle.mcs_check.specs.Keys.{KeepsBoardAndInputs};
 ghost use Rattle.mcs_check.specs.Scopes.{cycle_may_change_scope, makes_mistake_in_scope};
-ghost use Rattle.mcs_check.specs.ReadPoints.{Begins, ReadsTestPin, Reads, CannotRead, HasRead, HasSpun, Reaches, Spins, is_bit_subset, unpressed_port_value, with_seen};
+ghost use Rattle.mcs_check.specs.ReadPoints.{Begins, ReadsTestPin, Reads, CannotRead, HasRead, HasSpun, Reaches, Spins, is_bit_subset, set_bits, unpressed_port_value, with_seen};
 
 use crate::cells::KeyByte;
 use crate::common_mistakes::Mistakes;
+use crate::limits::InputLimits;
 use crate::property::Property;
 use crate::reading::{InputSource, input_source_of};
 use crate::replica::SearchMachine;
@@ -41,6 +43,23 @@ fn lies_between(least: Nibble, value: u8, most: Nibble) -> bool
 {
     let value = Nibble::low_of(value);
     is_bit_subset(least, value) && is_bit_subset(value, most)
+}
+
+/// Returns the number of bits of `n` that are 1.
+fn set_bits(n: Nibble) -> u8
+    ensures { result ≡ set_bits n }
+{
+    n.bit(0).get() + n.bit(1).get() + n.bit(2).get() + n.bit(3).get()
+}
+
+/// Returns whether `value` lies between `least` and `most`, and has at most `together` more bits that are 1 than
+/// `least`. `value` must be less than 16.
+fn is_readable(least: Nibble, value: u8, most: Nibble, together: u32) -> bool
+    requires { value < 16 }
+    ensures { result ≡ ((is_bit_subset least value && is_bit_subset value most) && nat_le (set_bits value - set_bits least) together) }
+{
+    let more = set_bits(Nibble::low_of(value)).saturating_sub(set_bits(least));
+    lies_between(least, value, most) && u32::from(more) <= together
 }
 
 /// Returns the number of open calls after an instruction, if `calls` are open before it.
@@ -300,27 +319,29 @@ impl SearchMachine {
         (self.unpressed_port(), most)
     }
 
-    /// Returns false only if the next cycle cannot read this value at any levels of the keys and TEST. All keys of
-    /// the machine must be pressed, and `value` must be less than 16. `least` and `most` are the values of
-    /// `port_bounds`.
+    /// Returns false only if the next cycle cannot read this value at any levels of the keys and TEST within the
+    /// limits. Each key of the machine must be at its highest level, and `value` must be less than 16. `least` and
+    /// `most` are the values of `port_bounds`.
     pub(crate) fn can_read(
         &self,
+        limits: &InputLimits,
         source: InputSource,
         least: Nibble,
         most: Nibble,
         value: u8,
     ) -> bool
         requires reads { Reads self.now source }
-        requires keys { self.now.1.keys ≡ replicate (key_count self.now.1.board) 1 }
+        requires fit { AreBelow (key_count self.now.1.board) 2 self.now.1.keys }
+        requires keys { self.now.1.keys ≡ limits.now.keys }
         requires least { least ≡ unpressed_port_value self.now.1 }
         requires most { most ≡ port_of self.now.1 }
         requires value { value < 16 }
-        ensures { result ≡ false → CannotRead value self.now }
+        ensures { result ≡ false → CannotRead limits.now value self.now }
     {
         match source {
             InputSource::NoInput => self.may_answer_without_read(value),
-            InputSource::Test => value < 2,
-            InputSource::Port => lies_between(least, value, most),
+            InputSource::Test => limits.allow_test_level(value),
+            InputSource::Port => is_readable(least, value, most, limits.together()),
         }
     }
 

@@ -1,7 +1,9 @@
 //! One step of the search: it runs the machine that a key identifies to its next read, and saves the new key.
-ghost use Rattle.std.specs.Prelude.{◌≡◌, ◌<◌, ◌⊎◌, ℕ, length, true, replicate, IfSome, OnOk};
+ghost use Rattle.std.specs.Prelude.{◌≡◌, ◌<◌, ◌⊎◌, ℕ, length, true, IfSome, OnOk};
 ghost use Rattle.std.specs.List.{Contains};
 ghost use Rattle.mcs_model.specs.Boards.{key_count};
+ghost use Rattle.mcs_model.specs.Validity.{AreBelow};
+ghost use Rattle.mcs_drive.specs.DrivenRuns as driven;
 ghost use Rattle.mcs_check.specs.Cells.{IsComplete};
 ghost use Rattle.mcs_check.specs.Conditions.{PropertyConditions};
 ghost use Rattle.mcs_check.specs.Keys.{KeepsBoardAndInputs, setting_of};
@@ -10,6 +12,7 @@ ghost use Rattle.mcs_check.specs.ReadPoints.{CannotRead};
 ghost use Rattle.mcs_check.specs.SearchStep.{IsState, Leads};
 
 use crate::cells::KeyByte;
+use crate::limits::InputLimits;
 use crate::property::Property;
 use crate::replica::SearchMachine;
 use std::alloc::AllocError;
@@ -27,16 +30,21 @@ fn push_all_nibbles(into: &mut Vec<u8>) -> Result<(), AllocError>
     Ok(())
 }
 
-/// Appends to `into` every value that the machine's next cycle can read. All keys of the machine must be pressed.
-/// Fails if memory runs out.
-fn push_readable_values(replica: &SearchMachine, into: &mut Vec<u8>) -> Result<(), AllocError>
-    requires keys { replica.now.1.keys ≡ replicate (key_count replica.now.1.board) 1 }
-    ensures { OnOk result ((value : ℕ) → value < 16 → CannotRead value replica.now ⊎ Contains into.new.items value) }
+/// Appends to `into` every value that the machine's next cycle can read at input levels within the limits. Each key of
+/// the machine must be at its highest level. Fails if memory runs out.
+fn push_readable_values(
+    replica: &SearchMachine,
+    limits: &InputLimits,
+    into: &mut Vec<u8>,
+) -> Result<(), AllocError>
+    requires fit { AreBelow (key_count replica.now.1.board) 2 replica.now.1.keys }
+    requires keys { replica.now.1.keys ≡ limits.now.keys }
+    ensures { OnOk result ((value : ℕ) → value < 16 → CannotRead limits.now value replica.now ⊎ Contains into.new.items value) }
 {
     let source = replica.source();
     let (least, most) = replica.port_bounds();
     for value in 0..VALUES {
-        if replica.can_read(source, least, most, value) {
+        if replica.can_read(limits, source, least, most, value) {
             into.push(value)?;
         }
     }
@@ -44,21 +52,22 @@ fn push_readable_values(replica: &SearchMachine, into: &mut Vec<u8>) -> Result<(
 }
 
 /// Loads the machine that `key` identifies, and lists in `into` the values that this machine can read in its next
-/// cycle. Lists all 16 values if `key` cannot be loaded. `last` is the key that `replica` last loaded or saved; `key`
+/// cycle at input levels within the limits. Lists all 16 values if `key` cannot be loaded. `last` is the key that `replica` last loaded or saved; `key`
 /// replaces it. Fails if memory runs out.
 pub(crate) fn list_readable_values(
     replica: &mut SearchMachine,
+    limits: &InputLimits,
     layout: &[KeyByte],
     last: &mut [u8],
     key: &[u8],
     into: &mut Vec<u8>,
 ) -> Result<(), AllocError>
-    requires keys { replica.old.1.keys ≡ replicate (key_count replica.old.1.board) 1 }
+    requires keys { replica.old.1.keys ≡ limits.now.keys }
     requires test { replica.old.1.test ≡ 0 }
     requires complete { IsComplete replica.old.1.board layout.now }
     ensures keeps { KeepsBoardAndInputs replica.old.1 replica.new.1 }
     ensures covers { OnOk result ((property : PropertyConditions) →
-        Covers (setting_of replica.old layout.now property) key.now into.new.items) }
+        Covers (setting_of replica.old limits.now layout.now property) key.now into.new.items) }
 {
     into.clear();
     if key.len() != layout.len() || !replica.reload(layout, last, key) {
@@ -66,7 +75,7 @@ pub(crate) fn list_readable_values(
         return Ok(());
     }
     replica.show_state_is_valid();
-    push_readable_values(replica, into)?;
+    push_readable_values(replica, limits, into)?;
     Ok(())
 }
 
@@ -91,16 +100,16 @@ pub(crate) fn run_to_next_key(
     value: u8,
     into: &mut [u8],
 ) -> Option<bool>
-    requires keys { replica.old.1.keys ≡ replicate (key_count replica.old.1.board) 1 }
     requires test { replica.old.1.test ≡ 0 }
     requires complete { IsComplete replica.old.1.board layout.now }
     requires into { length into.old ≡ length key.now }
-    requires state { IsState (setting_of replica.old layout.now property.now) key.now }
     ensures keeps { KeepsBoardAndInputs replica.old.1 replica.new.1 }
-    ensures leads { IfSome result (λ property_holds. property_holds ≡ true →
-        Leads (setting_of replica.old layout.now property.now) key.now value into.new) }
-    ensures state { IfSome result (λ property_holds. property_holds ≡ true →
-        IsState (setting_of replica.old layout.now property.now) into.new) }
+    ensures leads { (limits : driven.InputLimits) → replica.old.1.keys ≡ limits.keys →
+        IfSome result (λ property_holds. property_holds ≡ true →
+        Leads (setting_of replica.old limits layout.now property.now) key.now value into.new) }
+    ensures state { (limits : driven.InputLimits) → replica.old.1.keys ≡ limits.keys →
+        IfSome result (λ property_holds. property_holds ≡ true →
+        IsState (setting_of replica.old limits layout.now property.now) into.new) }
 {
     if key.len() != layout.len() || !replica.reload(layout, last, key) {
         return None;

@@ -9,3 +9,4 @@ pub mod ReadPoints
 pub mod EqualExceptLevels
 pub mod ShownMarkLemmas
 pub mod PassedMarkLemmas
+pub mod LimitLemmas

@@ -12,7 +12,7 @@ use Rattle.mcs_model.specs.Bus.{BusState, after_src, chips_of, src_of, has_chip,
 use Rattle.mcs_model.specs.Levels.{clock_levels, after_chain_clocks, with_rom_ports_at, after_ram_port, after_rom_port}
 use Rattle.mcs_model.specs.Effect.{bus_after, cycle_of, effect, instruction_at}
 use Rattle.mcs_model.specs.Running.{Machine}
-use Rattle.mcs_drive.specs.DrivenRuns.{Levels, FitsBoard}
+use Rattle.mcs_drive.specs.DrivenRuns.{AreAllowed, InputLimits, Levels}
 use Rattle.mcs_drive.specs.TrackedMachine.{Observer, TrackedMachine, machine_in, with_levels, without_levels, cycled, after_cycles, next_reads_input, driven, Holds}
 use Rattle.mcs_drive.specs.RunsBetweenReads.{IgnoresLevels, LeadsTo}
 use Rattle.mcs_drive.proofs.Tracking.{cycled-with_levels-if-no-read}
@@ -83,17 +83,17 @@ module _ (w : Observer) where
   Leads p R a l = (to : TrackedMachine) × R to × LeadsTo w p a to l
 
   -- holds if `p` is true for each machine in `R`, and each machine in `R` leads to a machine in `R`
-  -- at all input levels
-  pub record IsClosedSet (p : TrackedMachine → Bool) (R : TrackedMachine → Type 0) : Type 0 where
+  -- at all input levels within the limits
+  pub record IsClosedSet (limits : InputLimits) (p : TrackedMachine → Bool) (R : TrackedMachine → Type 0) : Type 0 where
     pub ignores : IgnoresLevels p
     pub sound : (a : TrackedMachine) → R a → board_fault_of a.1.board ≡ None
     pub property_holds : (a : TrackedMachine) → R a → p a ≡ true
-    pub leads : (a : TrackedMachine) (l : Levels) → R a → FitsBoard a.1.board l → Leads p R a l
+    pub leads : (a : TrackedMachine) (l : Levels) → R a → AreAllowed limits a.1.board l → Leads p R a l
 
-  closed_set-holds : (p : TrackedMachine → Bool) (R : TrackedMachine → Type 0) → IsClosedSet p R → (fuel k : ℕ) → k < fuel → (f : ℕ → Levels) (a : TrackedMachine) → R a → ((i : ℕ) → FitsBoard a.1.board (f i)) → p (driven w f k a) ≡ true
-  closed_set-holds p R c zero k h f a is fit = absurd (omega arith)
-  closed_set-holds p R c (suc fuel) zero h f a is fit = c.property_holds a is
-  closed_set-holds p R c (suc fuel) (suc k) h f a is fit =
+  closed_set-holds : (limits : InputLimits) (p : TrackedMachine → Bool) (R : TrackedMachine → Type 0) → IsClosedSet limits p R → (fuel k : ℕ) → k < fuel → (f : ℕ → Levels) (a : TrackedMachine) → R a → ((i : ℕ) → AreAllowed limits a.1.board (f i)) → p (driven w f k a) ≡ true
+  closed_set-holds limits p R c zero k h f a is fit = absurd (omega arith)
+  closed_set-holds limits p R c (suc fuel) zero h f a is fit = c.property_holds a is
+  closed_set-holds limits p R c (suc fuel) (suc k) h f a is fit =
       let to = (c.leads a (f 0) is (fit 0)).0 in
       let to-is = (c.leads a (f 0) is (fit 0)).1 in
       let leads = (c.leads a (f 0) is (fit 0)).2 in
@@ -109,13 +109,14 @@ module _ (w : Observer) where
             let board : a.1.board ≡ to.1.board = sym (cycles-board n b) ∙ ap (λ (m : TrackedMachine). m.1.board) leads.same in
             ap (λ j. p (driven w f j a)) split ∙ ap p (driven-add f n rest a)
             ∙ c.ignores (driven w g rest (driven w f n a)) ∙ ap p (driven-alike g rest (driven w f n a) to came) ∙ sym (c.ignores (driven w g rest to))
-            ∙ closed_set-holds p R c fuel rest (omega arith) g to to-is (λ i. subst (λ (d : BoardParts). FitsBoard d (g i)) board (fit (n + i)))
+            ∙ closed_set-holds limits p R c fuel rest (omega arith) g to to-is (λ i. subst (λ (d : BoardParts). AreAllowed limits d (g i)) board (fit (n + i)))
         | inr within ↦
             c.ignores (driven w f (suc k) a)
             ∙ ap p (driven-quiet f k a v (λ i l. leads.quiet i (omega arith)))
             ∙ sym (c.ignores (after_cycles w (suc k) b)) ∙ leads.property_holds k within
       ]
 
-  -- if `R` is closed and contains `a`, then `p` holds at every moment of every run from `a`
-  pub closed-holds : (p : TrackedMachine → Bool) (R : TrackedMachine → Type 0) → IsClosedSet p R → (a : TrackedMachine) → R a → Holds w p a
-  closed-holds p R c a is = λ f fit k. closed_set-holds p R c (suc k) k (omega arith) f a is fit
+  -- if `R` is closed and contains `a`, then `p` holds at every moment of every run from `a` within the
+  -- limits
+  pub closed-holds : (limits : InputLimits) (p : TrackedMachine → Bool) (R : TrackedMachine → Type 0) → IsClosedSet limits p R → (a : TrackedMachine) → R a → Holds limits w p a
+  closed-holds limits p R c a is = λ f fit k. closed_set-holds limits p R c (suc k) k (omega arith) f a is fit

@@ -167,7 +167,7 @@ key_level-if-line-shows-mark s m mark (Ram bank chip k) e line input row column 
 key_level-if-line-shows-mark s m mark (Chain n i) e line input row column small is = absurd (cc)
 
 -- the levels of keys are 0 or 1
-key-level-below-two : (n i : ℕ) (keys : List ℕ) → AreBelow n 2 keys → slice_index keys i < 2
+pub key-level-below-two : (n i : ℕ) (keys : List ℕ) → AreBelow n 2 keys → slice_index keys i < 2
 key-level-below-two n i keys fit =
     elim (cases_lt i (length keys)) [
       | inl within ↦ All-get_or (λ k. k < 2) keys i 0 within fit.below

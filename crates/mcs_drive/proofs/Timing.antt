@@ -1,7 +1,7 @@
 -- The stopwatch of an observer during a run.
 use Rattle.std.proofs.Common.{◌≡◌, ◌<◌, ◌≤◌, ◌+◌, ◌⊎◌, ℕ, zero, suc, inl, inr, Bool, true, false, cond, ◌||◌, nat_lt, nat_le, refl, sym, ap, ◌∙◌, subst, arith, eqb}
 use Rattle.std.proofs.lemmas.Bool.{eqb-false, leb-true, lt-ltb, ne_eqb, or_parts}
-use Rattle.mcs_drive.specs.DrivenRuns.{Levels, FitsBoard}
+use Rattle.mcs_drive.specs.DrivenRuns.{AreAllowed, InputLimits, Levels}
 use Rattle.mcs_drive.specs.TrackedMachine.{Observer, TrackedMachine, STOPWATCH_MAX, begins_at, ends_at, stopwatch_after, driven, Holds}
 
 -- ---- one cycle
@@ -62,10 +62,10 @@ module _ (w : Observer) where
             runs-on f k m s (ends_at w (driven w f (suc (k + m)) s)) refl shows (omega arith)
       ]
 
-  pub ends-within : (limit : ℕ) (s : TrackedMachine) → limit < STOPWATCH_MAX → Holds w (λ t. nat_le t.2.elapsed limit) s →
-      (f : ℕ → Levels) → ((k : ℕ) → FitsBoard s.1.board (f k)) → (k : ℕ) → begins_at w (driven w f k s) ≡ true →
+  pub ends-within : (limits : InputLimits) (limit : ℕ) (s : TrackedMachine) → limit < STOPWATCH_MAX → Holds limits w (λ t. nat_le t.2.elapsed limit) s →
+      (f : ℕ → Levels) → ((k : ℕ) → AreAllowed limits s.1.board (f k)) → (k : ℕ) → begins_at w (driven w f k s) ≡ true →
       (d : ℕ) × (1 ≤ d) × (d ≤ limit) × (ends_at w (driven w f (k + d) s) ≡ true)
-  ends-within limit s few holds f fit k begins =
+  ends-within limits limit s few holds f fit k begins =
       elim (runs-to limit s few f (holds f fit) k begins limit) [
         | inl ended ↦ ended
         | inr shows ↦ (let most = leb-true (driven w f (suc (k + limit)) s).2.elapsed limit (holds f fit (suc (k + limit))) in absurd (omega arith))

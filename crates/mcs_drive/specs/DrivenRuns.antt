@@ -2,7 +2,8 @@
 -- pin to any levels. The machine then executes one cycle, as the instruction table defines it. To
 -- believe that a property holds for all inputs, a reader must trust only this file, TrackedMachine,
 -- Marks, and the definitions that these three use. (Defined by Fethsaim, not by Intel.)
-use Rattle.std.specs.Prelude.{◌<◌, ℕ, zero, suc, List, unwrap_or}
+use Rattle.std.specs.Prelude.{◌<◌, ◌≤◌, ℕ, zero, suc, List, replicate, slice_index, unwrap_or}
+use Rattle.std.specs.List.{sum}
 use Rattle.mcs_model.specs.declared.board.BoardParts.{BoardParts}
 use Rattle.mcs_model.specs.Boards.{key_count}
 use Rattle.mcs_model.specs.Effect.{cycle_of}
@@ -18,6 +19,29 @@ pub record Levels : Type 0 where
 pub record FitsBoard (b : BoardParts) (l : Levels) : Type 0 where
   pub keys : AreBelow (key_count b) 2 l.keys
   pub test : l.test < 2
+
+-- Limits of the inputs: the highest level, 0 or 1, of each key, row by row, and of the TEST pin, and
+-- the largest number of keys that are down together.
+pub record InputLimits : Type 0 where
+  pub keys : List ℕ
+  pub test : ℕ
+  pub together : ℕ
+
+-- holds if `l` has a level for each key of the board and for TEST, and all levels are within the
+-- limits
+pub record AreAllowed (limits : InputLimits) (b : BoardParts) (l : Levels) : Type 0 where
+  pub fits : FitsBoard b l
+  pub keys : (i : ℕ) → slice_index l.keys i ≤ slice_index limits.keys i
+  pub test : l.test ≤ limits.test
+  pub together : sum l.keys ≤ limits.together
+
+-- the limits that allow all input levels of a board
+abbrev pub no_limits : BoardParts → InputLimits
+no_limits b = record { keys = replicate (key_count b) 1; test = 1; together = key_count b }
+
+-- `no_limits` allows all input levels
+abbrev pub NoLimitsAllowAllLevels : Type 0
+NoLimitsAllowAllLevels = (b : BoardParts) (l : Levels) → FitsBoard b l → AreAllowed (no_limits b) b l
 
 -- a machine with its keys and TEST set to the input levels `l`
 abbrev pub with_levels : Levels → Machine → Machine

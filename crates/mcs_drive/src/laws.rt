@@ -1,8 +1,14 @@
 //! Laws about the definitions of this crate. Each law is the contract of a function with an empty body.
+ghost use Rattle.mcs_drive.specs.DrivenRuns.{NoLimitsAllowAllLevels};
 ghost use Rattle.mcs_drive.specs.InputReads.{ReadsDecideCycle, PortChoicesCoverReads, LevelsHaveNoEffect, PulledLinesCanBePulled};
 ghost use Rattle.mcs_drive.specs.RunsBetweenReads.{SameReadGivesSameRun};
 ghost use Rattle.mcs_drive.specs.Opening.{MarksPrecedeCondition};
 ghost use Rattle.mcs_drive.specs.TrackedMachine.{StopwatchEndsWithinLimit, CountsKeepMachine};
+
+/// Proves that `no_limits` allows all input levels of a board.
+pub fn no_limits_allow_all_levels()
+    ensures { NoLimitsAllowAllLevels }
+{}
 
 /// Proves that a cycle that reads no input does not depend on the input levels and leaves them unchanged.
 pub fn levels_have_no_effect()
@@ -36,14 +42,14 @@ pub fn counts_keep_machine()
     ensures { CountsKeepMachine }
 {}
 
-/// Proves that a stopwatch ends within a limit each time it begins, if it never shows more cycles than that limit. The
-/// limit is below `STOPWATCH_MAX`.
+/// Proves, for all inputs within given limits, that a stopwatch ends within a number of cycles each time it begins, if
+/// it never shows more cycles than that number. The number is below `STOPWATCH_MAX`.
 pub fn stopwatch_ends_within_limit()
     ensures { StopwatchEndsWithinLimit }
 {}
 
-/// Proves that the keys were at the marks of an observer, in order, each time the observer's condition becomes true.
-/// The premise is that the condition never holds before all marks are seen.
+/// Proves, for all inputs within given limits, that the keys were at the marks of an observer, in order, each time the
+/// observer's condition becomes true. The premise is that the condition never holds before all marks are seen.
 pub fn marks_precede_condition()
     ensures { MarksPrecedeCondition }
 {}

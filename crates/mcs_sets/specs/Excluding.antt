@@ -5,6 +5,7 @@ use Rattle.std.specs.List.{Contains}
 use Rattle.mcs_model.specs.declared.board.BoardParts.{BoardParts}
 use Rattle.mcs_model.specs.declared.op.Op.{Op}
 use Rattle.mcs_model.specs.declared.op.Op.TheVariants.{Jcn, Fim, Fin, Jun, Jms, Isz}
+use Rattle.mcs_drive.specs.DrivenRuns.{InputLimits}
 use Rattle.mcs_drive.specs.TrackedMachine.{TrackedMachine, Holds, no_observer}
 use Rattle.mcs_check.specs.declared.common_mistakes.Mistakes.{Mistakes}
 use Rattle.mcs_check.specs.declared.conditions.Condition.{Condition}
@@ -32,7 +33,8 @@ abbrev pub EntriesSuffice : Type 0
 EntriesSuffice =
     (p : TrackedMachine → Bool) (entries : List Entry) (s : TrackedMachine) →
     ((e : Entry) → Contains entries e → HoldsInEntry s.1.board s.1.rom p e) →
-    IsBusOf s.1.board s.1.rom s.1 → StaysCovered entries s → Holds no_observer p s
+    IsBusOf s.1.board s.1.rom s.1 → StaysCovered entries s →
+    (limits : InputLimits) → Holds limits no_observer p s
 
 -- holds if each number in a set of nibbles has a property
 abbrev pub ForAllIn : ℕ → (ℕ → Type 0) → Type 0

@@ -1,6 +1,7 @@
 //! Proves with sets of values that a machine never meets given conditions, for all levels of its keys and its TEST
 //! pin.
 ghost use Rattle.std.specs.Prelude.{◌≡◌, ◌<◌, IsTrue, ℕ, length, map, slice_index_or};
+ghost use Rattle.mcs_drive.specs.DrivenRuns.{InputLimits};
 ghost use Rattle.mcs_drive.specs.TrackedMachine.{no_observer, with_zero_counts};
 ghost use Rattle.mcs_check.specs.Conditions.{meets_none};
 ghost use Rattle.mcs_check.specs.OutcomeMeaning.{IsProved};
@@ -57,7 +58,7 @@ fn outcome_of(
     links: &[usize],
     never_lists: &[Vec<Condition>],
 ) -> Outcome
-    ensures { IsProved no_observer (meets_none (map (λ n. n.items) never_lists.now)) (with_zero_counts (cpu.now, rig.old)) result }
+    ensures { (limits : InputLimits) → IsProved limits no_observer (meets_none (map (λ n. n.items) never_lists.now)) (with_zero_counts (cpu.now, rig.old)) result }
 {
     rig_is_valid(rig);
     if !all_entries_avoid(rig, entries, never_lists) {
@@ -139,7 +140,7 @@ pub fn check_by_sets(
     max_entries: usize,
     memory: usize,
 ) -> Outcome
-    ensures { IsProved no_observer (meets_none (map (λ n. n.items) never_lists.now)) (with_zero_counts (cpu.now, rig.old)) result }
+    ensures { (limits : InputLimits) → IsProved limits no_observer (meets_none (map (λ n. n.items) never_lists.now)) (with_zero_counts (cpu.now, rig.old)) result }
 {
     if !are_decidable(never_lists) {
         return Outcome::GaveUp;

@@ -1,6 +1,6 @@
 //! The board and the program of an example, the electronic die, and machines with this board.
 use mcs_board::BenchRig;
-use mcs_check::SearchMachine;
+use mcs_check::{InputLimits, SearchMachine};
 use mcs_cpu4004::Cpu;
 use mcs_fixtures::boards::{CLOCK_AND_DATA, INPUTS, OUTPUTS, chains, lines};
 use mcs_model::board::{Board, BoardFault, BoardParts, KeyMatrix, Line};
@@ -21,9 +21,9 @@ pub(crate) const FACES: [u8; 6] = [8, 1, 9, 3, 11, 7];
 /// The ROM address of the lamp patterns.
 const FACES_ADDRESS: u16 = 42;
 
-/// Returns the die's board with one column of keys in `rows` rows. The board has a ROM with outputs, a ROM with
+/// Returns the die's board with keys in `rows` rows, whose columns are wired to these lines. The board has a ROM with outputs, a ROM with
 /// inputs and a RAM chip.
-fn board_with_keys(rows: u8) -> Result<Board, BoardFault> {
+fn board_with_keys(rows: u8, columns: &[Line]) -> Result<Board, BoardFault> {
     let mut roms = [None; ROMS];
     roms[0] = Some(OUTPUTS);
     roms[1] = Some(INPUTS);
@@ -35,7 +35,7 @@ fn board_with_keys(rows: u8) -> Result<Board, BoardFault> {
             chain: 0,
             first: 0,
             rows,
-            columns: lines(&[Line::Rom(1, 0)]),
+            columns: lines(columns),
         }),
         lamps: lines(&[]),
     })
@@ -51,14 +51,15 @@ fn write_rom(rig: &mut BenchRig, from: u16, bytes: &[u8]) {
 }
 
 /// Returns a rig with the die's board, its faces and the given program, before its first cycle. The board has keys in
-/// `rows` rows.
+/// `rows` rows, whose columns are wired to these lines.
 fn rig_with_keys(
     alloc: Global,
     rt: &impl Abort,
     rows: u8,
+    columns: &[Line],
     program: &[u8],
 ) -> Result<BenchRig, AllocError> {
-    let board = board_with_keys(rows).expect(rt, "a board");
+    let board = board_with_keys(rows, columns).expect(rt, "a board");
     let mut rig = BenchRig::new(alloc)?;
     assert!(rt; BenchRig::fits(&board));
     rig.wire(&board);
@@ -69,7 +70,7 @@ fn rig_with_keys(
 
 /// Returns a rig with the die's board, which has one key, and with the given program, before its first cycle.
 pub(crate) fn rig(alloc: Global, rt: &impl Abort, program: &[u8]) -> Result<BenchRig, AllocError> {
-    rig_with_keys(alloc, rt, 1, program)
+    rig_with_keys(alloc, rt, 1, &[Line::Rom(1, 0)], program)
 }
 
 /// Returns a machine with the die's board and faces and with the given program, before its first
@@ -90,8 +91,28 @@ pub(crate) fn machine_with_two_keys(
     rt: &impl Abort,
     program: &[u8],
 ) -> Result<SearchMachine, AllocError> {
-    let rig = rig_with_keys(alloc, rt, 2, program)?;
+    let rig = rig_with_keys(alloc, rt, 2, &[Line::Rom(1, 0)], program)?;
     Ok(SearchMachine::of(Cpu::new(), rig))
+}
+
+/// Returns a machine with the given program, before its first cycle. Its board has two keys, in two columns of one
+/// row.
+pub(crate) fn machine_with_two_columns(
+    alloc: Global,
+    rt: &impl Abort,
+    program: &[u8],
+) -> Result<SearchMachine, AllocError> {
+    let columns = [Line::Rom(1, 0), Line::Rom(1, 1)];
+    let rig = rig_with_keys(alloc, rt, 1, &columns, program)?;
+    Ok(SearchMachine::of(Cpu::new(), rig))
+}
+
+/// Returns the limits that allow all inputs of a machine.
+pub(crate) fn all_inputs(
+    alloc: Global,
+    machine: &SearchMachine,
+) -> Result<InputLimits, AllocError> {
+    InputLimits::none(alloc, machine.board())
 }
 
 /// Returns a machine that runs the die's program, before its first cycle.

@@ -1,5 +1,5 @@
 //! Tests of complete checks and their outcomes.
-use crate::boards::{FACES, die};
+use crate::boards::{FACES, all_inputs, die};
 use mcs_check::{
     Cell, CellList, Comparison, Condition, Conjunction, Outcome, Part, Property, check_all,
 };
@@ -63,7 +63,9 @@ pub(crate) fn check_die(
     rt: &impl Abort,
     property: Property,
 ) -> Result<Outcome, AllocError> {
-    check_all(alloc, die(alloc, rt)?, property, STATES, MEMORY, PAUSE)
+    let die = die(alloc, rt)?;
+    let limits = all_inputs(alloc, &die)?;
+    check_all(alloc, die, property, limits, STATES, MEMORY, PAUSE)
 }
 
 /// Checks that the lamps never show the pattern `n`. Returns true if the outcome is `MayFail`, and false if the check
@@ -104,9 +106,16 @@ fn a_limit_on_states_stops_the_check(rt: HostRuntime) {
     for max_states in [0, 1, STATES - 1] {
         let die = die(rt.alloc(), &rt).expect(&rt, "memory");
         let property = lamps_show_only_faces(rt.alloc()).expect(&rt, "memory");
-        let outcome = check_all(rt.alloc(), die, property, max_states, MEMORY, PAUSE).expect(
-            &rt, "memory",
-        );
+        let limits = all_inputs(rt.alloc(), &die).expect(&rt, "memory");
+        let outcome = check_all(
+            rt.alloc(),
+            die,
+            property,
+            limits,
+            max_states,
+            MEMORY,
+            PAUSE,
+        ).expect(&rt, "memory");
         assert!(&rt; matches!(outcome, Outcome::TooMany), "{max_states}");
     }
 }
@@ -116,7 +125,8 @@ fn a_limit_on_memory_stops_the_check(rt: HostRuntime) {
     for memory in [0, 1, 1_000] {
         let die = die(rt.alloc(), &rt).expect(&rt, "memory");
         let property = lamps_show_only_faces(rt.alloc()).expect(&rt, "memory");
-        let outcome = check_all(rt.alloc(), die, property, STATES, memory, PAUSE).expect(
+        let limits = all_inputs(rt.alloc(), &die).expect(&rt, "memory");
+        let outcome = check_all(rt.alloc(), die, property, limits, STATES, memory, PAUSE).expect(
             &rt, "memory",
         );
         assert!(&rt; matches!(outcome, Outcome::NoMemory(_)), "{memory}");

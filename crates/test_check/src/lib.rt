@@ -8,6 +8,8 @@ mod boards;
 #[cfg(test)]
 mod checks;
 #[cfg(test)]
+mod limits;
+#[cfg(test)]
 mod mistakes;
 #[cfg(test)]
 mod openings;

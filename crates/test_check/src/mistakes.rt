@@ -1,5 +1,5 @@
 //! Tests that check programs for common mistakes.
-use crate::boards::{die, machine};
+use crate::boards::{all_inputs, die, machine};
 use crate::checks::{MEMORY, PAUSE, STATES, expect_holds};
 use mcs_check::{Condition, Conjunction, Mistakes, Outcome, Property, check_all};
 use std::alloc::{AllocError, Global};
@@ -28,9 +28,10 @@ fn never_mistaken(alloc: Global, mistakes: Mistakes) -> Result<Property, AllocEr
 fn the_die_makes_no_mistake(rt: HostRuntime) {
     let die = die(rt.alloc(), &rt).expect(&rt, "memory");
     let property = never_mistaken(rt.alloc(), ALL_MISTAKES).expect(&rt, "memory");
+    let limits = all_inputs(rt.alloc(), &die).expect(&rt, "memory");
     expect_holds(
         &rt,
-        check_all(rt.alloc(), die, property, STATES, MEMORY, PAUSE).expect(&rt, "memory"),
+        check_all(rt.alloc(), die, property, limits, STATES, MEMORY, PAUSE).expect(&rt, "memory"),
     );
 }
 
@@ -68,9 +69,16 @@ fn each_program_makes_its_mistake(rt: HostRuntime) {
         for kind in 0..7 {
             let machine = machine(rt.alloc(), &rt, &MISTAKEN_PROGRAMS[k]).expect(&rt, "memory");
             let property = never_mistaken(rt.alloc(), mistake_of(kind)).expect(&rt, "memory");
-            let outcome = check_all(rt.alloc(), machine, property, STATES, MEMORY, 5_000).expect(
-                &rt, "memory",
-            );
+            let limits = all_inputs(rt.alloc(), &machine).expect(&rt, "memory");
+            let outcome = check_all(
+                rt.alloc(),
+                machine,
+                property,
+                limits,
+                STATES,
+                MEMORY,
+                5_000,
+            ).expect(&rt, "memory");
             let is_made = matches!(outcome, Outcome::MayFail(_));
             assert!(&rt; is_made == (kind == k), "program {k}, mistake {kind}");
         }

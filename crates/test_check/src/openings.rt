@@ -1,5 +1,5 @@
 //! Tests of marks: a program must reach an address only after certain keys were pressed or released.
-use crate::boards::machine_with_two_keys;
+use crate::boards::{all_inputs, machine_with_two_keys};
 use crate::checks::{MEMORY, PAUSE};
 use crate::times::begins_at;
 use mcs_check::{Mark, Marks, Outcome, Property, add_mark_requirement, check_all};
@@ -13,7 +13,7 @@ const MAX_STATES: usize = 10_000;
 /// the key is down. After each press it reaches address 18. The instructions, with some addresses in parentheses:
 /// FIM P0 0, SRC P0, LDM 2, WRR, IAC, WRR, FIM P0 16, SRC P0, (10) RDR, RAR, JCN C 10, (14) RDR, RAR, JCN NC 14,
 /// (18) JUN 10.
-const LOCK: [u8; 20] = [
+pub(crate) const LOCK: [u8; 20] = [
     32, 0, 33, 210, 226, 242, 226, 32, 16, 33, 234, 246, 18, 10, 234, 246, 26, 14, 64, 10,
 ];
 
@@ -30,7 +30,7 @@ const BOTH_ROWS: [u8; 28] = [
 ];
 
 /// The address that the programs reach after a press.
-const OPEN_ADDRESS: u8 = 18;
+pub(crate) const OPEN_ADDRESS: u8 = 18;
 
 /// Returns the mark that the key at this row of column 0 is down, or up if `is_down` is false.
 fn mark(row: u8, is_down: bool) -> Mark {
@@ -54,7 +54,8 @@ fn check_marks(
     let mut never_lists = Vec::new(alloc);
     add_mark_requirement(alloc, &mut never_lists, &opens, &marks)?;
     let property = Property::of(never_lists, Vec::new(alloc), Vec::new(alloc), opens, marks);
-    check_all(alloc, machine, property, MAX_STATES, MEMORY, PAUSE)
+    let limits = all_inputs(alloc, &machine)?;
+    check_all(alloc, machine, property, limits, MAX_STATES, MEMORY, PAUSE)
 }
 
 /// Expects a proof that a program reaches the address `OPEN_ADDRESS` only after these marks.

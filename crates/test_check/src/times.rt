@@ -1,5 +1,5 @@
 //! Tests of the time between two addresses, which a stopwatch measures.
-use crate::boards::machine;
+use crate::boards::{all_inputs, machine};
 use crate::checks::MEMORY;
 use mcs_check::{
     Cell, CellList, Comparison, Condition, Conjunction, Outcome, Part, Property, StopwatchCycles,
@@ -85,7 +85,8 @@ fn check_time(
     let mut never_lists = Vec::new(alloc);
     add_limit(alloc, &mut never_lists, limit).expect(rt, "memory");
     let property = Property::with_stopwatch(alloc, never_lists, begins, ends);
-    check_all(alloc, machine, property, MAX_STATES, MEMORY, PAUSE).expect(rt, "memory")
+    let limits = all_inputs(alloc, &machine).expect(rt, "memory");
+    check_all(alloc, machine, property, limits, MAX_STATES, MEMORY, PAUSE).expect(rt, "memory")
 }
 
 /// Expects that `cycles` is the maximum number of cycles that a program takes from the address `from` to `to`.

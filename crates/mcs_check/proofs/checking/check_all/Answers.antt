@@ -7,12 +7,13 @@ use Rattle.mcs_check.specs.Cells.{key_byte_value, key_of}
 use Rattle.mcs_check.specs.Conditions.{meets_none}
 use Rattle.mcs_check.specs.Keys.{setting_of}
 use Rattle.mcs_check.specs.SearchRules.{rules_of}
-use Rattle.mcs_check.proofs.Beginning.{property_holds-before_keys_pressed, is_key-of_machine_with_all_pressed}
+use Rattle.mcs_check.proofs.Beginning.{property_holds-before_keys_set, is_key-of_machine_with_highest_keys}
 use Rattle.mcs_check.proofs.checking.check_all.Goals as goal
 
 pub returns-in-Holds : goal.returns-in-Holds
 returns-in-Holds c =
-    let m = c.press_all_keys.new.self in
+    let m = c.set_highest_keys.new.self in
+    let limits = c.args.limits in
     let layout = c.in_ok-layout.layout.items in
     let property = c.args.property in
     let key = c.deref-2.result.now in
@@ -26,6 +27,6 @@ returns-in-Holds c =
     let whole = subst (λ (n : ℕ). take n (c.save.new.key ++ rest) ≡ c.save.new.key) len (take-append_seam c.save.new.key rest) in
     let cells : key ≡ key_of layout m = c.deref-2.ensures.value ∙ (whole ∙ saved) in
     let property_holds : meets_none property.never_lists m ≡ true = sym c.keeps.ensures ∙ c.if-not-keeps.false in
-    let is = is_key-of_machine_with_all_pressed layout property key c.args.replica m c.press_all_keys.ensures c.show_state_is_valid.ensures.registers c.show_state_is_valid.ensures.bus property_holds cells in
-    property_holds-before_keys_pressed layout property key c.in-Holds.states c.args.replica m c.press_all_keys.ensures is
-    (subst (IsProved (rules_of (setting_of m layout property)) key) c.in-Holds.is c.in_ok-states.ensures.proved)
+    let is = is_key-of_machine_with_highest_keys limits layout property key c.args.replica m c.set_highest_keys.ensures c.show_state_is_valid.ensures.registers c.show_state_is_valid.ensures.bus property_holds cells in
+    property_holds-before_keys_set limits layout property key c.in-Holds.states c.args.replica m c.set_highest_keys.ensures is
+    (subst (IsProved (rules_of (setting_of m limits layout property)) key) c.in-Holds.is c.in_ok-states.ensures.proved)

@@ -10,10 +10,11 @@ loop-value-preserved c =
     let before = c.loop-value.into.items in
     let v = c.loop-value.value in
     let m = c.args.replica.now in
+    let g = c.args.limits.now in
     elim c.if-can_read.branch [
       | then-can_read+in_ok-push w ↦
           let items : c.if-can_read.into.items ≡ before ++ v ∷ [] = ap (λ (x : Vec ℕ Global). x.items) w.into-is ∙ w.in_ok-push.ensures.items in
-          below_more (λ k. CannotRead k m ⊎ Contains c.if-can_read.into.items k) v
+          below_more (λ k. CannotRead g k m ⊎ Contains c.if-can_read.into.items k) v
           (λ k h. elim (c.loop-value.invariant k h) [
             | inl cannot ↦ inl cannot
             | inr there ↦ inr (subst (λ (xs : List ℕ). Contains xs k) (sym items) (Contains-append_left before (v ∷ []) k there))
@@ -21,8 +22,8 @@ loop-value-preserved c =
           (inr (subst (λ (xs : List ℕ). Contains xs v) (sym items) (Contains-append_right before (v ∷ []) v (0, omega arith, refl))))
       | else-can_read w ↦
           let items : c.if-can_read.into.items ≡ before = ap (λ (x : Vec ℕ Global). x.items) w.into-is in
-          below_more (λ k. CannotRead k m ⊎ Contains c.if-can_read.into.items k) v
-          (λ k h. subst (λ (xs : List ℕ). CannotRead k m ⊎ Contains xs k) (sym items) (c.loop-value.invariant k h))
+          below_more (λ k. CannotRead g k m ⊎ Contains c.if-can_read.into.items k) v
+          (λ k h. subst (λ (xs : List ℕ). CannotRead g k m ⊎ Contains xs k) (sym items) (c.loop-value.invariant k h))
           (inl (c.can_read.ensures w.if-can_read.false))
     ]
 

@@ -6,18 +6,18 @@ use Rattle.mcs_check.proofs.Steps.{on-board-kept, property_holds-at_reached_mach
 use Rattle.mcs_check.proofs.search_step.run_to_next_key.Goals as goal
 
 pub returns-clause-leads : goal.returns-clause-leads
-returns-clause-leads c = λ _.
+returns-clause-leads c = λ limits highest _.
     let start = c.args.replica.now in
     let m = c.reload.new.self in
     let x = c.read.new.self in
     let n = c.run_to_read_point.new.self in
     let p = meets_none c.args.property.now.never_lists in
-    let g = setting_of start c.args.layout.now c.args.property.now in
-    let on : IsOnBoard start.1.board start.1.rom m = on-board-kept start m c.show_state_is_valid.ensures.registers c.show_state_is_valid.ensures.bus c.requires.keys c.requires.test c.reload.ensures.keeps in
+    let g = setting_of start limits c.args.layout.now c.args.property.now in
+    let on : IsOnBoard start.1.board start.1.rom limits.keys m = on-board-kept limits.keys start m c.show_state_is_valid.ensures.registers c.show_state_is_valid.ensures.bus highest c.requires.test c.reload.ensures.keeps in
     let kept = keeps-trans start.1 x.1 n.1 (keeps-trans start.1 m.1 x.1 c.reload.ensures.keeps c.read.ensures.keeps) c.run_to_read_point.ensures.keeps in
     let reaches = c.run_to_read_point.ensures.reaches c.if-not-run_to_read_point.false in
     let next : IsKeyOf g c.save.new.key n = record {
-      on = on-board-kept start n c.show_state_is_valid-2.ensures.registers c.show_state_is_valid-2.ensures.bus c.requires.keys c.requires.test kept;
+      on = on-board-kept limits.keys start n c.show_state_is_valid-2.ensures.registers c.show_state_is_valid-2.ensures.bus highest c.requires.test kept;
       property_holds = property_holds-at_reached_machine (observer_of_property c.args.property.now) p x n reaches;
       cells = c.save.ensures;
     } in

@@ -8,5 +8,5 @@ pub returns-clause-covers : goal.returns-clause-covers
 returns-clause-covers c =
     let r = c.self.inside.replica in
     let property = c.self.inside.property in
-    let same = ap (λ (l : List KeyByte). setting_of r l property) c.deref.ensures.value ∙ c.self.view_is in
+    let same = ap (λ (l : List KeyByte). setting_of r c.self.inside.limits l property) c.deref.ensures.value ∙ c.self.view_is in
     subst (λ (g : Setting). Covers g c.args.key.now c.list_readable_values.new.into.items) same (c.in_ok-list_readable_values.ensures.covers property)

@@ -1,7 +1,7 @@
-use Rattle.std.proofs.Common.{◌<◌, ◌∙◌, ℕ, List, replicate, sym, ap, subst, arith}
+use Rattle.std.proofs.Common.{◌<◌, ◌∙◌, ℕ, List, sym, ap, subst, arith}
 use Rattle.mcs_model.specs.Boards.{key_count}
-use Rattle.mcs_check.proofs.PressedKeys.{all_levels_are_1-if_all_pressed}
-use Rattle.mcs_check.proofs.pressing.press_all.Goals as goal
+use Rattle.mcs_check.proofs.KeyLevels.{levels_are_equal-if_all_set}
+use Rattle.mcs_check.proofs.highest_levels.set_keys.Goals as goal
 
 pub nonzero_div-i : goal.nonzero_div-i
 nonzero_div-i c =
@@ -19,4 +19,4 @@ returns c =
     let count = c.key_count-count.ensures.count ∙ ap key_count c.board.ensures in
     c.loop-i.invariant.others
     ∙ ap (λ (xs : List ℕ). record s { keys = xs })
-    (all_levels_are_1-if_all_pressed c.key_count-count.result c.loop-i.i c.loop-i.rig.keys (omega arith) c.loop-i.invariant.pressed ∙ ap (λ (n : ℕ). replicate n 1) count)
+    (levels_are_equal-if_all_set c.key_count-count.result c.loop-i.i c.args.levels.now c.loop-i.rig.keys (c.requires ∙ sym count) (omega arith) c.loop-i.invariant.set)

@@ -1,0 +1,100 @@
+//! Tests of checks with limits of the inputs: what only excluded inputs can reach is never reached.
+use crate::boards::{machine, machine_with_two_columns, machine_with_two_keys};
+use crate::checks::{MEMORY, PAUSE};
+use crate::openings::{LOCK, OPEN_ADDRESS};
+use crate::times::begins_at;
+use mcs_check::{InputLimits, Outcome, Property, SearchMachine, check_all};
+use mcs_nibble::Bit;
+use std::alloc::Global;
+use std::process::Abort;
+
+/// The maximum number of states of a check, more than these programs have.
+const MAX_STATES: usize = 1_000;
+
+/// A program that drives row 0 and reads its two keys in an endless loop. It reaches address 18 if a read shows both
+/// keys down: FIM P0 0, SRC P0, LDM 2, WRR, IAC, WRR, FIM P0 16, SRC P0, (10) RDR, RAR, JCN NC 10, RAR, JCN NC 10, NOP,
+/// (18) JUN 10.
+const BOTH_KEYS: [u8; 20] = [
+    32, 0, 33, 210, 226, 242, 226, 32, 16, 33, 234, 246, 26, 10, 246, 26, 10, 0, 64, 10,
+];
+
+/// A program that reaches address 18 if TEST is at 1: (0) JCN 9 18, JUN 0, .., (18) JUN 18.
+const TEST_AT_1: [u8; 20] = [
+    0x19, 18, 0x40, 0, 0, 0, 0, 0, 0, 0, 0, 0, 0, 0, 0, 0, 0, 0, 0x40, 18,
+];
+
+/// Checks, with limits of the inputs, that a machine never reaches the address `OPEN_ADDRESS`. Returns the outcome.
+fn check_with_limits(
+    alloc: Global,
+    rt: &impl Abort,
+    machine: SearchMachine,
+    keys: &[Bit],
+    test: Bit,
+    together: u32,
+) -> Outcome {
+    let never_lists = begins_at(alloc, OPEN_ADDRESS).expect(rt, "memory");
+    let property = Property::without_stopwatch(alloc, never_lists);
+    let limits = InputLimits::of(keys.to_vec(alloc).expect(rt, "memory"), test, together);
+    check_all(alloc, machine, property, limits, MAX_STATES, MEMORY, PAUSE).expect(rt, "memory")
+}
+
+/// Returns whether a machine with two keys may reach the address `OPEN_ADDRESS` at input levels within limits, or
+/// aborts if the check gives no answer. TEST stays at 0.
+fn may_open(
+    alloc: Global,
+    rt: &impl Abort,
+    machine: SearchMachine,
+    keys: [Bit; 2],
+    together: u32,
+) -> bool {
+    match check_with_limits(alloc, rt, machine, &keys, Bit::ZERO, together) {
+        Outcome::MayFail(_) => true,
+        Outcome::Holds(_) => false,
+        _ => panic!(rt; "another outcome"),
+    }
+}
+
+#[test]
+fn only_keys_within_the_limits_open_the_lock(rt: HostRuntime) {
+    for (first, second, together, opens) in [
+        (Bit::ONE, Bit::ONE, 2, true),
+        (Bit::ONE, Bit::ZERO, 1, true),
+        (Bit::ZERO, Bit::ONE, 1, false),
+        (Bit::ONE, Bit::ONE, 0, false),
+    ] {
+        let lock = machine_with_two_keys(rt.alloc(), &rt, &LOCK).expect(&rt, "memory");
+        assert!(&rt; may_open(rt.alloc(), &rt, lock, [first, second], together) == opens);
+    }
+}
+
+#[test]
+fn two_keys_are_down_together_only_within_the_limit(rt: HostRuntime) {
+    for together in 0..4 {
+        let machine = machine_with_two_columns(rt.alloc(), &rt, &BOTH_KEYS).expect(&rt, "memory");
+        let is_reached = may_open(rt.alloc(), &rt, machine, [Bit::ONE, Bit::ONE], together);
+        assert!(&rt; is_reached == (together >= 2), "{together}");
+    }
+}
+
+#[test]
+fn test_stays_at_0_within_its_limit(rt: HostRuntime) {
+    for test in [Bit::ZERO, Bit::ONE] {
+        let machine = machine(rt.alloc(), &rt, &TEST_AT_1).expect(&rt, "memory");
+        let outcome = check_with_limits(rt.alloc(), &rt, machine, &[Bit::ZERO], test, 0);
+        let is_reached = matches!(outcome, Outcome::MayFail(_));
+        assert!(&rt; is_reached == (test == Bit::ONE));
+    }
+}
+
+#[test]
+fn limits_of_another_board_give_no_result(rt: HostRuntime) {
+    for keys in [
+        &[][..],
+        &[Bit::ONE][..],
+        &[Bit::ONE, Bit::ONE, Bit::ONE][..],
+    ] {
+        let lock = machine_with_two_keys(rt.alloc(), &rt, &LOCK).expect(&rt, "memory");
+        let outcome = check_with_limits(rt.alloc(), &rt, lock, keys, Bit::ONE, 2);
+        assert!(&rt; matches!(outcome, Outcome::GaveUp));
+    }
+}
