@@ -24,7 +24,7 @@ fn show_ram_sizes(bench: &Bench)
 }
 
 /// Appends the 16 RAM characters of register `r` of a RAM chip.
-fn put_ram_characters(
+fn put_ram_nibbles(
     answer: &mut ArrayVec<u8, ANSWER_BYTES>,
     bench: &Bench,
     bank: u8,
@@ -78,7 +78,7 @@ fn put_register(answer: &mut ArrayVec<u8, ANSWER_BYTES>, bench: &Bench, bank: u8
     put_digit(answer, b".", chip);
     put_digit(answer, b".", r);
     put(answer, b" ");
-    put_ram_characters(answer, bench, bank, chip, r);
+    put_ram_nibbles(answer, bench, bank, chip, r);
     put(answer, b" ");
     put_status(answer, bench, bank, chip, r);
     put(answer, b"\n");

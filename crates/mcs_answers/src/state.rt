@@ -4,7 +4,7 @@ ghost use Rattle.mcs_model.specs.QueryText.{state_text};
 ghost use Rattle.mcs_model.specs.TextLines.{as_line};
 
 use crate::digits::{put, put_byte};
-use crate::lists::add_lamps;
+use crate::lists::put_lamps_without_feed;
 use crate::numbers::put_word_and_number;
 use crate::registers::put_registers;
 use crate::size::ANSWER_BYTES;
@@ -32,7 +32,7 @@ pub fn put_state(answer: &mut ArrayVec<u8, ANSWER_BYTES>, bench: &Bench)
     put_chain_list(answer, bench);
     put_key_list(answer, bench);
     put(answer, b" ");
-    add_lamps(answer, bench);
+    put_lamps_without_feed(answer, bench);
     put_address_list(answer, b" breaks ", bench.breaks());
     put_watch_list(answer, bench.watches());
     put(answer, b"\n");

@@ -21,7 +21,7 @@ use crate::numbers::put_word_and_number;
 use crate::port_levels::{ram_levels, rom_levels};
 use crate::size::{ANSWER_BYTES, PROBE_BYTES};
 use crate::state_lists::put_chain_bits;
-use crate::unchanged_rows::is_present_row;
+use crate::unchanged_rows::is_current_row;
 use arrayvec::ArrayVec;
 use mcs_bench::Bench;
 use mcs_model::op::Op;
@@ -32,7 +32,7 @@ use mcs_probe::{MAX_PROBES, Probe};
 use std::alloc::{AllocError, Global};
 
 /// Appends a space and the three return addresses, separated by commas.
-fn put_returns(answer: &mut ArrayVec<u8, ANSWER_BYTES>, ret: [Addr; 3])
+fn put_return_addresses(answer: &mut ArrayVec<u8, ANSWER_BYTES>, ret: [Addr; 3])
     requires { array_vec_len answer.old + 12 ≤ ANSWER_BYTES }
     ensures text { answer.new.items
         ≡ answer.old.items ++ codes " " ++ comma_list (map address_text ret) }
@@ -75,7 +75,7 @@ fn put_probe(answer: &mut ArrayVec<u8, ANSWER_BYTES>, probe: Probe, bench: &Benc
             put(answer, b" ");
             put_lamp_marks(answer, bench);
         }
-        Probe::ReturnAddresses => put_returns(answer, regs.ret),
+        Probe::ReturnAddresses => put_return_addresses(answer, regs.ret),
     }
 }
 
@@ -423,7 +423,7 @@ fn add_cycle_line(
         (cycle_lines probes.now owed cycles at rows.old.last.items
         (row probes.now (machine_of bench.now)))) }
 {
-    if !probes.is_empty() && is_present_row(rows.last.as_slice(), probes, bench) {
+    if !probes.is_empty() && is_current_row(rows.last.as_slice(), probes, bench) {
         return Ok(0);
     }
     if owed != 0 {

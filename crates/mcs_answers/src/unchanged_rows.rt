@@ -68,7 +68,7 @@ fn strip_address(text: &[u8], byte: u8, at: Addr) -> Option<&[u8]>
 
 /// Returns the rest of `text` after a space and the three return addresses, separated by commas. Returns
 /// `None` if `text` does not begin with them.
-fn strip_returns(text: &[u8], ret: [Addr; 3]) -> Option<&[u8]>
+fn strip_return_addresses(text: &[u8], ret: [Addr; 3]) -> Option<&[u8]>
     ensures { IfSome result (λ rest. text.now ≡ codes " " ++ comma_list (map address_text ret) ++ rest.now) }
 {
     let [first, second, third] = ret;
@@ -124,14 +124,14 @@ fn strip_probe<'a>(text: &'a [u8], probe: Probe, bench: &Bench) -> Option<&'a [u
         Probe::RomPort(chip) => strip_digit(text, rom_levels(bench, chip)),
         Probe::RamPort(bank, chip) => strip_digit(text, ram_levels(bench, bank, chip)),
         Probe::Lamps => strip_lamps(text, bench),
-        Probe::ReturnAddresses => strip_returns(text, bench.regs().ret),
+        Probe::ReturnAddresses => strip_return_addresses(text, bench.regs().ret),
         _ => None,
     }
 }
 
 /// Returns true only if `text` is the current row of the probes. A result of false does not mean that the
 /// text differs, because some values cannot be compared without building their text.
-pub(crate) fn is_present_row(text: &[u8], probes: &[Probe], bench: &Bench) -> bool
+pub(crate) fn is_current_row(text: &[u8], probes: &[Probe], bench: &Bench) -> bool
     ensures { result ≡ true → text.now ≡ row probes.now (machine_of bench.now) }
 {
     let mut rest = text;

@@ -2,7 +2,7 @@
 ghost use Rattle.std.specs.Prelude.{◌≡◌, map, option_map, IfOk, MatchOption, ◌∷◌, Some, None};
 ghost use Rattle.std.specs.Option.{option_copied};
 ghost use Rattle.mcs_source.specs.Lexical.{Word, Colon, Equals, tokens, Token};
-ghost use Rattle.mcs_source.specs.Lines.{Whole, statement_after_mnemonic, bare_statement, first_operand, first_pair, first_register, line_of, one_number, one_operand, one_pair, one_register, operand_of, operands_of, code_line, statement_of, unlabelled, word_first, word_only};
+ghost use Rattle.mcs_source.specs.Lines.{Whole, statement_after_mnemonic, bare_statement, first_operand, first_pair, first_register, line_of, one_number, one_operand, one_pair, one_register, operand_of, operands_of, code_line, statement_of, unlabelled, word_before_comma, single_word};
 ghost use Rattle.mcs_asm.specs.ListItems.{tokens_if_comma, list_item};
 ghost use Rattle.mcs_source.specs.declared.mnemonic.Mnemonic.TheVariants.{Org, Jcn, Fim, Isz};
 ghost use Rattle.mcs_asm.specs.View.{operand_view, statement_view, line_view, HasNoLabel, HasNoDefinition, IsNotDb};
@@ -59,7 +59,7 @@ fn parse_operand(word: &[u8]) -> Option<Operand<'_>>
 
 /// Returns the next token if it is a word and no token follows. Otherwise returns `None`.
 fn read_last_word<'a>(tokens: &mut Tokens<'a>) -> Option<&'a [u8]>
-    ensures { option_copied result ≡ word_only tokens.old }
+    ensures { option_copied result ≡ single_word tokens.old }
 {
     let Some(Token::Word(word)) = tokens.next() else {
         return None;
@@ -73,7 +73,7 @@ fn read_last_word<'a>(tokens: &mut Tokens<'a>) -> Option<&'a [u8]>
 /// Returns the next token if it is a word and a comma follows, and skips the comma. Otherwise
 /// returns `None`.
 fn word_before_comma<'a>(tokens: &mut Tokens<'a>) -> Option<&'a [u8]>
-    ensures { option_map (λ w. (w, tokens.new)) (option_copied result) ≡ word_first tokens.old }
+    ensures { option_map (λ w. (w, tokens.new)) (option_copied result) ≡ word_before_comma tokens.old }
 {
     let Some(Token::Word(word)) = tokens.next() else {
         return None;
@@ -245,7 +245,7 @@ fn statement_except_db<'a>(mnemonic: Mnemonic, tokens: &mut Tokens<'a>) -> Optio
         Mnemonic::Sub => whole_statement(one_register(tokens).map(Op::Sub)),
         Mnemonic::Ld => whole_statement(one_register(tokens).map(Op::Ld)),
         Mnemonic::Xch => whole_statement(one_register(tokens).map(Op::Xch)),
-        Mnemonic::Bare(op) => statement_without_operands(op, tokens),
+        Mnemonic::WithoutOperands(op) => statement_without_operands(op, tokens),
     }
 }
 

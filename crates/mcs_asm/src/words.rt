@@ -2,7 +2,7 @@
 ghost use Rattle.std.specs.Prelude.{◌≡◌, ◌<◌, IfSome};
 ghost use Rattle.std.specs.Str.{str_eq_ignore_ascii_case};
 ghost use Rattle.mcs_source.specs.Mnemonics.{mnemonic_in_group1, mnemonic_in_group2, mnemonic_in_group3, mnemonic_in_group4, mnemonic_in_group5, mnemonic_in_group6, mnemonic_of};
-ghost use Rattle.mcs_source.specs.Lines.{begins_name, number_up_to_15, register_named, pair_named, is_reserved, is_name};
+ghost use Rattle.mcs_source.specs.Lines.{starts_like_name, number_up_to_15, register_named, pair_named, is_reserved, is_name};
 
 use mcs_code::instructions;
 use mcs_model::limits::NAME_BYTES;
@@ -20,7 +20,7 @@ fn equals_ignoring_case(word: &[u8], name: &str) -> bool
 /// Expands to the mnemonic for a row of the opcode table.
 macro_rules! mnemonic_of_row {
     ($name:ident none) => {
-        Mnemonic::Bare(Op::$name)
+        Mnemonic::WithoutOperands(Op::$name)
     };
     ($name:ident $kind:ident) => {
         Mnemonic::$name
@@ -202,8 +202,8 @@ fn is_reserved(word: &[u8]) -> bool
 }
 
 /// Returns true if a word begins with a letter or `_`, as a name must.
-fn begins_name(word: &[u8]) -> bool
-    ensures { result ≡ begins_name word.now }
+fn starts_like_name(word: &[u8]) -> bool
+    ensures { result ≡ starts_like_name word.now }
 {
     match word {
         [] => false,
@@ -216,5 +216,5 @@ fn begins_name(word: &[u8]) -> bool
 pub fn is_name(word: &[u8]) -> bool
     ensures { result ≡ is_name word.now }
 {
-    begins_name(word) && word.len() <= NAME_BYTES && !is_reserved(word)
+    starts_like_name(word) && word.len() <= NAME_BYTES && !is_reserved(word)
 }

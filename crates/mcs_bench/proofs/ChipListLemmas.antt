@@ -14,7 +14,7 @@ use Rattle.std.proofs.lemmas.List.{get_or_past}
 use Rattle.mcs_model.specs.ChipWrites.{with_rom_latch, with_rom_byte, with_ram_latch, with_ram_src}
 use Rattle.mcs_model.specs.Validity.{IsInRange, AbsentPartsAreZero}
 use Rattle.mcs_bench.specs.declared.chip_list.ChipList.{ChipList}
-use Rattle.mcs_bench.specs.declared.chip_list.ChipList.TheVariants.{RomBytes, RamCharacters, StatusCharacters, RamPorts, BankSrcBytes}
+use Rattle.mcs_bench.specs.declared.chip_list.ChipList.TheVariants.{RomBytes, RamNibbles, StatusCharacters, RamPorts, BankSrcBytes}
 use Rattle.mcs_bench.specs.ChipLists.{chip_list_in, with_chip_list, chip_list_length, is_chip_absent, with_chip_value, IsZeroWhereAbsent}
 use Rattle.mcs_bench.proofs.Filling.{IsFilled, filled-at-start, filled-after-set, filled-if-element-kept, filled-list-is-goal}
 
@@ -35,7 +35,7 @@ pub with_rom_byte-is-with_chip_value : (s : BusState) (i at n : ℕ) → at ≡ 
 unfolding with_rom_byte
 with_rom_byte-is-with_chip_value s i at n e = rw e (cond-is_some-as-is_none (rom_masks s.board (i / 256)) (record s { rom = slice_set s.rom i n }) s)
 
-pub with_ram-is-with_chip_value : (s : BusState) (i bank src m n : ℕ) → bank ≡ i / 256 → src ≡ i % 256 → m ≡ n → with_ram s bank src m ≡ with_chip_value s RamCharacters i n
+pub with_ram-is-with_chip_value : (s : BusState) (i bank src m n : ℕ) → bank ≡ i / 256 → src ≡ i % 256 → m ≡ n → with_ram s bank src m ≡ with_chip_value s RamNibbles i n
 unfolding with_ram
 with_ram-is-with_chip_value s i bank src m n b c e =
     let place : i / 256 * 256 + i % 256 ≡ i = omega arith in
@@ -62,28 +62,28 @@ with_ram_src-is-with_chip_value s i bank n b = rw b (cond-lt-as-cond-le 0 (slice
 
 pub chip_list_in-with_chip_list : (s : BusState) (h : ChipList) (xs : List ℕ) → chip_list_in (with_chip_list s h xs) h ≡ xs
 chip_list_in-with_chip_list s RomBytes xs = refl
-chip_list_in-with_chip_list s RamCharacters xs = refl
+chip_list_in-with_chip_list s RamNibbles xs = refl
 chip_list_in-with_chip_list s StatusCharacters xs = refl
 chip_list_in-with_chip_list s RamPorts xs = refl
 chip_list_in-with_chip_list s BankSrcBytes xs = refl
 
 pub with_chip_list-twice : (s : BusState) (h : ChipList) (xs ys : List ℕ) → with_chip_list (with_chip_list s h xs) h ys ≡ with_chip_list s h ys
 with_chip_list-twice s RomBytes xs ys = refl
-with_chip_list-twice s RamCharacters xs ys = refl
+with_chip_list-twice s RamNibbles xs ys = refl
 with_chip_list-twice s StatusCharacters xs ys = refl
 with_chip_list-twice s RamPorts xs ys = refl
 with_chip_list-twice s BankSrcBytes xs ys = refl
 
 pub with_chip_list-of-own-list : (s : BusState) (h : ChipList) → with_chip_list s h (chip_list_in s h) ≡ s
 with_chip_list-of-own-list s RomBytes = refl
-with_chip_list-of-own-list s RamCharacters = refl
+with_chip_list-of-own-list s RamNibbles = refl
 with_chip_list-of-own-list s StatusCharacters = refl
 with_chip_list-of-own-list s RamPorts = refl
 with_chip_list-of-own-list s BankSrcBytes = refl
 
 pub board-of-with_chip_list : (s : BusState) (h : ChipList) (xs : List ℕ) → (with_chip_list s h xs).board ≡ s.board
 board-of-with_chip_list s RomBytes xs = refl
-board-of-with_chip_list s RamCharacters xs = refl
+board-of-with_chip_list s RamNibbles xs = refl
 board-of-with_chip_list s StatusCharacters xs = refl
 board-of-with_chip_list s RamPorts xs = refl
 board-of-with_chip_list s BankSrcBytes xs = refl
@@ -92,7 +92,7 @@ board-of-with_chip_list s BankSrcBytes xs = refl
 
 pub chip-list-length-if-in-range : (s : BusState) → IsInRange s → (h : ChipList) → length (chip_list_in s h) ≡ chip_list_length h
 chip-list-length-if-in-range s v RomBytes = v.rom.has_count
-chip-list-length-if-in-range s v RamCharacters = v.ram.has_count
+chip-list-length-if-in-range s v RamNibbles = v.ram.has_count
 chip-list-length-if-in-range s v StatusCharacters = v.status.has_count
 chip-list-length-if-in-range s v RamPorts = v.ram_ports.has_count
 chip-list-length-if-in-range s v BankSrcBytes = v.ram_src.has_count
@@ -104,7 +104,7 @@ none-if-is_none None e = refl
 -- in each list of a valid state, the elements of absent chips are 0
 pub zero-where-absent-if-valid : (s : BusState) → AbsentPartsAreZero s → (h : ChipList) → IsZeroWhereAbsent s h
 zero-where-absent-if-valid s v RomBytes i l e = v.rom i (none-if-is_none (rom_masks s.board (i / 256)) e)
-zero-where-absent-if-valid s v RamCharacters i l e =
+zero-where-absent-if-valid s v RamNibbles i l e =
     let place : i / 256 * 256 + i % 256 ≡ i = omega arith in
     rw place at (v.ram (i / 256) (i % 256) (omega arith) (leb-true _ _ e))
 zero-where-absent-if-valid s v StatusCharacters i below e =
@@ -128,7 +128,7 @@ absent-parts-zero-if-lists-zero s v zero ports = record {
       ];
   ram = λ bank src l gone.
       elim (cases_lt (bank * 256 + src) 2048) [
-        | inl h ↦ zero RamCharacters (bank * 256 + src) h (let b : (bank * 256 + src) / 256 ≡ bank = omega arith in let c : (bank * 256 + src) % 256 ≡ src = omega arith in rw (b, c) (le-leb (slice_index s.board.banks bank) (src / 64) gone))
+        | inl h ↦ zero RamNibbles (bank * 256 + src) h (let b : (bank * 256 + src) / 256 ≡ bank = omega arith in let c : (bank * 256 + src) % 256 ≡ src = omega arith in rw (b, c) (le-leb (slice_index s.board.banks bank) (src / 64) gone))
         | inr g ↦ index-past-end s.ram (bank * 256 + src) (let e = v.ram.has_count in omega arith)
       ];
   status = λ bank high k h16 k4 gone.
@@ -150,9 +150,9 @@ absent-parts-zero-if-lists-zero s v zero ports = record {
 }
 
 -- a list of any kind has 0 for absent chips, if each of the five lists has 0 for absent chips
-pub each-list-is-zero : (s : BusState) → IsZeroWhereAbsent s RomBytes → IsZeroWhereAbsent s RamCharacters → IsZeroWhereAbsent s StatusCharacters → IsZeroWhereAbsent s RamPorts → IsZeroWhereAbsent s BankSrcBytes → (h : ChipList) → IsZeroWhereAbsent s h
+pub each-list-is-zero : (s : BusState) → IsZeroWhereAbsent s RomBytes → IsZeroWhereAbsent s RamNibbles → IsZeroWhereAbsent s StatusCharacters → IsZeroWhereAbsent s RamPorts → IsZeroWhereAbsent s BankSrcBytes → (h : ChipList) → IsZeroWhereAbsent s h
 each-list-is-zero s a b c d e RomBytes = a
-each-list-is-zero s a b c d e RamCharacters = b
+each-list-is-zero s a b c d e RamNibbles = b
 each-list-is-zero s a b c d e StatusCharacters = c
 each-list-is-zero s a b c d e RamPorts = d
 each-list-is-zero s a b c d e BankSrcBytes = e

@@ -141,9 +141,9 @@ other-index-unchanged-by-set true m place n w ne = sym (get_or-set_other m.ram p
 other-index-unchanged-by-set false m place n w ne = refl
 
 -- a write changes only the selected RAM nibble
-pub write-keeps-other-characters : (m : BusState) (bank n w : ℕ) → w ≢ bank * 256 + src_of m bank → slice_index m.ram w ≡ slice_index (after_ram m bank n).ram w
+pub write-keeps-other-nibbles : (m : BusState) (bank n w : ℕ) → w ≢ bank * 256 + src_of m bank → slice_index m.ram w ≡ slice_index (after_ram m bank n).ram w
 unfolding after_ram with_ram
-write-keeps-other-characters m bank n w ne = other-index-unchanged-by-set (has_chip m bank (src_of m bank)) m (bank * 256 + src_of m bank) n w ne
+write-keeps-other-nibbles m bank n w ne = other-index-unchanged-by-set (has_chip m bank (src_of m bank)) m (bank * 256 + src_of m bank) n w ne
 
 -- ---- the value of the selected RAM nibble after a write
 

@@ -5,12 +5,12 @@ use Rattle.mcs_model.specs.declared.board.BoardParts.{BoardParts}
 use Rattle.mcs_model.specs.Boards.{rom_masks, has_key, key_index}
 use Rattle.mcs_model.specs.Bus.{BusState}
 use Rattle.mcs_bench.specs.declared.chip_list.ChipList.{ChipList}
-use Rattle.mcs_bench.specs.declared.chip_list.ChipList.TheVariants.{RomBytes, RamCharacters, StatusCharacters, RamPorts, BankSrcBytes}
+use Rattle.mcs_bench.specs.declared.chip_list.ChipList.TheVariants.{RomBytes, RamNibbles, StatusCharacters, RamPorts, BankSrcBytes}
 
 -- the list of all values of the given kind in a state
 abbrev pub chip_list_in : BusState → ChipList → List ℕ
 chip_list_in s RomBytes = s.rom
-chip_list_in s RamCharacters = s.ram
+chip_list_in s RamNibbles = s.ram
 chip_list_in s StatusCharacters = s.status
 chip_list_in s RamPorts = s.ram_ports
 chip_list_in s BankSrcBytes = s.ram_src
@@ -18,7 +18,7 @@ chip_list_in s BankSrcBytes = s.ram_src
 -- the state after its list of the given kind is replaced by `xs`
 abbrev pub with_chip_list : BusState → ChipList → List ℕ → BusState
 with_chip_list s RomBytes xs = record s { rom = xs }
-with_chip_list s RamCharacters xs = record s { ram = xs }
+with_chip_list s RamNibbles xs = record s { ram = xs }
 with_chip_list s StatusCharacters xs = record s { status = xs }
 with_chip_list s RamPorts xs = record s { ram_ports = xs }
 with_chip_list s BankSrcBytes xs = record s { ram_src = xs }
@@ -27,7 +27,7 @@ with_chip_list s BankSrcBytes xs = record s { ram_src = xs }
 -- `chip_value_limit`, gives.
 abbrev pub chip_list_length : ChipList → ℕ
 chip_list_length RomBytes = 4096
-chip_list_length RamCharacters = 2048
+chip_list_length RamNibbles = 2048
 chip_list_length StatusCharacters = 512
 chip_list_length RamPorts = 32
 chip_list_length BankSrcBytes = 8
@@ -40,7 +40,7 @@ chip_value_limit _ = 16
 -- true if the board lacks the chip that holds element `i` of a list
 abbrev pub is_chip_absent : BoardParts → ChipList → ℕ → Bool
 is_chip_absent b RomBytes i = is_none (rom_masks b (i / 256))
-is_chip_absent b RamCharacters i = nat_le (slice_index b.banks (i / 256)) (i % 256 / 64)
+is_chip_absent b RamNibbles i = nat_le (slice_index b.banks (i / 256)) (i % 256 / 64)
 is_chip_absent b StatusCharacters i = nat_le (slice_index b.banks (i / 64)) (i % 64 / 16)
 is_chip_absent b RamPorts i = nat_le (slice_index b.banks (i / 4)) (i % 4)
 is_chip_absent b BankSrcBytes i = nat_le (slice_index b.banks i) 0

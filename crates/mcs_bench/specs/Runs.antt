@@ -52,8 +52,8 @@ abbrev pub selected_index : Machine → ℕ
 selected_index t = ram_index t.0.dcl (src_of t.1 t.0.dcl)
 
 -- true if WRM would change the value of the selected RAM nibble
-abbrev pub wrm_changes_selected_character : Machine → Bool
-wrm_changes_selected_character t =
+abbrev pub wrm_changes_selected_nibble : Machine → Bool
+wrm_changes_selected_nibble t =
     not (slice_index t.1.ram (selected_index t)
     == slice_index (after_ram t.1 t.0.dcl t.0.acc).ram (selected_index t))
 
@@ -63,7 +63,7 @@ abbrev pub PredictsWatchChange : List ℕ → Machine → Bool → Type 0
 PredictsWatchChange watches t b =
     (((watches ≡ []) ⊎ (instruction_at t.0 t.1 ≢ Some Wrm)) × (b ≡ false))
     ⊎ ((instruction_at t.0 t.1 ≡ Some Wrm) ×
-    (b ≡ (is_listed watches (selected_index t) && wrm_changes_selected_character t)))
+    (b ≡ (is_listed watches (selected_index t) && wrm_changes_selected_nibble t)))
 
 -- Holds if none of the `d` cycles from `t`, except the last, changes a watched RAM nibble.
 -- `changed_watch` is true exactly when the last cycle changes one.

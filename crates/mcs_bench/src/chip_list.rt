@@ -13,7 +13,7 @@ pub enum ChipList {
     /// The ROM bytes, indexed by address.
     RomBytes,
     /// The RAM nibbles, at index bank * 256 + SRC byte.
-    RamCharacters,
+    RamNibbles,
     /// The status characters. Character `k`, 0 to 3, is at index (bank * 16 + upper nibble of the SRC byte) * 4 + k.
     StatusCharacters,
     /// The port latches of the RAM chips, at index bank * 4 + chip.
@@ -29,7 +29,7 @@ impl ChipList {
     {
         match self {
             ChipList::RomBytes => 4096,
-            ChipList::RamCharacters => 2048,
+            ChipList::RamNibbles => 2048,
             ChipList::StatusCharacters => 512,
             ChipList::RamPorts => 32,
             ChipList::BankSrcBytes => 8,
@@ -44,7 +44,7 @@ fn is_chip_absent(board: &Board, list: ChipList, i: usize) -> bool
 {
     match list {
         ChipList::RomBytes => board.mask((i / 256) as u8).is_none(),
-        ChipList::RamCharacters => usize::from(board.bank_chips((i / 256) as u8)) <= i % 256 / 64,
+        ChipList::RamNibbles => usize::from(board.bank_chips((i / 256) as u8)) <= i % 256 / 64,
         ChipList::StatusCharacters => usize::from(board.bank_chips((i / 64) as u8)) <= i % 64 / 16,
         ChipList::RamPorts => usize::from(board.bank_chips((i / 4) as u8)) <= i % 4,
         ChipList::BankSrcBytes => board.bank_chips(i as u8) == 0,
@@ -74,7 +74,7 @@ fn set(rig: &mut BenchRig, list: ChipList, i: usize, n: u8)
 {
     match list {
         ChipList::RomBytes => rig.set_rom_byte(Addr::ZERO.plus(i as u16), n),
-        ChipList::RamCharacters => {
+        ChipList::RamNibbles => {
             rig.set_ram((i / 256) as u8, (i % 256) as u8, Nibble::low_of(n));
         }
         ChipList::StatusCharacters => {

@@ -113,7 +113,7 @@ impl Bench {
     ///
     /// # Errors
     ///
-    /// Returns `Worn` if the bench has already accepted 4,294,967,295 commands. Otherwise returns:
+    /// Returns `CommandsExhausted` if the bench has already accepted 4,294,967,295 commands. Otherwise returns:
     /// - `NoKey` if the board has no key at the command's row and column
     /// - `NoRom` if the command writes to a ROM that the board lacks
     /// - `NoSuchPlace` if the command pokes a RAM chip that the board lacks
@@ -125,7 +125,7 @@ impl Bench {
             (λ fault. result ≡ Err fault) }
     {
         if self.seq == ACCEPTED_COMMANDS {
-            return Err(BenchFault::Worn);
+            return Err(BenchFault::CommandsExhausted);
         }
         match self.refusal_of_command(command) {
             Some(fault) => Err(fault),

@@ -145,7 +145,7 @@ impl Bench {
     {
         match list {
             ChipList::RomBytes => self.rom_byte(Addr::ZERO.plus(i as u16)),
-            ChipList::RamCharacters => self.ram((i / 256) as u8, (i % 256) as u8).get(),
+            ChipList::RamNibbles => self.ram((i / 256) as u8, (i % 256) as u8).get(),
             ChipList::StatusCharacters => {
                 let high = Nibble::low_of((i / 4 % 16) as u8);
                 self.status((i / 64) as u8, high, (i % 4) as u8).get()

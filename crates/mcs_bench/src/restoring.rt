@@ -159,7 +159,7 @@ fn restore_rig(rig: &mut BenchRig, flat: &Flat)
     every_board_fits_the_bench(&flat.board);
     rig.wire(&flat.board);
     fill(rig, ChipList::RomBytes, flat.rom.bytes());
-    fill(rig, ChipList::RamCharacters, flat.ram.bytes());
+    fill(rig, ChipList::RamNibbles, flat.ram.bytes());
     fill(rig, ChipList::StatusCharacters, flat.status.bytes());
     fill(rig, ChipList::RamPorts, flat.ram_ports.bytes());
     fill(rig, ChipList::BankSrcBytes, &flat.ram_src);

@@ -185,7 +185,7 @@ impl Flat {
         let board = &self.board;
         match list {
             ChipList::RomBytes => are_absent_values_zero(board, list, self.rom.bytes()),
-            ChipList::RamCharacters => are_absent_values_zero(board, list, self.ram.bytes()),
+            ChipList::RamNibbles => are_absent_values_zero(board, list, self.ram.bytes()),
             ChipList::StatusCharacters => are_absent_values_zero(board, list, self.status.bytes()),
             ChipList::RamPorts => are_absent_values_zero(board, list, self.ram_ports.bytes()),
             ChipList::BankSrcBytes => are_absent_values_zero(board, list, &self.ram_src),
@@ -200,7 +200,7 @@ impl Flat {
         if !self.is_list_zero_where_absent(ChipList::RomBytes) {
             return false;
         }
-        if !self.is_list_zero_where_absent(ChipList::RamCharacters) {
+        if !self.is_list_zero_where_absent(ChipList::RamNibbles) {
             return false;
         }
         if !self.is_list_zero_where_absent(ChipList::StatusCharacters) {

@@ -29,7 +29,7 @@ impl Model for Watches {
 
 /// Returns the index of the RAM nibble that an SRC byte selects in a bank.
 #[inline(always)]
-fn ram_character_index(bank: u8, src: u8) -> Addr
+fn ram_nibble_index(bank: u8, src: u8) -> Addr
     requires { bank < 8 }
     ensures { result ≡ ram_index bank src }
 {
@@ -76,7 +76,7 @@ impl Watches {
         requires { bank < 8 }
         ensures { result ≡ is_listed self.now (ram_index bank src) }
     {
-        self.indices.contains(ram_character_index(bank, src))
+        self.indices.contains(ram_nibble_index(bank, src))
     }
 
     /// Returns whether a RAM nibble can be watched: it is watched already, or fewer than `WATCHES` are.
@@ -96,7 +96,7 @@ impl Watches {
             || nat_lt (length self.old) WATCHES) ≡ true }
         ensures { self.new ≡ with_listed self.old (ram_index bank src) }
     {
-        self.indices.set(ram_character_index(bank, src));
+        self.indices.set(ram_nibble_index(bank, src));
     }
 
     /// Stops watching a RAM nibble. Does nothing if it is not watched.
@@ -104,7 +104,7 @@ impl Watches {
         requires { bank < 8 }
         ensures { self.new ≡ without_listed self.old (ram_index bank src) }
     {
-        self.indices.clear(ram_character_index(bank, src));
+        self.indices.clear(ram_nibble_index(bank, src));
     }
 
     /// Proves that there are at most `WATCHES` indices, each of a RAM nibble, in strictly ascending order.

@@ -5,7 +5,7 @@ use Rattle.mcs_drive.specs.TrackedMachine.{TrackedMachine, without_levels}
 use Rattle.mcs_drive.specs.RunsBetweenReads.{IgnoresLevels}
 use Rattle.mcs_check.specs.declared.cells.Cell.{Cell}
 use Rattle.mcs_check.specs.declared.cells.CellList.{CellList}
-use Rattle.mcs_check.specs.declared.cells.CellList.TheVariants.{RamCharacters, StatusCharacters, RamPorts, RomPorts, BankSrcBytes, Registers, Counters, Chain}
+use Rattle.mcs_check.specs.declared.cells.CellList.TheVariants.{RamNibbles, StatusCharacters, RamPorts, RomPorts, BankSrcBytes, Registers, Counters, Chain}
 use Rattle.mcs_check.specs.declared.conditions.Comparison.{Comparison}
 use Rattle.mcs_check.specs.declared.conditions.Condition.{Condition}
 use Rattle.mcs_check.specs.declared.conditions.Condition.TheVariants.{Compare, Mistaken}
@@ -15,7 +15,7 @@ use Rattle.mcs_check.specs.Conditions.{are_met, comparison_is_met, is_met, meets
 use Rattle.mcs_check.specs.Mistaken.{cycle_makes_mistake}
 
 values_in_list-without_levels : (t : TrackedMachine) (list : CellList) → values_in_list t list ≡ values_in_list (without_levels t) list
-values_in_list-without_levels t RamCharacters = refl
+values_in_list-without_levels t RamNibbles = refl
 values_in_list-without_levels t StatusCharacters = refl
 values_in_list-without_levels t RamPorts = refl
 values_in_list-without_levels t RomPorts = refl

@@ -10,7 +10,7 @@ use Rattle.mcs_model.specs.Boards.{HasDeclaredLengths, chain_bits, no_chain}
 use Rattle.mcs_check.specs.declared.cells.KeyByte.{KeyByte}
 use Rattle.mcs_check.specs.declared.cells.KeyByte.TheVariants.{One, Pair}
 use Rattle.mcs_check.specs.declared.cells.CellList.{CellList}
-use Rattle.mcs_check.specs.declared.cells.CellList.TheVariants.{RamCharacters, StatusCharacters, RamPorts, RomPorts, BankSrcBytes, Registers, Counters, Chain}
+use Rattle.mcs_check.specs.declared.cells.CellList.TheVariants.{RamNibbles, StatusCharacters, RamPorts, RomPorts, BankSrcBytes, Registers, Counters, Chain}
 use Rattle.mcs_check.specs.Cells.{key_byte_of, max_cell_count, is_narrow, board_has_cell, ContainsBytesOf, ContainsCellsOf, IsComplete}
 
 -- after one more byte is appended, the layout still contains all bytes of `others`
@@ -79,7 +79,7 @@ is_filled-after_pair_skipped b list h others layout gone laid =
 
 -- each list has an even number of cells, so the pairs of a list contain all cells of the list
 pub max_cell_count-is_even : (list : CellList) → max_cell_count list ≡ 2 * (max_cell_count list / 2)
-max_cell_count-is_even RamCharacters = refl
+max_cell_count-is_even RamNibbles = refl
 max_cell_count-is_even StatusCharacters = refl
 max_cell_count-is_even RamPorts = refl
 max_cell_count-is_even RomPorts = refl
@@ -106,8 +106,8 @@ contains_cells-of_all_chains b layout sized h m =
       | inr past ↦ λ i few there. absurd (no_chain_bits-from_chain_4_on b m i sized past there)
     ]
 
-pub complete : (b : BoardParts) (layout : List KeyByte) → ((m : ℕ) → ContainsCellsOf b layout (Chain m)) → ContainsCellsOf b layout Counters → ContainsCellsOf b layout Registers → ContainsCellsOf b layout BankSrcBytes → ContainsCellsOf b layout RomPorts → ContainsCellsOf b layout RamPorts → ContainsCellsOf b layout StatusCharacters → ContainsCellsOf b layout RamCharacters → IsComplete b layout
-complete b layout chains counters registers srcs rom ram status characters RamCharacters = characters
+pub complete : (b : BoardParts) (layout : List KeyByte) → ((m : ℕ) → ContainsCellsOf b layout (Chain m)) → ContainsCellsOf b layout Counters → ContainsCellsOf b layout Registers → ContainsCellsOf b layout BankSrcBytes → ContainsCellsOf b layout RomPorts → ContainsCellsOf b layout RamPorts → ContainsCellsOf b layout StatusCharacters → ContainsCellsOf b layout RamNibbles → IsComplete b layout
+complete b layout chains counters registers srcs rom ram status characters RamNibbles = characters
 complete b layout chains counters registers srcs rom ram status characters StatusCharacters = status
 complete b layout chains counters registers srcs rom ram status characters RamPorts = ram
 complete b layout chains counters registers srcs rom ram status characters RomPorts = rom

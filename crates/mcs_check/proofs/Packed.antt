@@ -17,7 +17,7 @@ use Rattle.mcs_model.specs.Validity.{AreBelow, IsValidBus, IsValidRegs}
 use Rattle.mcs_drive.specs.TrackedMachine.{Counts, TrackedMachine}
 use Rattle.mcs_check.specs.declared.cells.KeyByte.{KeyByte}
 use Rattle.mcs_check.specs.declared.cells.CellList.{CellList}
-use Rattle.mcs_check.specs.declared.cells.CellList.TheVariants.{RamCharacters, StatusCharacters, RamPorts, RomPorts, BankSrcBytes, Registers, Counters, Chain}
+use Rattle.mcs_check.specs.declared.cells.CellList.TheVariants.{RamNibbles, StatusCharacters, RamPorts, RomPorts, BankSrcBytes, Registers, Counters, Chain}
 use Rattle.mcs_check.specs.Cells.{key_byte_value, key_byte_of, counters_of, values_in_list, max_cell_count, is_narrow, board_has_cell, key_of, IsComplete}
 use Rattle.mcs_check.specs.Keys.{IsOnBoard}
 use Rattle.mcs_check.specs.BusAgreement.{AgreesInChips}
@@ -48,7 +48,7 @@ chain_bit-below_16 t n i bus =
     ]
 
 narrow_cell-below_16 : (t : TrackedMachine) → IsValidRegs t.0 → IsValidBus t.1 → (list : CellList) → is_narrow list ≡ true → (i : ℕ) → slice_index (values_in_list t list) i < 16
-narrow_cell-below_16 t regs bus RamCharacters narrow i = item-below_limit 2048 16 t.1.ram i (omega arith) bus.in_range.ram
+narrow_cell-below_16 t regs bus RamNibbles narrow i = item-below_limit 2048 16 t.1.ram i (omega arith) bus.in_range.ram
 narrow_cell-below_16 t regs bus StatusCharacters narrow i = item-below_limit 512 16 t.1.status i (omega arith) bus.in_range.status
 narrow_cell-below_16 t regs bus RamPorts narrow i = item-below_limit 32 16 t.1.ram_ports i (omega arith) bus.in_range.ram_ports
 narrow_cell-below_16 t regs bus RomPorts narrow i = item-below_limit 16 16 t.1.rom_ports i (omega arith) bus.in_range.rom_ports
@@ -75,7 +75,7 @@ equal_cells-if_equal_pair_bytes s t list i f g small-s small-t first second e =
 -- ---- cells of the chips that the board has
 
 equal_cells-if_equal_key_bytes : (s t : TrackedMachine) → IsValidRegs s.0 → IsValidBus s.1 → IsValidRegs t.0 → IsValidBus t.1 → (list : CellList) (i : ℕ) → i < max_cell_count list → key_byte_value s (key_byte_of list i) ≡ key_byte_value t (key_byte_of list i) → slice_index (values_in_list s list) i ≡ slice_index (values_in_list t list) i
-equal_cells-if_equal_key_bytes s t rs bs rt bt RamCharacters i few e = equal_cells-if_equal_pair_bytes s t RamCharacters i (2 * (i / 2 % 1024) % 2048) ((2 * (i / 2 % 1024) + 1) % 2048) (narrow_cell-below_16 s rs bs RamCharacters refl) (narrow_cell-below_16 t rt bt RamCharacters refl) (omega arith) (omega arith) e
+equal_cells-if_equal_key_bytes s t rs bs rt bt RamNibbles i few e = equal_cells-if_equal_pair_bytes s t RamNibbles i (2 * (i / 2 % 1024) % 2048) ((2 * (i / 2 % 1024) + 1) % 2048) (narrow_cell-below_16 s rs bs RamNibbles refl) (narrow_cell-below_16 t rt bt RamNibbles refl) (omega arith) (omega arith) e
 equal_cells-if_equal_key_bytes s t rs bs rt bt StatusCharacters i few e = equal_cells-if_equal_pair_bytes s t StatusCharacters i (2 * (i / 2 % 1024) % 512) ((2 * (i / 2 % 1024) + 1) % 512) (narrow_cell-below_16 s rs bs StatusCharacters refl) (narrow_cell-below_16 t rt bt StatusCharacters refl) (omega arith) (omega arith) e
 equal_cells-if_equal_key_bytes s t rs bs rt bt RamPorts i few e = equal_cells-if_equal_pair_bytes s t RamPorts i (2 * (i / 2 % 1024) % 32) ((2 * (i / 2 % 1024) + 1) % 32) (narrow_cell-below_16 s rs bs RamPorts refl) (narrow_cell-below_16 t rt bt RamPorts refl) (omega arith) (omega arith) e
 equal_cells-if_equal_key_bytes s t rs bs rt bt RomPorts i few e = equal_cells-if_equal_pair_bytes s t RomPorts i (2 * (i / 2 % 1024) % 16) ((2 * (i / 2 % 1024) + 1) % 16) (narrow_cell-below_16 s rs bs RomPorts refl) (narrow_cell-below_16 t rt bt RomPorts refl) (omega arith) (omega arith) e
@@ -160,8 +160,8 @@ rom_chip-below_16 b chip mask len is =
       | inr past ↦ (let none : rom_masks b chip ≡ None = get_or_past b.roms chip None (omega arith) in absurd (cc))
     ]
 
-board_has_cell-of_ram_character : (b : BoardParts) (bank src : ℕ) → src < 256 → src / 64 < slice_index b.banks bank → board_has_cell b RamCharacters (ram_index bank src) ≡ true
-board_has_cell-of_ram_character b bank src small there =
+board_has_cell-of_ram_nibble : (b : BoardParts) (bank src : ℕ) → src < 256 → src / 64 < slice_index b.banks bank → board_has_cell b RamNibbles (ram_index bank src) ≡ true
+board_has_cell-of_ram_nibble b bank src small there =
     let high : ram_index bank src / 256 ≡ bank = omega arith in
     let low : ram_index bank src % 256 / 64 ≡ src / 64 = omega arith in
     rw (high, low) (lt-ltb _ _ there)
@@ -205,7 +205,7 @@ equal_machines-if_equal_keys b rom levels layout s t complete on-s on-t e =
     let agrees : AgreesInChips s.1 t.1 = record {
       board = board;
       rom = on-s.rom ∙ sym on-t.rom;
-      ram = λ bank src small there. n RamCharacters (ram_index bank src) (let few = bank-few bank (src / 64) there in omega arith) (board_has_cell-of_ram_character s.1.board bank src small there);
+      ram = λ bank src small there. n RamNibbles (ram_index bank src) (let few = bank-few bank (src / 64) there in omega arith) (board_has_cell-of_ram_nibble s.1.board bank src small there);
       status = λ bank high c small few there. n StatusCharacters (status_index bank high c) (let l = bank-few bank (high / 4) there in omega arith) (board_has_cell-of_status_character s.1.board bank high c small few there);
       ram_ports = λ bank chip small there. n RamPorts (ram_port_index bank chip) (let l = bank-few bank chip there in omega arith) (board_has_cell-of_ram_port s.1.board bank chip small there);
       rom_ports = λ chip mask is. n RomPorts chip (rom_chip-below_16 s.1.board chip mask on-s.bus.board.sized.roms is) (is_some-if_some (rom_masks s.1.board chip) mask is);

@@ -99,15 +99,17 @@ released chain keys m chip k true e =
     let pulls = key.2 in
     let place = row * n + column in
     let parts = and_parts (eqb (slice_index chain (m.first + row)) 1) (eqb (slice_index keys place) 1) pulls.drives in
-    let total = sum-without_key keys place parts.1 in
-    (slice_set keys place 0, record {
-      less = rw e (omega arith);
-      others = λ j apart pulled.
-          let other = pulling-key chain keys m chip j pulled in
-          let columns-differ : column ≡ other.1 → ⊥ = λ same.
-          apart (line-number-unique chip j k (slice_index_or m.columns.items column (Rom 0 0)) (ap (λ (i : ℕ). is_rom_line chip j (slice_index_or m.columns.items i (Rom 0 0))) same ∙ other.2.line) pulls.line) in
-          pulled-by_key chain (slice_set keys place 0) m chip j other.0 other.1 (still-pulls chain keys m chip j other.0 other.1 row column pulls.column_inside columns-differ other.2);
-    })
+    let total = sum-without_key keys place parts.1 in (
+      slice_set keys place 0,
+      record {
+        less = rw e (omega arith);
+        others = λ j apart pulled.
+            let other = pulling-key chain keys m chip j pulled in
+            let columns-differ : column ≡ other.1 → ⊥ = λ same.
+            apart (line-number-unique chip j k (slice_index_or m.columns.items column (Rom 0 0)) (ap (λ (i : ℕ). is_rom_line chip j (slice_index_or m.columns.items i (Rom 0 0))) same ∙ other.2.line) pulls.line) in
+            pulled-by_key chain (slice_set keys place 0) m chip j other.0 other.1 (still-pulls chain keys m chip j other.0 other.1 row column pulls.column_inside columns-differ other.2);
+      },
+    )
 
 at-most-sum : (s a b c d k0 k1 k2 k3 l1 l2 l3 : ℕ) → a + k0 ≤ s → b + l1 ≤ a → c + l2 ≤ b → d + l3 ≤ c → k1 ≤ l1 → k2 ≤ l2 → k3 ≤ l3 → k0 + k1 + k2 + k3 ≤ s
 at-most-sum s a b c d k0 k1 k2 k3 l1 l2 l3 ha hb hc hd h1 h2 h3 = omega arith

@@ -11,7 +11,7 @@ use Rattle.mcs_model.specs.Registers.{pair_of, register_of, with_pair, with_regi
 use Rattle.mcs_drive.specs.TrackedMachine.{Counts, Observer, TrackedMachine, condition_holds_at, counts_after, cycled, machine_in, next_op}
 use Rattle.mcs_drive.proofs.Tracking.{with_counts}
 use Rattle.mcs_check.specs.declared.cells.CellList.{CellList}
-use Rattle.mcs_check.specs.declared.cells.CellList.TheVariants.{RamCharacters, StatusCharacters, RamPorts, RomPorts, BankSrcBytes, Registers, Counters, Chain}
+use Rattle.mcs_check.specs.declared.cells.CellList.TheVariants.{RamNibbles, StatusCharacters, RamPorts, RomPorts, BankSrcBytes, Registers, Counters, Chain}
 use Rattle.mcs_check.specs.declared.common_mistakes.Mistakes.{Mistakes}
 use Rattle.mcs_check.specs.declared.conditions.Comparison.{Comparison}
 use Rattle.mcs_check.specs.declared.conditions.Condition.{Condition}
@@ -141,7 +141,7 @@ cell_value-equal_in_scope c s t same Registers i has = sym (same.registers (i % 
 cell_value-equal_in_scope c s t same Counters i has =
     let at : i % 18 ≡ 17 = eqb-true (i % 18) 17 has in
     ap (slice_index (values_in_list s Counters)) at ∙ sym same.seen ∙ ap (slice_index (values_in_list t Counters)) (sym at)
-cell_value-equal_in_scope c s t same RamCharacters i has = ap (λ (m : BusState). slice_index m.ram (i % 2048)) (sym (same.chips has))
+cell_value-equal_in_scope c s t same RamNibbles i has = ap (λ (m : BusState). slice_index m.ram (i % 2048)) (sym (same.chips has))
 cell_value-equal_in_scope c s t same StatusCharacters i has = ap (λ (m : BusState). slice_index m.status (i % 512)) (sym (same.chips has))
 cell_value-equal_in_scope c s t same RamPorts i has = ap (λ (m : BusState). slice_index m.ram_ports (i % 32)) (sym (same.chips has))
 cell_value-equal_in_scope c s t same RomPorts i has = ap (λ (m : BusState). slice_index m.rom_ports (i % 16)) (sym (same.chips has))

@@ -11,7 +11,7 @@ use Rattle.mcs_check.specs.declared.cells.Cell.{Cell}
 use Rattle.mcs_check.specs.declared.cells.CellList.{CellList}
 use Rattle.mcs_check.specs.declared.cells.KeyByte.{KeyByte}
 use Rattle.mcs_check.specs.declared.cells.KeyByte.TheVariants.{One, Pair}
-use Rattle.mcs_check.specs.declared.cells.CellList.TheVariants.{RamCharacters, StatusCharacters, RamPorts, RomPorts, BankSrcBytes, Registers, Counters, Chain}
+use Rattle.mcs_check.specs.declared.cells.CellList.TheVariants.{RamNibbles, StatusCharacters, RamPorts, RomPorts, BankSrcBytes, Registers, Counters, Chain}
 
 -- the counters of a machine. First come the registers other than the index registers, then the SRC
 -- byte that the ROMs store, the number of open calls, the stopwatch's cycles and the number of
@@ -27,7 +27,7 @@ counters_of s src t =
 
 -- the values of all cells in a list
 abbrev pub values_in_list : TrackedMachine → CellList → List ℕ
-values_in_list t RamCharacters = t.1.ram
+values_in_list t RamNibbles = t.1.ram
 values_in_list t StatusCharacters = t.1.status
 values_in_list t RamPorts = t.1.ram_ports
 values_in_list t RomPorts = t.1.rom_ports
@@ -38,7 +38,7 @@ values_in_list t (Chain n) = slice_index_or t.1.chains n []
 
 -- the maximum number of cells in a list
 abbrev pub max_cell_count : CellList → ℕ
-max_cell_count RamCharacters = 2048
+max_cell_count RamNibbles = 2048
 max_cell_count StatusCharacters = 512
 max_cell_count RamPorts = 32
 max_cell_count RomPorts = 16
@@ -49,7 +49,7 @@ max_cell_count (Chain n) = 256
 
 -- true if the board has the chip that contains cell i of a list. Every board has the processor.
 abbrev pub board_has_cell : BoardParts → CellList → ℕ → Bool
-board_has_cell b RamCharacters i = nat_lt (i % 256 / 64) (slice_index b.banks (i / 256))
+board_has_cell b RamNibbles i = nat_lt (i % 256 / 64) (slice_index b.banks (i / 256))
 board_has_cell b StatusCharacters i = nat_lt (i % 64 / 16) (slice_index b.banks (i / 64))
 board_has_cell b RamPorts i = nat_lt (i % 4) (slice_index b.banks (i / 4))
 board_has_cell b RomPorts i = is_some (rom_masks b i)

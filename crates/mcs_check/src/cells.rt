@@ -11,7 +11,7 @@ use std::alloc::{AllocError, Global};
 #[derive(Clone, Copy, Debug)]
 pub enum CellList {
     /// The nibbles of RAM (Intel's "RAM characters"), indexed by bank * 256 + SRC byte.
-    RamCharacters,
+    RamNibbles,
     /// The status characters, indexed by (bank * 16 + upper nibble of the SRC byte) * 4 + number of the character (0
     /// to 3).
     StatusCharacters,
@@ -53,7 +53,7 @@ impl CellList {
         ensures { result ≡ max_cell_count self }
     {
         match self {
-            CellList::RamCharacters => 2048,
+            CellList::RamNibbles => 2048,
             CellList::StatusCharacters => 512,
             CellList::RamPorts => 32,
             CellList::RomPorts => 16,
@@ -126,7 +126,7 @@ fn board_has_cell(board: &Board, list: CellList, i: u16) -> bool
     ensures { result ≡ board_has_cell board.now list i }
 {
     match list {
-        CellList::RamCharacters => ((i % 256 / 64) as u8) < board.bank_chips((i / 256) as u8),
+        CellList::RamNibbles => ((i % 256 / 64) as u8) < board.bank_chips((i / 256) as u8),
         CellList::StatusCharacters => ((i % 64 / 16) as u8) < board.bank_chips((i / 64) as u8),
         CellList::RamPorts => ((i % 4) as u8) < board.bank_chips((i / 4) as u8),
         CellList::RomPorts => board.mask(i as u8).is_some(),
@@ -201,6 +201,6 @@ pub fn layout_of(alloc: Global, board: &Board) -> Result<Vec<KeyByte>, AllocErro
     add_list(&mut layout, board, CellList::RomPorts)?;
     add_list(&mut layout, board, CellList::RamPorts)?;
     add_list(&mut layout, board, CellList::StatusCharacters)?;
-    add_list(&mut layout, board, CellList::RamCharacters)?;
+    add_list(&mut layout, board, CellList::RamNibbles)?;
     Ok(layout)
 }

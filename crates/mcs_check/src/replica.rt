@@ -2,7 +2,7 @@
 ghost use Rattle.std.specs.Prelude.{◌≡◌, ◌<◌, All, length, slice_index, IsTrue};
 ghost use Rattle.mcs_model.specs.Validity.{IsValidBus, IsValidRegs};
 ghost use Rattle.mcs_drive.specs.TrackedMachine.{with_zero_counts};
-ghost use Rattle.mcs_check.specs.declared.cells.CellList.TheVariants.{RamCharacters, Counters};
+ghost use Rattle.mcs_check.specs.declared.cells.CellList.TheVariants.{RamNibbles, Counters};
 ghost use Rattle.mcs_check.specs.declared.cells.KeyByte.TheVariants.{Pair};
 ghost use Rattle.mcs_check.specs.Cells.{key_byte_value, values_in_list, value_at, key_of};
 ghost use Rattle.mcs_check.specs.Keys.{KeepsBoardAndInputs};
@@ -146,7 +146,7 @@ impl SearchMachine {
         ensures { result ≡ value_at self.now cell }
     {
         match cell.list {
-            CellList::RamCharacters => {
+            CellList::RamNibbles => {
                 let i = cell.reduced_index();
                 self.rig.ram((i / 256) as u8, (i % 256) as u8).get()
             }
@@ -182,7 +182,7 @@ impl SearchMachine {
     /// Returns the byte of a key that holds both RAM characters of a pair. This is faster than `join_cells`, because
     /// it computes the bank only once.
     fn join_characters(&self, pair: u16) -> u8
-        ensures { result ≡ key_byte_value self.now (Pair RamCharacters pair) }
+        ensures { result ≡ key_byte_value self.now (Pair RamNibbles pair) }
     {
         let pair = pair % 1024;
         let bank = (pair / 128) as u8;
@@ -200,7 +200,7 @@ impl SearchMachine {
     {
         match byte {
             KeyByte::One(cell) => self.value(cell),
-            KeyByte::Pair(CellList::RamCharacters, pair) => self.join_characters(pair),
+            KeyByte::Pair(CellList::RamNibbles, pair) => self.join_characters(pair),
             KeyByte::Pair(CellList::StatusCharacters, pair) => {
                 self.join_cells(CellList::StatusCharacters, pair)
             }
@@ -217,7 +217,7 @@ impl SearchMachine {
         ensures { KeepsBoardAndInputs self.old.1 self.new.1 }
     {
         match cell.list {
-            CellList::RamCharacters => {
+            CellList::RamNibbles => {
                 let i = cell.reduced_index();
                 self.rig
                     .set_ram((i / 256) as u8, (i % 256) as u8, Nibble::low_of(n));
@@ -276,8 +276,8 @@ impl SearchMachine {
     {
         match byte {
             KeyByte::One(cell) => self.set(regs, cell, n),
-            KeyByte::Pair(CellList::RamCharacters, pair) => {
-                self.split_into_cells(regs, CellList::RamCharacters, pair, n);
+            KeyByte::Pair(CellList::RamNibbles, pair) => {
+                self.split_into_cells(regs, CellList::RamNibbles, pair, n);
             }
             KeyByte::Pair(CellList::StatusCharacters, pair) => {
                 self.split_into_cells(regs, CellList::StatusCharacters, pair, n);

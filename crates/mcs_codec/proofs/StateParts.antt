@@ -6,7 +6,7 @@ use Rattle.mcs_model.specs.Boards.{chain_count, chain_bits, no_chain}
 use Rattle.mcs_model.specs.Bus.{zero_bus}
 use Rattle.mcs_model.specs.BenchState.{BenchState, new_bench_state}
 use Rattle.mcs_model.specs.Validity.{IsValid}
-use Rattle.mcs_bench.specs.declared.chip_list.ChipList.TheVariants.{RomBytes, RamCharacters, StatusCharacters, RamPorts, BankSrcBytes}
+use Rattle.mcs_bench.specs.declared.chip_list.ChipList.TheVariants.{RomBytes, RamNibbles, StatusCharacters, RamPorts, BankSrcBytes}
 use Rattle.mcs_codec.specs.declared.saving.StateList.{StateList}
 use Rattle.mcs_codec.specs.declared.saving.StateList.TheVariants.{Chips, RomPorts, IndexRegisters, ChainBits, Keys}
 use Rattle.mcs_codec.specs.StateLists.{list_in_state, state_list_length}
@@ -19,7 +19,7 @@ absent_chain_has_no_bits s n h past =
 
 pub list_has_its_length : (p : StateList) (s : BenchState) → IsValid s → length (list_in_state p s) ≡ state_list_length p s
 list_has_its_length (Chips RomBytes) s h = h.bus.in_range.rom.has_count
-list_has_its_length (Chips RamCharacters) s h = h.bus.in_range.ram.has_count
+list_has_its_length (Chips RamNibbles) s h = h.bus.in_range.ram.has_count
 list_has_its_length (Chips StatusCharacters) s h = h.bus.in_range.status.has_count
 list_has_its_length (Chips RamPorts) s h = h.bus.in_range.ram_ports.has_count
 list_has_its_length RomPorts s h = h.bus.in_range.rom_ports.has_count

@@ -7,7 +7,7 @@ use Rattle.mcs_nibble.specs.declared.lines.LineMask.TheVariants as mask
 use Rattle.mcs_nibble.specs.Ports.{mask_at, mask_character}
 use Rattle.mcs_model.specs.declared.board.BoardParts.{BoardParts}
 use Rattle.mcs_model.specs.Validity.{IsValidBoard}
-use Rattle.mcs_version1.specs.Boards.{is_small_board}
+use Rattle.mcs_version1.specs.Boards.{fits_version_1}
 use Rattle.mcs_codec.specs.BoardBytes.{rom_bytes, board_bytes, counted_bytes}
 use Rattle.mcs_codec.specs.CommandBytes.{address_bytes}
 use Rattle.mcs_codec.specs.Reading.{and_then, give}
@@ -87,12 +87,12 @@ abbrev pub versioned_board_bytes : Version → BoardParts → List ℕ
 versioned_board_bytes version b = version_bytes version ++ board_bytes b
 
 abbrev pub IsValidBoardIn : Version → BoardParts → Type 0
-IsValidBoardIn One b = IsValidBoard b × (is_small_board b ≡ true)
+IsValidBoardIn One b = IsValidBoard b × (fits_version_1 b ≡ true)
 IsValidBoardIn Two b = IsValidBoard b
 
 board_in_version_codec : (version : Version) → IsCodec board_bytes (IsValidBoardIn version) (board_in_version version)
 unfolding board_in_version
-board_in_version_codec One = tested_codec is_small_board board_codec
+board_in_version_codec One = tested_codec fits_version_1 board_codec
 board_in_version_codec Two = board_codec
 
 version-reads_back : (version : Version) (b : BoardParts) (rest : List ℕ) → IsValidBoardIn version b → version_at (versioned_board_bytes version b ++ rest) ≡ Some (version, board_bytes b ++ rest)

@@ -4,7 +4,7 @@ use Rattle.std.specs.Prelude.{◌≡◌, ◌⊎◌, ℕ, Bool, true, ◌==◌, �
 use Rattle.mcs_model.specs.BenchState.{BenchState}
 use Rattle.mcs_model.specs.Validity.{IsValid}
 use Rattle.mcs_model.specs.declared.command.Command.{Command}
-use Rattle.mcs_version1.specs.Command.{in_version_1}
+use Rattle.mcs_version1.specs.Command.{is_command_of_version_1}
 use Rattle.mcs_version1.specs.BenchState.{BenchState1}
 use Rattle.mcs_version1.specs.Lift.{lift}
 use Rattle.mcs_version1.specs.Validity.{IsValid1}
@@ -20,7 +20,7 @@ pub record Encodes (bytes : List ℕ) (c : Command) : Type 0 where
 
 -- true if the version has this command
 abbrev pub version_has_command : Version → Command → Bool
-version_has_command One c = in_version_1 c
+version_has_command One c = is_command_of_version_1 c
 version_has_command Two c = true
 
 -- holds if these bytes encode this command in a session of this version

@@ -10,7 +10,7 @@ use Rattle.mcs_model.specs.declared.limits.TheConstants.{BANKS, BREAKPOINTS, WAT
 use Rattle.mcs_model.specs.Boards.{key_count}
 use Rattle.mcs_model.specs.Bus.{BusState}
 use Rattle.mcs_model.specs.BenchState.{BenchState}
-use Rattle.mcs_version1.specs.Boards.{is_small_board}
+use Rattle.mcs_version1.specs.Boards.{fits_version_1}
 use Rattle.mcs_codec.specs.Reading.{◌>>=◌, Reading, give, read_if, byte_at, wide_number_at, bytes_at, read_times, counted_at}
 use Rattle.mcs_codec.specs.BoardReading.{board_at}
 use Rattle.mcs_codec.specs.declared.versions.Version.{Version}
@@ -25,9 +25,9 @@ version_at (b ∷ bytes) =
     else if b == 2 then Some (Two, bytes)
     else None
 
--- reads the board; fails in version 1 if the board is too large for version 1 (`is_small_board`)
+-- reads the board; fails in version 1 if the board is too large for version 1 (`fits_version_1`)
 unfoldable pub board_in_version : Version → Reading BoardParts
-board_in_version One = read_if is_small_board board_at
+board_in_version One = read_if fits_version_1 board_at
 board_in_version Two = board_at
 
 unfoldable pub versioned_board_at : Reading (Version × BoardParts)

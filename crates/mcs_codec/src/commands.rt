@@ -125,7 +125,7 @@ fn read_command_without_image(tag: u8, reader: &mut Reader<'_>) -> Option<Comman
             let row = reader.byte()?;
             Some(Command::Release(row, reader.byte()?))
         }
-        5 => Some(Command::Run(reader.long_number()?)),
+        5 => Some(Command::Run(reader.number_u32()?)),
         6 => Some(Command::Step),
         7 => Some(Command::Poke(Place::read(reader)?)),
         8 => Some(Command::Test(Bit::read(reader)?)),

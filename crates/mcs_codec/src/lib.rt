@@ -26,4 +26,4 @@ pub use mcs_version1::laws::boards_are_small;
 pub use migration::{no_bytes_of_both_versions, version_1_keeps_its_meaning};
 pub use restoring::{bench_of, version_of, versioned_bench_of};
 pub use saving::{STATE_BYTES, state_bytes};
-pub use versions::{Version, in_version_1, one_state};
+pub use versions::{Version, is_command_of_version_1, one_state};

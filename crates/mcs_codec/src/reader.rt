@@ -77,7 +77,7 @@ impl<'a> Reader<'a> {
 
     /// Reads a four-byte number, highest byte first. Returns `None` if fewer than four bytes are
     /// left.
-    pub fn long_number(&mut self) -> Option<u32>
+    pub fn number_u32(&mut self) -> Option<u32>
         ensures { option_map (λ x. (x, self.new)) result ≡ wide_number_at w32 self.old }
     {
         if self.rest.len() < 4 {

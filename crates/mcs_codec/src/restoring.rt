@@ -10,7 +10,7 @@ use crate::boards::read_board;
 use crate::commands::NoMemory;
 use crate::encoding::{Decode, read_counted, read_into};
 use crate::reader::Reader;
-use crate::versions::{Version, is_small_board};
+use crate::versions::{Version, fits_version_1};
 use arrayvec::ArrayVec;
 use mcs_bench::{Bench, Cells, Flat};
 use mcs_model::board::{Board, ChainPart};
@@ -35,14 +35,14 @@ impl Decode for u16 {
 }
 
 /// Reads a board in the given version. Returns `None` if the bytes do not encode a board, or if the
-/// version is 1 and the board is too large for version 1 (`is_small_board`).
+/// version is 1 and the board is too large for version 1 (`fits_version_1`).
 #[tactic(auto, unfolding(crate::specs::StateReading::board_in_version))]
 fn read_board_in_version(version: Version, reader: &mut Reader<'_>) -> Option<Board>
     ensures { option_map (λ x. (x, reader.new)) result ≡ board_in_version version reader.old }
 {
     let board = read_board(reader)?;
     match version {
-        Version::One => if is_small_board(&board) {
+        Version::One => if fits_version_1(&board) {
             Some(board)
         } else {
             None
@@ -121,7 +121,7 @@ fn read_state(reader: &mut Reader<'_>, flat: &mut Flat) -> Option<Version>
     ensures { option_map (λ version. ((version, state_of flat.new), reader.new)) result
         ≡ state_at reader.old }
 {
-    flat.seq = reader.long_number()?;
+    flat.seq = reader.number_u32()?;
     let (version, board) = read_versioned_board(reader)?;
     read_fixed_bytes(reader, &mut flat.rom)?;
     read_fixed_bytes(reader, &mut flat.ram)?;

@@ -104,7 +104,7 @@ fn put_memory(bench: &Bench, out: &mut [u8], at: usize) -> usize
     ensures front { take result out.new ≡ take at out.old ++ memory_bytes bench.now.bus }
 {
     let at = StateList::Chips(ChipList::RomBytes).put(bench, out, at);
-    let at = StateList::Chips(ChipList::RamCharacters).put(bench, out, at);
+    let at = StateList::Chips(ChipList::RamNibbles).put(bench, out, at);
     let at = StateList::Chips(ChipList::StatusCharacters).put(bench, out, at);
     let at = StateList::Chips(ChipList::RamPorts).put(bench, out, at);
     StateList::RomPorts.put(bench, out, at)

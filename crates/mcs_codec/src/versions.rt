@@ -2,8 +2,8 @@
 ghost use Rattle.std.specs.Prelude.{◌≡◌, List, ℕ, Some, nat_lt};
 ghost use Rattle.std.specs.List.{list_any};
 ghost use Rattle.mcs_model.specs.BenchState.{BenchState};
-ghost use Rattle.mcs_version1.specs.Boards.{is_small_board};
-ghost use Rattle.mcs_version1.specs.Command.{in_version_1, is_place_1};
+ghost use Rattle.mcs_version1.specs.Boards.{fits_version_1};
+ghost use Rattle.mcs_version1.specs.Command.{is_command_of_version_1, is_place_1};
 ghost use Rattle.mcs_codec.specs.Codec.{EncodesStateBy, version_has_command, version_number, version_of};
 
 use mcs_model::board::Board;
@@ -28,8 +28,8 @@ fn has_long_chain(board: &Board) -> bool
 }
 
 /// Returns true if version 1 allows the board: at most two chains, each with at most four chips.
-pub(crate) fn is_small_board(board: &Board) -> bool
-    ensures { result ≡ is_small_board board.now }
+pub(crate) fn fits_version_1(board: &Board) -> bool
+    ensures { result ≡ fits_version_1 board.now }
 {
     if board.chain_count() > VERSION_1_CHAINS {
         return false;
@@ -56,11 +56,11 @@ fn is_place_1(place: &Place) -> bool
 
 /// Returns true if version 1 has this command. Version 1 has no watches, and its boards have fewer
 /// and shorter chains.
-pub fn in_version_1(command: &Command) -> bool
-    ensures { result ≡ in_version_1 command.now }
+pub fn is_command_of_version_1(command: &Command) -> bool
+    ensures { result ≡ is_command_of_version_1 command.now }
 {
     match command {
-        Command::Wire(board) => is_small_board(board),
+        Command::Wire(board) => fits_version_1(board),
         Command::Poke(place) => is_place_1(place),
         Command::Watch(_, _) | Command::Unwatch(_, _) => false,
         Command::Load(_)
@@ -100,7 +100,7 @@ impl Version {
         ensures { result ≡ version_has_command self command.now }
     {
         match self {
-            Version::One => in_version_1(command),
+            Version::One => is_command_of_version_1(command),
             Version::Two => true,
         }
     }

@@ -1,6 +1,6 @@
 //! The task that the command-line arguments select: a new or an existing session.
 ghost use Rattle.std.specs.Prelude.{◌≡◌, ℕ, List, string_bytes};
-ghost use Rattle.mcs_host.specs.declared.arguments.WordsFault.TheVariants.{NoMemory};
+ghost use Rattle.mcs_host.specs.declared.arguments.ArgumentsFault.TheVariants.{NoMemory};
 
 use std::alloc::AllocError;
 use std::marker::Model;
@@ -44,7 +44,7 @@ pub enum Choice {
 
 /// The reason why the arguments do not select a task.
 #[derive(Clone, Copy, Debug, Error)]
-pub enum WordsFault {
+pub enum ArgumentsFault {
     /// The program does not accept the arguments, and prints its usage.
     #[error("the arguments are none of the program's")]
     Usage,
@@ -53,10 +53,10 @@ pub enum WordsFault {
     NoMemory,
 }
 
-impl From<AllocError> for WordsFault {
+impl From<AllocError> for ArgumentsFault {
     ghost from_gives = { λ _ e. e ≡ NoMemory };
 
     fn from(_: AllocError) -> Self {
-        WordsFault::NoMemory
+        ArgumentsFault::NoMemory
     }
 }

@@ -3,7 +3,7 @@ ghost use Rattle.std.specs.Prelude.{◌≡◌, ◌≢◌, Some, None, true, map,
 ghost use Rattle.clap.specs.Words.{kind_of, subcommand_of, subcommand_rows_of};
 ghost use Rattle.mcs_host.specs.CommandLine.{choice_in, accepts_arguments, arguments_of_choice, program};
 
-use crate::arguments::{Choice, FileName, WordsFault};
+use crate::arguments::{ArgumentsFault, Choice, FileName};
 use clap::error::ErrorKind;
 use clap::{Arg, ArgMatches, Command, Error};
 use std::alloc::Global;
@@ -44,10 +44,10 @@ fn matches<'a, S: AsStr>(alloc: Global, arguments: &'a [S]) -> Result<ArgMatches
 /// arguments. Fails with `Usage` only if, by that specification, the arguments are invalid or
 /// select neither `new FILE` nor `open FILE`. A request for help is an example of such arguments.
 /// Fails with `NoMemory` if memory runs out.
-pub fn choice<S: AsStr>(alloc: Global, arguments: &[S]) -> Result<Choice, WordsFault>
+pub fn choice<S: AsStr>(alloc: Global, arguments: &[S]) -> Result<Choice, ArgumentsFault>
     ensures given { IfOk result (λ c.
         choice_in (map S.text arguments.entry.now) ≡ Some (arguments_of_choice c)) }
-    ensures usage { IsErrOf result WordsFault.Usage
+    ensures usage { IsErrOf result ArgumentsFault.Usage
         → (accepts_arguments (map S.text arguments.entry.now) ≡ true
         → choice_in (map S.text arguments.entry.now) ≡ None) }
 {
@@ -56,25 +56,25 @@ pub fn choice<S: AsStr>(alloc: Global, arguments: &[S]) -> Result<Choice, WordsF
         Err(error) => return Err(fault_of(&error)),
     };
     let Some((name, inner)) = found.subcommand() else {
-        return Err(WordsFault::Usage);
+        return Err(ArgumentsFault::Usage);
     };
     let Some(file) = inner.get_str("FILE") else {
-        return Err(WordsFault::Usage);
+        return Err(ArgumentsFault::Usage);
     };
     let file = FileName::new(String::from_str(alloc, file)?);
     match name {
         "new" => Ok(Choice::New(file)),
         "open" => Ok(Choice::Open(file)),
-        _ => Err(WordsFault::Usage),
+        _ => Err(ArgumentsFault::Usage),
     }
 }
 
-fn fault_of(error: &Error) -> WordsFault
-    ensures { result ≡ WordsFault.Usage → kind_of error.now ≢ ErrorKind.OutOfMemory }
+fn fault_of(error: &Error) -> ArgumentsFault
+    ensures { result ≡ ArgumentsFault.Usage → kind_of error.now ≢ ErrorKind.OutOfMemory }
 {
     if error.kind() == ErrorKind::OutOfMemory {
-        WordsFault::NoMemory
+        ArgumentsFault::NoMemory
     } else {
-        WordsFault::Usage
+        ArgumentsFault::Usage
     }
 }

@@ -19,7 +19,7 @@ mod opening;
 mod streams;
 mod system_file;
 
-pub use arguments::{Choice, FileName, WordsFault};
+pub use arguments::{ArgumentsFault, Choice, FileName};
 pub use command_line::choice;
 pub use file_disk::FileDisk;
 pub use file_fault::FileFault;

@@ -2,7 +2,7 @@
 -- Intel. docs/FORMAT.md describes the layout, and src/format.rt defines its sizes as constants.)
 use Rattle.std.specs.Prelude.{◌≡◌, ◌≢◌, ◌⊎◌, ◌==◌, Bool, nat_le, ℕ, ◌+◌, ◌/◌, ◌%◌, ◌≤◌, List, [], ◌∷◌, ◌++◌, length, slice_index, if◌then◌else◌}
 use Rattle.mcs_disk.specs.Disk.{DiskState, bytes_of, part, size_of}
-use Rattle.mcs_journal.specs.declared.format.TheConstants.{AREA_SIZE, FILE_SIZE, FIRST_SLOT, LOG_SIZE, MOST_RECORD, MOST_SNAPSHOT, NAME, SECOND_SLOT, ZEROS}
+use Rattle.mcs_journal.specs.declared.format.TheConstants.{AREA_SIZE, FILE_SIZE, FIRST_SLOT, LOG_SIZE, MAX_RECORD_SIZE, MAX_SNAPSHOT_SIZE, NAME, SECOND_SLOT, ZEROS}
 use Rattle.mcs_journal.specs.declared.slot.Slot.{Slot}
 use Rattle.mcs_journal.specs.declared.slot.Slot.TheVariants.{A, B}
 
@@ -41,9 +41,9 @@ abbrev pub frames_of : List (List ℕ) → List ℕ
 frames_of [] = []
 frames_of (r ∷ rs) = frame_of r ++ frames_of rs
 
--- holds if a record has a valid length: at least 1 byte and at most `MOST_RECORD` bytes
+-- holds if a record has a valid length: at least 1 byte and at most `MAX_RECORD_SIZE` bytes
 abbrev pub IsRecord : List ℕ → Type 0
-IsRecord r = (1 ≤ length r) × (length r ≤ MOST_RECORD)
+IsRecord r = (1 ≤ length r) × (length r ≤ MAX_RECORD_SIZE)
 
 -- holds if each record has a valid length
 abbrev pub AreRecords : List (List ℕ) → Type 0
@@ -66,7 +66,7 @@ pub record Holds (file : List ℕ) (snap : List ℕ) (records : List (List ℕ))
   pub size : length file ≡ FILE_SIZE
   pub name : part 0 8 file ≡ NAME
   pub zeros : part 9 7 file ≡ ZEROS
-  pub within_limit : length snap ≤ MOST_SNAPSHOT
+  pub within_limit : length snap ≤ MAX_SNAPSHOT_SIZE
   pub snap_length : part (slot_at file) 4 file ≡ be32 (length snap)
   pub snap_bytes : part (slot_at file + 4) (length snap) file ≡ snap
   pub log : IsLog records (part (slot_at file + AREA_SIZE) LOG_SIZE file)

@@ -3,7 +3,7 @@ use Rattle.std.specs.Prelude.{◌≡◌, ℕ, ◌+◌, ◌≤◌, List, ◌⊎�
 use Rattle.mcs_disk.specs.Disk.{DiskState, IsLater, part, Torn, bytes_of, time_of, images_of, images_since}
 use Rattle.mcs_disk.specs.PowerCut.{IsDurable}
 use Rattle.mcs_journal.specs.File.{IsRecord, frame_of, frames_of, slot_at, be32, slot_of}
-use Rattle.mcs_journal.specs.declared.format.TheConstants.{AREA_SIZE, LOG_SIZE, MOST_SNAPSHOT, NAME, AREA_WITH_COMMIT_SIZE, ZEROS}
+use Rattle.mcs_journal.specs.declared.format.TheConstants.{AREA_SIZE, LOG_SIZE, MAX_SNAPSHOT_SIZE, NAME, AREA_WITH_COMMIT_SIZE, ZEROS}
 use Rattle.mcs_journal.specs.declared.slot.Slot.{Slot}
 use Rattle.mcs_journal.specs.declared.slot.Slot.TheVariants.{A, B}
 
@@ -37,7 +37,7 @@ pub record HasNoRecordAt (file : List ℕ) (at room : ℕ) : Type 0 where
 -- writes both at once
 pub record IsArea (snap area : List ℕ) : Type 0 where
   pub long : length area ≡ AREA_WITH_COMMIT_SIZE
-  pub within_limit : length snap ≤ MOST_SNAPSHOT
+  pub within_limit : length snap ≤ MAX_SNAPSHOT_SIZE
   pub snap_length : part 0 4 area ≡ be32 (length snap)
   pub snap_bytes : part 4 (length snap) area ≡ snap
   pub ends_log : slice_index area AREA_SIZE ≡ 0
@@ -50,7 +50,7 @@ pub record IsHeader (file : List ℕ) (slot : Slot) : Type 0 where
 
 -- holds if the slot that starts at this offset holds this snapshot
 pub record IsSnapshot (file : List ℕ) (start : ℕ) (snap : List ℕ) : Type 0 where
-  pub within_limit : length snap ≤ MOST_SNAPSHOT
+  pub within_limit : length snap ≤ MAX_SNAPSHOT_SIZE
   pub snap_length : part start 4 file ≡ be32 (length snap)
   pub snap_bytes : part (start + 4) (length snap) file ≡ snap
 

@@ -5,11 +5,11 @@ pub const FILE_SIZE: usize = 163_856;
 
 /// The maximum size of a snapshot, in bytes. The file layout sets this limit. The longest state
 /// that mcs_codec encodes must not exceed it.
-pub const MOST_SNAPSHOT: usize = 16_380;
+pub const MAX_SNAPSHOT_SIZE: usize = 16_380;
 
 /// The maximum size of a record, in bytes. The file layout sets this limit. The longest command
 /// that mcs_codec encodes must not exceed it.
-pub const MOST_RECORD: usize = 8_192;
+pub const MAX_RECORD_SIZE: usize = 8_192;
 
 /// The size of the header, which consists of the name, the selector and zeros.
 pub const HEADER_SIZE: usize = 16;

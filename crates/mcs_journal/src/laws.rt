@@ -4,7 +4,7 @@ ghost use Rattle.std.specs.Prelude.{◌⊎◌, ◌≡◌, ◌∷◌, [], ℕ, Li
 ghost use Rattle.mcs_disk.specs.Disk.{bytes_of, time_of};
 ghost use Rattle.mcs_disk.specs.Stretches.{SatisfiesEither, LeavesOnly};
 ghost use Rattle.mcs_disk.specs.PowerCut.{IsLeftByCut, IsDurable};
-ghost use Rattle.mcs_journal.specs.declared.format.TheConstants.{AREA_SIZE, COMMITTED, FILE_SIZE, FIRST_SLOT, HEADER_SIZE, LOG_SIZE, MOST_RECORD, MOST_SNAPSHOT, NAME, NOT_COMMITTED, FRAME_HEADER_SIZE, SECOND_SLOT, SELECTOR_OFFSET, SNAPSHOT_OFFSET, AREA_WITH_COMMIT_SIZE, ZEROS, ZEROS_OFFSET};
+ghost use Rattle.mcs_journal.specs.declared.format.TheConstants.{AREA_SIZE, COMMITTED, FILE_SIZE, FIRST_SLOT, HEADER_SIZE, LOG_SIZE, MAX_RECORD_SIZE, MAX_SNAPSHOT_SIZE, NAME, NOT_COMMITTED, FRAME_HEADER_SIZE, SECOND_SLOT, SELECTOR_OFFSET, SNAPSHOT_OFFSET, AREA_WITH_COMMIT_SIZE, ZEROS, ZEROS_OFFSET};
 ghost use Rattle.mcs_journal.specs.File.{Holds, ContentsAreUnique};
 
 use mcs_disk::Disk;
@@ -21,7 +21,7 @@ use mcs_disk::Disk;
 pub fn layout_values()
     ensures sizes { FILE_SIZE ∷ HEADER_SIZE ∷ AREA_SIZE ∷ LOG_SIZE ∷ AREA_WITH_COMMIT_SIZE ∷ []
         ≡ 163_856 ∷ 16 ∷ 16_384 ∷ 65_536 ∷ 16_385 ∷ [] }
-    ensures limits { MOST_SNAPSHOT ∷ MOST_RECORD ∷ [] ≡ 16_380 ∷ 8_192 ∷ [] }
+    ensures limits { MAX_SNAPSHOT_SIZE ∷ MAX_RECORD_SIZE ∷ [] ≡ 16_380 ∷ 8_192 ∷ [] }
     ensures offsets { SELECTOR_OFFSET ∷ ZEROS_OFFSET ∷ FIRST_SLOT ∷ SECOND_SLOT ∷ SNAPSHOT_OFFSET
         ∷ FRAME_HEADER_SIZE ∷ []
         ≡ 8 ∷ 9 ∷ 16 ∷ 81_936 ∷ 4 ∷ 3 ∷ [] }

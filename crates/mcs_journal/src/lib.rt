@@ -17,6 +17,6 @@ mod writing;
 
 pub use bytes::{Bytes, Records};
 pub use fault::StoreFault;
-pub use format::{FILE_SIZE, MOST_RECORD, MOST_SNAPSHOT};
+pub use format::{FILE_SIZE, MAX_RECORD_SIZE, MAX_SNAPSHOT_SIZE};
 pub use laws::{contents_are_unique, cut_leaves_durable_contents, cut_leaves_old_or_new_contents};
 pub use store::{Opened, Store};

@@ -13,8 +13,8 @@ ghost use Rattle.mcs_journal.specs.Writing.{IsHeader, IsRecordAt, HasNoRecordAt,
 use crate::bytes::Bytes;
 use crate::fault::StoreFault;
 use crate::format::{
-    AREA_SIZE, COMMITTED, FRAME_HEADER_SIZE, HEADER_SIZE, LOG_SIZE, MOST_RECORD, MOST_SNAPSHOT,
-    NAME, NAME_SIZE, SELECTOR_OFFSET, SNAPSHOT_OFFSET, ZEROS, ZEROS_OFFSET,
+    AREA_SIZE, COMMITTED, FRAME_HEADER_SIZE, HEADER_SIZE, LOG_SIZE, MAX_RECORD_SIZE,
+    MAX_SNAPSHOT_SIZE, NAME, NAME_SIZE, SELECTOR_OFFSET, SNAPSHOT_OFFSET, ZEROS, ZEROS_OFFSET,
 };
 use crate::slot::Slot;
 use mcs_disk::{Disk, DiskFault};
@@ -75,7 +75,7 @@ pub fn read_record<D: Disk>(
     let mut prefix = [0u8; 2];
     read_at(disk, at + 1, &mut prefix)?;
     let len = prefix[0] as usize * 256 + prefix[1] as usize;
-    if len == 0 || len > MOST_RECORD || room < FRAME_HEADER_SIZE + len + 1 {
+    if len == 0 || len > MAX_RECORD_SIZE || room < FRAME_HEADER_SIZE + len + 1 {
         return Err(StoreFault::Damaged);
     }
     let mut bytes = vec![in alloc; 0u8; len]?;
@@ -173,7 +173,7 @@ pub fn read_snapshot<D: Disk>(
     let mut prefix = [0u8; SNAPSHOT_OFFSET];
     read_at(disk, start, &mut prefix)?;
     let len = prefix[2] as usize * 256 + prefix[3] as usize;
-    if prefix[0] != 0 || prefix[1] != 0 || len > MOST_SNAPSHOT {
+    if prefix[0] != 0 || prefix[1] != 0 || len > MAX_SNAPSHOT_SIZE {
         return Err(StoreFault::Damaged);
     }
     let mut bytes = vec![in alloc; 0u8; len]?;

@@ -6,7 +6,7 @@ ghost use Rattle.mcs_disk.specs.Stretches.{AddsNoImage, WritesNothing};
 ghost use Rattle.mcs_journal.specs.StoreCalls.{CreatesStore, IsCreateFault, IsOpenFault, OpensStore, CreateErrorImplies, OpenErrorImplies};
 ghost use Rattle.mcs_disk.specs.CallList.{MakesCalls, AtMostOneUnsynced, unsynced_writes};
 ghost use Rattle.mcs_disk.specs.Calls.{WasRead};
-ghost use Rattle.mcs_journal.specs.declared.format.TheConstants.{AREA_SIZE, MOST_RECORD, MOST_SNAPSHOT};
+ghost use Rattle.mcs_journal.specs.declared.format.TheConstants.{AREA_SIZE, MAX_RECORD_SIZE, MAX_SNAPSHOT_SIZE};
 ghost use Rattle.mcs_journal.specs.File.{HasRoom, Holds, IsRecord, frames_of, slot_of, start_of};
 ghost use Rattle.mcs_journal.specs.Calls.{MakesWithArea, FailedCreateCalls, FailedOpenCalls, append_calls, create_calls, open_calls, replace_calls};
 ghost use Rattle.mcs_journal.specs.Writing.{other_slot};
@@ -62,7 +62,7 @@ impl<D: Disk + Drop> Store<D> {
     /// An error returns the disk. If the error is not `Device`, nothing was written. A power cut
     /// during the call can leave any bytes.
     pub fn create(alloc: Global, disk: D, snap: &[u8]) -> Result<Store<D>, (StoreFault, D)>
-        requires within_limit { length snap.now ≤ MOST_SNAPSHOT }
+        requires within_limit { length snap.now ≤ MAX_SNAPSHOT_SIZE }
 
         // the next clauses hold on any disk
         ensures live { IfOk result (λ store. IsTrue store.live × (store.used ≡ 0)) }
@@ -193,7 +193,7 @@ impl<D: Disk + Drop> Store<D> {
     /// Returns true if the log has room for one more record of `len` bytes. `len` must be at most
     /// 8,192.
     pub fn has_room(&self, len: usize) -> bool
-        requires { len ≤ MOST_RECORD }
+        requires { len ≤ MAX_RECORD_SIZE }
         ensures room { IsTrue result ↔ HasRoom self.now.used len }
         ensures used { IsTrue self.now.live → (D.state self.now.disk).honest
             → (snap : List ℕ) (records : List (List ℕ))
@@ -244,7 +244,7 @@ impl<D: Disk + Drop> Store<D> {
     /// records. The store must be open. A device fault closes the store.
     pub fn replace(&mut self, snap: &[u8]) -> Result<(), DiskFault>
         requires live { IsTrue self.old.live }
-        requires within_limit { length snap.now ≤ MOST_SNAPSHOT }
+        requires within_limit { length snap.now ≤ MAX_SNAPSHOT_SIZE }
         ensures live { self.new.live ≡ is_ok result }
         ensures used { OnOk result (self.new.used ≡ 0) }
         ensures used_unchanged { OnErr result (self.new.used ≡ self.old.used) }

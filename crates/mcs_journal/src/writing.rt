@@ -6,7 +6,7 @@ ghost use Rattle.std.specs.Prelude.{◌≡◌, ◌⊎◌, ◌≤◌, ◌+◌, Li
 ghost use Rattle.mcs_disk.specs.Disk.{CountsFault, bytes_of, size_of, time_of, IsLater};
 ghost use Rattle.mcs_disk.specs.Changes.{Changes, ReadsOnly};
 ghost use Rattle.mcs_disk.specs.PowerCut.{IsDurable};
-ghost use Rattle.mcs_journal.specs.declared.format.TheConstants.{FILE_SIZE, MOST_RECORD, MOST_SNAPSHOT, AREA_WITH_COMMIT_SIZE};
+ghost use Rattle.mcs_journal.specs.declared.format.TheConstants.{FILE_SIZE, MAX_RECORD_SIZE, MAX_SNAPSHOT_SIZE, AREA_WITH_COMMIT_SIZE};
 ghost use Rattle.mcs_journal.specs.File.{Holds, IsBlank, IsRecord, be16, slot_of};
 ghost use Rattle.mcs_disk.specs.CallList.{MakesCalls};
 ghost use Rattle.mcs_disk.specs.Calls.{WasRead};
@@ -39,7 +39,7 @@ pub fn commit<D: Disk>(disk: &mut D, at: usize, from: &[u8]) -> Result<(), DiskF
 /// record, and a commit byte of 0.
 pub fn encode_record(buffer: &mut [u8], payload: &[u8])
     requires room { length payload.now + 3 ≤ length buffer.old }
-    requires within_limit { length payload.now ≤ MOST_RECORD }
+    requires within_limit { length payload.now ≤ MAX_RECORD_SIZE }
     ensures { take (length payload.now + 3) buffer.new ≡ be16
         (length payload.now) ++ payload.now ++ 0 ∷ [] }
 {
@@ -86,7 +86,7 @@ pub fn add_record<D: Disk>(
 /// Writes the snapshot area of `snap` and, after it, a commit byte of 0 into `buffer`.
 pub fn encode_snapshot(buffer: &mut [u8], snap: &[u8])
     requires room { length buffer.old ≡ AREA_WITH_COMMIT_SIZE }
-    requires within_limit { length snap.now ≤ MOST_SNAPSHOT }
+    requires within_limit { length snap.now ≤ MAX_SNAPSHOT_SIZE }
     ensures { IsArea snap.now buffer.new }
 {
     let n = snap.len();
@@ -109,7 +109,7 @@ pub fn replace_contents<D: Disk>(
 ) -> Result<(), DiskFault>
     requires size { size_of (D.state disk.old) ≡ FILE_SIZE }
     requires room { length buffer.old ≡ AREA_WITH_COMMIT_SIZE }
-    requires within_limit { length snap.now ≤ MOST_SNAPSHOT }
+    requires within_limit { length snap.now ≤ MAX_SNAPSHOT_SIZE }
     ensures call { CountsFault (D.state disk.old) (D.state disk.new) (IsErr result) }
     ensures calls { MakesWithArea snap.now (replace_calls other) (D.state disk.old).calls
         (D.state disk.new).calls result }
@@ -158,7 +158,7 @@ pub fn check_blank<D: Disk>(disk: &mut D) -> Result<(), StoreFault>
 pub fn write_first<D: Disk>(disk: &mut D, buffer: &mut [u8], snap: &[u8]) -> Result<(), DiskFault>
     requires size { size_of (D.state disk.old) ≡ FILE_SIZE }
     requires room { length buffer.old ≡ AREA_WITH_COMMIT_SIZE }
-    requires within_limit { length snap.now ≤ MOST_SNAPSHOT }
+    requires within_limit { length snap.now ≤ MAX_SNAPSHOT_SIZE }
     ensures call { CountsFault (D.state disk.old) (D.state disk.new) (IsErr result) }
     ensures calls { MakesWithArea snap.now create_calls (D.state disk.old).calls
         (D.state disk.new).calls result }

@@ -9,7 +9,7 @@ use Rattle.std.proofs.Math.Bool.{or-false}
 use Rattle.mcs_nibble.specs.Bits.{bit_of}
 use Rattle.mcs_model.specs.declared.board.KeyMatrix.{KeyMatrix}
 use Rattle.mcs_model.specs.Levels.{row_drives_column}
-use Rattle.mcs_keypad.specs.Keys.{IsColumnMask, is_down, column_pulls_line}
+use Rattle.mcs_keypad.specs.Keys.{IsColumnMask, is_down, column_is_connected_to}
 use Rattle.mcs_keypad.proofs.ColumnMasks.{mask-of_bit_or, mask-of_equal_test, any-below_next_number}
 
 -- true if at least one of the first `r` rows drives column `j`
@@ -29,11 +29,11 @@ driven_mask-after_idle_row bits down m driven_columns new r x low e =
     x)
 
 -- The mask at index `4 * chip + k` is the mask of line `k` of ROM `chip`.
-pub mask-of_rom_line : (m : KeyMatrix) (line chip k i : ℕ) → i ≡ 4 * chip + k → k < 4 → IsColumnMask line (length m.columns.items) (column_pulls_line m (i / 4) (i % 4)) → IsColumnMask line (length m.columns.items) (column_pulls_line m chip k)
+pub mask-of_rom_line : (m : KeyMatrix) (line chip k i : ℕ) → i ≡ 4 * chip + k → k < 4 → IsColumnMask line (length m.columns.items) (column_is_connected_to m (i / 4) (i % 4)) → IsColumnMask line (length m.columns.items) (column_is_connected_to m chip k)
 mask-of_rom_line m line chip k i at small x =
     let a : i / 4 ≡ chip = omega arith in
     let b : i % 4 ≡ k = omega arith in
-    mask-of_equal_test line (length m.columns.items) (column_pulls_line m (i / 4) (i % 4)) (column_pulls_line m chip k) (λ j. ap (λ c. column_pulls_line m c (i % 4) j) a ∙ ap (λ c. column_pulls_line m chip c j) b) x
+    mask-of_equal_test line (length m.columns.items) (column_is_connected_to m (i / 4) (i % 4)) (column_is_connected_to m chip k) (λ j. ap (λ c. column_is_connected_to m c (i % 4) j) a ∙ ap (λ c. column_is_connected_to m chip c j) b) x
 
 pub nibble-equal : (a b c d a' b' c' d' : ℕ) → a ≡ a' → b ≡ b' → c ≡ c' → d ≡ d' → a + 2 * b + 4 * c + 8 * d ≡ a' + 2 * b' + 4 * c' + 8 * d'
 nibble-equal a b c d a' b' c' d' ea eb ec ed = rw (ea, eb, ec, ed) refl

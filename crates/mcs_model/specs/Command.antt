@@ -11,7 +11,7 @@ use Rattle.mcs_model.specs.declared.command.Reply.{Reply}
 use Rattle.mcs_model.specs.declared.command.Reply.TheVariants.{Done, Loaded, Ran}
 use Rattle.mcs_model.specs.declared.limits.TheConstants.{ACCEPTED_COMMANDS, BREAKPOINTS, RUN_CYCLES, WATCHES}
 use Rattle.mcs_model.specs.declared.refusals.BenchFault.{BenchFault}
-use Rattle.mcs_model.specs.declared.refusals.BenchFault.TheVariants.{NoKey, NoRom, NoSuchPlace, BadCount, BreaksFull, Worn, WatchesFull}
+use Rattle.mcs_model.specs.declared.refusals.BenchFault.TheVariants.{NoKey, NoRom, NoSuchPlace, BadCount, BreaksFull, CommandsExhausted, WatchesFull}
 use Rattle.mcs_model.specs.declared.regs.Regs.{Regs}
 use Rattle.mcs_model.specs.Boards.{has_key, rom_masks}
 use Rattle.mcs_model.specs.Listed.{is_listed, with_listed, without_listed}
@@ -60,7 +60,7 @@ refusal_of_command s _ = None
 -- The reason why a state rejects a command, or none. A session that has accepted the maximum number
 -- of commands rejects every command.
 abbrev pub refusal : BenchState → Command → Option BenchFault
-refusal s c = if s.seq == ACCEPTED_COMMANDS then Some Worn else refusal_of_command s c
+refusal s c = if s.seq == ACCEPTED_COMMANDS then Some CommandsExhausted else refusal_of_command s c
 
 -- ---- the effects
 

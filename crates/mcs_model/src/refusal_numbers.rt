@@ -85,7 +85,7 @@ pub const BAD_COUNT: u8 = 44;
 pub const BREAKS_FULL: u8 = 45;
 
 /// The refusal number for a command after the session has accepted the maximum number of commands.
-pub const WORN: u8 = 46;
+pub const COMMANDS_EXHAUSTED: u8 = 46;
 
 /// The refusal number for a new watch if the maximum number is already set.
 pub const WATCHES_FULL: u8 = 47;

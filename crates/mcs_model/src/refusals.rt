@@ -25,7 +25,7 @@ pub enum BenchFault {
     BreaksFull,
     /// The session has already accepted the maximum number of commands.
     #[error("the session has accepted its last command")]
-    Worn,
+    CommandsExhausted,
     /// The maximum number of watches is already set.
     #[error("all watches are set")]
     WatchesFull,
@@ -42,7 +42,7 @@ impl BenchFault {
             BenchFault::NoSuchPlace => refusal_numbers::NO_SUCH_PLACE,
             BenchFault::BadCount => refusal_numbers::BAD_COUNT,
             BenchFault::BreaksFull => refusal_numbers::BREAKS_FULL,
-            BenchFault::Worn => refusal_numbers::WORN,
+            BenchFault::CommandsExhausted => refusal_numbers::COMMANDS_EXHAUSTED,
             BenchFault::WatchesFull => refusal_numbers::WATCHES_FULL,
         }
     }

@@ -9,7 +9,7 @@ use Rattle.mcs_search.specs.declared.searching.TheConstants.{MAX_STATES}
 use Rattle.mcs_drive.specs.declared.marks.Mark.{Mark}
 use Rattle.mcs_check.specs.declared.cells.Cell.{Cell}
 use Rattle.mcs_check.specs.declared.cells.CellList.{CellList}
-use Rattle.mcs_check.specs.declared.cells.CellList.TheVariants.{RamCharacters, StatusCharacters, RamPorts, RomPorts, BankSrcBytes, Registers, Counters, Chain}
+use Rattle.mcs_check.specs.declared.cells.CellList.TheVariants.{RamNibbles, StatusCharacters, RamPorts, RomPorts, BankSrcBytes, Registers, Counters, Chain}
 use Rattle.mcs_check.specs.declared.common_mistakes.Mistakes.{Mistakes}
 use Rattle.mcs_check.specs.declared.conditions.Comparison.{Comparison}
 use Rattle.mcs_check.specs.declared.conditions.Condition.TheVariants as condition
@@ -28,7 +28,7 @@ comparison_kinds = (codes "in", true) ∷ (codes "out", false) ∷ []
 
 abbrev pub cell_lists : List (List ℕ × CellList)
 cell_lists =
-    (codes "character", RamCharacters)
+    (codes "character", RamNibbles)
     ∷ (codes "status", StatusCharacters)
     ∷ (codes "ramport", RamPorts)
     ∷ (codes "romport", RomPorts)

@@ -103,7 +103,7 @@ fn list_named(word: &[u8]) -> Option<CellList>
     ensures { result ≡ lookup_entry (bytes_eq word.now) cell_lists }
 {
     let list = if equals(word, b"character") {
-        CellList::RamCharacters
+        CellList::RamNibbles
     } else if equals(word, b"status") {
         CellList::StatusCharacters
     } else if equals(word, b"ramport") {

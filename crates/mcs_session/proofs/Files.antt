@@ -25,7 +25,7 @@ use Rattle.mcs_version1.specs.Lift.{lift}
 use Rattle.mcs_version1.proofs.Lifting.{command-lifts}
 use Rattle.mcs_session.specs.Version1.{ReplaysCommands1, RecordsRepresent1, RepresentsConverted}
 use Rattle.mcs_session.specs.Represents.{ReplaysCommands, RecordsRepresent, Represents, RepresentsInEitherVersion, DiskRepresentsSince, HoldsState, DiskRepresents, DiskRepresentsConverted}
-use Rattle.mcs_session.specs.SessionCalls.{CreatesSession, FailsMigrating, LeavesOldImageOrState, MigratesSession, FailedOpenLeaves}
+use Rattle.mcs_session.specs.SessionCalls.{CreatesSession, FailsDuringMigration, LeavesOldImageOrState, MigratesSession, FailedOpenEffect}
 use Rattle.mcs_session.specs.Opening.{OpensSession, SessionErrorImplies}
 use Rattle.mcs_session.specs.Log.{LogHolds}
 use Rattle.mcs_session.specs.Invariant.{IsRecorded, IsReplayed, MayReplaceContents, ReplacedContents}
@@ -179,7 +179,7 @@ migrates_session_of_version_1 old mid new snap records cycles s opened replayed 
     of_last last = snapshot_has_only_one_version last.snap last.records_represent.start replayed.records_represent.snapshot.version_1 last.records_represent.snapshot (subst (λ (x : List ℕ). EncodesState1 x replayed.records_represent.snapshot.version_1) (sym (snapshot_is_unique _ _ _ _ _ last.holds opened.holds)) replayed.records_represent.snapshot.spells)
 
 pub fails_migrating : (old mid new : DiskState) (snap : List ℕ) (records : List (List ℕ)) (cycles : ℕ) (s : BenchState) → OpensStore old mid snap records → IsReplayed One snap records cycles s
-    → LeavesOnly mid new (SatisfiesEither (λ c. Holds c snap records) (λ c. HoldsState c s)) → FailsMigrating old new
+    → LeavesOnly mid new (SatisfiesEither (λ c. Holds c snap records) (λ c. HoldsState c s)) → FailsDuringMigration old new
 fails_migrating old mid new snap records cycles s opened replayed moments = record {
   state = s;
   represents = converted_from_records (bytes_of old) snap records s opened.holds replayed.records_represent;
@@ -230,7 +230,7 @@ session_error_from_store_error Device disk h = tt
 session_error_from_store_error NoMemory disk h = tt
 session_error_from_store_error NotBlank disk h = h
 
-pub failed_open_leaves_if_no_image_added : (fault : StoreFault) (old new : DiskState) → AddsNoImage old new → FailedOpenLeaves fault old new
+pub failed_open_leaves_if_no_image_added : (fault : StoreFault) (old new : DiskState) → AddsNoImage old new → FailedOpenEffect fault old new
 failed_open_leaves_if_no_image_added NotASession old new h = h
 failed_open_leaves_if_no_image_added Damaged old new h = h
 failed_open_leaves_if_no_image_added Device old new h = inl h
@@ -251,11 +251,11 @@ migrates_session_of_either_version One old mid new snap records cycles s opened 
     let now = replaced refl in migrates_session_of_version_1 old mid new snap records cycles s opened replayed now.leaves now.held
 
 pub fails_migrating_if_version_1 : (v : Version) (old mid new : DiskState) (snap : List ℕ) (records : List (List ℕ)) (cycles : ℕ) (s : BenchState) → v ≡ One → OpensStore old mid snap records → IsReplayed v snap records cycles s
-    → MayReplaceContents mid new snap records s → FailsMigrating old new
+    → MayReplaceContents mid new snap records s → FailsDuringMigration old new
 fails_migrating_if_version_1 Two old mid new snap records cycles s e opened replayed moments = absurd (cc)
 fails_migrating_if_version_1 One old mid new snap records cycles s e opened replayed moments = fails_migrating old mid new snap records cycles s opened replayed moments
 
-pub device_error_if_migration_fails : (fault : StoreFault) (old new : DiskState) → fault ≡ Device → FailsMigrating old new → SessionErrorImplies fault old × FailedOpenLeaves fault old new
+pub device_error_if_migration_fails : (fault : StoreFault) (old new : DiskState) → fault ≡ Device → FailsDuringMigration old new → SessionErrorImplies fault old × FailedOpenEffect fault old new
 device_error_if_migration_fails fault old new e fails = rw e (tt, inr fails)
 
 pub recorded_after_open_if_version_2 : (v : Version) (old new : DiskState) (snap : List ℕ) (records : List (List ℕ)) (cycles : ℕ) (s : BenchState) → v ≡ Two → OpensStore old new snap records → IsReplayed v snap records cycles s → IsRecorded new cycles s
@@ -284,7 +284,7 @@ opening_version_1_keeps_state old new s u each opens does =
     let same : u ≡ s = represented_state_is_unique (bytes_of old) u s opens.represented_before (inr here) in
     (same, (subst (HoldsState (bytes_of new)) same (does.migrated (subst (RepresentsConverted (bytes_of old)) (sym same) here)), version_1_state_is_kept old new s u does.leaves same each))
 
-failed_migration_keeps_state : (old new : DiskState) (s : BenchState) → DiskRepresentsConverted old s → FailsMigrating old new → DiskRepresentsSince (time_of old) new s
+failed_migration_keeps_state : (old new : DiskState) (s : BenchState) → DiskRepresentsConverted old s → FailsDuringMigration old new → DiskRepresentsSince (time_of old) new s
 failed_migration_keeps_state old new s each fails =
     let here : RepresentsConverted (bytes_of old) s = each (bytes_of old) (disk_is_lawful old).current in
     version_1_state_is_kept old new s fails.state fails.leaves (version_1_state_is_unique (bytes_of old) fails.state s fails.represents here) each
@@ -293,7 +293,7 @@ failed_migration_keeps_state old new s each fails =
 version_1_state_kept_if_no_image_added : (old new : DiskState) (s : BenchState) → DiskRepresentsConverted old s → AddsNoImage old new → DiskRepresentsSince (time_of old) new s
 version_1_state_kept_if_no_image_added old new s each adds_no_image image left = inr (each image ((disk_is_lawful old).only_now image (image_since_is_old_without_new_image old new adds_no_image (time_of old) image left)))
 
-pub failed_open_keeps_version_1_state : (fault : StoreFault) (old new : DiskState) (s : BenchState) → DiskRepresentsConverted old s → FailedOpenLeaves fault old new → DiskRepresentsSince (time_of old) new s
+pub failed_open_keeps_version_1_state : (fault : StoreFault) (old new : DiskState) (s : BenchState) → DiskRepresentsConverted old s → FailedOpenEffect fault old new → DiskRepresentsSince (time_of old) new s
 failed_open_keeps_version_1_state NotASession old new s each adds_no_image = version_1_state_kept_if_no_image_added old new s each adds_no_image
 failed_open_keeps_version_1_state Damaged old new s each adds_no_image = version_1_state_kept_if_no_image_added old new s each adds_no_image
 failed_open_keeps_version_1_state Device old new s each (inl adds_no_image) = version_1_state_kept_if_no_image_added old new s each adds_no_image

@@ -5,7 +5,7 @@ use Rattle.mcs_disk.specs.Changes.{Changes}
 use Rattle.mcs_disk.specs.Stretches.{SatisfiesEither, LeavesOnly}
 use Rattle.mcs_disk.specs.PowerCut.{IsDurable}
 use Rattle.mcs_journal.specs.File.{Holds}
-use Rattle.mcs_journal.specs.declared.format.TheConstants.{MOST_RECORD, MOST_SNAPSHOT}
+use Rattle.mcs_journal.specs.declared.format.TheConstants.{MAX_RECORD_SIZE, MAX_SNAPSHOT_SIZE}
 use Rattle.mcs_model.specs.declared.limits.TheConstants.{REPLAY_CYCLES}
 use Rattle.mcs_model.specs.BenchState.{BenchState}
 use Rattle.mcs_model.specs.declared.command.Command.{Command}
@@ -24,8 +24,8 @@ pub record IsRecorded (disk : DiskState) (cycles : ℕ) (s : BenchState) : Type 
 -- Holds if the buffers have the sizes of the longest record and of the longest snapshot. The cycle
 -- count must be within the limit of a log.
 pub record IsReady (cycles : ℕ) (payload snapshot : List ℕ) : Type 0 where
-  pub payload_size : length payload ≡ MOST_RECORD
-  pub snapshot_size : length snapshot ≡ MOST_SNAPSHOT
+  pub payload_size : length payload ≡ MAX_RECORD_SIZE
+  pub snapshot_size : length snapshot ≡ MAX_SNAPSHOT_SIZE
   pub within : cycles ≤ REPLAY_CYCLES
 
 -- The invariant of a session. Its buffers are ready (`IsReady`). If the session is open and its

@@ -32,14 +32,14 @@ pub record MigratesSession (old new : DiskState) (s : BenchState) : Type 0 where
 
 -- Holds if the file on `old` represents a state in version 1. A power cut between `old` and `new`
 -- leaves an image of `old`, or a file that represents the same state in either version.
--- (`FailedOpenLeaves` uses this record if the device failed while the contents were replaced.)
-pub record FailsMigrating (old new : DiskState) : Type 0 where
+-- (`FailedOpenEffect` uses this record if the device failed while the contents were replaced.)
+pub record FailsDuringMigration (old new : DiskState) : Type 0 where
   pub state : BenchState
   pub represents : RepresentsConverted (bytes_of old) state
   pub leaves : LeavesOldImageOrState old new state
 
 -- The effect of a failed `open` on the disk. Only reads and syncs were made, unless the device
 -- failed while the contents of a file of version 1 were replaced.
-abbrev pub FailedOpenLeaves : StoreFault → DiskState → DiskState → Type 0
-FailedOpenLeaves store_fault.Device old new = AddsNoImage old new ⊎ FailsMigrating old new
-FailedOpenLeaves fault old new = AddsNoImage old new
+abbrev pub FailedOpenEffect : StoreFault → DiskState → DiskState → Type 0
+FailedOpenEffect store_fault.Device old new = AddsNoImage old new ⊎ FailsDuringMigration old new
+FailedOpenEffect fault old new = AddsNoImage old new

@@ -5,7 +5,7 @@ use Rattle.mcs_journal.specs.File.{Holds}
 use Rattle.mcs_model.specs.declared.command.Command.{Command}
 use Rattle.mcs_model.specs.declared.limits.TheConstants.{REPLAY_CYCLES}
 use Rattle.mcs_model.specs.BenchState.{BenchState}
-use Rattle.mcs_version1.specs.Command.{in_version_1, refusal_1, after_1}
+use Rattle.mcs_version1.specs.Command.{is_command_of_version_1, refusal_1, after_1}
 use Rattle.mcs_version1.specs.BenchState.{BenchState1}
 use Rattle.mcs_version1.specs.Fold.{fold_1}
 use Rattle.mcs_version1.specs.Lift.{lift}
@@ -18,7 +18,7 @@ ReplaysCommands1 s [] [] = Unit {0}
 ReplaysCommands1 s [] (c ∷ cs) = ⊥
 ReplaysCommands1 s (r ∷ rs) [] = ⊥
 ReplaysCommands1 s (r ∷ rs) (c ∷ cs) =
-    (Encodes r c × (in_version_1 c ≡ true)) × (refusal_1 s c ≡ None)
+    (Encodes r c × (is_command_of_version_1 c ≡ true)) × (refusal_1 s c ≡ None)
     × ReplaysCommands1 (after_1 s c) rs cs
 
 -- holds if a snapshot and the records after it represent the version 1 state `s`

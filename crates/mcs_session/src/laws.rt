@@ -8,7 +8,7 @@ ghost use Rattle.mcs_model.specs.declared.command.Command.{Command};
 ghost use Rattle.mcs_model.specs.BenchState.{BenchState};
 ghost use Rattle.mcs_model.specs.Fold.{fold};
 ghost use Rattle.mcs_session.specs.Acknowledgements.{acknowledged_by};
-ghost use Rattle.mcs_session.specs.SessionCalls.{MigratesSession, FailedOpenLeaves};
+ghost use Rattle.mcs_session.specs.SessionCalls.{MigratesSession, FailedOpenEffect};
 ghost use Rattle.mcs_session.specs.Opening.{OpensSession, SessionErrorImplies};
 ghost use Rattle.mcs_session.specs.KeptCommands.{IsAfterPrefix, KeepsCommands, RepresentsPrefix};
 ghost use Rattle.mcs_session.specs.Represents.{HoldsState, DiskRepresentsConverted, RepresentsInEitherVersion, Represents, DiskRepresentsSince};
@@ -79,6 +79,6 @@ pub fn version_1_file_keeps_its_state<D: Disk>()
         → (state ≡ s) × (HoldsState (bytes_of (D.state new)) s
         × DiskRepresentsSince (time_of (D.state old)) (D.state new) s) }
     ensures refused { (old new : D) (s : BenchState) (fault : StoreFault) → (D.state old).honest
-        → DiskRepresentsConverted (D.state old) s → FailedOpenLeaves fault (D.state old) (D.state new)
+        → DiskRepresentsConverted (D.state old) s → FailedOpenEffect fault (D.state old) (D.state new)
         → DiskRepresentsSince (time_of (D.state old)) (D.state new) s }
 {}

@@ -18,7 +18,7 @@ use crate::replaying::replay_cycles;
 use mcs_bench::Bench;
 use mcs_codec::{COMMAND_BYTES, STATE_BYTES, command_bytes, state_bytes};
 use mcs_disk::{Disk, DiskFault};
-use mcs_journal::{MOST_RECORD, MOST_SNAPSHOT, Store};
+use mcs_journal::{MAX_RECORD_SIZE, MAX_SNAPSHOT_SIZE, Store};
 use mcs_model::command::Command;
 use mcs_model::limits::REPLAY_CYCLES;
 use std::alloc::{AllocError, Global};
@@ -37,8 +37,8 @@ pub struct CommandLog<D: Disk + Drop> {
 
 /// Returns a buffer for an encoded command and a buffer for a snapshot. Fails if memory runs out.
 pub(crate) fn log_buffers(alloc: Global) -> Result<(Vec<u8>, Vec<u8>), AllocError>
-    ensures { IfOk result (λ buffers. (length buffers.0.items ≡ MOST_RECORD)
-        × (length buffers.1.items ≡ MOST_SNAPSHOT)) }
+    ensures { IfOk result (λ buffers. (length buffers.0.items ≡ MAX_RECORD_SIZE)
+        × (length buffers.1.items ≡ MAX_SNAPSHOT_SIZE)) }
 {
     let payload = vec![in alloc; 0u8; COMMAND_BYTES]?;
     let snapshot = vec![in alloc; 0u8; STATE_BYTES]?;
@@ -47,11 +47,11 @@ pub(crate) fn log_buffers(alloc: Global) -> Result<(Vec<u8>, Vec<u8>), AllocErro
 
 /// Encodes a command at the start of a buffer, and returns the length of the encoding in bytes.
 fn encode_command(payload: &mut Vec<u8>, command: &Command) -> usize
-    requires { length payload.old.items ≡ MOST_RECORD }
-    ensures buffer_size { length payload.new.items ≡ MOST_RECORD }
+    requires { length payload.old.items ≡ MAX_RECORD_SIZE }
+    ensures buffer_size { length payload.new.items ≡ MAX_RECORD_SIZE }
     ensures spells { Encodes (take result payload.new.items) command.now }
     ensures count { result ≡ length (command_bytes command.now) }
-    ensures record { (1 ≤ result) × (result ≤ MOST_RECORD) }
+    ensures record { (1 ≤ result) × (result ≤ MAX_RECORD_SIZE) }
 {
     command_bytes(command, payload.as_mut_slice())
 }
@@ -59,10 +59,10 @@ fn encode_command(payload: &mut Vec<u8>, command: &Command) -> usize
 /// Encodes the state of a bench at the start of a buffer, and returns the length of the encoding in
 /// bytes.
 pub(crate) fn encode_state(snapshot: &mut Vec<u8>, bench: &Bench) -> usize
-    requires { length snapshot.old.items ≡ MOST_SNAPSHOT }
-    ensures buffer_size { length snapshot.new.items ≡ MOST_SNAPSHOT }
+    requires { length snapshot.old.items ≡ MAX_SNAPSHOT_SIZE }
+    ensures buffer_size { length snapshot.new.items ≡ MAX_SNAPSHOT_SIZE }
     ensures spells { EncodesState (take result snapshot.new.items) bench.now }
-    ensures within_limit { result ≤ MOST_SNAPSHOT }
+    ensures within_limit { result ≤ MAX_SNAPSHOT_SIZE }
 {
     state_bytes(bench, snapshot.as_mut_slice())
 }
@@ -100,7 +100,7 @@ impl<D: Disk + Drop> CommandLog<D> {
     /// records. Fails if the device fails.
     fn make_room(&mut self, bench: &Bench, count: usize, more: u32) -> Result<(), DiskFault>
         requires live { IsTrue self.old.store.live }
-        requires count { count ≤ MOST_RECORD }
+        requires count { count ≤ MAX_RECORD_SIZE }
         requires more { more ≤ REPLAY_CYCLES }
         requires ready { IsReady self.old.cycles self.old.payload.items self.old.snapshot.items }
         ensures live { self.new.store.live ≡ is_ok result }

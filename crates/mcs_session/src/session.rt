@@ -7,7 +7,7 @@ ghost use Rattle.mcs_journal.specs.StoreCalls.{IsCreateFault, IsOpenFault, Creat
 ghost use Rattle.mcs_model.specs.BenchState.{new_bench_state};
 ghost use Rattle.mcs_session.specs.Represents.{Represents, DiskRepresents};
 ghost use Rattle.mcs_session.specs.CommandCalls.{AppliesCommand, ClosesAtDeviceFault, IsSettleResult, RecordsOrFails, SettlesOrFails};
-ghost use Rattle.mcs_session.specs.SessionCalls.{CreatesSession, MigratesSession, FailedOpenLeaves};
+ghost use Rattle.mcs_session.specs.SessionCalls.{CreatesSession, MigratesSession, FailedOpenEffect};
 ghost use Rattle.mcs_session.specs.Opening.{OpensSession, SessionErrorImplies};
 ghost use Rattle.mcs_session.specs.Invariant.{HasContents, IsReady, IsRecorded, MayReplaceAnyContents, ReplacedAnyContents};
 
@@ -132,7 +132,7 @@ impl<D: Disk + Drop> Session<D> {
             MigratesSession (D.state disk) (D.state s.disk) s.state) }
         ensures refused { (D.state disk).honest → IfErr result (λ refused.
             SessionErrorImplies refused.0 (D.state disk)
-            × FailedOpenLeaves refused.0 (D.state disk) (D.state refused.1)) }
+            × FailedOpenEffect refused.0 (D.state disk) (D.state refused.1)) }
     {
         let Ok(buffers) = log_buffers(alloc) else {
             return Err((StoreFault::NoMemory, disk));

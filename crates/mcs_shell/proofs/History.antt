@@ -14,7 +14,7 @@ use Rattle.mcs_model.specs.BenchState.{BenchState}
 use Rattle.mcs_model.specs.Fold.{fold}
 use Rattle.mcs_session.specs.Acknowledgements.{acknowledged_by}
 use Rattle.mcs_session.specs.KeptCommands.{IsOpenOnHonestDisk, RepresentsPrefix}
-use Rattle.mcs_session.specs.SessionCalls.{FailsMigrating, MigratesSession, FailedOpenLeaves}
+use Rattle.mcs_session.specs.SessionCalls.{FailsDuringMigration, MigratesSession, FailedOpenEffect}
 use Rattle.mcs_session.specs.Opening.{SessionErrorImplies}
 use Rattle.mcs_session.specs.SessionState.{session_state}
 use Rattle.mcs_session.specs.Represents.{RepresentsInEitherVersion, Represents}
@@ -131,7 +131,7 @@ fault_number_is_53_or_90 NotBlank disk s here h = absurd h
 represented_without_new_image : (disk left : DiskState) (image : List ℕ) (s : BenchState) → DurablyRepresents disk s → AddsNoImage disk left → images_since (time_of disk) left image → RepresentsInEitherVersion image s
 represented_without_new_image disk left image s here rests now = subst (λ (file : List ℕ). RepresentsInEitherVersion file s) (sym (only_image_since_now_if_durable disk here.durable image (image_since_is_old_without_new_image disk left rests (time_of disk) image now))) here.represents
 
-represented_after_failed_migration : (disk left : DiskState) (image : List ℕ) (s : BenchState) → DurablyRepresents disk s → FailsMigrating disk left → images_since (time_of disk) left image → RepresentsInEitherVersion image s
+represented_after_failed_migration : (disk left : DiskState) (image : List ℕ) (s : BenchState) → DurablyRepresents disk s → FailsDuringMigration disk left → images_since (time_of disk) left image → RepresentsInEitherVersion image s
 represented_after_failed_migration disk left image s here fails now =
     let same : fails.state ≡ s = represented_state_is_unique (bytes_of disk) fails.state s (inr fails.represents) here.represents in
     ⊎_elim
@@ -139,7 +139,7 @@ represented_after_failed_migration disk left image s here fails now =
     (λ (new : RepresentsInEitherVersion image fails.state). subst (RepresentsInEitherVersion image) same new)
     (fails.leaves.each image now)
 
-represented_after_failed_open : (fault : StoreFault) (disk left : DiskState) (image : List ℕ) (s : BenchState) → DurablyRepresents disk s → FailedOpenLeaves fault disk left → images_since (time_of disk) left image → RepresentsInEitherVersion image s
+represented_after_failed_open : (fault : StoreFault) (disk left : DiskState) (image : List ℕ) (s : BenchState) → DurablyRepresents disk s → FailedOpenEffect fault disk left → images_since (time_of disk) left image → RepresentsInEitherVersion image s
 represented_after_failed_open NotASession disk left image s here rests now = represented_without_new_image disk left image s here rests now
 represented_after_failed_open Damaged disk left image s here rests now = represented_without_new_image disk left image s here rests now
 represented_after_failed_open NotBlank disk left image s here rests now = represented_without_new_image disk left image s here rests now

@@ -49,8 +49,8 @@ pub record RunStart (first_line : List ℕ) (out : KnownBytes) : Type 0 where
 
 -- Holds if the first line was not written completely, no bytes were read, and no inputs were
 -- served.
-abbrev pub IsNotBegun : Bool → List ℕ → List Exchange → Type 0
-IsNotBegun begun bytes exchanges = (begun ≡ false) × (bytes ≡ []) × (exchanges ≡ [])
+abbrev pub HasNotBegun : Bool → List ℕ → List Exchange → Type 0
+HasNotBegun begun bytes exchanges = (begun ≡ false) × (bytes ≡ []) × (exchanges ≡ [])
 
 -- Holds if a run ended for the given reason. `begun` is true if the first line was written
 -- completely. `bytes` are the bytes that were read, and `ended` is true if input ended after them.
@@ -63,10 +63,10 @@ EndsBy ReadFault begun bytes ended exchanges halted =
 EndsBy InputLimit begun bytes ended exchanges halted =
     (begun ≡ true) × (ended ≡ false) × (halted ≡ None) × (length bytes ≡ INPUT_BYTES)
 EndsBy WriteFault begun bytes ended exchanges halted =
-    ((begun ≡ true) × (halted ≡ Some WriteFault)) ⊎ IsNotBegun begun bytes exchanges
+    ((begun ≡ true) × (halted ≡ Some WriteFault)) ⊎ HasNotBegun begun bytes exchanges
 EndsBy DeviceFault begun bytes ended exchanges halted =
     (begun ≡ true) × (halted ≡ Some DeviceFault)
-EndsBy NoMemory begun bytes ended exchanges halted = IsNotBegun begun bytes exchanges
+EndsBy NoMemory begun bytes ended exchanges halted = HasNotBegun begun bytes exchanges
 
 -- Holds if the shell ran from the shell state `a` to `b` and ended for the reason `end`. It wrote
 -- the first line, or only a proper prefix of the line. It read bytes, and served a prefix of the

@@ -17,4 +17,4 @@ pub mod streams;
 pub mod texts;
 mod unfinished;
 
-pub use mcs_host::{Choice, FileDisk, FileFault, FileName, WordsFault, choice};
+pub use mcs_host::{ArgumentsFault, Choice, FileDisk, FileFault, FileName, choice};

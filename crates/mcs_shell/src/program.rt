@@ -21,7 +21,9 @@ use crate::messages::{
 use crate::shell::run_shell;
 use crate::streams::{AnswerSink, InputSource};
 use mcs_disk::Disk;
-use mcs_host::{Choice, FileDisk, FileFault, StandIns, Streams, StreamsError, WordsFault, choice};
+use mcs_host::{
+    ArgumentsFault, Choice, FileDisk, FileFault, StandIns, Streams, StreamsError, choice,
+};
 use mcs_model::refusal_numbers;
 use mcs_session::session::Session;
 use std::alloc::Global;
@@ -38,11 +40,11 @@ const REFUSED_STATUS: u8 = 3;
 
 /// Returns the command-line arguments, with the program's name first. An argument that is not valid UTF-8 is a usage
 /// error.
-fn given_arguments(rt: &HostRuntime) -> Result<Vec<String>, WordsFault> {
+fn given_arguments(rt: &HostRuntime) -> Result<Vec<String>, ArgumentsFault> {
     match env::args(rt) {
         Ok(arguments) => Ok(arguments.collect(rt.alloc())?),
-        Err(error) if error.kind() == ErrorKind::InvalidData => Err(WordsFault::Usage),
-        Err(_) => Err(WordsFault::NoMemory),
+        Err(error) if error.kind() == ErrorKind::InvalidData => Err(ArgumentsFault::Usage),
+        Err(_) => Err(ArgumentsFault::NoMemory),
     }
 }
 
@@ -80,16 +82,16 @@ pub fn refuse_streams(rt: &HostRuntime, refused: StreamsError) -> ExitCode
 /// Reports an error in the arguments. If the arguments are invalid, prints the usage and returns exit status 2. If
 /// there was no memory to read them, prints `no 90` and a message, and returns exit status 3. The exit status is the
 /// same if the report cannot be written.
-pub fn refuse_arguments(rt: &HostRuntime, fault: WordsFault) -> ExitCode
-    ensures usage { fault ≡ WordsFault.Usage → exit_status result ≡ 2 }
-    ensures no_memory { fault ≡ WordsFault.NoMemory → exit_status result ≡ 3 }
+pub fn refuse_arguments(rt: &HostRuntime, fault: ArgumentsFault) -> ExitCode
+    ensures usage { fault ≡ ArgumentsFault.Usage → exit_status result ≡ 2 }
+    ensures no_memory { fault ≡ ArgumentsFault.NoMemory → exit_status result ≡ 3 }
 {
     match fault {
-        WordsFault::Usage => {
+        ArgumentsFault::Usage => {
             print_usage(rt);
             ExitCode::from(WRONG_ARGUMENTS_STATUS)
         }
-        WordsFault::NoMemory => {
+        ArgumentsFault::NoMemory => {
             let refused = refuse(rt, refusal_numbers::NO_MEMORY);
             print_no_memory(rt);
             refused

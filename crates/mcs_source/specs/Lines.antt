@@ -32,9 +32,9 @@ pub data Statement : Type 0 where
   Isz : ℕ → Operand → Statement
 
 -- true if a word begins with a letter or `_`
-abbrev pub begins_name : List ℕ → Bool
-begins_name [] = false
-begins_name (b ∷ word) = (is_ascii_uppercase b || is_ascii_lowercase b) || b == 95
+abbrev pub starts_like_name : List ℕ → Bool
+starts_like_name [] = false
+starts_like_name (b ∷ word) = (is_ascii_uppercase b || is_ascii_lowercase b) || b == 95
 
 -- the number from 0 to 15 that decimal digits spell, or `None`; a leading zero is not allowed
 abbrev pub number_up_to_15 : List ℕ → Option ℕ
@@ -62,7 +62,7 @@ is_reserved w =
 -- true if a word can be a name: it begins with a letter or `_`, has at most `NAME_BYTES` bytes, and
 -- is not reserved
 abbrev pub is_name : List ℕ → Bool
-is_name w = (begins_name w && nat_le (length w) NAME_BYTES) && not (is_reserved w)
+is_name w = (starts_like_name w && nat_le (length w) NAME_BYTES) && not (is_reserved w)
 
 abbrev pub name_of : List ℕ → Option Operand
 name_of w = if is_name w then Some (Name w) else None
@@ -77,39 +77,39 @@ abbrev pub operand_of : List ℕ → Option Operand
 operand_of w = number_or_name (number_in_word w) (name_of w)
 
 -- the word, if there is only one token and it is a word
-abbrev pub word_only : List Token → Option (List ℕ)
-word_only (Word w ∷ []) = Some w
-word_only ts = None
+abbrev pub single_word : List Token → Option (List ℕ)
+single_word (Word w ∷ []) = Some w
+single_word ts = None
 
 -- the first token, if it is a word and a comma follows it, and the tokens after the comma
-abbrev pub word_first : List Token → Option (List ℕ × List Token)
-word_first (Word w ∷ Comma ∷ ts) = Some (w, ts)
-word_first ts = None
+abbrev pub word_before_comma : List Token → Option (List ℕ × List Token)
+word_before_comma (Word w ∷ Comma ∷ ts) = Some (w, ts)
+word_before_comma ts = None
 
 -- `one_operand`, `one_number`, `one_register`, `one_pair`: the operand, number, register or pair,
 -- if it is the only token
 abbrev pub one_operand : List Token → Option Operand
-one_operand ts = word_only ts >>= operand_of
+one_operand ts = single_word ts >>= operand_of
 
 abbrev pub one_number : List Token → Option ℕ
-one_number ts = word_only ts >>= λ w. number_in_word w >>= λ n. Some (capped_number n)
+one_number ts = single_word ts >>= λ w. number_in_word w >>= λ n. Some (capped_number n)
 
 abbrev pub one_register : List Token → Option ℕ
-one_register ts = word_only ts >>= register_named
+one_register ts = single_word ts >>= register_named
 
 abbrev pub one_pair : List Token → Option ℕ
-one_pair ts = word_only ts >>= pair_named
+one_pair ts = single_word ts >>= pair_named
 
 -- `first_operand`, `first_register`, `first_pair`: the operand, register or pair before the first
 -- comma, and the tokens after this comma
 abbrev pub first_operand : List Token → Option (Operand × List Token)
-first_operand ts = word_first ts >>= λ x. operand_of x.0 >>= λ v. Some (v, x.1)
+first_operand ts = word_before_comma ts >>= λ x. operand_of x.0 >>= λ v. Some (v, x.1)
 
 abbrev pub first_register : List Token → Option (ℕ × List Token)
-first_register ts = word_first ts >>= λ x. register_named x.0 >>= λ r. Some (r, x.1)
+first_register ts = word_before_comma ts >>= λ x. register_named x.0 >>= λ r. Some (r, x.1)
 
 abbrev pub first_pair : List Token → Option (ℕ × List Token)
-first_pair ts = word_first ts >>= λ x. pair_named x.0 >>= λ p. Some (p, x.1)
+first_pair ts = word_before_comma ts >>= λ x. pair_named x.0 >>= λ p. Some (p, x.1)
 
 -- the operands in a list of one or more operands, separated by commas; `None` if the tokens have
 -- another form
@@ -143,7 +143,7 @@ statement_after_mnemonic m.Ld ts = one_register ts >>= λ r. Some (Whole (op.Ld 
 statement_after_mnemonic m.Xch ts = one_register ts >>= λ r. Some (Whole (op.Xch r))
 statement_after_mnemonic m.Bbl ts = one_operand ts >>= λ v. Some (Bbl v)
 statement_after_mnemonic m.Ldm ts = one_operand ts >>= λ v. Some (Ldm v)
-statement_after_mnemonic (m.Bare o) ts = bare_statement o ts
+statement_after_mnemonic (m.WithoutOperands o) ts = bare_statement o ts
 
 -- the statement that the tokens form, or `None` if they do not form one
 unfoldable pub statement_of : List Token → Option Statement

@@ -18,7 +18,7 @@ mnemonic_lookup w rows = lookup_entry (str_eq_ignore_ascii_case w) rows
 
 -- the table entry for an instruction without operands
 abbrev pub bare_row : Op → List ℕ × Mnemonic
-bare_row o = (name o, m.Bare o)
+bare_row o = (name o, m.WithoutOperands o)
 
 -- the mnemonic for a word, if it is `ORG`, `DB` or an instruction with an opcode from 10 to 5F
 unfoldable pub mnemonic_in_group1 : List ℕ → Option Mnemonic

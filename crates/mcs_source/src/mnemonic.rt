@@ -39,5 +39,5 @@ pub enum Mnemonic {
     /// Load an immediate value.
     Ldm,
     /// An instruction without operands.
-    Bare(Op),
+    WithoutOperands(Op),
 }

@@ -4,14 +4,14 @@ use Rattle.mcs_model.specs.declared.command.Command.{Command}
 use Rattle.mcs_model.specs.declared.command.Command.TheVariants.{Wire, Load, Press, Release, Run, Step, Poke, Test, Reset, Break, Unbreak, Watch, Unwatch}
 use Rattle.mcs_model.specs.declared.command.Place.TheVariants.{Acc, Cy, Pc, Register, Dcl, Rom, Ram, Status}
 use Rattle.mcs_model.specs.Fold.{fold}
-use Rattle.mcs_version1.specs.Command.{in_version_1, after_1}
+use Rattle.mcs_version1.specs.Command.{is_command_of_version_1, after_1}
 use Rattle.mcs_version1.specs.BenchState.{BenchState1}
 use Rattle.mcs_version1.specs.Fold.{fold_1, AreAccepted1}
 use Rattle.mcs_version1.specs.Lift.{lift, IsLifted, lift_query}
 use Rattle.mcs_version1.specs.QueryText.{Query1, text_of_query_1, Lamps, Regs, Ram, Breaks, Seq}
 use Rattle.mcs_model.specs.QueryText.{text_of_query}
 
-pub command-lifts : (s : BenchState1) (c : Command) → IsTrue (in_version_1 c) → IsLifted s c
+pub command-lifts : (s : BenchState1) (c : Command) → IsTrue (is_command_of_version_1 c) → IsLifted s c
 command-lifts s (Wire board) h = record { refusal = refl; after = refl; reply = refl }
 command-lifts s (Load image) h = record { refusal = refl; after = refl; reply = refl }
 command-lifts s (Press row column) h = record { refusal = refl; after = refl; reply = refl }

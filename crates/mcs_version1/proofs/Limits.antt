@@ -12,7 +12,7 @@ use Rattle.mcs_model.specs.declared.board.Line.TheVariants.{Rom, Ram, Chain}
 use Rattle.mcs_model.specs.declared.limits.TheConstants.{BANK_CHIPS, CHAINS, CHAIN_CHIPS, CHAIN_BITS, KEY_ROWS}
 use Rattle.mcs_model.specs.Boards.{any_line, any_chain_line, any_column, any_lamp, lacks_line, is_on_board, chain_bits, chain_part, chain_count, no_chain, has_bad_value, has_wrong_direction, in_range, is_chain_size, is_matrix_size}
 use Rattle.mcs_model.specs.Validity.{IsValidBoard}
-use Rattle.mcs_version1.specs.Boards.{in_range_1, is_chain_size_1, is_matrix_size_1, has_bad_matrix_1, has_bad_value_1, is_small_board, IsValidBoard1}
+use Rattle.mcs_version1.specs.Boards.{in_range_1, is_chain_size_1, is_matrix_size_1, has_bad_matrix_1, has_bad_value_1, fits_version_1, IsValidBoard1}
 use Rattle.mcs_model.proofs.ListLemmas.{test_false-if_list_any_false}
 use Rattle.mcs_model.proofs.ValidBoardLemmas.{no_fault, sound}
 
@@ -33,7 +33,7 @@ pub record IsSmall (b : BoardParts) : Type 0 where
   pub few : length b.chains.items ≤ 2
   pub short : list_any (λ (c : ChainPart). nat_lt 4 c.chips) b.chains.items ≡ false
 
-board-is-small : (b : BoardParts) → is_small_board b ≡ true → IsSmall b
+board-is-small : (b : BoardParts) → fits_version_1 b ≡ true → IsSmall b
 board-is-small b h =
     let w = and_parts (nat_le (length b.chains.items) 2) (not (list_any (λ (c : ChainPart). nat_lt 4 c.chips) b.chains.items)) h in
     record { few = leb-true _ _ w.0; short = not-true _ w.1 }
@@ -175,7 +175,7 @@ valid-board-if-valid-in-version-1 b h =
     let good : has_bad_value b ≡ false = or_from _ _ (or_from _ _ (or_from _ _ v3.0 sized) matrix) in_ranges in
     record { sized = h.sized; valid = rw (good, w.1, w.2) refl }
 
-pub small-board-if-valid-in-version-1 : (b : BoardParts) → IsValidBoard1 b → is_small_board b ≡ true
+pub small-board-if-valid-in-version-1 : (b : BoardParts) → IsValidBoard1 b → fits_version_1 b ≡ true
 small-board-if-valid-in-version-1 b h =
     let w = no_fault (has_bad_value_1 b) (lacks_line b) (has_wrong_direction b) h.valid in
     let large = list_any (λ n. nat_lt BANK_CHIPS n) b.banks in
@@ -187,7 +187,7 @@ small-board-if-valid-in-version-1 b h =
     let short : list_any (λ (c : ChainPart). nat_lt 4 c.chips) b.chains.items ≡ false = list_any-false-if-others-false (λ (c : ChainPart). not (is_chain_size_1 c)) (λ (c : ChainPart). not (is_chain_size_1 c)) (λ (c : ChainPart). nat_lt 4 c.chips) (λ c x y. chain-is-short-if-chain-size-1 c x) b.chains.items v3.1 v3.1 in
     rw (few, short) refl
 
-pub valid-in-version-1-if-small : (b : BoardParts) → IsValidBoard b → is_small_board b ≡ true → IsValidBoard1 b
+pub valid-in-version-1-if-small : (b : BoardParts) → IsValidBoard b → fits_version_1 b ≡ true → IsValidBoard1 b
 valid-in-version-1-if-small b h e =
     let s = board-is-small b e in
     let now = sound b h.valid in

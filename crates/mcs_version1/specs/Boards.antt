@@ -58,8 +58,8 @@ pub record IsValidBoard1 (b : BoardParts) : Type 0 where
   pub valid : board_fault_of_1 b ≡ None
 
 -- true if a board has at most 2 chains, and each chain has at most 4 chips
-abbrev pub is_small_board : BoardParts → Bool
-is_small_board b =
+abbrev pub fits_version_1 : BoardParts → Bool
+fits_version_1 b =
     nat_le (length b.chains.items) 2
     && not (list_any (λ chain. nat_lt 4 chain.chips) b.chains.items)
 
@@ -67,4 +67,4 @@ is_small_board b =
 -- range limits of version 1 follow, because all lines of a board, and the chain bits of its key
 -- rows, must exist.
 abbrev pub Version1BoardsAreSmall : Type 0
-Version1BoardsAreSmall = (b : BoardParts) → IsValidBoard1 b ↔ (IsValidBoard b × (is_small_board b ≡ true))
+Version1BoardsAreSmall = (b : BoardParts) → IsValidBoard1 b ↔ (IsValidBoard b × (fits_version_1 b ≡ true))

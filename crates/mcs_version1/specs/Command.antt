@@ -1,5 +1,5 @@
 -- The effects of commands in version 1, which has no watches and only small boards. For a command
--- that version 1 does not have (`in_version_1` is false), the other definitions have no meaning.
+-- that version 1 does not have (`is_command_of_version_1` is false), the other definitions have no meaning.
 use Rattle.std.specs.Prelude.{Bool, true, false, ◌+◌, ◌==◌, ◌&&◌, ◌||◌, length, Option, Some, None, nat_lt, nat_le, slice_set, if◌then◌else◌}
 use Rattle.std.specs.List.{list_any}
 use Rattle.mcs_model.specs.declared.command.Command.{Command}
@@ -10,7 +10,7 @@ use Rattle.mcs_model.specs.declared.command.Reply.{Reply}
 use Rattle.mcs_model.specs.declared.command.Reply.TheVariants.{Done, Loaded, Ran}
 use Rattle.mcs_model.specs.declared.limits.TheConstants.{ACCEPTED_COMMANDS, BREAKPOINTS, RUN_CYCLES}
 use Rattle.mcs_model.specs.declared.refusals.BenchFault.{BenchFault}
-use Rattle.mcs_model.specs.declared.refusals.BenchFault.TheVariants.{NoKey, NoRom, BadCount, BreaksFull, Worn}
+use Rattle.mcs_model.specs.declared.refusals.BenchFault.TheVariants.{NoKey, NoRom, BadCount, BreaksFull, CommandsExhausted}
 use Rattle.mcs_model.specs.declared.regs.Regs.{Regs}
 use Rattle.mcs_model.specs.Boards.{has_key}
 use Rattle.mcs_model.specs.Listed.{is_listed, with_listed, without_listed}
@@ -19,7 +19,7 @@ use Rattle.mcs_model.specs.Command.{lacks_rom, place_refusal}
 use Rattle.mcs_model.specs.BenchState.{new_regs}
 use Rattle.mcs_model.specs.ChipWrites.{with_rom_byte, with_rom_bytes, with_key, after_reset, after_board_change}
 use Rattle.mcs_model.specs.Running.{Machine, step_length, after_step, step_stop_reason}
-use Rattle.mcs_version1.specs.Boards.{is_small_board}
+use Rattle.mcs_version1.specs.Boards.{fits_version_1}
 use Rattle.mcs_version1.specs.BenchState.{BenchState1}
 use Rattle.mcs_version1.specs.Running.{run_length_1, after_run_1, run_stop_1}
 
@@ -36,12 +36,12 @@ is_place_1 (Ram bank src n) = true
 is_place_1 (Status bank high k n) = true
 
 -- true if version 1 has this command
-abbrev pub in_version_1 : Command → Bool
-in_version_1 (Wire board) = is_small_board board
-in_version_1 (Poke place) = is_place_1 place
-in_version_1 (Watch bank src) = false
-in_version_1 (Unwatch bank src) = false
-in_version_1 _ = true
+abbrev pub is_command_of_version_1 : Command → Bool
+is_command_of_version_1 (Wire board) = fits_version_1 board
+is_command_of_version_1 (Poke place) = is_place_1 place
+is_command_of_version_1 (Watch bank src) = false
+is_command_of_version_1 (Unwatch bank src) = false
+is_command_of_version_1 _ = true
 
 -- ---- which commands are accepted
 
@@ -65,7 +65,7 @@ refusal_of_command_1 s _ = None
 -- The reason why a state rejects a command, or `None`. A session that has accepted the maximum
 -- number of commands rejects every command.
 abbrev pub refusal_1 : BenchState1 → Command → Option BenchFault
-refusal_1 s c = if s.seq == ACCEPTED_COMMANDS then Some Worn else refusal_of_command_1 s c
+refusal_1 s c = if s.seq == ACCEPTED_COMMANDS then Some CommandsExhausted else refusal_of_command_1 s c
 
 -- ---- the effects
 

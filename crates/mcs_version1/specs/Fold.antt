@@ -2,7 +2,7 @@
 use Rattle.std.specs.Prelude.{◌≡◌, List, [], ◌∷◌, None, IsTrue}
 use Rattle.mcs_model.specs.declared.command.Command.{Command}
 use Rattle.mcs_version1.specs.BenchState.{BenchState1}
-use Rattle.mcs_version1.specs.Command.{refusal_1, after_1, in_version_1}
+use Rattle.mcs_version1.specs.Command.{refusal_1, after_1, is_command_of_version_1}
 
 -- the state after a sequence of commands
 abbrev pub fold_1 : BenchState1 → List Command → BenchState1
@@ -14,4 +14,4 @@ fold_1 s (c ∷ cs) = fold_1 (after_1 s c) cs
 abbrev pub AreAccepted1 : BenchState1 → List Command → Type 0
 AreAccepted1 s [] = Unit {0}
 AreAccepted1 s (c ∷ cs) =
-    IsTrue (in_version_1 c) × ((refusal_1 s c ≡ None) × AreAccepted1 (after_1 s c) cs)
+    IsTrue (is_command_of_version_1 c) × ((refusal_1 s c ≡ None) × AreAccepted1 (after_1 s c) cs)

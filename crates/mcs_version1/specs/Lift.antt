@@ -8,7 +8,7 @@ use Rattle.mcs_model.specs.Command.{refusal, after, reply}
 use Rattle.mcs_model.specs.BenchState.{BenchState}
 use Rattle.mcs_model.specs.Fold.{fold}
 use Rattle.mcs_model.specs.QueryText.{text_of_query}
-use Rattle.mcs_version1.specs.Command.{in_version_1, refusal_1, after_1, reply_1}
+use Rattle.mcs_version1.specs.Command.{is_command_of_version_1, refusal_1, after_1, reply_1}
 use Rattle.mcs_version1.specs.BenchState.{BenchState1}
 use Rattle.mcs_version1.specs.Fold.{fold_1, AreAccepted1}
 use Rattle.mcs_version1.specs.QueryText.{Query1, text_of_query_1, Lamps, Regs, Ram, Breaks, Seq}
@@ -33,7 +33,7 @@ pub record IsLifted (s : BenchState1) (c : Command) : Type 0 where
   pub reply : reply (lift s) c ≡ reply_1 s c
 
 abbrev pub CommandsLift : Type 0
-CommandsLift = (s : BenchState1) (c : Command) → IsTrue (in_version_1 c) → IsLifted s c
+CommandsLift = (s : BenchState1) (c : Command) → IsTrue (is_command_of_version_1 c) → IsLifted s c
 
 abbrev pub QueriesLift : Type 0
 QueriesLift = (s : BenchState1) (q : Query1) → text_of_query (lift_query q) (lift s) ≡ text_of_query_1 q s

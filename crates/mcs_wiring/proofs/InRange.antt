@@ -21,7 +21,7 @@ use Rattle.mcs_wiring.specs.declared.sections.Numbered.{Numbered}
 use Rattle.mcs_wiring.specs.declared.sections.Section.{Section}
 use Rattle.mcs_wiring.specs.declared.sections.Section.TheVariants.{Rom, Ram, Chain, Keys, Lamp}
 use Rattle.mcs_wiring.specs.LineNames.{below_or_none, number_below, text_after_prefix, rom_line_named, ram_line_named, chain_line_named, line_named, texts_around_dot}
-use Rattle.mcs_wiring.specs.Wiring.{within_or_none, number_at, line_in, line_at, part_of, ram_in, chain_in, matrix_in, lamp_in, values_at, names_no_line, are_malformed_columns, has_bad_columns, is_malformed, has_malformed_value, section_values, any_section_entry, lacks_array, keys_table, part_at, rams_of, parts_in}
+use Rattle.mcs_wiring.specs.Wiring.{within_or_none, number_at, line_in, line_at, part_of, ram_in, chain_in, matrix_in, lamp_in, values_at, names_no_line, are_malformed_columns, has_bad_columns, is_malformed, has_malformed_value, section_values, any_section_entry, has_value_that_is_not_array, keys_table, part_at, rams_of, parts_in}
 use Rattle.mcs_wiring.specs.Format.{sections}
 
 -- ---- the value that the first of two optional steps returned
@@ -229,7 +229,7 @@ no_bad_columns_in_keys_table (Some d) t h e =
 keys_in_range : (ms : Members) → has_malformed_value ms ≡ false → AreKeysInRange (parts_in ms).keys
 keys_in_range ms h =
     let any = λ (s : Section). list_any (is_malformed s) (section_values s ms) in
-    let (_, h1) = or_parts (list_any (lacks_array ms) sections) (any_section_entry is_malformed ms) h in
+    let (_, h1) = or_parts (list_any (has_value_that_is_not_array ms) sections) (any_section_entry is_malformed ms) h in
     let (_, h2) = or_parts (any Rom) (any Ram || (any Chain || (any Keys || (any Lamp || false)))) h1 in
     let (_, h3) = or_parts (any Ram) (any Chain || (any Keys || (any Lamp || false))) h2 in
     let (_, h4) = or_parts (any Chain) (any Keys || (any Lamp || false)) h3 in

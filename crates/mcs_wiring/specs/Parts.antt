@@ -30,7 +30,7 @@ use Rattle.mcs_wiring.specs.Flaws.{has_flaw}
 use Rattle.mcs_wiring.specs.Format.{sections, section_key, table_keys, is_board_key, is_table_key}
 use Rattle.mcs_wiring.specs.LineNames.{masks_named}
 use Rattle.mcs_wiring.specs.RefusalNumbers.{wiring_fault_number}
-use Rattle.mcs_wiring.specs.Wiring.{keys_of, section_values, values_at, number_at, line_at, has_bad_columns, lacks_array, column_values, roms_of, rams_of, parts_in, board_of_table}
+use Rattle.mcs_wiring.specs.Wiring.{keys_of, section_values, values_at, number_at, line_at, has_bad_columns, has_value_that_is_not_array, column_values, roms_of, rams_of, parts_in, board_of_table}
 
 -- A location in a board text: a top-level key, the value at a section's key, or one of the
 -- section's tables. Tables are numbered from 1; the key matrix has no number. `key` is the
@@ -122,7 +122,7 @@ unknown_key_part ms =
 
 abbrev pub bad_value_part : Members → Option Part
 bad_value_part ms =
-    option_or (option_map part_at_section (find (lacks_array ms) sections)) (flawed_part BadValue ms)
+    option_or (option_map part_at_section (find (has_value_that_is_not_array ms) sections)) (flawed_part BadValue ms)
 
 -- ---- error 27 (too many parts): the first table beyond the limit or, for columns, the key
 -- `columns`

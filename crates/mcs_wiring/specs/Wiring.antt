@@ -156,19 +156,19 @@ is_malformed Keys d =
     is_none (part_of matrix_in d) || option_map_or has_bad_columns (as_table d) true
 is_malformed Lamp d = is_none (part_of lamp_in d)
 
--- `is_not_array`: true if there is a value and it is not an array. `lacks_array`: true if a section
+-- `is_not_array`: true if there is a value and it is not an array. `has_value_that_is_not_array`: true if a section
 -- requires an array and the value at its key is not an array. The section `Keys` requires no array.
 -- A missing value is not an error.
 abbrev pub is_not_array : Option Data → Bool
 is_not_array None = false
 is_not_array (Some d) = is_none (as_array d)
 
-abbrev pub lacks_array : Members → Section → Bool
-lacks_array ms Keys = false
-lacks_array ms s = is_not_array (get_member (section_key s) ms)
+abbrev pub has_value_that_is_not_array : Members → Section → Bool
+has_value_that_is_not_array ms Keys = false
+has_value_that_is_not_array ms s = is_not_array (get_member (section_key s) ms)
 
 abbrev pub has_malformed_value : Members → Bool
-has_malformed_value ms = list_any (lacks_array ms) sections || any_section_entry is_malformed ms
+has_malformed_value ms = list_any (has_value_that_is_not_array ms) sections || any_section_entry is_malformed ms
 
 -- ---- error 27: more parts of one kind than a board can have
 

@@ -8,14 +8,14 @@ ghost use Rattle.mcs_model.specs.Boards.{chain_bits, is_on_board, is_input_line,
 ghost use Rattle.mcs_wiring.specs.Flaws.{IsWithinLimits};
 ghost use Rattle.mcs_wiring.specs.Format.{is_board_key, sections};
 ghost use Rattle.mcs_wiring.specs.LineNames.{masks_named};
-ghost use Rattle.mcs_wiring.specs.Wiring.{keys_of, lacks_array, board_of_table};
+ghost use Rattle.mcs_wiring.specs.Wiring.{keys_of, has_value_that_is_not_array, board_of_table};
 ghost use Rattle.mcs_wiring.specs.Parts.{part_at_key, part_at_section, part_at_table, first_unknown_table_key, first_missing_key, first_bad_key, first_flawed_key, first_flawed_from, first_flawed_in, flawed_part, unknown_key_part, bad_value_part, excess_part, first_repeated_from, double_part_in, is_wrong, wrong_key, wrong_chain_from, wrong_lamp_from, wrong_column_of, missing_rows_of, missing_line_part, wrong_direction_part, part_of};
 ghost use Rattle.mcs_wiring.specs.PartView.{part_view, IsPartsError};
 
 use crate::fault::WiringFault;
 use crate::names::masks_named;
 use crate::parts::{has_bad_columns, rams, roms};
-use crate::reading::{column_count, has_flaw, has_number, lacks_array, parts_in};
+use crate::reading::{column_count, has_flaw, has_number, has_value_that_is_not_array, parts_in};
 use crate::sections::{Flaw, Numbered, Section, is_board_key};
 use crate::values::{count_at, lacks, line_at, member, number_at, values_at};
 use mcs_model::board::{BoardParts, ChainPart, Line};
@@ -303,21 +303,21 @@ fn unknown_key_part<'a>(table: &'a Table) -> Option<Part<'a>>
 
 /// Returns the first section that requires an array but whose key has a value that is not an array.
 fn section_without_array(table: &Table) -> Option<Section>
-    ensures { result ≡ find (lacks_array (table_view table.now)) sections }
+    ensures { result ≡ find (has_value_that_is_not_array (table_view table.now)) sections }
 {
-    if lacks_array(table, Section::Rom) {
+    if has_value_that_is_not_array(table, Section::Rom) {
         return Some(Section::Rom);
     }
-    if lacks_array(table, Section::Ram) {
+    if has_value_that_is_not_array(table, Section::Ram) {
         return Some(Section::Ram);
     }
-    if lacks_array(table, Section::Chain) {
+    if has_value_that_is_not_array(table, Section::Chain) {
         return Some(Section::Chain);
     }
-    if lacks_array(table, Section::Keys) {
+    if has_value_that_is_not_array(table, Section::Keys) {
         return Some(Section::Keys);
     }
-    if lacks_array(table, Section::Lamp) {
+    if has_value_that_is_not_array(table, Section::Lamp) {
         return Some(Section::Lamp);
     }
     None

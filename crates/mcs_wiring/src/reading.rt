@@ -7,7 +7,7 @@ ghost use Rattle.toml.specs.View.{view, table_view};
 ghost use Rattle.mcs_nibble.specs.Tables.{table_of};
 ghost use Rattle.mcs_model.specs.Boards.{board_fault_of};
 ghost use Rattle.mcs_wiring.specs.Format.{sections, section_key, table_keys, is_board_key, is_table_key};
-ghost use Rattle.mcs_wiring.specs.Wiring.{has_unknown_key, has_missing_key, has_malformed_value, has_too_many, has_double, entry_has_unknown_key, lacks_required_key, entry_lacks_key, is_malformed, lacks_array, values_at, section_values, any_section_entry, column_values, keys_table, matrix_in, roms_of, rams_of, parts_in, part_at, board_of_table, board_of_text, ReadsBoard};
+ghost use Rattle.mcs_wiring.specs.Wiring.{has_unknown_key, has_missing_key, has_malformed_value, has_too_many, has_double, entry_has_unknown_key, lacks_required_key, entry_lacks_key, is_malformed, has_value_that_is_not_array, values_at, section_values, any_section_entry, column_values, keys_table, matrix_in, roms_of, rams_of, parts_in, part_at, board_of_table, board_of_text, ReadsBoard};
 ghost use Rattle.mcs_wiring.specs.Flaws.{has_flaw, board_or_error, board_within_limits, IsWithinLimits};
 
 use crate::fault::WiringFault;
@@ -165,8 +165,8 @@ fn has_missing_key(table: &Table) -> bool
 }
 
 /// Returns true if the section requires an array and its key has a value that is not an array.
-pub(crate) fn lacks_array(table: &Table, section: Section) -> bool
-    ensures { result ≡ lacks_array (table_view table.now) section }
+pub(crate) fn has_value_that_is_not_array(table: &Table, section: Section) -> bool
+    ensures { result ≡ has_value_that_is_not_array (table_view table.now) section }
 {
     match section {
         Section::Keys => false,
@@ -176,19 +176,19 @@ pub(crate) fn lacks_array(table: &Table, section: Section) -> bool
     }
 }
 
-fn any_section_lacks_array(table: &Table) -> bool
-    ensures { result ≡ list_any (lacks_array (table_view table.now)) sections }
+fn any_section_has_value_that_is_not_array(table: &Table) -> bool
+    ensures { result ≡ list_any (has_value_that_is_not_array (table_view table.now)) sections }
 {
     Section::ALL
         .iter()
-        .any(|section| lacks_array(table, *section))
+        .any(|section| has_value_that_is_not_array(table, *section))
 }
 
 /// Returns true if a value in the text has the wrong type or form, or a number is out of range.
 fn has_malformed_value(table: &Table) -> bool
     ensures { result ≡ has_malformed_value (table_view table.now) }
 {
-    any_section_lacks_array(table) || has_flaw_anywhere(Flaw::BadValue, table)
+    any_section_has_value_that_is_not_array(table) || has_flaw_anywhere(Flaw::BadValue, table)
 }
 
 /// Returns the table at the key `keys`, or none if the key is missing or its value is not a table.

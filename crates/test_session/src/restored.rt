@@ -25,7 +25,11 @@ fn rejects_commands_after_the_maximum(rt: HostRuntime) {
     flat.seq = u32::MAX;
     let bench = restored(alloc, &rt, &flat);
     expect_equal(&rt, bench.seq(), u32::MAX);
-    expect_equal(&rt, bench.check(&Command::Reset), Err(BenchFault::Worn));
+    expect_equal(
+        &rt,
+        bench.check(&Command::Reset),
+        Err(BenchFault::CommandsExhausted),
+    );
     flat.seq = u32::MAX - 1;
     let bench = restored(alloc, &rt, &flat);
     expect_equal(&rt, bench.check(&Command::Reset), Ok(()));

@@ -13,7 +13,7 @@ returns-clause-text c =
     let e2 = append_two_pieces old (digit_text c.args.bank) _ (codes ".") (digit_text c.args.chip) _ e1 c.put_digit-2.ensures.text in
     let e3 = append_two_pieces old (digit_text c.args.bank ++ codes "." ++ digit_text c.args.chip) _ (codes ".") (digit_text c.args.r) _ e2 c.put_digit-3.ensures.text in
     let e4 = append_one_piece old name _ (codes " ") _ e3 c.put.ensures.text in
-    let e5 = append_one_piece old (name ++ codes " ") _ main _ e4 c.put_ram_characters.ensures.text in
+    let e5 = append_one_piece old (name ++ codes " ") _ main _ e4 c.put_ram_nibbles.ensures.text in
     let e6 = append_one_piece old (name ++ codes " " ++ main) _ (codes " ") _ e5 c.put-2.ensures.text in
     let e7 = append_one_piece old (name ++ codes " " ++ main ++ codes " ") _ status _ e6 c.put_status.ensures.text in
     append_one_piece old (name ++ codes " " ++ main ++ codes " " ++ status) _ (10 ∷ []) _ e7 c.put-3.ensures.text

@@ -11,12 +11,12 @@ returns-in-RomBytes c =
     let at : c.plus.result ≡ c.args.i = omega arith in
     c.set_rom_byte.ensures ∙ with_rom_byte-is-with_chip_value s c.args.i c.plus.result c.args.n at ∙ ap (λ (h : ChipList). with_chip_value s h c.args.i c.args.n) (sym c.in-RomBytes.is)
 
-pub returns-in-RamCharacters : goal.returns-in-RamCharacters
-returns-in-RamCharacters c =
+pub returns-in-RamNibbles : goal.returns-in-RamNibbles
+returns-in-RamNibbles c =
     let s = c.args.rig.now in
-    let fits = subst (λ (h : ChipList). c.args.n < chip_value_limit h) c.in-RamCharacters.is c.requires.fits in
+    let fits = subst (λ (h : ChipList). c.args.n < chip_value_limit h) c.in-RamNibbles.is c.requires.fits in
     let small : c.low_of.result ≡ c.args.n = omega arith in
-    c.set_ram.ensures ∙ with_ram-is-with_chip_value s c.args.i _ _ c.low_of.result c.args.n refl refl small ∙ ap (λ (h : ChipList). with_chip_value s h c.args.i c.args.n) (sym c.in-RamCharacters.is)
+    c.set_ram.ensures ∙ with_ram-is-with_chip_value s c.args.i _ _ c.low_of.result c.args.n refl refl small ∙ ap (λ (h : ChipList). with_chip_value s h c.args.i c.args.n) (sym c.in-RamNibbles.is)
 
 pub returns-in-StatusCharacters : goal.returns-in-StatusCharacters
 returns-in-StatusCharacters c =

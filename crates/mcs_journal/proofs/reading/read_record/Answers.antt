@@ -7,7 +7,7 @@ use Rattle.std.proofs.lemmas.List.{take_at}
 use Rattle.mcs_disk.specs.Disk.{part, bytes_of}
 use Rattle.mcs_journal.proofs.NextRecord.{record_at_if_length_is_valid, no_record_at_if_length_is_invalid}
 use Rattle.mcs_journal.proofs.reading.read_record.Goals as goal
-use Rattle.mcs_journal.proofs.reading.read_record.Goals.{then-len-eq0-via-then-len-eq0, then-len-eq0-via-else-len-eq0+then-len-gt-MOST_RECORD, then-len-eq0-via-else-len-eq0+else-len-gt-MOST_RECORD+then-room-len}
+use Rattle.mcs_journal.proofs.reading.read_record.Goals.{then-len-eq0-via-then-len-eq0, then-len-eq0-via-else-len-eq0+then-len-gt-MAX_RECORD_SIZE, then-len-eq0-via-else-len-eq0+else-len-gt-MAX_RECORD_SIZE+then-room-len}
 
 pub returns-then-len-eq0-clause-damaged : goal.returns-then-len-eq0-clause-damaged
 returns-then-len-eq0-clause-damaged g c = λ h erred.
@@ -17,8 +17,8 @@ returns-then-len-eq0-clause-damaged g c = λ h erred.
     let prefix = c.in_ok-read_at-2.ensures.given (c.read_at.ensures.reads.counts.honest.1 h) ∙ ap (part (c.args.at + 1) 2) (bytes_unchanged_without_new_image _ _ first) in
     no_record_at_if_length_is_invalid f c.args.at c.args.room _ _ _ commit_byte (search rules) prefix refl (λ some few fits. elim c.then-len-eq0.branch [
       | then-len-eq0-via-then-len-eq0 w ↦ omega arith
-      | then-len-eq0-via-else-len-eq0+then-len-gt-MOST_RECORD w ↦ omega arith
-      | then-len-eq0-via-else-len-eq0+else-len-gt-MOST_RECORD+then-room-len w ↦ omega arith
+      | then-len-eq0-via-else-len-eq0+then-len-gt-MAX_RECORD_SIZE w ↦ omega arith
+      | then-len-eq0-via-else-len-eq0+else-len-gt-MAX_RECORD_SIZE+then-room-len w ↦ omega arith
     ])
 
 pub returns-clause-next : goal.returns-clause-next

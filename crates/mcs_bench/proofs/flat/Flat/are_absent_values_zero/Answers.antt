@@ -1,6 +1,6 @@
 use Rattle.std.proofs.Common.{ℕ, List, sym, subst, slice_index}
 use Rattle.mcs_model.specs.Boards.{rom_masks}
-use Rattle.mcs_bench.specs.declared.chip_list.ChipList.TheVariants.{RomBytes, RamCharacters, StatusCharacters, RamPorts, BankSrcBytes}
+use Rattle.mcs_bench.specs.declared.chip_list.ChipList.TheVariants.{RomBytes, RamNibbles, StatusCharacters, RamPorts, BankSrcBytes}
 use Rattle.mcs_bench.specs.States.{state_of}
 use Rattle.mcs_bench.proofs.ChipListLemmas.{zero-where-absent-if-valid, absent-parts-zero-if-lists-zero, each-list-is-zero, latch_can_hold}
 use Rattle.mcs_bench.proofs.PartTests.{decided_by_failed_part, decided_by_last_part}
@@ -10,7 +10,7 @@ pub returns-then-not-is_list_zero_where_absent : goal.returns-then-not-is_list_z
 returns-then-not-is_list_zero_where_absent c = decided_by_failed_part c.is_list_zero_where_absent.result c.if-not-is_list_zero_where_absent.true c.is_list_zero_where_absent.ensures (λ v. zero-where-absent-if-valid (state_of c.args.self.now).bus v RomBytes)
 
 pub returns-then-not-is_list_zero_where_absent-2 : goal.returns-then-not-is_list_zero_where_absent-2
-returns-then-not-is_list_zero_where_absent-2 c = decided_by_failed_part c.is_list_zero_where_absent-2.result c.if-not-is_list_zero_where_absent-2.true c.is_list_zero_where_absent-2.ensures (λ v. zero-where-absent-if-valid (state_of c.args.self.now).bus v RamCharacters)
+returns-then-not-is_list_zero_where_absent-2 c = decided_by_failed_part c.is_list_zero_where_absent-2.result c.if-not-is_list_zero_where_absent-2.true c.is_list_zero_where_absent-2.ensures (λ v. zero-where-absent-if-valid (state_of c.args.self.now).bus v RamNibbles)
 
 pub returns-then-not-is_list_zero_where_absent-3 : goal.returns-then-not-is_list_zero_where_absent-3
 returns-then-not-is_list_zero_where_absent-3 c = decided_by_failed_part c.is_list_zero_where_absent-3.result c.if-not-is_list_zero_where_absent-3.true c.is_list_zero_where_absent-3.ensures (λ v. zero-where-absent-if-valid (state_of c.args.self.now).bus v StatusCharacters)

@@ -4,4 +4,4 @@ use Rattle.mcs_bench.proofs.Marks.{ram-indices-without_listed}
 use Rattle.mcs_bench.proofs.watches.Watches.clear.Goals as goal
 
 pub invariant_of-self : goal.invariant_of-self
-invariant_of-self c = subst AreRamIndices (sym c.clear.ensures) (ram-indices-without_listed c.self.inside.indices c.ram_character_index.result c.self.invariant)
+invariant_of-self c = subst AreRamIndices (sym c.clear.ensures) (ram-indices-without_listed c.self.inside.indices c.ram_nibble_index.result c.self.invariant)

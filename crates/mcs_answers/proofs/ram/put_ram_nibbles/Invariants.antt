@@ -1,6 +1,6 @@
 use Rattle.std.proofs.Common.{◌≡◌, ◌+◌, ◌*◌, ◌++◌, length, map}
 use Rattle.mcs_model.specs.QueryText.{hex_digit, stretch}
-use Rattle.mcs_answers.proofs.ram.put_ram_characters.Given as goal
+use Rattle.mcs_answers.proofs.ram.put_ram_nibbles.Given as goal
 
 abbrev pub invariant-loop-k : goal.invariant-loop-k
 invariant-loop-k l = record {

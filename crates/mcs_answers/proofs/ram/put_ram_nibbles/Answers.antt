@@ -1,7 +1,7 @@
 use Rattle.std.proofs.Common.{◌≡◌, ◌+◌, ◌*◌, ◌++◌, ◌∷◌, [], get_or, arith, ap, ◌∙◌}
 use Rattle.mcs_model.specs.QueryText.{hex_digit}
 use Rattle.mcs_answers.proofs.AppendedTexts.{append_in_stretch}
-use Rattle.mcs_answers.proofs.ram.put_ram_characters.Goals as goal
+use Rattle.mcs_answers.proofs.ram.put_ram_nibbles.Goals as goal
 
 pub loop-k-preserved : goal.loop-k-preserved
 loop-k-preserved c =
