@@ -1,7 +1,7 @@
 -- At most as many lines of a port are pulled to 1 as keys are down.
-use Rattle.std.proofs.Common.{◌≡◌, ◌<◌, ◌≤◌, ◌+◌, ◌*◌, ◌/◌, ◌%◌, ℕ, inl, inr, Bool, true, false, ◌&&◌, List, [], Option, Some, None, length, get_or, slice_index, slice_index_or, slice_set, eqb, refl, sym, ap, ◌∙◌, arith, get_or-set_other}
+use Rattle.std.proofs.Common.{◌≡◌, ◌<◌, ◌≤◌, ◌+◌, ◌*◌, ◌/◌, ◌%◌, ℕ, inl, inr, Bool, true, false, List, [], Option, Some, None, length, slice_index, slice_index_or, slice_set, eqb, refl, sym, ap, ◌∙◌, arith, get_or-set_other}
 use Rattle.std.specs.List.{list_any, range_with_len, sum}
-use Rattle.std.proofs.lemmas.Bool.{and_parts, cases_lt, eqb-true, eq-eqb}
+use Rattle.std.proofs.lemmas.Bool.{and_parts, cases_lt, eqb-true}
 use Rattle.std.proofs.lemmas.List.{get_or_past}
 use Rattle.std.proofs.lemmas.List.Folds.{Any-from_list_any}
 use Rattle.std.proofs.lemmas.List.FromFn.{get_or-range_with_len, length-range_with_len}
@@ -9,7 +9,6 @@ use Rattle.std.proofs.lemmas.List.Sums.{sum_by-set}
 use Rattle.std.proofs.lemmas.Nat.{mod-mul-add}
 use Rattle.mcs_nibble.specs.declared.lines.LineMask.{LineMask}
 use Rattle.mcs_nibble.specs.declared.lines.LineMask.TheVariants.{Input, Zero, One}
-use Rattle.mcs_nibble.specs.Bits.{bit_of}
 use Rattle.mcs_nibble.specs.Ports.{mask_at, read_bit, read_lines}
 use Rattle.mcs_model.specs.declared.board.KeyMatrix.{KeyMatrix}
 use Rattle.mcs_model.specs.declared.board.Line.{Line}
@@ -20,7 +19,7 @@ use Rattle.mcs_model.specs.Levels.{bit_when, row_drives_column, is_pulled, is_pu
 use Rattle.mcs_drive.specs.DrivenRuns.{Levels}
 use Rattle.mcs_drive.proofs.LevelLemmas.{at_levels}
 use Rattle.mcs_check.specs.ReadPoints.{set_bits, unpressed_port_value}
-use Rattle.mcs_check.proofs.Pulling.{Bits, bits, bit_when-lt, bit_when-monotone, read_bit-lt}
+use Rattle.mcs_check.proofs.Pulling.{bits, bit_when-lt, bit_when-monotone, read_bit-lt}
 use Rattle.mcs_check.proofs.Ranging.{some_number_passes}
 
 -- ---- a key that pulls a line

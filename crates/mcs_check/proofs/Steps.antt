@@ -2,7 +2,6 @@
 use Rattle.std.proofs.Common.{◌≡◌, ◌<◌, ◌⊎◌, ℕ, inl, inr, Bool, true, List, None, refl, sym, ap, ◌∙◌, subst, arith}
 use Rattle.mcs_model.specs.Boards.{board_fault_of}
 use Rattle.mcs_model.specs.Validity.{IsValidBus, IsValidRegs}
-use Rattle.mcs_model.specs.declared.board.BoardParts.{BoardParts}
 use Rattle.mcs_model.specs.Bus.{BusState}
 use Rattle.mcs_drive.specs.DrivenRuns.{FitsBoard, Levels}
 use Rattle.mcs_drive.specs.TrackedMachine.{Observer, TrackedMachine, answer}

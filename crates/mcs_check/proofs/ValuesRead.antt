@@ -12,7 +12,7 @@ use Rattle.mcs_model.specs.Levels.{port_of}
 use Rattle.mcs_model.specs.Effect.{cycle_of, effect, instruction_at}
 use Rattle.mcs_model.specs.Running.{Machine}
 use Rattle.mcs_drive.specs.declared.marks.Mark.{Mark}
-use Rattle.mcs_drive.specs.DrivenRuns.{AreAllowed, FitsBoard, InputLimits, Levels, with_levels as under_machine, cycled as cycled_machine}
+use Rattle.mcs_drive.specs.DrivenRuns.{FitsBoard, InputLimits, Levels, with_levels as under_machine, cycled as cycled_machine}
 use Rattle.mcs_drive.specs.InputReads.{reads_input, value_read_by, without_levels as plain_machine}
 use Rattle.mcs_drive.specs.Marks.{port_shows, shows}
 use Rattle.mcs_drive.specs.TrackedMachine.{Observer, TrackedMachine, counts_after, machine_in, with_levels, without_levels, cycled, after_cycles, next_reads_input, answer, seen_count_after, next_op, condition_holds_at, seen_mark_count, seen_after_reading, shows_next_mark}
