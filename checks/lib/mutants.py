@@ -274,7 +274,7 @@ WRONG_SEARCHES: dict[str, Callable[[], AbstractContextManager]] = {
 
 # ---- limits of the inputs
 
-def keys_down_by_lines_read(board: Board) -> dict[int, Levels]:
+def values_with_few_lines(board: Board) -> dict[int, Levels]:
     """Limits the number of lines that read 1, instead of the number of keys. A port can have lines that always read 1."""
     values = CORRECT_VALUES(board)
     is_port_read = second_search.next_instruction(board)[0] == "RDR"
@@ -286,9 +286,10 @@ WRONG_LIMITS: dict[str, Callable[[], AbstractContextManager]] = {
     "together is ignored": replace_function(second_search, "max_keys_down", lambda board: len(second_search.all_keys(board))),
     "one more key is down": replace_function(second_search, "max_keys_down", lambda board: CORRECT_MAX(board) + 1),
     "one key less is down": replace_function(second_search, "max_keys_down", lambda board: max(CORRECT_MAX(board) - 1, 0)),
-    "together counts lines that read 1": replace_function(second_search, "values_read", keys_down_by_lines_read),
-    "only leaves all keys": replace_function(second_search, "allowed_keys", second_search.all_keys),
-    "only takes all keys": replace_function(second_search, "allowed_keys", lambda board: [] if second_search.limits_of(board).only else CORRECT_KEYS(board)),
+    "together counts lines that read 1": replace_function(second_search, "values_read", values_with_few_lines),
+    "only allows all keys": replace_function(second_search, "allowed_keys", second_search.all_keys),
+    "only excludes all keys": replace_function(second_search, "allowed_keys", lambda board: (
+        [] if second_search.limits_of(board).only else CORRECT_KEYS(board))),
     "press limits keys without only": replace_function(second_search, "allowed_keys", lambda board: [
         key for key in second_search.all_keys(board) if key in second_search.limits_of(board).keys]),
     "press has the column first": replace_function(second_search, "allowed_keys", lambda board: [
@@ -296,7 +297,8 @@ WRONG_LIMITS: dict[str, Callable[[], AbstractContextManager]] = {
     "TEST is free": replace_function(second_search, "allowed_test_levels", lambda _board: [0, 1]),
     "TEST is 0 with only": replace_function(second_search, "allowed_test_levels", lambda board: (
         [0] if second_search.limits_of(board).only else CORRECT_TEST(board))),
-    "TEST is 0 without test": replace_function(second_search, "allowed_test_levels", lambda board: [0, 1] if second_search.limits_of(board).test else [0]),
+    "TEST is 0 without test": replace_function(second_search, "allowed_test_levels", lambda board: (
+        [0, 1] if second_search.limits_of(board).test else [0])),
     "TEST stays at 1": replace_function(second_search, "allowed_test_levels", lambda board: (
         [1] if CORRECT_TEST(board) == [0] else [0, 1])),
 }

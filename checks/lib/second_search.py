@@ -392,8 +392,8 @@ def values_read(board: Board) -> dict[int, Levels]:
 
 
 def values_by_enumeration(board: Board, max_keys: int) -> set[int] | None:
-    """Returns the values that the next cycle can read, by trying all levels of all keys and of TEST that the limits allow. Returns None if the board has
-    too many keys."""
+    """Returns the values that the next cycle can read. Tries all levels of keys and TEST that the limits allow. Returns None if the board has more
+    than `max_keys` keys."""
     keys, (name, low) = all_keys(board), next_instruction(board)
     if len(keys) > max_keys:
         return None
