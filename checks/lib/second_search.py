@@ -535,7 +535,7 @@ def replay_lines(question: Question, path: list[int]) -> tuple[list[str], str]:
 
 
 def excluded_input(limits: InputLimits, lines: list[str]) -> str:
-    """Returns a description of the first run in session lines that has inputs which the limits exclude, or "" if there is none."""
+    """Returns a description of the inputs at the first run in session lines at which the limits exclude them, or "" if there is no such run."""
     keys_down, test = LEVELS_AT_POWER_ON
     for line in lines:
         command, *words = line.split() or [""]
