@@ -1,5 +1,6 @@
 """Questions to mcs4-prove about the examples, with the expected answers. The conditions in the examples' properties (`never` lines, lines with a time
-limit, and lines with key presses) are written as comparisons of the machine's cells. Also contains mutants: examples with one instruction replaced.
+limit, and lines with key presses) are written as comparisons of the machine's cells. Also contains conditions that can become true only with certain
+inputs, and mutants: examples with one instruction replaced.
 """
 
 from __future__ import annotations
@@ -12,7 +13,7 @@ from dataclasses import dataclass
 
 from assembler import assemble
 from board4004 import CODES, TWO_WORDS
-from second_search import MISTAKES, Comparison, Question
+from second_search import MISTAKES, Comparison, InputLimits, Question
 
 EXAMPLE_FILES = pathlib.Path(__file__).resolve().parent.parent.parent / "examples"
 MUTANT_MAX_STATES, MUTANT_PAUSE = 120, 1000
@@ -208,6 +209,43 @@ class RequiredPresses:
 REQUIRED_PRESSES = [
     RequiredPresses(LOCK, "lamp open on only after press 4, press 7, press 1, press 1, press #", "in ramport 0 line1 1 1",
             [(1, 0), (2, 0), (0, 0), (0, 0), (3, 2)], "holds 2083023"),
+]
+
+
+@dataclass
+class LimitedCondition:
+    """A condition that an example cannot make true within limits of the inputs: its comparisons, the limits, and the answer. Within wider limits, it
+    can become true after a number of values."""
+
+    props: str
+    condition: str
+    limits: InputLimits
+    answer: str
+    wider_limits: InputLimits
+    value_count: int
+
+    def question(self, limits: InputLimits) -> Question:
+        """Returns the question with these limits."""
+        question = question_of(self.props, [self.condition], 1000000, 1000000)
+        question.limits = limits
+        return question
+
+
+# The answers of the second implementation.
+LIMITED_CONDITIONS = [
+    # If the switch is never opened, the counter counts at most once.
+    LimitedCondition("counter.props", "in character 0 whole 2 15", InputLimits(only=True), "holds 114", InputLimits(only=True, test=True), 337),
+    # If the key is never pressed, the die always shows the same face.
+    LimitedCondition("die.props", "in ramport 0 whole 3 3", InputLimits(only=True), "holds 3", InputLimits(only=True, keys=[(0, 0)]), 4),
+    # The scan finds several keys in a row only if they are down together.
+    LimitedCondition(LOCK, "in register 6 whole 14 14", InputLimits(1, True, [(0, 0), (0, 1)]), "holds 2259",
+                     InputLimits(2, True, [(0, 0), (0, 1)]), 2),
+    # The lock opens only with the key 4.
+    LimitedCondition(LOCK, "in ramport 0 line1 1 1", InputLimits(1, True, [(0, 0), (2, 0), (3, 2)]), "holds 8797",
+                     InputLimits(1, True, [(0, 0), (1, 0), (2, 0), (3, 2)]), 201),
+    # With the keys 0, + and = alone, the calculator never divides by zero. With /, it does.
+    LimitedCondition("calculator/calculator.props", "in ramport 0 line2 1 1", InputLimits(1, True, [(3, 0), (3, 3), (4, 3)]), "holds 6084",
+                     InputLimits(1, True, [(0, 3), (3, 0), (4, 3)]), 51),
 ]
 
 

@@ -270,3 +270,35 @@ WRONG_SEARCHES: dict[str, Callable[[], AbstractContextManager]] = {
         CORRECT_EARLY(board) and second_search.marks_seen(board) < len(second_search.mark_sequence_of(board).marks) - 1)),
     **{f"no mistake {kind}": replace_function(second_search, "mistakes_of_next_cycle", lambda board, kind=kind: CORRECT_MISTAKES(board) - {kind}) for kind in second_search.MISTAKES},
 }
+
+
+# ---- limits of the inputs
+
+def values_with_few_lines(board: Board) -> dict[int, Levels]:
+    """Limits the number of lines that read 1, instead of the number of keys. A port can have lines that always read 1."""
+    values = CORRECT_VALUES(board)
+    is_port_read = second_search.next_instruction(board)[0] == "RDR"
+    return {value: levels for value, levels in values.items() if not is_port_read or value.bit_count() <= second_search.max_keys_down(board)}
+
+
+CORRECT_KEYS, CORRECT_TEST, CORRECT_MAX = second_search.allowed_keys, second_search.allowed_test_levels, second_search.max_keys_down
+WRONG_LIMITS: dict[str, Callable[[], AbstractContextManager]] = {
+    "together is ignored": replace_function(second_search, "max_keys_down", lambda board: len(second_search.all_keys(board))),
+    "one more key is down": replace_function(second_search, "max_keys_down", lambda board: CORRECT_MAX(board) + 1),
+    "one key less is down": replace_function(second_search, "max_keys_down", lambda board: max(CORRECT_MAX(board) - 1, 0)),
+    "together counts lines that read 1": replace_function(second_search, "values_read", values_with_few_lines),
+    "only allows all keys": replace_function(second_search, "allowed_keys", second_search.all_keys),
+    "only excludes all keys": replace_function(second_search, "allowed_keys", lambda board: (
+        [] if second_search.limits_of(board).only else CORRECT_KEYS(board))),
+    "press limits keys without only": replace_function(second_search, "allowed_keys", lambda board: [
+        key for key in second_search.all_keys(board) if key in second_search.limits_of(board).keys]),
+    "press has the column first": replace_function(second_search, "allowed_keys", lambda board: [
+        key for key in second_search.all_keys(board) if not second_search.limits_of(board).only or key[::-1] in second_search.limits_of(board).keys]),
+    "TEST is free": replace_function(second_search, "allowed_test_levels", lambda _board: [0, 1]),
+    "TEST is 0 with only": replace_function(second_search, "allowed_test_levels", lambda board: (
+        [0] if second_search.limits_of(board).only else CORRECT_TEST(board))),
+    "TEST is 0 without test": replace_function(second_search, "allowed_test_levels", lambda board: (
+        [0, 1] if second_search.limits_of(board).test else [0])),
+    "TEST stays at 1": replace_function(second_search, "allowed_test_levels", lambda board: (
+        [1] if CORRECT_TEST(board) == [0] else [0, 1])),
+}

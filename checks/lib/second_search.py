@@ -1,5 +1,5 @@
 """A second implementation of mcs4-prove, which runs the board of board4004.py and shares no code with the program. It searches breadth-first through
-all states that a machine can reach with any keys and any level of TEST, and tests the conditions of a question in each cycle.
+all states that a machine can reach with any keys and any level of TEST that the question allows, and tests the question's conditions in each cycle.
 
 A state is everything in a machine except its inputs. It includes the number of cycles that the stopwatch shows, if the question has a stopwatch, and
 the number of marks that were seen, if the question has marks. (A mark is a key that the program must read as up or as down.)
@@ -11,6 +11,7 @@ or until the machine repeats an earlier state. It tests the conditions after eac
 
 from __future__ import annotations
 
+import itertools
 import random
 from collections.abc import Callable, Iterable
 from dataclasses import dataclass, field
@@ -25,10 +26,13 @@ Mistakes = tuple[str, ...]
 Row = list[Comparison | Mistakes]
 # A mark: `up` or `down`, and the row and the column of a key. The program sees the mark when it reads a value that shows that the key is up or down.
 Mark = tuple[str, int, int]
-# The keys that are down, by row and column, and the level of TEST.
-Levels = tuple[frozenset[tuple[int, int]], int]
+# The row and the column of a key.
+Key = tuple[int, int]
+# The keys that are down, and the level of TEST.
+Levels = tuple[frozenset[Key], int]
 Condition = Callable[[Board], bool]
-NO_LEVELS: Levels = (frozenset(), 1)
+# The levels of the inputs at power-on.
+LEVELS_AT_POWER_ON: Levels = (frozenset(), 1)
 
 
 def condition_lines(word: str, rows: list[Row]) -> list[str]:
@@ -37,11 +41,34 @@ def condition_lines(word: str, rows: list[Row]) -> list[str]:
 
 
 @dataclass
+class InputLimits:
+    """The inputs that a question allows. At most `together` keys are down at a time, or any number if it is None. If `only` is true, a key can be
+    pressed only if it is one of `keys`, and TEST can be 1 only if `test` is true. Otherwise all keys can be pressed, and TEST can be 0 or 1."""
+
+    together: int | None = None
+    only: bool = False
+    keys: list[Key] = field(default_factory=list)
+    test: bool = False
+
+    def lines(self) -> list[str]:
+        """Returns the lines of a question for these limits."""
+        return [*([] if self.together is None else [f"together {self.together}"]), *(["only"] if self.only else []),
+                *(f"press {row} {column}" for row, column in self.keys), *(["test"] if self.test else [])]
+
+    def allow(self, levels: Levels) -> bool:
+        """Returns true if the limits allow these levels of keys and TEST."""
+        if self.together is not None and len(levels[0]) > self.together:
+            return False
+        return not self.only or levels[0] <= set(self.keys) and levels[1] <= int(self.test)
+
+
+@dataclass
 class Question:
     """A question about a board and a program. A row is met when all its conditions are true. No row of `nevers` may ever be met. `max_states` is the
     maximum number of states, and `pause` the maximum number of cycles from one state to the next. If `within` is not None, there is a stopwatch,
     which must never show more than `within` cycles. It starts when a row of `begins` is met, and stops when a row of `ends` is met. A row of `opens`
-    may only be met after all `marks` were seen in order since the last time that such a row was met."""
+    may only be met after all `marks` were seen in order since the last time that such a row was met. The answer is about the inputs that `limits`
+    allows."""
 
     board: list[str]
     program: list[str]
@@ -53,18 +80,24 @@ class Question:
     within: int | None = None
     opens: list[Row] = field(default_factory=list)
     marks: list[Mark] = field(default_factory=list)
+    limits: InputLimits = field(default_factory=InputLimits)
 
-    def lines(self) -> list[str]:
-        """Returns the question in the form that the program reads."""
-        limits = [] if self.within is None else [f"within {self.within}"]
+    def parts(self) -> list[list[str]]:
+        """Returns the question in the form that the program reads: single lines, and the texts with the lines that enclose them."""
+        time_limit = [] if self.within is None else [f"within {self.within}"]
         conditions = [line for word, rows in (("never", self.nevers), ("begin", self.begins), ("end", self.ends), ("open", self.opens))
                       for line in condition_lines(word, rows)]
         marks = [" ".join(map(str, mark)) for mark in self.marks]
-        return [f"most {self.max_states}", f"pause {self.pause}", *limits, *self.setup_lines(), *conditions, *marks, "prove"]
+        return [[f"most {self.max_states}"], [f"pause {self.pause}"], *([line] for line in time_limit), *self.texts(),
+                *([line] for line in (*conditions, *marks, *self.limits.lines(), "prove"))]
 
-    def setup_lines(self) -> list[str]:
-        """Returns the session lines that set up the question's board and program."""
-        return ["wire", *self.board, ".", "asm", *self.program, "."]
+    def texts(self) -> list[list[str]]:
+        """Returns the lines of the board and of the program, with the lines that enclose them in a question and in a session."""
+        return [["wire", *self.board, "."], ["asm", *self.program, "."]]
+
+    def lines(self) -> list[str]:
+        """Returns the lines of the question."""
+        return [line for part in self.parts() for line in part]
 
 
 @dataclass
@@ -113,9 +146,9 @@ OPEN_CALLS = 3
 # The instructions that access a RAM chip: its characters, its status characters and its port.
 FOR_RAM = {"WRM", "RDM", "ADM", "SBM", "WMP", *(f"{way}{k}" for way in ("WR", "RD") for k in range(4))}
 MISTAKES = ("code", "call", "return", "ram", "rom", "rdr", "wrr")
-# The attributes that the search adds to a board: the number of open calls, the stopwatch, the cycles that it shows, the marks to see, and the number
-# of marks that were seen.
-CALLS, STOPWATCH, ELAPSED, MARK_SEQUENCE, SEEN = "calls", "stopwatch", "elapsed", "mark_sequence", "seen"
+# The attributes that the search adds to a board: the number of open calls, the stopwatch, the cycles that it shows, the marks to see, the number of
+# marks that were seen, and the limits of the inputs.
+CALLS, STOPWATCH, ELAPSED, MARK_SEQUENCE, SEEN, LIMITS = "calls", "stopwatch", "elapsed", "mark_sequence", "seen", "limits"
 
 
 def calls_of(board: Board) -> int:
@@ -184,7 +217,7 @@ def set_marks_seen(board: Board, seen: int) -> None:
     setattr(board, SEEN, seen)
 
 
-def value_with(board: Board, keys_down: Iterable[tuple[int, int]]) -> int:
+def value_with(board: Board, keys_down: Iterable[Key]) -> int:
     """Returns the value of the selected port with these keys down."""
     chips = board.chips
     previous_keys, chips.pressed_keys = chips.pressed_keys, set(keys_down)
@@ -193,7 +226,7 @@ def value_with(board: Board, keys_down: Iterable[tuple[int, int]]) -> int:
     return value
 
 
-def all_keys(board: Board) -> list[tuple[int, int]]:
+def all_keys(board: Board) -> list[Key]:
     """Returns the keys of a board."""
     return [(row, column) for row in range(board.chips.keys["rows"]) for column in range(len(board.chips.columns))]
 
@@ -297,6 +330,31 @@ def failure_condition(question: Question) -> Condition:
     return lambda board: is_bad(board) or is_late(board, question.within) or is_early(board)
 
 
+# ---- the inputs that a question allows
+
+def limits_of(board: Board) -> InputLimits:
+    """Returns the limits of a board's inputs."""
+    return getattr(board, LIMITS)
+
+
+def allowed_keys(board: Board) -> list[Key]:
+    """Returns the keys of a board that can be pressed."""
+    limits = limits_of(board)
+    return [key for key in all_keys(board) if key in limits.keys] if limits.only else all_keys(board)
+
+
+def allowed_test_levels(board: Board) -> list[int]:
+    """Returns the levels that TEST can have."""
+    limits = limits_of(board)
+    return [0] if limits.only and not limits.test else [0, 1]
+
+
+def max_keys_down(board: Board) -> int:
+    """Returns the maximum number of keys that can be down at a time."""
+    together = limits_of(board).together
+    return len(all_keys(board)) if together is None else together
+
+
 # ---- what a machine reads
 
 def next_instruction(board: Board) -> tuple[str, int]:
@@ -312,30 +370,38 @@ def is_reading(board: Board) -> bool:
 
 
 def port_values(board: Board) -> dict[int, Levels]:
-    """Returns the values that RDR can read, each with keys that produce it. Two keys together pull all lines that either of them pulls."""
-    chips = board.chips
-    port = chips.rom_src >> 4
-
-    def value_at(keys_down: Iterable[tuple[int, int]]) -> int:
-        chips.pressed_keys = set(keys_down)
-        return chips.read_port(port)
-
-    keys = [(row, column) for row in range(chips.keys["rows"]) for column in range(len(chips.columns))]
-    keys_by_value = {value_at([key]): key for key in keys}
-    values = {value_at([]): NO_LEVELS}
-    for key in keys_by_value.values():
-        for keys_down, _test in list(values.values()):
-            both_down = keys_down | {key}
-            values.setdefault(value_at(both_down), (both_down, 1))
+    """Returns the values that RDR can read, each with allowed levels that produce it. Tries all sets of allowed keys that are small enough. Keys that
+    pull the same lines are interchangeable, so the sets contain one of them. Keys that pull no line are omitted."""
+    test, value_without_keys = allowed_test_levels(board)[-1], value_with(board, [])
+    keys_by_value = {value_with(board, [key]): key for key in allowed_keys(board)}
+    keys = [key for value, key in keys_by_value.items() if value != value_without_keys]
+    values: dict[int, Levels] = {}
+    for count in range(min(len(keys), max_keys_down(board)) + 1):
+        for keys_down in itertools.combinations(keys, count):
+            values.setdefault(value_with(board, keys_down), (frozenset(keys_down), test))
     return values
 
 
 def values_read(board: Board) -> dict[int, Levels]:
-    """Returns the values that the next cycle can read, each with levels that produce it. If it reads none, the only value is 0."""
+    """Returns the values that the next cycle can read, each with allowed levels that produce it. If it reads none, the only value is 0."""
     name, low = next_instruction(board)
     if name == "RDR":
         return port_values(board)
-    return {0: (frozenset(), 0), 1: (frozenset(), 1)} if name == "JCN" and low % 2 == 1 else {0: NO_LEVELS}
+    levels = allowed_test_levels(board)
+    return {level: (frozenset(), level) for level in levels} if name == "JCN" and low % 2 == 1 else {0: (frozenset(), levels[-1])}
+
+
+def values_by_enumeration(board: Board, max_keys: int) -> set[int] | None:
+    """Returns the values that the next cycle can read. Tries all levels of keys and TEST that the limits allow. Returns None if the board has more
+    than `max_keys` keys."""
+    keys, (name, low) = all_keys(board), next_instruction(board)
+    if len(keys) > max_keys:
+        return None
+    all_levels = [(frozenset(itertools.compress(keys, pattern)), test) for pattern in itertools.product((0, 1), repeat=len(keys)) for test in (0, 1)]
+    allowed = [levels for levels in all_levels if limits_of(board).allow(levels)]
+    if name == "RDR":
+        return {value_with(board, keys_down) for keys_down, _test in allowed}
+    return {test for _keys_down, test in allowed} if name == "JCN" and low % 2 == 1 else {0}
 
 
 # ---- from state to state
@@ -387,6 +453,7 @@ def power_on(question: Question) -> Board:
     bench4004.load(board, question.program)
     board.power_on()
     set_calls(board, 0)
+    setattr(board, LIMITS, question.limits)
     if question.within is not None:
         setattr(board, STOPWATCH, Stopwatch(condition_of(question.begins), condition_of(question.ends)))
     if question.marks:
@@ -429,14 +496,15 @@ def values_leading_to(origins: list[tuple[int, int]], index: int) -> list[int]:
 
 
 def is_met_when_driven(question: Question, rng: random.Random, cycles: int) -> bool:
-    """Returns true if the property fails within a number of cycles when keys and TEST are set at random before each cycle."""
+    """Returns true if the property fails within a number of cycles when keys and TEST are set to random allowed levels before each cycle."""
     board, is_bad = power_on(question), failure_condition(question)
-    chips = board.chips
+    keys, test_levels = allowed_keys(board), allowed_test_levels(board)
     for _cycle in range(cycles):
         if is_bad(board):
             return True
-        chips.pressed_keys = {(row, column) for row in range(chips.keys["rows"]) for column in range(len(chips.columns)) if rng.random() < 0.1}
-        board.test = rng.randrange(2)
+        keys_down = [key for key in keys if rng.random() < 0.1]
+        board.chips.pressed_keys = set(rng.sample(keys_down, min(len(keys_down), max_keys_down(board))))
+        board.test = rng.choice(test_levels)
         run_cycle(board)
     return is_bad(board)
 
@@ -453,8 +521,8 @@ def commands(levels: Levels, previous: Levels) -> list[str]:
 def replay_lines(question: Question, path: list[int]) -> tuple[list[str], str]:
     """Returns the session lines that replay a counterexample up to the cycle in which the property fails, and a description of the error, or "" if
     there is none."""
-    board, is_bad, levels_before = power_on(question), failure_condition(question), NO_LEVELS
-    lines, has_failed = [*question.setup_lines(), "reset"], is_bad(board)
+    board, is_bad, levels_before = power_on(question), failure_condition(question), LEVELS_AT_POWER_ON
+    lines, has_failed = [*itertools.chain(*question.texts()), "reset"], is_bad(board)
     for index, value in enumerate(path):
         readable = values_read(board)
         if has_failed or value not in readable:
@@ -464,6 +532,21 @@ def replay_lines(question: Question, path: list[int]) -> tuple[list[str], str]:
         lines += commands(levels, levels_before) + [f"run {part}" for part in run_lengths(cycles)]
         levels_before = levels
     return lines, "" if has_failed else f"nothing is met on the way {path}"
+
+
+def excluded_input(limits: InputLimits, lines: list[str]) -> str:
+    """Returns a description of the inputs at the first run in session lines at which the limits exclude them, or "" if there is no such run."""
+    keys_down, test = LEVELS_AT_POWER_ON
+    for line in lines:
+        command, *words = line.split() or [""]
+        if command in ("press", "release"):
+            key = int(words[0]), int(words[1])
+            keys_down = keys_down | {key} if command == "press" else keys_down - {key}
+        elif command == "test":
+            test = int(words[0])
+        elif command == "run" and not limits.allow((keys_down, test)):
+            return f"the limits exclude the keys {sorted(keys_down)} with TEST at {test}"
+    return ""
 
 
 def run_lengths(cycles: int, max_cycles: int = 100000) -> list[int]:

@@ -1,6 +1,7 @@
 """Random questions to mcs4-prove, reproducible by a seed. Each has a random board (seeded_boards.py), a short program that reads keys and TEST in
 loops, and comparisons of values that such a program changes. Some of the comparisons become true, and some never do. Some questions also ask for
-mistakes of the program. A quarter of the questions have a stopwatch, and a quarter have marks (second_search.py explains these words).
+mistakes of the program. A quarter of the questions have a stopwatch, and a quarter have marks (second_search.py explains these words). The same
+questions can get limits of the inputs.
 """
 
 from __future__ import annotations
@@ -13,7 +14,8 @@ from collections.abc import Iterator
 from assembler import CODES_WITHOUT_OPERAND
 from board4004 import Board
 from second_search import (
-    MISTAKES, Comparison, Mark, Question, Row, all_keys, cell_value, elapsed_of, run_to_next_state, is_mark_shown, power_on, values_read)
+    MISTAKES, Comparison, InputLimits, Key, Mark, Question, Row, all_keys, cell_value, elapsed_of, run_to_next_state, is_mark_shown, power_on, search,
+    values_read)
 from seeded_boards import INVALID_CODES, Program, Seeded, Wiring
 
 # Most of the instructions that do not access a chip.
@@ -291,3 +293,83 @@ def seeded_question(seed: int, most: int) -> Question:
     if seed % 8 == 2:
         add_marks(question, rng, wiring)
     return question
+
+
+# ---- limits of the inputs
+
+# The maximum number of questions among which `limited_question` chooses.
+MAX_ATTEMPTS = 4
+
+
+def random_limits(rng: random.Random, keys: list[Key]) -> InputLimits:
+    """Returns random limits for a board with these keys. Some limits allow all inputs. Some allow the press of keys that the board does not have."""
+    if rng.random() < 0.1:
+        return InputLimits(rng.choice([None, len(keys), 255]), True, keys, True)
+    limits = InputLimits(rng.choice([None, None, None, 0, 1, 1, 1, 2, 2, 3, 255]), rng.random() < 0.6, [], rng.random() < 0.5)
+    if limits.only or rng.random() < 0.3:
+        limits.keys = rng.sample(keys, rng.randrange(len(keys) + 1)) + rng.choice([[], [], [(rng.randrange(256), rng.randrange(256))]])
+    return limits
+
+
+def chord_question(rng: random.Random, wiring: Wiring) -> Question:
+    """Returns a question about a program that drives some rows and stores a number in a register after it reads a certain value. Some of these
+    programs also test TEST. The value can require several keys, so that limits of the inputs can exclude it."""
+    register, number = rng.randrange(12), rng.randrange(1, 16)
+    program = [" FIM P7, 0", " SRC P7"]
+    for _bit in range(rng.randrange(1, wiring.first + wiring.rows + 1)):
+        data = rng.choice([0, 2, 2])
+        program += [f" LDM {data}", " WRR", f" LDM {data + 1}", " WRR"]
+    program += [" FIM P6, 0x10", " SRC P6", "loop: RDR"]
+    if rng.random() < 0.4:
+        # KBP converts a value with more than one line at 1 to 15.
+        program += [" KBP", " IAC", " JCN 12, loop"]
+    else:
+        lines = {int(line[-1]) for line in rng.sample(wiring.columns, rng.randrange(1, len(wiring.columns) + 1))}
+        fixed = sum(1 << k for k in range(4) if wiring.ports[1][3 - k] == "1")
+        program += [" XCH R12", f" LDM {sum(1 << line for line in lines) | fixed}", " CLC", " SUB R12", " JCN 12, loop"]
+    program += rng.choice([[], [], [" JCN 1, loop"], [" JCN 9, loop"]])
+    nevers: list[Row] = [[("in", "register", register, "whole", number, number)]]
+    return Question(wiring.text(), [*program, f" LDM {number}", f" XCH R{register}", " JUN loop"], nevers)
+
+
+def unlimited(question: Question) -> Question:
+    """Returns the question without limits of the inputs."""
+    return dataclasses.replace(question, limits=InputLimits())
+
+
+def random_limited_question(rng: random.Random, most: int) -> Question:
+    """Returns a random question with limits of the inputs. Half of these questions are about keys that are down together."""
+    if rng.random() < 0.5:
+        question = chord_question(rng, KeyWiring(rng))
+        question.max_states, question.pause = most, rng.choice([1, 7, 100])
+    else:
+        question = seeded_question(rng.randrange(100000), most)
+    question.limits = random_limits(rng, all_keys(power_on(question)))
+    return question
+
+
+def limited_question(seed: int, most: int) -> Question:
+    """Returns a random question with limits of the inputs. If a few attempts find one, the limits change the result of a short search."""
+    rng = random.Random(f"limits {seed}")
+    for _attempt in range(MAX_ATTEMPTS):
+        question = random_limited_question(rng, most)
+        few_states = dataclasses.replace(question, max_states=30)
+        if search(few_states) != search(unlimited(few_states)):
+            break
+    return question
+
+
+def lines_in_random_order(question: Question, rng: random.Random) -> list[str]:
+    """Returns the lines of a question, with the lines of its limits at random places outside the texts. One of these lines is repeated. If there is a
+    `together` line, another one with another number precedes it, because only the last one counts."""
+    limits = question.limits.lines()
+    together = [line for line in limits if line.startswith("together")]
+    others = [line for line in limits if line not in together]
+    parts = unlimited(question).parts()
+    for line in [*others, *rng.sample(others, min(len(others), 1))]:
+        parts.insert(rng.randrange(len(parts)), [line])
+    for line in together:
+        place = rng.randrange(len(parts))
+        parts.insert(place, [line])
+        parts.insert(rng.randrange(place + 1), [f"together {rng.randrange(256)}"])
+    return [line for part in parts for line in part]

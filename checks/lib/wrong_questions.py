@@ -10,6 +10,10 @@ NO_LINES = [
     "most", "most x", "most -1", "most 1 2", "most 4000000001", f"most {'9' * 5000}", "most 0x", "most 1.5", "Most 1", "pause", "pause 0", "pause 1000000001",
     "pause 0x", "memory", "memory x", "memory 1000001", "wire", "wire x", "asm", "asm x", ".", "[[rom]]", "never x", "nevermore", "prove it", "proved",
     "within", "within x", "within -1", "within 1 2", "within 16777215", "begin x", "begins", "end x", "ended",
+    "together", "together x", "together -1", "together 256", "together 1 2", f"together {'9' * 5000}", "together 0x", "together 1.5", "Together 1",
+    "togethers 1", "only x", "only 1", "only only", "only press 0 0", "Only", "press", "press 1", "press 1 2 3", "press 256 0", "press 0 256",
+    "press x 0", "press 0 x", "press 0 -1", "press 1.0", "press 1,0", "Press 0 0", "presses 0 0", "test 0", "test 1", "test x", "test test", "Test",
+    "tests", "release 0 0", "together 1\0", "only\0", "press 0 0\0", "test\0", "press 0 0 0 0 0", "test register 0 whole 0 0",
     "open x", "opens", "up", "up 0", "up 0 0 0", "up x 0", "up 0 256", "up 0 -1", "Up 0 0", "ups 0 0", "down", "down 256 0", "in 0 0",
     "\0", "most 1\0", "\x7f", "x" * 100000, "in register 0 whole 0 0", "out register 0 whole 0 0", "mistake code"]
 # Invalid comparisons.
@@ -22,6 +26,8 @@ NO_COMPARISONS = [
     "in register 0 whole 0x100 0", "in register 0 whole a b", "mistake", "mistake x", "mistake code x", "mistake code,call", "Mistake code", "mistakes code"]
 # Lines that start a stopwatch with a condition that is never true.
 NEVER_BEGUN = ["begin", "in register 0 whole 9 3"]
+# Lines that limit the inputs of the question in BEGUN, whose board has no inputs.
+LIMIT_LINES = ["together 0", "together 255", " together\t0xFF ", "only", "\tonly ", "test", "press 0 0", "press 255 255", "press 0x0  0xff"]
 # The lines of each question, with the exit status and the answer.
 ANSWERS: list[tuple[list[str], int, str]] = [
     ([], 2, "no question"), ([""], 2, "no question"), (["prove"], 2, "no question"), ([*BOARD, "prove"], 2, "no question"),
@@ -58,6 +64,16 @@ ANSWERS: list[tuple[list[str], int, str]] = [
     ([*BEGUN, "up 0 0", "open", "in counter 17 whole 1 255", "prove"], 0, "holds 1"),
     ([*BEGUN, "never", "up 0 0", "open", "in register 0 whole 9 3", "prove"], 0, "may fail"),
     ([*BEGUN, "never", "open", "in register 0 whole 9 3", "up 0 0", "prove"], 0, "may fail"),
+    # Limits of the inputs are allowed anywhere, except in a text or after the last line.
+    *(([*lines, "prove"], 0, "holds 1") for line in LIMIT_LINES for lines in (
+        [line, *BEGUN], [*BEGUN[:2], *BOARD, line, *PROGRAM], [*BEGUN, line, line])),
+    *(([*BEGUN, "never", line, "in register 0 whole 0 0", "prove"], 0, "may fail") for line in LIMIT_LINES),
+    *(([*BEGUN, "never", "in register 0 whole 0 0", line, "in register 1 whole 1 1", "prove"], 0, "holds 1") for line in LIMIT_LINES),
+    *(([*BEGUN, "prove", line], 2, f"wrong line {len(BEGUN) + 2}") for line in LIMIT_LINES),
+    *(([*BOARD, "asm", " NOP", line, ".", "prove"], 3, "no 30 2") for line in LIMIT_LINES),
+    *((["wire", line, ".", *PROGRAM, "prove"], 3, "no 20") for line in LIMIT_LINES),
+    *(([line, "prove"], 2, "no question") for line in LIMIT_LINES), ([*BEGUN, *LIMIT_LINES], 2, "no question"),
+    ([*BEGUN, "only", *1000 * ["press 255 255"], "prove"], 0, "holds 1"), ([*BEGUN, *1000 * ["together 0"], *1000 * ["only"], "prove"], 0, "holds 1"),
     (["wire", "x", ".", *PROGRAM, "prove"], 3, "no 20"), (["wire", "[[rim]]", ".", *PROGRAM, "prove"], 3, "no 21"),
     (["wire", "[[rom]]", "chip = 0", ".", *PROGRAM, "prove"], 3, "no 22"),
     (["wire", "[[rom]]", "chip = 16", 'port = "0000"', ".", *PROGRAM, "prove"], 3, "no 23"),
@@ -66,4 +82,36 @@ ANSWERS: list[tuple[list[str], int, str]] = [
     ([*BOARD, "asm", " NOP", " FOO", ".", "prove"], 3, "no 30 2"), ([*BOARD, "asm", "a: NOP", "a: NOP", ".", "prove"], 3, "no 31 2"),
     ([*BOARD, "asm", "", " JUN b", ".", "prove"], 3, "no 32 2"), ([*BOARD, "asm", " LDM 16", ".", "prove"], 3, "no 33 1"),
     (["wire", ".", *PROGRAM, "prove"], 3, "no 42"), (["wire", ".", "asm", ".", "prove"], 0, "too many"),
+]
+
+
+# ---- what limits of the inputs allow
+
+# A question about a board with two keys in a driven row, whose columns are lines 0 and 1 of a port. Line 3 of the port always reads 1. The program
+# stores the port in R2. It stores 1 in R3 if TEST is 1.
+KEYS_BEGUN = [
+    "most 100", "pause 100", "wire", "[[rom]]", "chip = 0", 'port = "0000"', "[[rom]]", "chip = 1", 'port = "10ii"', "[[chain]]", 'clock = "rom0.0"',
+    'data = "rom0.1"', "chips = 1", "[keys]", "chain = 0", "first = 0", "rows = 1", 'columns = ["rom1.0", "rom1.1"]', ".",
+    "asm", " LDM 2", " WRR", " LDM 3", " WRR", " FIM P0, 0x10", " SRC P0", "loop: JCN 1, read", " LDM 1", " XCH R3", "read: RDR", " XCH R2",
+    " JUN loop", "."]
+# The conditions that the program reads no key, each key, both keys, and a 1 at TEST.
+READS = {"none": "in register 2 whole 8 8", "first": "in register 2 line0 1 1", "second": "in register 2 line1 1 1",
+         "both": "in register 2 whole 11 11", "test": "in register 3 whole 1 1"}
+ALL_READS, ALL_BUT_BOTH = {*READS}, {"none", "first", "second", "test"}
+# Limits, with the conditions that can become true.
+ALLOWED_READS: list[tuple[list[str], set[str]]] = [
+    ([], ALL_READS), (["together 2"], ALL_READS), (["together 255"], ALL_READS), (["test"], ALL_READS), (["press 0 0"], ALL_READS),
+    (["press 1 0"], ALL_READS), (["together 1"], ALL_BUT_BOTH), (["together 0"], {"none", "test"}),
+    (["together 0", "press 0 0", "test"], {"none", "test"}),
+    (["only"], {"none"}), (["only", "test"], {"none", "test"}), (["test", "only"], {"none", "test"}), (["only", "together 2"], {"none"}),
+    (["only", "press 0 0"], {"none", "first"}), (["press 0 1", "only"], {"none", "second"}), (["press 0 1", "together 0", "only"], {"none"}),
+    (["press 0 0", "only", "press 0 1"], {"none", "first", "second", "both"}), (["only", "press 0 0", "press 0 1", "test", "together 2"], ALL_READS),
+    (["only", "press 0 0", "press 0 1", "together 1"], {"none", "first", "second"}),
+    (["press 0 0", "test", "only", "only"], {"none", "first", "test"}),
+    # The board does not have these keys.
+    (["only", "press 1 0", "press 1 1", "press 0 2", "press 0 255", "press 255 0", "press 255 255"], {"none"}),
+    (["only", "press 0 1", "press 1 0"], {"none", "second"}),
+    # Only the last number of keys counts.
+    (["together 1", "together 2"], ALL_READS), (["together 2", "together 1"], ALL_BUT_BOTH),
+    (["together 0", "together 255", "together 0x1"], ALL_BUT_BOTH), (["together 2", "only", "together 0", "press 0 0"], {"none"}),
 ]
