@@ -1,3 +1,4 @@
 mod Reading
 mod Proved
 mod Ignoring
+mod Pressable

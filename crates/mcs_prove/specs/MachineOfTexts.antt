@@ -8,6 +8,7 @@ use Rattle.mcs_model.specs.Command.{after, machine_of, refusal_of_command}
 use Rattle.mcs_model.specs.Images.{by_address}
 use Rattle.mcs_source.specs.Assembly.{assembly_of_text}
 use Rattle.mcs_wiring.specs.Wiring.{board_of_text}
+use Rattle.mcs_drive.specs.DrivenRuns.{InputLimits}
 use Rattle.mcs_drive.specs.TrackedMachine.{Observer, TrackedMachine, with_zero_counts}
 use Rattle.mcs_check.specs.declared.checking.Outcome.{Outcome}
 use Rattle.mcs_check.specs.OutcomeMeaning.{IsProved}
@@ -37,9 +38,10 @@ pub record IsRigOfTexts (board program : List ℕ) (rig : BusState) : Type 0 whe
   pub is_machine : with_zero_counts (new_regs, rig) ≡ machine_with_program parts loaded
 
 -- holds if the promise of an outcome about the property `p` is true of the machine that two texts
--- define; `w` is the observer of the machine's runs
-pub record IsProvedOf (board program : List ℕ) (w : Observer) (p : TrackedMachine → Bool) (outcome : Outcome) : Type 0 where
+-- define; `limits` has the limits of the inputs for each board, and `w` is the observer of the
+-- machine's runs
+pub record IsProvedOf (board program : List ℕ) (limits : BoardParts → InputLimits) (w : Observer) (p : TrackedMachine → Bool) (outcome : Outcome) : Type 0 where
   pub parts : BoardParts
   pub loaded : List (ℕ × ℕ)
   pub accepted : AreTextsAccepted board program parts loaded
-  pub proved : IsProved w p (machine_with_program parts loaded) outcome
+  pub proved : IsProved (limits parts) w p (machine_with_program parts loaded) outcome

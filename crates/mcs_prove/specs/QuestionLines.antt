@@ -16,8 +16,9 @@ use Rattle.mcs_check.specs.declared.conditions.Condition.TheVariants as conditio
 use Rattle.mcs_check.specs.declared.conditions.Part.{Part}
 use Rattle.mcs_check.specs.declared.conditions.Part.TheVariants.{Whole, Line}
 use Rattle.mcs_check.specs.Cells.{max_cell_count}
+use Rattle.mcs_prove.specs.declared.inputs.KeyPosition.{KeyPosition}
 use Rattle.mcs_prove.specs.declared.lines.QuestionLine.{QuestionLine}
-use Rattle.mcs_prove.specs.declared.lines.QuestionLine.TheVariants.{Blank, MaxStates, MaxEntries, MaxMemory, Pause, TimeLimit, BoardText, ProgramText, Conditions, OneCondition, NextMark, Prove}
+use Rattle.mcs_prove.specs.declared.lines.QuestionLine.TheVariants.{Blank, MaxStates, MaxEntries, MaxMemory, Pause, TimeLimit, BoardText, ProgramText, Conditions, OneCondition, NextMark, Together, Only, Pressable, TestMayChange, Prove}
 use Rattle.mcs_prove.specs.declared.lines.ListRole.TheVariants.{Never, Begin, End, Open}
 use Rattle.mcs_prove.specs.declared.lines.TheConstants.{LAST_INDEX, MAX_TIME_LIMIT, MAX_PAUSE, MAX_ENTRIES, MAX_MEMORY}
 
@@ -118,6 +119,15 @@ mark_of level row column =
     number_up_to 255 column >>= λ c.
     Some (record { row = r; column = c; is_down = is_down })
 
+-- ---- a key that may be pressed: `press 1 0`
+
+-- the key at the row and the column that two words spell
+abbrev pub key_of : List ℕ → List ℕ → Option KeyPosition
+key_of row column =
+    number_up_to 255 row >>= λ r.
+    number_up_to 255 column >>= λ c.
+    Some (record { row = r; column = c })
+
 -- ---- lines
 
 abbrev pub one_word_lines : List (List ℕ × QuestionLine)
@@ -128,6 +138,8 @@ one_word_lines =
     ∷ (codes "begin", Conditions Begin)
     ∷ (codes "end", Conditions End)
     ∷ (codes "open", Conditions Open)
+    ∷ (codes "only", Only)
+    ∷ (codes "test", TestMayChange)
     ∷ (codes "prove", Prove)
     ∷ []
 
@@ -141,6 +153,7 @@ number_line name word =
     if bytes_eq name (codes "most") then option_map MaxStates (number_up_to MAX_STATES word)
     else if bytes_eq name (codes "sets") then option_map MaxEntries (number_up_to MAX_ENTRIES word)
     else if bytes_eq name (codes "memory") then option_map MaxMemory (number_up_to MAX_MEMORY word)
+    else if bytes_eq name (codes "together") then option_map Together (number_up_to 255 word)
     else if bytes_eq name (codes "within") then option_map TimeLimit (number_up_to MAX_TIME_LIMIT word)
     else if bytes_eq name (codes "pause") then number_up_to MAX_PAUSE word >>= pause_line
     else None
@@ -151,9 +164,16 @@ comparison_line kind list index (part ∷ low ∷ high ∷ []) =
     option_map (λ c. OneCondition (condition.Compare c)) (comparison_of kind list index part low high)
 comparison_line kind list index words = None
 
--- a line of three or more words: a mark, which has three words, or a comparison, which has six
+-- a line of three words: `press` and a key, or a mark
+abbrev pub three_word_line : List ℕ → List ℕ → List ℕ → Option QuestionLine
+three_word_line name row column =
+    if bytes_eq name (codes "press")
+    then option_map Pressable (key_of row column)
+    else option_map NextMark (mark_of name row column)
+
+-- a line of three or more words: a line of three words, or a comparison, which has six
 abbrev pub longer_line : List ℕ → List ℕ → List ℕ → List (List ℕ) → Option QuestionLine
-longer_line name first second [] = option_map NextMark (mark_of name first second)
+longer_line name first second [] = three_word_line name first second
 longer_line name first second (word ∷ words) = comparison_line name first second (word ∷ words)
 
 abbrev pub line_by_words : List ℕ → List (List ℕ) → Option QuestionLine

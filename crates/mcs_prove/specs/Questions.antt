@@ -5,7 +5,9 @@ use Rattle.mcs_model.specs.Options.{◌>>=◌}
 use Rattle.std.specs.Str.{bytes_eq}
 use Rattle.std.specs.Str.Lines.{lines}
 use Rattle.mcs_model.specs.TextLines.{as_line, words_of}
+use Rattle.mcs_model.specs.declared.board.BoardParts.{BoardParts}
 use Rattle.mcs_drive.specs.declared.marks.Mark.{Mark}
+use Rattle.mcs_drive.specs.DrivenRuns.{InputLimits}
 use Rattle.mcs_drive.specs.Opening.{holds_only_after_marks}
 use Rattle.mcs_drive.specs.TrackedMachine.{Observer, TrackedMachine}
 use Rattle.mcs_check.specs.declared.checking.Outcome.{Outcome}
@@ -19,13 +21,15 @@ use Rattle.mcs_prove.specs.declared.lines.TheConstants.{MAX_MEMORY}
 use Rattle.mcs_prove.specs.declared.question.Section.{Section}
 use Rattle.mcs_prove.specs.declared.question.Section.TheVariants.{Lines, Board, Program}
 use Rattle.mcs_prove.specs.declared.question.TheConstants.{DEFAULT_PAUSE}
+use Rattle.mcs_prove.specs.AllowedInputs.{AllowedInputs, all_inputs, limits_of}
 use Rattle.mcs_prove.specs.MachineOfTexts.{IsProvedOf}
 use Rattle.mcs_prove.specs.QuestionLines.{line_of}
 
 -- a question as read so far. `never_lists`, `begins`, `ends` and `opens` are the complete lists of
 -- conditions. `conditions` is the current list, which follows the last `never`, `begin`, `end` or
--- `open` line. `role` is the role of the current list. `section` is the section to which the next
--- line belongs. `has_prove_line` is true after `prove`.
+-- `open` line. `role` is the role of the current list. `inputs` are the inputs that the question
+-- allows. `section` is the section to which the next line belongs. `has_prove_line` is true after
+-- `prove`.
 pub record QuestionSoFar : Type 0 where
   pub board : Option (List ℕ)
   pub program : Option (List ℕ)
@@ -35,6 +39,7 @@ pub record QuestionSoFar : Type 0 where
   pub limit : Option ℕ
   pub opens : List (List Condition)
   pub marks : List Mark
+  pub inputs : AllowedInputs
   pub role : ListRole
   pub conditions : Option (List Condition)
   pub max_states : ℕ
@@ -54,6 +59,7 @@ empty_question = record {
   limit = None;
   opens = [];
   marks = [];
+  inputs = all_inputs;
   role = Never;
   conditions = None;
   max_states = 0;
@@ -100,6 +106,10 @@ abbrev pub with_condition : QuestionSoFar → Condition → Option (List Conditi
 with_condition a c None = None
 with_condition a c (Some cs) = Some (record a { conditions = Some (cs ++ c ∷ []) })
 
+-- a question with other allowed inputs
+abbrev pub with_inputs : QuestionSoFar → AllowedInputs → QuestionSoFar
+with_inputs a inputs = record a { inputs = inputs }
+
 -- a question after a parsed line; None if the line is not allowed at this point
 abbrev pub after_parsed_line : QuestionSoFar → QuestionLine → Option QuestionSoFar
 after_parsed_line a line.Blank = Some a
@@ -113,6 +123,11 @@ after_parsed_line a line.ProgramText = begin_program a a.program
 after_parsed_line a (line.Conditions role) = Some (record (with_list_ended a) { conditions = Some []; role = role })
 after_parsed_line a (line.OneCondition c) = with_condition a c a.conditions
 after_parsed_line a (line.NextMark mark) = Some (record a { marks = a.marks ++ mark ∷ [] })
+after_parsed_line a (line.Together n) = Some (with_inputs a (record a.inputs { together = Some n }))
+after_parsed_line a line.Only = Some (with_inputs a (record a.inputs { is_restricted = true }))
+after_parsed_line a (line.Pressable key) =
+    Some (with_inputs a (record a.inputs { pressable = a.inputs.pressable ++ key ∷ [] }))
+after_parsed_line a line.TestMayChange = Some (with_inputs a (record a.inputs { test_may_change = true }))
 after_parsed_line a line.Prove = Some (record (with_list_ended a) { has_prove_line = true })
 
 -- a question after the words of a line outside the two texts; None if the line is invalid or
@@ -166,6 +181,10 @@ are_marks_complete a = if length a.marks == 0 then length a.opens == 0 else not 
 abbrev pub is_consistent : QuestionSoFar → Bool
 is_consistent a = is_stopwatch_complete a && are_marks_complete a
 
+-- the limits of the inputs of a question, for each board
+abbrev pub limits_of_question : QuestionSoFar → BoardParts → InputLimits
+limits_of_question a b = limits_of a.inputs b
+
 -- the observer of a question's stopwatch and marks
 abbrev pub observer_of_question : QuestionSoFar → Observer
 observer_of_question a = observer_of a.begins a.ends a.opens a.marks
@@ -181,13 +200,14 @@ is_within_limit (Some limit) s = nat_le s.2.elapsed limit
 abbrev pub keeps_property : Observer → List (List Condition) → Option ℕ → TrackedMachine → Bool
 keeps_property w never_lists limit s = meets_none never_lists s && is_within_limit limit s && holds_only_after_marks w s
 
--- holds if the promise of an outcome is true of the machine that two texts define, for this
--- observer and this property
-abbrev pub IsPropertyProvedOf : List ℕ → List ℕ → Observer → List (List Condition) → Option ℕ → Outcome → Type 0
-IsPropertyProvedOf board program w never_lists limit outcome = IsProvedOf board program w (keeps_property w never_lists limit) outcome
+-- holds if the promise of an outcome is true of the machine that two texts define, for these limits
+-- of the inputs, this observer and this property
+abbrev pub IsPropertyProvedOf : List ℕ → List ℕ → (BoardParts → InputLimits) → Observer → List (List Condition) → Option ℕ → Outcome → Type 0
+IsPropertyProvedOf board program limits w never_lists limit outcome =
+    IsProvedOf board program limits w (keeps_property w never_lists limit) outcome
 
 -- holds if a text contains a complete question, and the promise of an outcome is true for the
--- property of this question
+-- property of this question and for the inputs that this question allows
 pub record IsAnswerTo (text : List ℕ) (outcome : Outcome) : Type 0 where
   pub question : QuestionSoFar
   pub board : List ℕ
@@ -197,4 +217,4 @@ pub record IsAnswerTo (text : List ℕ) (outcome : Outcome) : Type 0 where
   pub is_consistent : is_consistent question ≡ true
   pub has_board : question.board ≡ Some board
   pub has_program : question.program ≡ Some program
-  pub proved : IsPropertyProvedOf board program (observer_of_question question) question.never_lists question.limit outcome
+  pub proved : IsPropertyProvedOf board program (limits_of_question question) (observer_of_question question) question.never_lists question.limit outcome

@@ -116,6 +116,7 @@ fn outcome_of(alloc: Global, text: &str) -> Result<Outcome, Refusal>
         limit,
         opens,
         marks,
+        inputs,
         max_states,
         max_entries,
         memory,
@@ -146,6 +147,7 @@ fn outcome_of(alloc: Global, text: &str) -> Result<Outcome, Refusal>
         alloc,
         board.as_str(),
         program.as_str(),
+        &inputs,
         Goal {
             never_lists,
             begins,

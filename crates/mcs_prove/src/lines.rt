@@ -15,14 +15,19 @@
 //!     open                        the conditions that follow must not all be met before the marks were seen, in order
 //!     up 1 0                      mark: a read shows that the key at row 1, column 0 is up
 //!     down 1 0                    mark: a read shows that the key at row 1, column 0 is down
+//!     together 2                  at most 2 keys are down at a time
+//!     only                        no key may be pressed and TEST stays at 0, except as `press` and `test` lines allow
+//!     press 1 0                   the key at row 1, column 0 may be pressed
+//!     test                        TEST may be 0 or 1
 //!     prove                       the question is complete; every question must end with this line
 ghost use Rattle.std.specs.Prelude.{◌≡◌};
 ghost use Rattle.std.specs.Str.{bytes_eq};
 ghost use Rattle.mcs_model.specs.Numerals.{number_up_to};
 ghost use Rattle.mcs_model.specs.TextLines.{words_of};
 ghost use Rattle.mcs_model.specs.WordTables.{lookup_entry};
-ghost use Rattle.mcs_prove.specs.QuestionLines.{cell_lists, cell_of, cell_parts, comparison_kinds, comparison_line, comparison_of, key_levels, line_by_words, line_of, longer_line, mark_of, mistakes_of, no_mistakes, number_line, one_word_lines, with_mistake, with_mistakes};
+ghost use Rattle.mcs_prove.specs.QuestionLines.{cell_lists, cell_of, cell_parts, comparison_kinds, comparison_line, comparison_of, key_levels, key_of, line_by_words, line_of, longer_line, mark_of, mistakes_of, no_mistakes, number_line, one_word_lines, three_word_line, with_mistake, with_mistakes};
 
+use crate::inputs::KeyPosition;
 use mcs_check::{Cell, CellList, Comparison, Condition, Mark, Mistakes, Part, StopwatchCycles};
 use mcs_lines::words::{equals, next_word};
 use mcs_model::numeral::number_within;
@@ -81,6 +86,14 @@ pub(crate) enum QuestionLine {
     OneCondition(Condition),
     /// The next mark.
     NextMark(Mark),
+    /// The maximum number of keys that are down at a time.
+    Together(u8),
+    /// Only the keys of the `press` lines may be pressed, and TEST may be 1 only if there is a `test` line.
+    Only,
+    /// A key that may be pressed.
+    Pressable(KeyPosition),
+    /// TEST may be 0 or 1.
+    TestMayChange,
     /// The question is complete.
     Prove,
 }
@@ -258,6 +271,10 @@ fn one_word_line(word: &[u8]) -> Option<QuestionLine>
         Some(QuestionLine::Conditions(ListRole::End))
     } else if equals(word, b"open") {
         Some(QuestionLine::Conditions(ListRole::Open))
+    } else if equals(word, b"only") {
+        Some(QuestionLine::Only)
+    } else if equals(word, b"test") {
+        Some(QuestionLine::TestMayChange)
     } else if equals(word, b"prove") {
         Some(QuestionLine::Prove)
     } else {
@@ -277,6 +294,9 @@ fn number_line(name: &[u8], word: &[u8]) -> Option<QuestionLine>
     }
     if equals(name, b"memory") {
         return Some(QuestionLine::MaxMemory(number_within(word, MAX_MEMORY)?));
+    }
+    if equals(name, b"together") {
+        return Some(QuestionLine::Together(byte_of(word)?));
     }
     if equals(name, b"within") {
         let limit = StopwatchCycles::of(number_within(word, MAX_TIME_LIMIT)?)?;
@@ -320,6 +340,25 @@ fn mark_of(level: &[u8], row: &[u8], column: &[u8]) -> Option<Mark>
     })
 }
 
+/// Parses a key from its row and its column.
+fn key_of(row: &[u8], column: &[u8]) -> Option<KeyPosition>
+    ensures { result ≡ key_of row.now column.now }
+{
+    let row = byte_of(row)?;
+    let column = byte_of(column)?;
+    Some(KeyPosition { row, column })
+}
+
+/// Parses a line of three words: `press` and a key, or a mark.
+fn three_word_line(name: &[u8], row: &[u8], column: &[u8]) -> Option<QuestionLine>
+    ensures { result ≡ three_word_line name.now row.now column.now }
+{
+    if equals(name, b"press") {
+        return Some(QuestionLine::Pressable(key_of(row, column)?));
+    }
+    Some(QuestionLine::NextMark(mark_of(name, row, column)?))
+}
+
 /// Parses a line of four or more words, of which `rest` are the words after the third. Returns `None` unless the line
 /// is a comparison, which has six words.
 fn comparison_line(kind: &[u8], list: &[u8], index: &[u8], rest: &[u8]) -> Option<QuestionLine>
@@ -337,12 +376,12 @@ fn comparison_line(kind: &[u8], list: &[u8], index: &[u8], rest: &[u8]) -> Optio
     }
 }
 
-/// Parses a line of three or more words: a mark, which has three words, or a comparison, which has six.
+/// Parses a line of three or more words: a line of three words, or a comparison, which has six.
 fn longer_line(name: &[u8], first: &[u8], second: &[u8], rest: &[u8]) -> Option<QuestionLine>
     ensures { result ≡ longer_line name.now first.now second.now (words_of rest.now) }
 {
     match next_word(rest) {
-        None => Some(QuestionLine::NextMark(mark_of(name, first, second)?)),
+        None => three_word_line(name, first, second),
         Some(_) => comparison_line(name, first, second, rest),
     }
 }

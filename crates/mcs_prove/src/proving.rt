@@ -1,12 +1,16 @@
-//! Proves, for all inputs, that a machine never meets given conditions. A board's text and a program's text define the
-//! machine.
+//! Proves, for all allowed inputs, that a machine never meets given conditions. A board's text and a program's text
+//! define the machine.
 ghost use Rattle.std.specs.Prelude.{◌≡◌, ◌≤◌, ◌&&◌, [], IfOk, map};
 ghost use Rattle.mcs_search.specs.declared.searching.TheConstants.{MAX_STATES};
+ghost use Rattle.mcs_model.specs.declared.board.BoardParts.{BoardParts};
+ghost use Rattle.mcs_drive.specs.DrivenRuns.{InputLimits};
 ghost use Rattle.mcs_drive.specs.TrackedMachine.{TrackedMachine, no_observer};
 ghost use Rattle.mcs_check.specs.Conditions.{meets_none, observer_of};
+ghost use Rattle.mcs_prove.specs.AllowedInputs.{limits_of};
 ghost use Rattle.mcs_prove.specs.MachineOfTexts.{IsProvedOf, IsRigOfTexts};
 ghost use Rattle.mcs_prove.specs.Questions.{IsPropertyProvedOf, is_within_limit, keeps_property};
 
+use crate::inputs::AllowedInputs;
 use crate::machine::rig_with_program;
 use crate::refusal::Refusal;
 use mcs_asm::{AsmFault, FaultKind, assemble};
@@ -113,20 +117,21 @@ fn nevers_of(
     Ok(conjunctions)
 }
 
-/// Searches all runs of the machine that a board's text and a program's text define, for all levels of its keys and
-/// its TEST pin. Checks the conditions, the stopwatch's limit and the marks after each cycle. The search uses at most
+/// Searches all runs of the machine that a board's text and a program's text define, for all inputs that `inputs`
+/// allows. Checks the conditions, the stopwatch's limit and the marks after each cycle. The search uses at most
 /// `max_states` states and about `memory` bytes. It splits a stretch of cycles without reads every `pause` cycles.
 pub fn prove(
     alloc: Global,
     board: &str,
     program: &str,
+    inputs: &AllowedInputs,
     goal: Goal,
     max_states: usize,
     memory: usize,
     pause: u32,
 ) -> Result<Outcome, Refusal>
     requires { max_states ≤ MAX_STATES }
-    ensures { IfOk result (IsPropertyProvedOf board.now program.now
+    ensures { IfOk result (IsPropertyProvedOf board.now program.now (limits_of inputs.now)
         (observer_of (map (λ n. n.items) goal.begins.items) (map (λ n. n.items) goal.ends.items)
         (map (λ n. n.items) goal.opens.items) goal.marks)
         (map (λ n. n.items) goal.never_lists.items) goal.limit) }
@@ -136,10 +141,12 @@ pub fn prove(
     let never_lists = nevers_of(alloc, goal.never_lists, goal.limit, &opens, &goal.marks)?;
     let begins = conjunctions_of(alloc, goal.begins)?;
     let ends = conjunctions_of(alloc, goal.ends)?;
+    let limits = inputs.limits_of(alloc, rig.board())?;
     Ok(check_all(
         alloc,
         SearchMachine::of(Cpu::new(), rig),
         Property::of(never_lists, begins, ends, opens, goal.marks),
+        limits,
         max_states,
         memory,
         pause,
@@ -147,7 +154,8 @@ pub fn prove(
 }
 
 /// Tries to prove with sets of values that the machine never meets all conditions of a list at once. The machine is
-/// defined by a board's text and a program's text. Uses at most `max_entries` entries and about `memory` bytes.
+/// defined by a board's text and a program's text. The proof is for all inputs, so it holds for any limits of the
+/// inputs. Uses at most `max_entries` entries and about `memory` bytes.
 pub fn prove_by_sets(
     alloc: Global,
     board: &str,
@@ -156,7 +164,8 @@ pub fn prove_by_sets(
     max_entries: usize,
     memory: usize,
 ) -> Result<Outcome, Refusal>
-    ensures { IfOk result (IsProvedOf board.now program.now no_observer (meets_none (map (λ n. n.items) never_lists.now))) }
+    ensures { IfOk result (λ outcome. (limits : BoardParts → InputLimits) →
+        IsProvedOf board.now program.now limits no_observer (meets_none (map (λ n. n.items) never_lists.now)) outcome) }
 {
     let mut rig = rig_of(alloc, board, program)?;
     let mut search_rig = rig_of(alloc, board, program)?;

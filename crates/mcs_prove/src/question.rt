@@ -5,6 +5,7 @@ ghost use Rattle.mcs_model.specs.TextLines.{words_of};
 ghost use Rattle.mcs_prove.specs.declared.question.Section.TheVariants.{Board, Program};
 ghost use Rattle.mcs_prove.specs.Questions.{QuestionSoFar, after_line, after_line_in, after_parsed_line, after_words, are_marks_complete, begin_board, begin_program, empty_question, if_valid, is_consistent, is_stopwatch_complete, question_of_text, with_condition, with_line, with_list_ended};
 
+use crate::inputs::AllowedInputs;
 use crate::lines::{ListRole, MAX_MEMORY, QuestionLine, line_of};
 use crate::refusal::Refusal;
 use mcs_check::{Condition, Mark, StopwatchCycles};
@@ -45,6 +46,8 @@ pub(crate) struct Question {
     pub(crate) opens: Vec<Vec<Condition>>,
     /// The marks, in their order.
     pub(crate) marks: Vec<Mark>,
+    /// The inputs that the question allows.
+    pub(crate) inputs: AllowedInputs,
     /// The maximum number of states of a search.
     pub(crate) max_states: u32,
     /// The maximum number of entries of a proof with sets of values, or 0 for a proof by search.
@@ -78,6 +81,7 @@ impl Model for Question {
       limit = q.limit;
       opens = map (λ n. n.items) q.opens.items;
       marks = q.marks.items;
+      inputs = q.inputs;
       role = q.role;
       conditions = option_map (λ cs. cs.items) q.conditions;
       max_states = q.max_states;
@@ -115,6 +119,7 @@ impl Question {
             limit: None,
             opens: Vec::new(alloc),
             marks: Vec::new(alloc),
+            inputs: AllowedInputs::all(alloc),
             max_states: 0,
             max_entries: 0,
             memory: MAX_MEMORY,
@@ -229,6 +234,10 @@ impl Question {
             }
             QuestionLine::OneCondition(condition) => return self.add_condition(condition),
             QuestionLine::NextMark(mark) => self.marks.push(mark)?,
+            QuestionLine::Together(together) => self.inputs.together = Some(together),
+            QuestionLine::Only => self.inputs.is_restricted = true,
+            QuestionLine::Pressable(key) => self.inputs.pressable.push(key)?,
+            QuestionLine::TestMayChange => self.inputs.test_may_change = true,
             QuestionLine::Prove => {
                 self.end_conditions()?;
                 self.has_prove_line = true;

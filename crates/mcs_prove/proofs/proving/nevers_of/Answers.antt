@@ -1,4 +1,4 @@
-use Rattle.std.proofs.Common.{◌≡◌, ◌∙◌, ◌&&◌, Bool, List, Vec, Global, length, map, nat_lt, not, ap}
+use Rattle.std.proofs.Common.{◌∙◌, ◌&&◌, Bool, Vec, Global, length, map, nat_lt, not, ap}
 use Rattle.mcs_check.specs.declared.conditions.Condition.{Condition}
 use Rattle.mcs_check.specs.Conditions.{meets_none}
 use Rattle.mcs_prove.specs.Questions.{is_within_limit}
