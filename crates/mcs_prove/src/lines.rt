@@ -20,6 +20,9 @@
 //!     press 1 0                   the key at row 1, column 0 may be pressed
 //!     test                        TEST may be 0 or 1
 //!     prove                       the question is complete; every question must end with this line
+//!
+//! Without a line `together`, any number of keys may be down at a time. Of several such lines, the last one counts.
+//! Without a line `only`, all keys may be pressed and TEST may be 0 or 1. `press` and `test` lines then have no effect.
 ghost use Rattle.std.specs.Prelude.{◌≡◌};
 ghost use Rattle.std.specs.Str.{bytes_eq};
 ghost use Rattle.mcs_model.specs.Numerals.{number_up_to};
