@@ -15,10 +15,10 @@ import { CommandError } from "./output.mjs";
  * @param {InputText} boardFile
  */
 export async function readBoardAndFace(engine, boardFile) {
-  const { faults, answers } = wireBoard(engine, boardFile.text);
+  const { errors: boardErrors, answers } = wireBoard(engine, boardFile.text);
   const face = new Face(boardFile.text);
   const board = readBoard(answers);
-  const errors = faults.length > 0 ? faults : findNameErrors(face, board);
+  const errors = boardErrors.length > 0 ? boardErrors : findNameErrors(face, board);
   if (errors.length > 0) throw await createRejectedTextsError(engine, { board: boardFile }, errors);
   return { board, face, answers };
 }

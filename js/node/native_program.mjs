@@ -160,11 +160,11 @@ export async function openSession(engine, texts, session) {
  * Resolves to the error for rejected texts. The first call loads the modules that compose the messages.
  * @param {EngineHost} engine
  * @param {import("./rejected_texts.mjs").CheckedTexts} givenTexts
- * @param {import("../core/testing/test_preparation.js").TextFault[]} faults
+ * @param {import("../core/testing/test_preparation.js").ProjectTextError[]} errors
  */
-export async function createRejectedTextsError(engine, givenTexts, faults) {
+export async function createRejectedTextsError(engine, givenTexts, errors) {
   const { RejectedTexts } = await import("./rejected_texts.mjs");
-  return new CommandError(new RejectedTexts(engine, givenTexts).formatMessage(faults));
+  return new CommandError(new RejectedTexts(engine, givenTexts).formatMessage(errors));
 }
 
 /**
@@ -175,8 +175,8 @@ export async function createRejectedTextsError(engine, givenTexts, faults) {
  */
 export async function readCheckedMap(engine, codes, program) {
   const { sessionProgram } = await import("../core/engine/session_program.js");
-  const { faults, difference: otherByte, map } = sessionProgram(engine, codes, program.text);
-  if (faults.length > 0) throw await createRejectedTextsError(engine, { program }, faults);
+  const { errors, difference: otherByte, map } = sessionProgram(engine, codes, program.text);
+  if (errors.length > 0) throw await createRejectedTextsError(engine, { program }, errors);
   if (!otherByte) return map;
   const { address, romByte, line, sourceByte } = otherByte;
   throw new CommandError(otherProgram(program.name, address, romByte, line + program.linesBefore, sourceByte));
@@ -198,8 +198,8 @@ export async function yieldToMessages() {
  */
 export async function assembleProgram(engine, program) {
   const { readSource } = await import("../core/engine/session_program.js");
-  const { faults, map, bytes } = readSource(engine, program.text);
-  if (faults.length > 0) throw await createRejectedTextsError(engine, { program }, faults);
+  const { errors, map, bytes } = readSource(engine, program.text);
+  if (errors.length > 0) throw await createRejectedTextsError(engine, { program }, errors);
   return { map, bytes };
 }
 

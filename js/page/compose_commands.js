@@ -68,7 +68,7 @@ function makeProjectCalls({ exportView, notice, recovery, sessionsController, li
     openProjects: () => void view.open(),
     openExamples: () => void view.openExamples(),
     share: () => {
-      linkSharing.share().catch((fault) => recovery.reportFailure(fault));
+      linkSharing.share().catch((error) => recovery.reportFailure(error));
     },
     openNotices: () => notice.list.open(),
     hasNotices: () => notice.list.messages.length > 0,
@@ -291,6 +291,6 @@ export class Commands {
     sessionsController.manager.savedSessions().then((records) => {
       this.projects = records.map(({ id, name }) => ({ id, name }));
       this.palette.refresh();
-    }, (fault) => recovery.reportFailure(fault));
+    }, (error) => recovery.reportFailure(error));
   }
 }

@@ -63,7 +63,7 @@ export function makeExportView(page) {
     program: () => page.programEditor.text,
     hex: () => page.romFiles.hex(),
     image: () => page.romFiles.image(),
-    reportFailure: (fault) => page.recovery.reportFailure(fault),
+    reportFailure: (error) => page.recovery.reportFailure(error),
   });
 }
 

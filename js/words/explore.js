@@ -4,7 +4,7 @@
 /** @type {(state: string) => string} */
 export const noTests = (state) => `there are no tests, so none saves the state ${state}`;
 /** @type {(line: number, message: string) => string} */
-export const testsFault = (line, message) => `its tests have an error in line ${line}: ${message}`;
+export const testsHaveError = (line, message) => `its tests have an error in line ${line}: ${message}`;
 /** @type {(state: string, states: string) => string} */
 export const noSuchState = (state, states) => `no test saves a state ${state}${states && `; there is: ${states}`}`;
 /** @type {(line: number, text: string, message: string) => string} */

@@ -68,7 +68,7 @@ export const notOpen = (uri) => `${uri} is not open`;
 export const CONTENT_CHANGES_SYNTAX = "contentChanges must be a list";
 export const TEXT_OF_CHANGE = "the text of a change";
 /** @type {(uri: string, errors: string) => string} */
-export const faultsOf = (uri, errors) => `the errors of ${uri}: ${errors}`;
+export const cannotCheck = (uri, message) => `cannot check ${uri}: ${message}`;
 
 // --- server/program_calls.js ---
 export const PROGRAM_BEGIN = "(start of the program)";

@@ -126,7 +126,7 @@ export const problemAt = (name, line) => `${TEXTS[name]}, line ${line}: `;
 export const BOARD_WIRED = "Board applied.";
 export const FIRST_BOARD = "The first board's text is in Board.";
 /** @type {(line: number, message: string, others: number) => string} */
-export const firstFault = (line, message, others) => `line ${line}: ${message}${others > 0 ? `, and ${others} more` : ""}`;
+export const firstErrorMessage = (line, message, others) => `line ${line}: ${message}${others > 0 ? `, and ${others} more` : ""}`;
 
 // --- text/field_bar.js ---
 export const GO = "Go";

@@ -32,7 +32,7 @@ export const howManyCycles = (minimum, maximum) => `Enter a number of cycles, fr
 /** @type {(maximum: string) => string} */
 export const maxAfter = (maximum) => `${maximum} cycles are kept: at most that many can follow the trigger.`;
 /** @type {(error: string) => string} */
-export const triggerFault = (error) => `The trigger is not understood: ${error}.`;
+export const triggerNotUnderstood = (error) => `The trigger is not understood: ${error}.`;
 export const STOP_RECORDING = "Stop recording";
 /** @type {(query: string, isForward: boolean, cycle: string) => string} */
 export const notFound = (query, isForward, cycle) => `${query}: not ${isForward ? "after" : "before"} cycle ${cycle} of this recording.`;

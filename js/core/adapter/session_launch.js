@@ -10,7 +10,7 @@ import { PROJECT_FILE, readProjectToml } from "../project/project_toml.js";
 import { getField } from "../server/framing.js";
 import { fileUri, uriFileName, createTestSession, findTestFiles } from "./test_launch.js";
 import { findBoard } from "../server/text_kinds.js";
-import { findLineFaults, sentText } from "../text/sendable_text.js";
+import { findSendingErrors, sentText } from "../text/sendable_text.js";
 import { readProgram, findDifference } from "../engine/program_check.js";
 import { disassembleRom } from "../engine/text_recovery.js";
 import { SessionWriter } from "./session_writer.js";
@@ -95,8 +95,8 @@ function findProjectFiles(name, host) {
   const file = baseName(name) === PROJECT_FILE ? name : host.nameOf(PROJECT_FILE, name);
   const text = host.read(file);
   if (text === null) throw new AdapterError(say.noProjectFile(file), true);
-  const { names, faults: [fault] } = readProjectToml(text);
-  if (!names) throw new AdapterError(`${file}, line ${fault.line}: ${fault.words}`, true);
+  const { names, errors: [error] } = readProjectToml(text);
+  if (!names) throw new AdapterError(`${file}, line ${error.line}: ${error.words}`, true);
   const [board, program] = [names.board, names.program].map(({ path, key, line }) => {
     const fullName = host.beside(path, file);
     if (!host.isInside(fullName, host.beside(".", file))) throw new AdapterError(`${file}, line ${line}: ${key}: ${leadsOut(path)}`, true);
@@ -128,8 +128,8 @@ function readBenchText(name, mark, host) {
   const text = host.read(name);
   if (text === null) throw new AdapterError(host.readErrorMessage(name), true);
   const normalizedText = text.replace(/^\uFEFF/, "").replace(/\r\n?/g, "\n");
-  const [fault] = findLineFaults(normalizedText, mark);
-  if (fault) throw new AdapterError(`${baseName(name)}, line ${fault.line}: ${fault.words}`, true);
+  const [error] = findSendingErrors(normalizedText, mark);
+  if (error) throw new AdapterError(`${baseName(name)}, line ${error.line}: ${error.words}`, true);
   return normalizedText;
 }
 

@@ -8,7 +8,7 @@ import * as say from "../../words/lines.js";
 
 /**
  * The error in a line: the bench's error number, and a message that names the wrong word.
- * @typedef {{ number: number, message: string }} LineFault
+ * @typedef {{ number: number, message: string }} BenchLineError
  *
  * The syntax of a kind of place: the pattern of its name, the maximum of each number in the name (`maxima`), and the maximum value of the
  * place (`maxValue`).
@@ -78,7 +78,7 @@ const parseNumeral = (word) => (new RegExp(`^${NUMERAL}$`).test(word) ? Number(w
  * Returns an error if a word is not a number in the range, otherwise null.
  * @param {string} word
  * @param {Range} range
- * @returns {LineFault | null}
+ * @returns {BenchLineError | null}
  */
 function findRangeError(word, [first, last]) {
   const number = parseNumeral(word);
@@ -104,9 +104,9 @@ function isInRange(word, { pattern, maxima }) {
   return placeNumbers.every((number, index) => number <= maxima[index]);
 }
 
-/** @type {(word: string, names: string[]) => LineFault} */
+/** @type {(word: string, names: string[]) => BenchLineError} */
 const unknownPlaceError = (word, names) => ({ number: NOT_A_COMMAND, message: say.noPlace(word, findSimilarWords(word, names)) });
-/** @type {(word: string) => LineFault} */
+/** @type {(word: string) => BenchLineError} */
 const noSuchPlaceError = (word) => ({ number: BAD_NUMBER, message: say.noSuchPlace(word) });
 
 /**
@@ -137,7 +137,7 @@ function findTraceError(count, places) {
 /**
  * Finds the error in a line that is already split into words. Returns null if there is none.
  * @param {string[]} words
- * @returns {LineFault | null}
+ * @returns {BenchLineError | null}
  */
 function findWordError([first, ...words]) {
   if (first === undefined) return null;
@@ -164,7 +164,7 @@ export function invalidCharacterIn(line) {
 /**
  * Returns the syntax error in a line; null if the syntax is correct. The bench can still reject the line, for example because of its board.
  * @param {string} line without a line feed
- * @returns {LineFault | null}
+ * @returns {BenchLineError | null}
  */
 export function findLineError(line) {
   if (line.length > MAX_LINE_LENGTH) return { number: LINE_TOO_LONG, message: say.tooLong(MAX_LINE_LENGTH, line.length) };

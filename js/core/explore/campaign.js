@@ -23,7 +23,7 @@ import { noKey } from "../../words/testing.js";
  * @typedef {import("./properties.js").Property} Property
  * @typedef {import("./subject.js").Subject} Subject
  * An error in a properties text. `line` counts from 1. `column` counts from 0, -1 if unknown. `words` is the message.
- * @typedef {{ line: number, column: number, words: string }} Fault
+ * @typedef {{ line: number, column: number, words: string }} PropertyError
  *
  * A campaign: the parsed contents of a properties text. Times are in cycles.
  * - `maxKeysDown`: the maximum number of keys that are down at the same time; `canReset`: true if the search can cut the power;
@@ -99,8 +99,8 @@ class PropertiesReader {
 
   /** @param {string} text */
   parseCondition(text) {
-    const { condition, error: fault, column } = compileTracedCondition(text, this.names);
-    return condition || fail(fault, Math.max(0, this.line.indexOf(text, this.searchStart)) + column);
+    const { condition, error, column } = compileTracedCondition(text, this.names);
+    return condition || fail(error, Math.max(0, this.line.indexOf(text, this.searchStart)) + column);
   }
 
   /**
@@ -454,12 +454,12 @@ function addDefaults(reader, text) {
  * @param {string} text
  * @param {Subject} subject
  * @param {boolean} [needsInputs] true if missing inputs are an error
- * @returns {{ campaign: Campaign, faults: Fault[] }}
+ * @returns {{ campaign: Campaign, errors: PropertyError[] }}
  */
 export function readCampaign(text, subject, needsInputs = true) {
   const reader = new PropertiesReader(subject);
-  /** @type {Fault[]} */
-  const faults = [];
+  /** @type {PropertyError[]} */
+  const errors = [];
   let fromLine = 0;
   text.replace(/^\uFEFF/, "").split(/\r?\n/).forEach((originalLine, index) => {
     const line = originalLine.trim().replace(/\s+/g, " ");
@@ -471,21 +471,21 @@ export function readCampaign(text, subject, needsInputs = true) {
     } catch (error) {
       if (!(error instanceof ConditionError)) throw error;
       const column = error.column < 0 ? -1 : findOriginalColumn(originalLine, error.column);
-      faults.push({ line: index + 1, column, words: column < 0 ? error.message : errorInColumn(error.message, column) });
+      errors.push({ line: index + 1, column, words: column < 0 ? error.message : errorInColumn(error.message, column) });
     }
   });
   const last = Math.max(1, text.trimEnd().split("\n").length);
-  if (!addDefaults(reader, text) && needsInputs && faults.length === 0) {
-    faults.push({ line: last, column: -1, words: say.NOTHING_CHANGES });
+  if (!addDefaults(reader, text) && needsInputs && errors.length === 0) {
+    errors.push({ line: last, column: -1, words: say.NOTHING_CHANGES });
   }
-  if (faults.length === 0 && !hasKeysForModel(reader)) {
+  if (errors.length === 0 && !hasKeysForModel(reader)) {
     const { line } = reader.properties.find(({ form }) => form === "model") || { line: 1 };
-    faults.push({ line, column: -1, words: say.MODEL_NEEDS_KEYS });
+    errors.push({ line, column: -1, words: say.MODEL_NEEDS_KEYS });
   }
   const { inputs, maxKeysDown, canReset, minWait, maxWait, maxHoldTime, minReleaseTime } = reader;
   const { checkStart, downTime, upTime, notedPlaces, command } = reader;
   const campaign = { inputs, maxKeysDown, canReset, minWait, maxWait, maxHoldTime, minReleaseTime, checkStart, downTime, upTime,
     notedPlaces, command, from: reader.from && { ...reader.from, line: fromLine }, leadingLines: [], calls: { min: 0, max: 0 },
     properties: [...reader.properties, ...standardProperties()] };
-  return { campaign, faults };
+  return { campaign, errors };
 }

@@ -45,9 +45,9 @@ function savesState({ steps }, state) {
  * @returns {{ tests: Test[], message: string }}
  */
 export function findLeadingTests(names, testText, state) {
-  const { tests, faults } = readTests(testText, names);
+  const { tests, errors } = readTests(testText, names);
   if (testText.trim() === "") return { tests: [], message: say.noTests(state) };
-  if (faults.length > 0) return { tests: [], message: say.testsFault(faults[0].line, faults[0].words) };
+  if (errors.length > 0) return { tests: [], message: say.testsHaveError(errors[0].line, errors[0].words) };
   const savingTest = tests.find((test) => savesState(test, state));
   if (!savingTest) {
     const stateNames = tests.flatMap(({ steps }) => steps.flatMap(({ action }) => (action.kind === "save" ? [action.state] : [])));

@@ -5,8 +5,8 @@ import { upperCase } from "./source_lines.js";
 import * as say from "../../words/import.js";
 
 /**
- * The value of an expression. `isKnown` is false if a name in the expression has no value yet. `fault` is an error message, "" for none.
- * @typedef {{ value: number, isKnown: boolean, fault: string }} EvaluationResult
+ * The value of an expression. `isKnown` is false if a name in the expression has no value yet. `error` is the message, "" if there is none.
+ * @typedef {{ value: number, isKnown: boolean, error: string }} EvaluationResult
  *
  * The names in a program. `isDefined` returns whether a line defines a name. `valueOf` returns its value, undefined if it is not known yet.
  * @typedef {{ isDefined: (name: string) => boolean, valueOf: (name: string) => number | undefined }} NameValues
@@ -69,7 +69,7 @@ class Evaluation {
     this.at = 0;
     this.depth = 0;
     this.isKnown = true;
-    this.fault = "";
+    this.error = "";
   }
 
   /**
@@ -77,7 +77,7 @@ class Evaluation {
    * @param {string} message
    */
   fail(message) {
-    if (this.fault === "") this.fault = message;
+    if (this.error === "") this.error = message;
   }
 
   /** Skips blanks. */
@@ -205,7 +205,7 @@ class Evaluation {
    */
   parseNumber([numeral, digits], base) {
     this.at += numeral.length;
-    if (/\w/.test(this.text[this.at] || "")) this.fault = say.noNumber(this.text);
+    if (/\w/.test(this.text[this.at] || "")) this.error = say.noNumber(this.text);
     return parseDigits(digits, base);
   }
 
@@ -243,6 +243,6 @@ export function evaluate(text, address, names) {
   const value = evaluation.parseSum();
   evaluation.skipBlanks();
   if (evaluation.at < text.length) evaluation.fail(say.notUnderstood(text.slice(evaluation.at)));
-  const { fault, isKnown } = evaluation;
-  return { value, isKnown: isKnown && fault === "", fault };
+  const { error, isKnown } = evaluation;
+  return { value, isKnown: isKnown && error === "", error };
 }

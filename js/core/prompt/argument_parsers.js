@@ -86,6 +86,6 @@ export function parseCycles(text) {
 export function parseConditionText(text, session) {
   const isLocation = /^\d+$/.test(text) || /^[^\s:]*\.[A-Za-z0-9]+:/.test(text) || parseAddress(text, session) !== undefined;
   if (isLocation || !/[\s=<>!]/.test(text)) return "";
-  const { searchCondition, error: fault } = compileSearchCondition(text, session.names);
-  return searchCondition ? text : rejectCommand(fault);
+  const { searchCondition, error } = compileSearchCondition(text, session.names);
+  return searchCondition ? text : rejectCommand(error);
 }

@@ -8,7 +8,7 @@ import { readBoard, parseRefusal } from "../bench/answers.js";
 import { findLineError } from "../bench/line_forms.js";
 import { opensText, stripCarriageReturn } from "../bench/inputs.js";
 import { matchLines, readLineForms, cellText, sectionRows } from "../help/manual.js";
-import { findLineFaults, sentText } from "../text/sendable_text.js";
+import { findSendingErrors, sentText } from "../text/sendable_text.js";
 import { FILE_WORDS, completeLine } from "./line_completion.js";
 import { SourceCommand } from "./source_command.js";
 import { LINES_BY_GROUPS, noLine } from "../../words/lines.js";
@@ -169,8 +169,8 @@ export class SessionPrompt {
   async serveFile(word, name) {
     const text = this.read(name);
     const mark = COMMENT_MARKS[word];
-    const textFaults = findLineFaults(text, mark);
-    if (textFaults.length > 0) return this.reportTextErrors(textFaults, text, { name, linesBefore: 0 });
+    const textErrors = findSendingErrors(text, mark);
+    if (textErrors.length > 0) return this.reportTextErrors(textErrors, text, { name, linesBefore: 0 });
     return this.serveText(word, sentText(text, mark), text, { name, linesBefore: 0 });
   }
 

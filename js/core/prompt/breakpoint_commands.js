@@ -76,8 +76,8 @@ export class BreakpointCommands {
     const previous = this.list.findByAddress(address);
     if (previous) this.list.remove(previous.id);
     const newBreakpoint = this.list.add({ line, address, from: Math.max(1, Number(from)), condition, note });
-    const { errors: faults } = await session.applyBreakpoints();
-    const breakpointError = faults.find(([id]) => id === newBreakpoint.id);
+    const { errors } = await session.applyBreakpoints();
+    const breakpointError = errors.find(([id]) => id === newBreakpoint.id);
     if (breakpointError) {
       this.list.remove(newBreakpoint.id);
       if (previous) this.list.add(previous);

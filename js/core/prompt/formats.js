@@ -32,8 +32,8 @@ const FORMATS = {
  * @param {DebugSession} session
  */
 function evaluateNumber(text, session) {
-  const { expression, error: fault, column } = compileExpression(text, session.names);
-  if (!expression) return rejectCommand(errorInColumn(fault, column));
+  const { expression, error, column } = compileExpression(text, session.names);
+  if (!expression) return rejectCommand(errorInColumn(error, column));
   const values = session.debugger.readPlaces(expression.places);
   if (expression.number) return expression.number(values);
   return expression.textOf(values) === "true" ? 1 : 0;

@@ -61,8 +61,8 @@ export class MoveCommands {
       },
       "back": (argumentText) => {
         if (argumentText === "") return this.moveAndShow(() => machine.goBack({ kind: "stop" }));
-        const { goal, error: fault } = parseGoal(argumentText, this.prompt.session.names);
-        return goal ? this.moveAndShow(() => machine.goBack(goal)) : rejectCommand(fault);
+        const { goal, error } = parseGoal(argumentText, this.prompt.session.names);
+        return goal ? this.moveAndShow(() => machine.goBack(goal)) : rejectCommand(error);
       },
       "forward": () => this.moveAndShow(() => machine.goForward()),
       "press": (argumentText) => this.pressKeys(argumentText),

@@ -162,7 +162,7 @@ export class Requests {
     const text = this.server.getRequestedText(params);
     const range = needRange(getField(params, "range"));
     await this.server.waitForCheck(text);
-    return createQuickFixes(text.open.uri, text.faults, range);
+    return createQuickFixes(text.open.uri, text.errors, range);
   }
 
   /** @param {any} params */

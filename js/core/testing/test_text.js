@@ -18,7 +18,7 @@ import * as say from "../../words/testing.js";
  * @typedef {{ name: string, text: string }} Source
  *
  * An error in a test text. `column` is counted from 0; it is -1 if unknown.
- * @typedef {{ file: string, line: number, column: number, words: string }} Fault
+ * @typedef {{ file: string, line: number, column: number, words: string }} TestTextError
  *
  * A key with its name and the commands that press and release it.
  * @typedef {{ name: string, key: import("../board/key_place.js").Key, press: string, release: string }} Key
@@ -41,7 +41,7 @@ import * as say from "../../words/testing.js";
  *
  * A test. `textNumber` is the number of its text, from 1. `from` is the name of its start state, "" for power-on.
  * @typedef {{ textNumber: number, name: string, line: number, from: string, steps: Step[] }} Test
- * @typedef {{ tests: Test[], faults: Fault[] }} TestText
+ * @typedef {{ tests: Test[], errors: TestTextError[] }} TestText
  */
 
 /** The maximum count in a `repeat` line, and the maximum number of lines that a test executes, including all repetitions. */
@@ -110,8 +110,8 @@ class TestReader {
     this.textNumber = 0;
     /** @type {Test[]} */
     this.tests = [];
-    /** @type {Fault[]} */
-    this.faults = [];
+    /** @type {TestTextError[]} */
+    this.errors = [];
     /** @type {Map<string, Test>} the tests that save states, by state name, in the current text */
     this.savedBy = new Map();
     /** @type {Map<string, SharedSteps>} */
@@ -153,18 +153,18 @@ class TestReader {
       } catch (error) {
         if (!(error instanceof InvalidLineError)) throw error;
         const column = error.column < 0 ? -1 : error.column + originalLines[at].length - originalLines[at].trimStart().length;
-        this.addFault(at + 1, error.message, Math.min(column, originalLines[at].trimEnd().length - 1));
+        this.addError(at + 1, error.message, Math.min(column, originalLines[at].trimEnd().length - 1));
         // If a text does not start like a test text, one error is sufficient.
         if (!this.hasBegun && /^[\t -~]*$/.test(lines[at])) return;
       }
     }
     this.closeRepeats();
-    if (!this.hasBegun && this.faults.length === 0) this.addFault(1, say.NO_TEST);
+    if (!this.hasBegun && this.errors.length === 0) this.addError(1, say.NO_TEST);
   }
 
   /** Reports an error if the texts contain no test. */
   finish() {
-    if (this.tests.length === 0 && this.faults.length === 0) this.addFault(1, say.NO_TEST);
+    if (this.tests.length === 0 && this.errors.length === 0) this.addError(1, say.NO_TEST);
   }
 
   /**
@@ -172,8 +172,8 @@ class TestReader {
    * @param {string} message
    * @param {number} [column]
    */
-  addFault(line, message, column = -1) {
-    this.faults.push({ file: this.source.name, line, column, words: column < 0 ? message : errorInColumn(message, column) });
+  addError(line, message, column = -1) {
+    this.errors.push({ file: this.source.name, line, column, words: column < 0 ? message : errorInColumn(message, column) });
   }
 
   /**
@@ -249,7 +249,7 @@ class TestReader {
 
   /** Reports an error for each repetition whose `end` is missing, and closes the repetition. */
   closeRepeats() {
-    for (const { line } of this.openRepeats.splice(0)) this.addFault(line, say.NO_END);
+    for (const { line } of this.openRepeats.splice(0)) this.addError(line, say.NO_END);
   }
 
   /** @param {string[]} words */
@@ -392,8 +392,8 @@ class TestReader {
     const placeName = knownPlace ? knownPlace.name : place.toLowerCase();
     if (!/^(acc|cy|dcl|r\d+|(ram|st)\..+)$/.test(placeName) || list === "") return fail(say.CHOICE_SYNTAX);
     const keys = list === undefined ? [] : list.split(",").map((name) => this.keys.get(name) || this.failForKey(name, name));
-    const { expression, error: fault } = compileExpression(place, this.names);
-    const { places: [probe] } = expression || fail(fault);
+    const { expression, error } = compileExpression(place, this.names);
+    const { places: [probe] } = expression || fail(error);
     return { word, place: placeName, probe, keys };
   }
 
@@ -415,8 +415,8 @@ class TestReader {
    * @param {number} startColumn the column of the condition in the line
    */
   readCondition(text, startColumn) {
-    const { condition, error: fault, column } = compileTestCondition(text, this.names);
-    return condition || fail(fault, startColumn + column);
+    const { condition, error, column } = compileTestCondition(text, this.names);
+    return condition || fail(error, startColumn + column);
   }
 
   /**
@@ -442,8 +442,8 @@ class TestReader {
    */
   readSet(text, startColumn) {
     const { board, map } = this.names;
-    const { place, lines, error: fault, column } = readSetting(text, map, board);
-    if (fault) fail(fault, startColumn + column);
+    const { place, lines, error, column } = readSetting(text, map, board);
+    if (error) fail(error, startColumn + column);
     const address = parseRomAddress(place);
     const hasRom = Number.isNaN(address) || board.roms.some(({ chip }) => Number(chip) === Math.floor(address / 256));
     if (!hasRom) fail(say.noRomAt(text.trim().split(/[ \t=]+/)[0].slice("rom.".length)), startColumn + 1);
@@ -486,7 +486,7 @@ export function readSources(sources, names) {
   const reader = new TestReader(names);
   for (const source of sources) reader.readSource(source);
   reader.finish();
-  return { tests: reader.tests, faults: reader.faults };
+  return { tests: reader.tests, errors: reader.errors };
 }
 
 /**

@@ -100,12 +100,12 @@ async function readSession(folder, names, texts) {
     throw new CommandError(say.noSessionFile(name));
   }
   const engine = await startEngine();
-  const { file, faults } = newSession(engine, texts);
-  if (faults.length === 0) return engine.bytesOf(file);
+  const { file, errors } = newSession(engine, texts);
+  if (errors.length === 0) return engine.bytesOf(file);
   const makeText = (/** @type {string} */ textName, /** @type {string} */ text) => ({ name: textName, text, linesBefore: 0 });
   const board = makeText(names.board, texts.boardText);
   const program = makeText(names.program, texts.programText);
-  throw await createRejectedTextsError(engine, { board, program }, faults);
+  throw await createRejectedTextsError(engine, { board, program }, errors);
 }
 
 /**

@@ -47,8 +47,8 @@ async function resolveNames({ folder, board, names }) {
  * @param {string[]} wantedAnswers the session's answers to `board`
  */
 async function checkBoard(engine, boardFile, wantedAnswers) {
-  const { faults, answers } = wireBoard(engine, boardFile.text);
-  if (faults.length > 0) throw await createRejectedTextsError(engine, { board: boardFile }, faults);
+  const { errors, answers } = wireBoard(engine, boardFile.text);
+  if (errors.length > 0) throw await createRejectedTextsError(engine, { board: boardFile }, errors);
   if (answers.join() !== wantedAnswers.join()) throw new CommandError(say.boardDiffers(boardFile.name));
   const nameErrors = findNameErrors(new Face(boardFile.text), readBoard(answers));
   if (nameErrors.length > 0) throw await createRejectedTextsError(engine, { board: boardFile }, nameErrors);

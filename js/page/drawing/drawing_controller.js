@@ -29,7 +29,7 @@ import { PictureZoom } from "./picture_zoom.js";
  * @property {() => OpenSession | null} session Returns the current session, whose record stores the positions of moved parts, or null if
  *   there is none.
  * @property {() => void} saveSession Saves the session after the user has moved parts.
- * @property {(fault: unknown) => void} reportFailure Reports an error that a call threw.
+ * @property {(error: unknown) => void} reportFailure Reports an error that a call threw.
  */
 
 /** @typedef {DrawingCalls & PageCalls} PictureCalls */

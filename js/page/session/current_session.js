@@ -124,9 +124,9 @@ export class CurrentSession {
   async open(record) {
     try {
       return await this.requestOpening(record);
-    } catch (fault) {
+    } catch (error) {
       if (this.session) this.calls.showPaused(say.PAUSED);
-      throw fault;
+      throw error;
     }
   }
 

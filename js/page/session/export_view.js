@@ -17,7 +17,7 @@ import * as say from "../../words/session.js";
  * @property {() => string} program Returns the source.
  * @property {() => Promise<string>} hex Resolves to the bytes of all ROM chips in Intel HEX format.
  * @property {() => Promise<Uint8Array>} image Resolves to the concatenated bytes of all ROM chips.
- * @property {(fault: unknown) => void} reportFailure Reports an error that a call threw.
+ * @property {(error: unknown) => void} reportFailure Reports an error that a call threw.
  */
 
 export class ExportView {
