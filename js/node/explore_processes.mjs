@@ -198,7 +198,7 @@ function readReport(name) {
   } catch {
     // The statement below throws the error.
   }
-  throw new CommandError(say.notAReport(name));
+  throw new CommandError(say.notAReportMessage(name));
 }
 
 /**

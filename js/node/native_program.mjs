@@ -10,7 +10,7 @@ import { CommandError } from "./output.mjs";
 import { loadChildProcess } from "./lazy_child_process.mjs";
 import { TOP } from "./top_folder.mjs";
 import {
-  NO_PROGRAM_IN_COPY, inUse, needsProgram, noNamedProver, noProver, notForSystem, otherProgram, runsOnModule, sessionRefused,
+  NO_PROGRAM_IN_COPY, inUse, needsProgram, noNamedProverMessage, noProverMessage, notForSystemMessage, otherProgram, runsOnModule, sessionRefused,
 } from "../words/commands.js";
 
 /**
@@ -47,7 +47,7 @@ function runStarter(script) {
 
 /** @returns {FoundProgram} the result if the starter cannot run: an editor extension does not contain it, and Windows has no shell for it */
 const createNoProgramResult = () => (
-  { program: "", reason: hasStarter ? notForSystem(type(), process.arch) : NO_PROGRAM_IN_COPY, isUnsupported: true });
+  { program: "", reason: hasStarter ? notForSystemMessage(type(), process.arch) : NO_PROGRAM_IN_COPY, isUnsupported: true });
 
 /** @type {FoundProgram | null} the cached result of the search for the program */
 let foundProgram = null;
@@ -74,10 +74,10 @@ export function findProgramPath() {
  */
 export function findProverPath() {
   const { MCS4_PROVE: proverName } = process.env;
-  if (proverName && !existsSync(proverName)) throw new CommandError(noNamedProver(proverName));
+  if (proverName && !existsSync(proverName)) throw new CommandError(noNamedProverMessage(proverName));
   if (proverName) return proverName;
   const { program, reason, isUnsupported } = runStarter(FIND_PROVER) || createNoProgramResult();
-  if (program === "" && !isUnsupported) throw new CommandError(noProver(reason));
+  if (program === "" && !isUnsupported) throw new CommandError(noProverMessage(reason));
   return program;
 }
 

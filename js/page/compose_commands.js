@@ -277,7 +277,7 @@ export class Commands {
    */
   execute(command) {
     const reason = command.unavailableReason(this.calls);
-    if (reason) this.page.runController.showMessage(say.notDone(command.label, reason));
+    if (reason) this.page.runController.showMessage(say.notDoneMessage(command.label, reason));
     else command.act(this.calls);
   }
 

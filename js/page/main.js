@@ -228,7 +228,7 @@ async function main() {
   try {
     await start(loading, errorMessages, notice, pageFrame, data);
   } catch (error) {
-    notice.show(say.cannotStart(errorMessages.errorMessage(error), readEmbeddedText("needs")));
+    notice.show(say.cannotStartMessage(errorMessages.errorMessage(error), readEmbeddedText("needs")));
   }
 }
 

@@ -70,7 +70,7 @@ export class Recovery {
       this.isRestarting = false;
       calls.showPaused(say.PAUSED);
     } catch (error) {
-      notice.show(say.cannotRestart(errorMessages.errorMessage(error)));
+      notice.show(say.cannotRestartMessage(errorMessages.errorMessage(error)));
     } finally {
       this.isRestarting = false;
     }

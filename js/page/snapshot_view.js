@@ -104,7 +104,7 @@ export class SnapshotView {
    */
   async toggleWatch(isSet, place, anchor) {
     const refusal = this.refusalMessage(await this.calls.serveLine(`${isSet ? "un" : ""}watch ${place}\n`));
-    if (refusal) this.message.show(say.notSet(refusal), anchor);
+    if (refusal) this.message.show(say.notSetMessage(refusal), anchor);
   }
 
   /**

@@ -250,8 +250,8 @@ export class Scopes {
    */
   async setVariable(reference, name, value, base) {
     const variable = (this.variables(reference) || []).find((candidate) => candidate.name === name);
-    if (!variable) throw new Error(say.notFoundHere(name));
-    if (variable.place === "") throw new Error(say.nothingSets(name));
+    if (!variable) throw new Error(say.notFoundHereMessage(name));
+    if (variable.place === "") throw new Error(say.nothingSetsMessage(name));
     await setPlace(this.session, variable.place, value);
     const newVariable = (this.variables(reference, base) || []).find((candidate) => candidate.name === name);
     return newVariable ? newVariable.value : value;

@@ -94,7 +94,7 @@ export function readRequestedFiles(args, host) {
 function findProjectFiles(name, host) {
   const file = baseName(name) === PROJECT_FILE ? name : host.nameOf(PROJECT_FILE, name);
   const text = host.read(file);
-  if (text === null) throw new AdapterError(say.noProjectFile(file), true);
+  if (text === null) throw new AdapterError(say.noProjectFileMessage(file), true);
   const { names, errors: [error] } = readProjectToml(text);
   if (!names) throw new AdapterError(`${file}, line ${error.line}: ${error.words}`, true);
   const [board, program] = [names.board, names.program].map(({ path, key, line }) => {
@@ -154,7 +154,7 @@ function refusalError(name, { number, line }, messages) {
  */
 function sessionFromTexts(engine, requestedFiles, host, messages) {
   if (requestedFiles.board === "") {
-    throw new AdapterError(say.noBoardBeside(requestedFiles.program), true);
+    throw new AdapterError(say.noBoardBesideMessage(requestedFiles.program), true);
   }
   const [board, program] = [readBenchText(requestedFiles.board, "#", host), readBenchText(requestedFiles.program, ";", host)];
   const session = new DebugSession(engine, { board, program });
@@ -267,7 +267,7 @@ function checkRom(session, engine, { program, session: file }, messages) {
   if (refusal) throw refusalError(program, refusal, messages);
   const differenceText = describeDifference(session);
   if (differenceText === "") return;
-  const message = say.notInRomOf(baseName(program), baseName(file), differenceText);
+  const message = say.notInRomOfMessage(baseName(program), baseName(file), differenceText);
   throw new AdapterError(say.loadHint(message), true);
 }
 
@@ -300,7 +300,7 @@ export async function attach(engine, args, host, messages) {
   if (optionalText(args, "session") === "") throw new AdapterError(say.ATTACH_NEEDS, true);
   const isWritten = optionalFlag(args, "write", false);
   const requestedFiles = readRequestedFiles(args, host);
-  if (!host.fileExists(requestedFiles.session)) throw new AdapterError(say.noSession(requestedFiles.session), true);
+  if (!host.fileExists(requestedFiles.session)) throw new AdapterError(say.noSessionMessage(requestedFiles.session), true);
   const loadSession = isWritten ? sessionFromFile : sessionFromCopy;
   const openedSession = await loadSession(engine, requestedFiles, host, messages);
   return { ...createLaunchResult(openedSession, requestedFiles, args, host), isAttached: true };

@@ -82,7 +82,7 @@ const parseNumeral = (word) => (new RegExp(`^${NUMERAL}$`).test(word) ? Number(w
  */
 function findRangeError(word, [first, last]) {
   const number = parseNumeral(word);
-  return number >= first && number <= last ? null : { number: BAD_NUMBER, message: say.notInRange(word, first, last) };
+  return number >= first && number <= last ? null : { number: BAD_NUMBER, message: say.notInRangeMessage(word, first, last) };
 }
 
 /**
@@ -105,9 +105,9 @@ function isInRange(word, { pattern, maxima }) {
 }
 
 /** @type {(word: string, names: string[]) => BenchLineError} */
-const unknownPlaceError = (word, names) => ({ number: NOT_A_COMMAND, message: say.noPlace(word, findSimilarWords(word, names)) });
+const unknownPlaceError = (word, names) => ({ number: NOT_A_COMMAND, message: say.noPlaceMessage(word, findSimilarWords(word, names)) });
 /** @type {(word: string) => BenchLineError} */
-const noSuchPlaceError = (word) => ({ number: BAD_NUMBER, message: say.noSuchPlace(word) });
+const noSuchPlaceError = (word) => ({ number: BAD_NUMBER, message: say.noSuchPlaceMessage(word) });
 
 /**
  * Returns the error in the words after `poke`; null if there is none.
@@ -129,7 +129,7 @@ function findTraceError(count, places) {
   const syntaxes = [...PLACE_SYNTAXES, ...TRACE_ONLY_SYNTAXES];
   const unknownWord = places.slice(0, MAX_PLACES).find((word) => !findPlaceSyntax(word, syntaxes));
   if (unknownWord !== undefined) return unknownPlaceError(unknownWord, TRACE_NAMES);
-  if (places.length > MAX_PLACES) return { number: NOT_A_COMMAND, message: say.tooManyPlaces(MAX_PLACES) };
+  if (places.length > MAX_PLACES) return { number: NOT_A_COMMAND, message: say.tooManyPlacesMessage(MAX_PLACES) };
   const wrongWord = places.find((word) => !isInRange(word, /** @type {PlaceSyntax} */ (findPlaceSyntax(word, syntaxes))));
   return wrongWord === undefined ? findRangeError(count, [1, MAX_CYCLES]) : noSuchPlaceError(wrongWord);
 }
@@ -142,7 +142,7 @@ function findTraceError(count, places) {
 function findWordError([first, ...words]) {
   if (first === undefined) return null;
   if (!ANSWER_FORMATS.has(first)) {
-    return { number: NOT_A_COMMAND, message: say.noLine(first, findSimilarWords(first, ANSWER_FORMATS.keys())) };
+    return { number: NOT_A_COMMAND, message: say.noLineMessage(first, findSimilarWords(first, ANSWER_FORMATS.keys())) };
   }
   const syntaxError = { number: NOT_A_COMMAND, message: say.lineSyntax(first) };
   if (first === "trace") return words.length === 0 ? syntaxError : findTraceError(words[0], words.slice(1));
@@ -167,7 +167,7 @@ export function invalidCharacterIn(line) {
  * @returns {BenchLineError | null}
  */
 export function findLineError(line) {
-  if (line.length > MAX_LINE_LENGTH) return { number: LINE_TOO_LONG, message: say.tooLong(MAX_LINE_LENGTH, line.length) };
+  if (line.length > MAX_LINE_LENGTH) return { number: LINE_TOO_LONG, message: say.tooLongMessage(MAX_LINE_LENGTH, line.length) };
   const character = invalidCharacterIn(line);
   if (character !== "") return { number: NOT_ASCII, message: say.invalidCharacter(character) };
   return findWordError(line.split(/[ \t]+/).filter((word) => word !== ""));

@@ -10,7 +10,7 @@ import { LastChangeFinder } from "../engine/past_search.js";
 import { instructionCycles } from "../engine/rom_codes.js";
 import { ForecastAnswers, parseTraceLine, rowValues } from "../engine/forecast_answers.js";
 import { plannedCycles, truncateLines } from "./goal_search.js";
-import { boardLacks, errorInColumn, tooManyPlaces } from "../../words/conditions.js";
+import { boardLacks, errorInColumn, tooManyPlacesMessage } from "../../words/conditions.js";
 import { changedFrom, CHANGES_ALWAYS } from "../../words/debug.js";
 
 /**
@@ -58,7 +58,7 @@ export function compileWatches(requestedWatches, names) {
     const allPlaces = new Set([...places, ...probes, ...(condition ? condition.places : [])]);
     const placeError = !place || probes.length === 0 ? boardLacks(name)
       : name === UNWATCHABLE_PLACE ? CHANGES_ALWAYS : error && errorInColumn(error, column);
-    const message = placeError || (allPlaces.size > MAX_PLACES ? tooManyPlaces(allPlaces.size, MAX_PLACES) : "");
+    const message = placeError || (allPlaces.size > MAX_PLACES ? tooManyPlacesMessage(allPlaces.size, MAX_PLACES) : "");
     if (message) errors.set(id, message);
     if (message || !place) return [];
     for (const usedPlace of allPlaces) places.add(usedPlace);

@@ -104,8 +104,8 @@ export class SrcSelection {
     const isWrite = name === "WRR";
     const action = say.usesRom(name, isWrite, chip);
     if (port === undefined) return isWrite ? { kind: "chip", message: say.whichLacks(action, this.description) } : null;
-    if (isWrite && !/[01]/.test(port)) return { kind: "lines", message: say.noOutputs(action, this.description) };
-    if (!isWrite && !port.includes("i")) return { kind: "lines", message: say.noInputs(action, this.description) };
+    if (isWrite && !/[01]/.test(port)) return { kind: "lines", message: say.noOutputsMessage(action, this.description) };
+    if (!isWrite && !port.includes("i")) return { kind: "lines", message: say.noInputsMessage(action, this.description) };
     const lastChip = this.lastChips.get(address);
     const otherKind = [...this.instructionKinds].find((instructionKind) => instructionKind !== name);
     if (otherKind === undefined || lastChip === undefined || lastChip === chip) return null;

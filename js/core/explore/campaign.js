@@ -13,9 +13,9 @@ import {
   GUARDABLE_FORMS, afterPressProperty, alwaysProperty, atProperty, everyProperty, guardedProperty, modelProperty, neverForProperty,
   neverProperty, oncePerPressProperty, onlyAfterProperty, reachAddressProperty, reachProperty, standardProperties, withinProperty,
 } from "./properties.js";
-import { NO_DISPLAY, boardLacks, errorInColumn, noLabel } from "../../words/conditions.js";
+import { NO_DISPLAY, boardLacks, errorInColumn, noLabelMessage } from "../../words/conditions.js";
 import * as say from "../../words/explore.js";
-import { noKey } from "../../words/testing.js";
+import { noKeyMessage } from "../../words/testing.js";
 
 /**
  * @typedef {import("./search_inputs.js").Input} Input
@@ -131,7 +131,7 @@ class PropertiesReader {
     const name = word.replace(/^@/, "");
     const definition = this.names.map.names.get(name);
     return word.startsWith("@") && definition && definition.isLabel ? definition.value
-      : fail(word.startsWith("@") ? noLabel(name) : say.labelSyntax(word));
+      : fail(word.startsWith("@") ? noLabelMessage(name) : say.labelSyntax(word));
   }
 
   /**
@@ -144,7 +144,7 @@ class PropertiesReader {
     const input = inputs.find((candidate) => candidate.name === name && (candidate.isKey || face.test));
     if (input) return input;
     const inputNames = listInputNames(face);
-    return fail(noKey(name, inputNames.join(" ")));
+    return fail(noKeyMessage(name, inputNames.join(" ")));
   }
 
   /** @param {Input} input */
@@ -233,7 +233,7 @@ const SETTING_PARSERS = {
   note: (reader, words) => {
     if (words.length === 0) fail(say.NOTE_SYNTAX);
     for (const word of words) reader.notedPlaces.push(...findNotePlaces(reader, word));
-    if (reader.notedPlaces.length > MAX_NOTES) fail(say.tooManyNotes(MAX_NOTES));
+    if (reader.notedPlaces.length > MAX_NOTES) fail(say.tooManyNotesMessage(MAX_NOTES));
   },
 };
 
@@ -254,7 +254,7 @@ function findNotePlaces({ names }, word) {
   const place = parsePlace(word);
   const places = place ? place.probesOn(names.board) : [];
   if (places.length > 0) return places;
-  return fail(place ? boardLacks(place.name) : say.noTrace(word));
+  return fail(place ? boardLacks(place.name) : say.noTraceMessage(word));
 }
 
 /** Matches `lamp open on for 1.1 s`: the condition and the time. */
@@ -297,7 +297,7 @@ const PROPERTY_PARSERS = {
     const line = /^line (\d+)$/.exec(rest);
     if (!line && !/^@\S+$/.test(rest)) return reachProperty(text, reader.parseViolation(rest));
     const instruction = line && reader.instructions.find((candidate) => candidate.line === Number(line[1]));
-    if (line && !instruction) fail(say.noInstructionIn(line[1]));
+    if (line && !instruction) fail(say.noInstructionInMessage(line[1]));
     const address = instruction ? instruction.address : reader.parseLabel(rest);
     return reader.whileCondition === "" ? reachAddressProperty(text, address)
       : reachProperty(text, reader.parseViolation(`pc = ${address}`));
@@ -362,7 +362,7 @@ function parseGuardedLine(reader, text, firstGuard) {
     reader.searchStart = text.length - (unguardedText || text).length;
     ({ rest: unguardedText } = currentGuard);
     count += 1;
-    if (count > MAX_GUARDS) fail(say.tooManyGuards(MAX_GUARDS));
+    if (count > MAX_GUARDS) fail(say.tooManyGuardsMessage(MAX_GUARDS));
     const [, condition] = /^while (.+)$/.exec(currentGuard.guard) || [];
     if (condition === undefined) guards.push(parseGuard(reader, currentGuard.guard));
     else reader.whileCondition = `${reader.whileCondition && `${reader.whileCondition} and `}(${reader.parseCondition(condition).text})`;

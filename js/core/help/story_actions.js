@@ -38,7 +38,7 @@ import * as say from "../../words/help.js";
  */
 async function callWithAddress(label, calls, callback) {
   const address = calls.addressOf(label);
-  if (address === undefined) return say.noLabel(label);
+  if (address === undefined) return say.noLabelMessage(label);
   await callback(address);
   return "";
 }
@@ -51,7 +51,7 @@ async function callWithAddress(label, calls, callback) {
  */
 function callWithKey(legend, calls, callback) {
   const key = calls.keys().find((candidate) => candidate.legend === legend);
-  if (!key) return say.noKey(legend);
+  if (!key) return say.noKeyMessage(legend);
   callback(key);
   return "";
 }

@@ -233,12 +233,12 @@ class ProgramImport {
     }
     if (INSTRUCTIONS_OF_4040.has(word)) throw new LineError(say.instructionOf4040(word));
     if (word === PROGRAM_RAM_MNEMONIC) throw new LineError(say.NO_PROGRAM_RAM);
-    if (UNSUPPORTED_DIRECTIVES.has(word)) throw new LineError(say.notSupported(word));
+    if (UNSUPPORTED_DIRECTIVES.has(word)) throw new LineError(say.notSupportedMessage(word));
     if (word === "ORG") return `ORG ${this.convertExpression(operand, { to: LAST_ADDRESS, isNumber: true })}`;
     if (word === "ALIGN" || RESERVE_DIRECTIVES.has(word)) return this.convertReservation(word, operand);
     if (BYTE_DIRECTIVES.has(word)) return `DB ${this.convertBytes(operand)}`;
     const kinds = OPERAND_KINDS.get(word);
-    if (!kinds) throw new LineError(say.noInstruction(word));
+    if (!kinds) throw new LineError(say.noInstructionMessage(word));
     return this.convertInstruction(word, operand, kinds);
   }
 
@@ -265,7 +265,7 @@ class ProgramImport {
     return parts.flatMap((part) => {
       const characters = quotedCharacters(part);
       if (characters === null) return [this.convertExpression(part, { to: BYTE - 1, modulus: BYTE })];
-      if (!isAscii(characters)) throw new LineError(say.noCharacter(part));
+      if (!isAscii(characters)) throw new LineError(say.noCharacterMessage(part));
       return [...characters].map((character) => `0x${hex(character.charCodeAt(0), 2)}`);
     }).join(", ");
   }
@@ -346,7 +346,7 @@ class ProgramImport {
     if (mark === "<") throw new LineError(say.oddPair(text, register));
     const { value, isKnown, error } = this.evaluateText(text, this.address);
     if (error === "" && isKnown && value === 0) return "P0";
-    throw new LineError(say.noPair(text));
+    throw new LineError(say.noPairMessage(text));
   }
 
   /**

@@ -102,7 +102,7 @@ export class SourceSync {
     }
     if (!difference) return "";
     const line = map.lineOf(difference.address);
-    if (!difference.hasRom) return say.noRomAt(formatAddress(difference.address), line);
+    if (!difference.hasRom) return say.noRomAtMessage(formatAddress(difference.address), line);
     return say.differsAt(formatAddress(difference.address), line);
   }
 

@@ -35,7 +35,7 @@ export class ProjectError extends Error {
 function findBytesError(bytes) {
   if (bytes.length === 0) return say.PROJECT_FILE_IS_EMPTY;
   const { length } = bytes;
-  if (length > MAX_PROJECT_TOML_BYTES) return say.tooLong(length, MAX_PROJECT_TOML_BYTES);
+  if (length > MAX_PROJECT_TOML_BYTES) return say.tooLongMessage(length, MAX_PROJECT_TOML_BYTES);
   return bytes.includes(0) ? say.CONTAINS_NUL : "";
 }
 

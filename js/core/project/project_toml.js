@@ -53,7 +53,7 @@ function findPathError(key, path) {
   // eslint-disable-next-line no-control-regex
   if (/[\u0000-\u001f\u007f]/.test(path)) return say.pathHasControlCharacter(key);
   if (path.includes("\\")) return say.pathHasBackslash(key);
-  if (path.startsWith("/")) return say.noPath(path, key);
+  if (path.startsWith("/")) return say.noPathMessage(path, key);
   if (path.split("/").includes("..")) return say.outOfFolder(path, key);
   return "";
 }
@@ -65,7 +65,7 @@ function findPathError(key, path) {
  */
 function findKeyErrors({ name, line, from, to, value }) {
   const description = KEY_TEXTS.get(name);
-  if (!description) return [errorAt({ line, from, to }, say.noKey(name))];
+  if (!description) return [errorAt({ line, from, to }, say.noKeyMessage(name))];
   const { inner } = value;
   const values = LIST_KEYS.includes(name) && Array.isArray(inner) ? inner : [value];
   if (LIST_KEYS.includes(name) !== Array.isArray(inner)) return [errorAt(value, description)];

@@ -48,11 +48,11 @@ export function findInstruction(text, session) {
   if (locationText === "") return { line: session.line, address: session.address };
   if (/^\d+$/.test(locationText)) {
     const { line, address } = instructionForLine(Number(locationText), session.map);
-    if (address < 0) rejectCommand(say.noInstructionIn(locationText));
+    if (address < 0) rejectCommand(say.noInstructionInMessage(locationText));
     return { line, address };
   }
   const address = parseAddress(locationText, session);
-  if (address === undefined) rejectCommand(say.notInProgram(locationText, say.FORMS_IN_PROGRAM));
+  if (address === undefined) rejectCommand(say.notInProgramMessage(locationText, say.FORMS_IN_PROGRAM));
   if (address > LAST_ADDRESS) rejectCommand(ADDRESS_RANGE);
   return { line: instructionAtAddress(address, session.map).line, address };
 }
@@ -74,7 +74,7 @@ export function parseCountArgument(text, maxCount) {
  */
 export function parseCycles(text) {
   const cycles = parseExactDuration(text.trim().split(/\s+/));
-  return cycles > 0 ? cycles : rejectCommand(say.noTime(text.trim() || say.NOTHING));
+  return cycles > 0 ? cycles : rejectCommand(say.noTimeMessage(text.trim() || say.NOTHING));
 }
 
 /**

@@ -11,8 +11,8 @@ import { matchLines, readLineForms, cellText, sectionRows } from "../help/manual
 import { findSendingErrors, sentText } from "../text/sendable_text.js";
 import { FILE_WORDS, completeLine } from "./line_completion.js";
 import { SourceCommand } from "./source_command.js";
-import { LINES_BY_GROUPS, noLine } from "../../words/lines.js";
-import { NO_KEYS, noRamAt } from "../../words/prompt.js";
+import { LINES_BY_GROUPS, noLineMessage } from "../../words/lines.js";
+import { NO_KEYS, noRamAtMessage } from "../../words/prompt.js";
 import * as say from "../../words/session_prompt.js";
 
 /**
@@ -266,10 +266,10 @@ export class SessionPrompt {
     const [word, ...argumentWords] = line.trim().split(/[ \t]+/);
     if (number === NO_KEY_ERROR) {
       const { rows, columns } = readBoard(await this.calls.ask("board"));
-      return rows === 0 ? NO_KEYS : say.noKey(argumentWords.join(" "), rows - 1, columns - 1);
+      return rows === 0 ? NO_KEYS : say.noKeyMessage(argumentWords.join(" "), rows - 1, columns - 1);
     }
-    if (number === NO_ROM_ERROR) return say.noRomAt(argumentWords[0]);
-    if (number === NO_RAM_ERROR) return noRamAt(word === "poke" ? argumentWords[0] : argumentWords.join(" "));
+    if (number === NO_ROM_ERROR) return say.noRomAtMessage(argumentWords[0]);
+    if (number === NO_RAM_ERROR) return noRamAtMessage(word === "poke" ? argumentWords[0] : argumentWords.join(" "));
     return number === NO_RUN_ERROR ? say.invalidRunLength(argumentWords[0]) : this.calls.wordsOf(number);
   }
 
@@ -282,7 +282,7 @@ export class SessionPrompt {
   printHelp(topic) {
     const [word = ""] = topic.split(/[ \t]+/);
     const helpText = word === "" ? listAllLines() : this.describeTopic(word);
-    if (helpText === "") throw new RejectedLine(noLine(word, []));
+    if (helpText === "") throw new RejectedLine(noLineMessage(word, []));
     this.calls.print(helpText);
     return true;
   }

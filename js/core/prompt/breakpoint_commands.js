@@ -122,7 +122,7 @@ export class BreakpointCommands {
   parseNumbers(argumentText) {
     return argumentText.split(/\s+/).filter(Boolean).map((word) => {
       const id = word === LAST_BREAKPOINT ? this.lastBreakpointNumber : /^\d+$/.test(word) ? Number(word) : 0;
-      return this.list.get(id) ? id : rejectCommand(say.noBreakpoint(word));
+      return this.list.get(id) ? id : rejectCommand(say.noBreakpointMessage(word));
     });
   }
 
@@ -146,7 +146,7 @@ export class BreakpointCommands {
     const place = prompt.parsePlace(argumentText, "watch");
     if (RAM_NIBBLE.test(place)) {
       await prompt.serve(`watch ${place.slice("ram.".length).replace(".", " ")}`);
-      prompt.calls.print(say.isWatched(place));
+      prompt.calls.print(say.isWatchedMessage(place));
       return;
     }
     if (watchedPlace !== "" && watchedPlace !== place) {
@@ -164,7 +164,7 @@ export class BreakpointCommands {
     const place = this.prompt.parsePlace(argumentText, "delete");
     if (RAM_NIBBLE.test(place)) await this.prompt.serve(`unwatch ${place.slice("ram.".length).replace(".", " ")}`);
     else if (this.watchedPlace === place) this.watchedPlace = "";
-    else rejectCommand(say.notWatched(place));
+    else rejectCommand(say.notWatchedMessage(place));
   }
 
   /** The names of the registers, ports, lamps and RAM nibbles that are watched. */

@@ -275,7 +275,7 @@ export class Prompt {
     if (text === "") rejectCommand(say.placeSyntax(command));
     const lamp = this.face.lampNumbers.get(text.replace(/ /g, "_"));
     const place = parsePlace(lamp === undefined ? text : `lamp ${lamp}`);
-    if (!place) return rejectCommand(say.noPlace(text, NAMED_PLACES));
+    if (!place) return rejectCommand(say.noPlaceMessage(text, NAMED_PLACES));
     return this.session.values([place.name])[0] === "" ? rejectCommand(boardHasNo(place.name)) : place.name;
   }
 

@@ -48,8 +48,8 @@ export function formattedValue(text, context) {
   const [, format, expression = ""] = /^\/(\w*)\s*(.*)$/.exec(text) || [];
   if (format === undefined) return evaluateExpression(text, context);
   const formatNames = Object.keys(FORMATS);
-  const formatter = formatNames.includes(format) ? FORMATS[format] : rejectCommand(say.noFormat(format, formatNames.join(", ")));
+  const formatter = formatNames.includes(format) ? FORMATS[format] : rejectCommand(say.noFormatMessage(format, formatNames.join(", ")));
   if (expression === "") rejectCommand(say.PRINT_SYNTAX);
-  if (/^(display|lamps)$/.test(expression.trim())) rejectCommand(say.noNumberOf(expression));
+  if (/^(display|lamps)$/.test(expression.trim())) rejectCommand(say.noNumberOfMessage(expression));
   return formatter(evaluateNumber(expression, context.session), context.session);
 }

@@ -146,7 +146,7 @@ export class InspectCommands {
       return calls.print(stateText.formatNibbles(session, name, countShown));
     }
     const address = place === "" ? session.address : parseAddress(place, session);
-    if (address === undefined || address > LAST_ADDRESS) return rejectCommand(say.noPlaceOfMemory(place));
+    if (address === undefined || address > LAST_ADDRESS) return rejectCommand(say.noPlaceOfMemoryMessage(place));
     return calls.print(stateText.formatCode(session, address, countShown));
   }
 
@@ -194,7 +194,7 @@ export class InspectCommands {
       line: (place) => stateText.formatLineInfo(session, findInstruction(place, session)),
       symbol: (place) => {
         const address = parseAddress(place || rejectCommand(say.SYMBOL_SYNTAX), session);
-        return address === undefined ? rejectCommand(say.noPlaceOfMemory(place)) : stateText.formatAddress(session, address);
+        return address === undefined ? rejectCommand(say.noPlaceOfMemoryMessage(place)) : stateText.formatAddress(session, address);
       },
       frame: () => this.frameText,
       stack: () => stateText.formatFrames(session),

@@ -133,7 +133,7 @@ export class MoveCommands {
       }, () => true));
       if (stopReason === "passed") continue;
       const remainingKeys = keys.slice(at + 1).map(({ name }) => name).join(" ");
-      prompt.showStop(remainingKeys === "" ? stopText : say.notPressed(stopText, remainingKeys));
+      prompt.showStop(remainingKeys === "" ? stopText : say.notPressedMessage(stopText, remainingKeys));
       return;
     }
     prompt.showStop(stoppedAt(session.counterText));

@@ -134,7 +134,7 @@ export class StopCommands {
       this.unfinishedCommands = null;
     } else if (lines.length === MAX_COMMANDS) {
       this.unfinishedCommands = null;
-      rejectCommand(say.tooManyCommands(MAX_COMMANDS));
+      rejectCommand(say.tooManyCommandsMessage(MAX_COMMANDS));
     } else if (line.trim() !== "") lines.push(line.trim());
   }
 

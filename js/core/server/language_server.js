@@ -90,7 +90,7 @@ export class LanguageServer {
   getRequestedText(params) {
     const uri = needText(getField(getField(params, "textDocument"), "uri"), "textDocument.uri");
     const text = this.texts.get(uri);
-    if (!text) throw new ProtocolError(INVALID_PARAMS, say.notOpen(uri));
+    if (!text) throw new ProtocolError(INVALID_PARAMS, say.notOpenMessage(uri));
     return text;
   }
 
@@ -270,7 +270,7 @@ export class LanguageServer {
       if (result.errors.length === 0 && this.findLanguage(openText) === this.program) this.program.assembleProgram(openText);
     } catch (error) {
       Object.assign(text, { errors: [], diagnostics: [], checkedEdits: edits });
-      this.connection.logMessage(say.cannotCheck(uri, error instanceof Error ? error.message : String(error)));
+      this.connection.logMessage(say.cannotCheckMessage(uri, error instanceof Error ? error.message : String(error)));
     }
   }
 

@@ -63,7 +63,7 @@ export class TestRuns {
     const { errors, outcomes } = await this.runOneTest(texts, shouldContinue, { name, source: uri });
     if (errors.length > 0) return createNotRunResult(this.describeError(errors[0], { board, program, tests }));
     const failedTest = outcomes.find(({ failure }) => failure !== null);
-    if (outcomes.length === 0) return createNotRunResult(say.noTest(name));
+    if (outcomes.length === 0) return createNotRunResult(say.noTestMessage(name));
     if (!failedTest || !failedTest.failure) return { message: say.testPassed(name), hasPassed: true, failure: null };
     const { source, line, words } = failedTest.failure;
     const message = say.testFailed(failedTest.name, line, words);
@@ -91,6 +91,6 @@ export class TestRuns {
    */
   describeError({ text, file = "", line, number, words }, { board, program }) {
     const name = text === "board" ? board.uri : text === "program" ? program.uri : file;
-    return say.notRun(decodeFileName(name), line, words || this.refusalMessage(number));
+    return say.notRunMessage(decodeFileName(name), line, words || this.refusalMessage(number));
   }
 }

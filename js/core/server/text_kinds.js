@@ -69,7 +69,7 @@ export function isProjectFile(uri) {
 export function readProject(text) {
   const { length } = text;
   if (length <= MAX_PROJECT_TOML_BYTES) return readProjectToml(text);
-  return { names: null, errors: [{ number: 0, line: 1, from: 0, to: 0, words: say.tooLong(length, MAX_PROJECT_TOML_BYTES) }] };
+  return { names: null, errors: [{ number: 0, line: 1, from: 0, to: 0, words: say.tooLongMessage(length, MAX_PROJECT_TOML_BYTES) }] };
 }
 
 /**
@@ -85,7 +85,7 @@ export function findProjectErrors(uri, text, readText) {
   const folder = parentFolder(uri);
   const missingFiles = listNamedFiles(names).filter(({ path }) => readText(uriInFolder(folder, path), folder) === null);
   return missingFiles.map(({ path, key, line, from, to }) => (
-    { number: 0, line, from, to, words: say.noFile(key, path) }));
+    { number: 0, line, from, to, words: say.noFileMessage(key, path) }));
 }
 
 /**

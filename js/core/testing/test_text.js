@@ -311,7 +311,7 @@ class TestReader {
     const shared = this.sharedSteps.get(name);
     if (!shared) {
       const which = say.knownSteps(knownNames.join(" "), name);
-      return fail(say.noSteps(name, which));
+      return fail(say.noStepsMessage(name, which));
     }
     this.addLines(shared.lines);
     return { kind: "do", name, steps: shared.steps };
@@ -346,7 +346,7 @@ class TestReader {
     const [state] = words;
     if (words.length !== 1) fail(say.stateSyntax(kind));
     if (kind === "save" && this.openRepeats.length > 0) fail(say.SAVED_ONCE);
-    if (this.currentShared) fail(say.noStates(kind));
+    if (this.currentShared) fail(say.noStatesMessage(kind));
     const savingTest = this.savedBy.get(state);
     if (kind === "save") {
       if (savingTest) fail(say.savedBefore(state, savingTest.name));
@@ -355,7 +355,7 @@ class TestReader {
     }
     if (this.test.steps.length > 1 || this.openRepeats.length > 0) fail(say.FROM_POSITION);
     const knownStates = this.savedBy.size > 0 ? say.knownStates([...this.savedBy.keys()].join(" ")) : "";
-    if (!savingTest) fail(say.noSuchState(state, knownStates));
+    if (!savingTest) fail(say.noSuchStateMessage(state, knownStates));
     if (savingTest === this.test) fail(say.OWN_STATE);
     this.test.from = state;
     return { kind, state };
@@ -406,7 +406,7 @@ class TestReader {
   failForKey(name, word) {
     const keyNames = [...this.keys.keys()].join(" ");
     const what = word.length > name.length ? say.nameNorWord(name, word) : name;
-    return fail(say.noKey(what, keyNames));
+    return fail(say.noKeyMessage(what, keyNames));
   }
 
   /**
@@ -446,7 +446,7 @@ class TestReader {
     if (error) fail(error, startColumn + column);
     const address = parseRomAddress(place);
     const hasRom = Number.isNaN(address) || board.roms.some(({ chip }) => Number(chip) === Math.floor(address / 256));
-    if (!hasRom) fail(say.noRomAt(text.trim().split(/[ \t=]+/)[0].slice("rom.".length)), startColumn + 1);
+    if (!hasRom) fail(say.noRomAtMessage(text.trim().split(/[ \t=]+/)[0].slice("rom.".length)), startColumn + 1);
     return { commands: lines.trimEnd().split("\n"), changesRom: !Number.isNaN(address) };
   }
 }

@@ -126,7 +126,8 @@ class BoardErrorText {
     const { number, section, key: name } = this.error;
     if (number === MISSING_KEY) return say.lacksKeys(section, name);
     if (number === BAD_VALUE) return this.explainValues(value);
-    if (number === TOO_MANY) return name === "" ? say.tooManyTables(MAX_PARTS[section], section) : say.tooManyColumns(MAX_COLUMNS);
+    if (number === TOO_MANY && name === "") return say.tooManyTablesMessage(MAX_PARTS[section], section);
+    if (number === TOO_MANY) return say.tooManyColumnsMessage(MAX_COLUMNS);
     if (!entry || !key || !value) return this.messageFor(number);
     if (number === DUPLICATE) return say.alreadyThere(`${name} ${value.inner}`, this.findFirstLine(entry, key));
     if (number === MISSING_LINE) return name === "rows" ? this.explainRows(entry) : this.explainMissingLine(String(value.inner));
@@ -143,11 +144,11 @@ class BoardErrorText {
     const values = (this.tables.get(section) || new Map()).get(key);
     const inner = value ? value.inner : null;
     const isLine = LINE_KEYS.includes(key) && typeof inner !== "object" && (key !== "columns" || value !== this.findWrongPart().key?.value);
-    if (isLine) return say.noLineName(String(inner));
+    if (isLine) return say.noLineNameMessage(String(inner));
     if (typeof inner === "string" && `${section}.${key}` in VALUE_RANGES && /^\d+$/.test(inner)) return say.withoutQuotes(key, inner);
     if (key) return values ? say.keyMustBe(key, values) : this.messageFor(BAD_VALUE);
     if (section !== "keys" && index === 0) return say.tableArraySyntax(section);
-    return section === "keys" ? say.ONE_MATRIX : say.mustBeTable(section);
+    return section === "keys" ? say.ONE_MATRIX : say.mustBeTableMessage(section);
   }
 
   /**
@@ -157,13 +158,13 @@ class BoardErrorText {
   explainMissingLine(name) {
     const [, kind = "", number = "", chip = ""] = /^(rom|ram|chain)(\d+)\.(\d+)/.exec(name) || [];
     const { banks, chains } = this.parts;
-    if (kind === "") return say.noChain(name, chains.length);
-    if (kind === "rom") return say.noSuchRom(name, number);
+    if (kind === "") return say.noChainMessage(name, chains.length);
+    if (kind === "rom") return say.noSuchRomMessage(name, number);
     const bank = banks.find((candidate) => String(candidate.bank) === number);
-    if (kind === "ram" && bank && Number(chip) >= bank.chips) return say.noChipInBank(name, number, bank.chips);
-    if (kind === "ram") return say.noSuchBank(name, number);
+    if (kind === "ram" && bank && Number(chip) >= bank.chips) return say.noChipInBankMessage(name, number, bank.chips);
+    if (kind === "ram") return say.noSuchBankMessage(name, number);
     const chain = chains[Number(number)];
-    return chain ? say.noBitInChain(name, number, BITS_PER_CHIP * chain.chips - 1) : say.noChain(number, chains.length);
+    return chain ? say.noBitInChainMessage(name, number, BITS_PER_CHIP * chain.chips - 1) : say.noChainMessage(number, chains.length);
   }
 
   /**
@@ -201,7 +202,7 @@ class BoardErrorText {
     const knownNames = section === "" ? Object.keys(PART_KEYS) : PART_KEYS[section];
     const suggestions = findSimilarWords(name, knownNames);
     const instead = formatSuggestion(suggestions) || say.whichHasKeys(knownNames.join(", "));
-    const message = section === "" ? say.noPart(name, instead) : say.noKeyOf(name, section, instead);
+    const message = section === "" ? say.noPartMessage(name, instead) : say.noKeyOfMessage(name, section, instead);
     const range = key || entry;
     const unknownKeyError = range ? createErrorAt(UNKNOWN_KEY, range, message) : this.createWholeLineError(message);
     const quickFixTexts = key ? suggestions : suggestions.map(formatHeader);

@@ -14,7 +14,7 @@ import * as say from "../../words/text.js";
  * @typedef {{ line: number, to: number }} End
  *
  * A value (`inner`) with its position. `line`, `from` and `to` are the position of the value. For an array or an inline table, they are
- * the position of its opening bracket. `end` is the end of the complete value. `whole` is false for a number with a fraction or exponent.
+ * the position of its opening bracket. `end` is the end of the complete value. `isWhole` is false for a number with a fraction or exponent.
  * @typedef {{ inner: PlainValue, isWhole: boolean, line: number, from: number, to: number, end: End }} Value
  *
  * A key: its name, the position of the name, and its value.
@@ -201,7 +201,7 @@ export class BoardReader {
     if (this.isMark("[")) return { inner: this.readNested(() => this.readArray(key)), isWhole: true, ...range, end: this.lastEnd };
     if (this.isMark("{")) return { inner: this.readNested(() => this.readTable()), isWhole: true, ...range, end: this.lastEnd };
     if (kind === "end") throw new TomlSyntaxError(this.word, say.valueMissing(key));
-    if (kind === "punctuation" || kind === "bad") throw new TomlSyntaxError(this.word, error || say.noValue(text));
+    if (kind === "punctuation" || kind === "bad") throw new TomlSyntaxError(this.word, error || say.noValueMessage(text));
     const inner = this.parseScalar(kind, text);
     this.at += 1;
     return { inner, isWhole: typeof inner !== "number" || INTEGER.test(text), ...range, end: { line, to } };
@@ -214,7 +214,7 @@ export class BoardReader {
    * @returns {Read}
    */
   readNested(read) {
-    if (this.depth === MAX_DEPTH) throw new TomlSyntaxError(this.word, say.tooDeep(MAX_DEPTH));
+    if (this.depth === MAX_DEPTH) throw new TomlSyntaxError(this.word, say.tooDeepMessage(MAX_DEPTH));
     this.depth += 1;
     try {
       return read();
@@ -234,8 +234,8 @@ export class BoardReader {
     if (INTEGER.test(text)) return Number(text.replace(/_/g, ""));
     if (text === "true" || text === "false") return text === "true";
     if (/^[+-]?\d+(\.\d+)?([eE][+-]?\d+)?$/.test(text) && !/^[+-]?0\d/.test(text)) return Number(text);
-    if (/^0\d+$/.test(text)) throw new TomlSyntaxError(this.word, say.hasLeadingZero(text));
-    throw new TomlSyntaxError(this.word, say.needsQuotes(text));
+    if (/^0\d+$/.test(text)) throw new TomlSyntaxError(this.word, say.hasLeadingZeroMessage(text));
+    throw new TomlSyntaxError(this.word, say.needsQuotesMessage(text));
   }
 
   /** Skips line ends. */

@@ -93,7 +93,7 @@ export function findMissingRoms(lines, map, roms) {
     if (address === undefined) return;
     const chip = [Math.floor(address / 256), Math.floor((address + map.sizes[line] - 1) / 256)].find((romNumber) => !roms.has(romNumber));
     if (chip === undefined || errors.has(chip)) return;
-    const message = say.noRomForLine(chip, hex(address, 3));
+    const message = say.noRomForLineMessage(chip, hex(address, 3));
     errors.set(chip, createError(text, line, { word: null, message }, MISSING_ROM, () => message));
   });
   return [...errors.values()];

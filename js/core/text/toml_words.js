@@ -37,7 +37,7 @@ function parseWord(text, line, from) {
   const isPunctuation = /^[[\]{}=,.]/.test(remainingText);
   const [character] = remainingText;
   const word = { text: character, line, from, to: from + 1 };
-  return isPunctuation ? { kind: "punctuation", ...word, error: "" } : { kind: "bad", ...word, error: say.noMeaning(character) };
+  return isPunctuation ? { kind: "punctuation", ...word, error: "" } : { kind: "bad", ...word, error: say.noMeaningMessage(character) };
 }
 
 /**

@@ -56,7 +56,7 @@ export function readSearch(text, waves, markedLine) {
   if (trimmed.startsWith("@")) {
     const label = findLabel(waves, trimmed.slice(1));
     const counter = waves.lines.findIndex(({ kind }) => kind === "pc");
-    if (!label) return searchError(say.noLabel(trimmed.slice(1)));
+    if (!label) return searchError(say.noLabelMessage(trimmed.slice(1)));
     return { search: { line: counter, matches: (value) => value === label.address, findsEachMatch: false }, error: "" };
   }
   const edge = /^(?:(.*\S)\s+)?(rises|falls|changes)$/.exec(trimmed);
@@ -76,7 +76,7 @@ export function readSearch(text, waves, markedLine) {
 function findSearchLine(name, waves, markedLine) {
   const line = name ? findLineByName(name, waves.lines) : markedLine;
   if (line >= 0) return { line, error: "" };
-  return { line, error: name ? say.notRecorded(name) : say.NO_LINE_MARKED };
+  return { line, error: name ? say.notRecordedMessage(name) : say.NO_LINE_MARKED };
 }
 
 /**
@@ -90,8 +90,8 @@ function makeEdgeSearch(name, edge, waves, markedLine) {
   const { line, error } = findSearchLine(name || "", waves, markedLine);
   if (error) return searchError(error);
   const { width } = waves.lines[line];
-  if (edge !== "changes" && isDecoder(waves.lines[line])) return searchError(say.isDecoded(waves.lines[line].name));
-  if (edge !== "changes" && width > 1) return searchError(say.isNumber(waves.lines[line].name));
+  if (edge !== "changes" && isDecoder(waves.lines[line])) return searchError(say.isDecodedMessage(waves.lines[line].name));
+  if (edge !== "changes" && width > 1) return searchError(say.isNumberMessage(waves.lines[line].name));
   return { search: { line, matches: EDGE_TESTS[edge], findsEachMatch: true }, error: "" };
 }
 
@@ -111,8 +111,8 @@ function parseValue(name, sign, value, waves, markedLine) {
   const label = kind === "label" || kind === "pc" ? findLabel(waves, value.replace(/^@/, "")) : null;
   const binary = /^0b([01]+)$/i.exec(value);
   const number = label ? (kind === "pc" ? label.address : label.number) : binary ? parseInt(binary[1], 2) : parseNumber(value);
-  if (kind === "label" && !label) return searchError(say.noLabel(value));
-  if (Number.isNaN(number)) return searchError(say.noNumber(value, say.SEARCH_FORMS));
+  if (kind === "label" && !label) return searchError(say.noLabelMessage(value));
+  if (Number.isNaN(number)) return searchError(say.noNumberMessage(value, say.SEARCH_FORMS));
   const max = 2 ** width - 1;
   if (kind !== "label" && number > max) return searchError(say.valueTooLarge(lineName, width, max));
   const matches = (/** @type {number} */ current) => COMPARISONS[sign](current, number);
@@ -128,7 +128,7 @@ function parseValue(name, sign, value, waves, markedLine) {
  * @returns {{ search: Search | null, error: string }}
  */
 function parseKeySearch(decoder, line, sign, key) {
-  if (sign !== "=" || !decoder.places.includes(key)) return searchError(say.isDecoded(decoder.name));
+  if (sign !== "=" || !decoder.places.includes(key)) return searchError(say.isDecodedMessage(decoder.name));
   return { search: { line, matches: (value) => parseScan(decoder, value).keys.includes(key), findsEachMatch: false }, error: "" };
 }
 

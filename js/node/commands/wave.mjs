@@ -129,9 +129,9 @@ async function printVcd(openedSession, cycles, words) {
  */
 function panelBuzzerLine({ board, boardText, face: { buzzer } }) {
   if (!boardText) throw new CommandError(say.NO_BUZZER_GIVEN);
-  if (!buzzer) throw new CommandError(say.noBuzzer(boardText.name));
+  if (!buzzer) throw new CommandError(say.noBuzzerMessage(boardText.name));
   if (hasOutput(board, buzzer.place)) return buzzer.place;
-  throw new CommandError(say.noOutputAt(boardText.name, buzzer.line + boardText.linesBefore, buzzer.place));
+  throw new CommandError(say.noOutputAtMessage(boardText.name, buzzer.line + boardText.linesBefore, buzzer.place));
 }
 
 /**
@@ -142,7 +142,7 @@ function panelBuzzerLine({ board, boardText, face: { buzzer } }) {
 function buzzerLine(openedSession, word) {
   const name = word ?? panelBuzzerLine(openedSession);
   const isOutput = /^(rom|ram|chain)[\d.]*\.\d+$/.test(name) && hasOutput(openedSession.board, name);
-  if (!isOutput) throw new CommandError(say.noOutputLine(name));
+  if (!isOutput) throw new CommandError(say.noOutputLineMessage(name));
   return name;
 }
 

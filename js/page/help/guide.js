@@ -76,7 +76,7 @@ export class Guide {
     const { story = "" } = examples.find((example) => example.name === name) || {};
     const steps = parseStory(story);
     if (steps.length > 0) this.tour.open(steps);
-    else this.calls.showRefusal(say.noSuchStory(shortName(name)));
+    else this.calls.showRefusal(say.noSuchStoryMessage(shortName(name)));
   }
 
   /** Closes the story when another session is opened. */

@@ -60,7 +60,7 @@ export class ExportView {
   async save({ extension, description, make }) {
     const contents = await make();
     if (contents.length === 0) {
-      this.status.textContent = say.nothingSaved(description);
+      this.status.textContent = say.nothingSavedMessage(description);
       return;
     }
     download(this.calls.name(), extension, new Blob([contents], { type: "application/octet-stream" }));

@@ -61,7 +61,7 @@ export class LinkSharing {
     if (!texts) return;
     const lengthError = tooLongMessage(texts);
     if (lengthError) {
-      this.notice.show(say.noLink(lengthError), "refusal");
+      this.notice.show(say.noLinkMessage(lengthError), "refusal");
       return;
     }
     const address = location.href.replace(/#.*$/, "") + formatUrlFragment("link", await toLink(texts));

@@ -63,7 +63,7 @@ export class SessionManager {
     try {
       return (await this.store.all()).sort((a, b) => b.changed - a.changed);
     } catch (error) {
-      this.calls.refuse(say.cannotReadKept(describeStoreError(error)));
+      this.calls.refuse(say.cannotReadKeptMessage(describeStoreError(error)));
       return [];
     }
   }
@@ -99,7 +99,7 @@ export class SessionManager {
       return true;
     } catch (error) {
       release();
-      return this.rejectAction(say.notOpened(this.errorMessages.errorMessage(error)));
+      return this.rejectAction(say.notOpenedMessage(this.errorMessages.errorMessage(error)));
     }
   }
 
@@ -116,7 +116,7 @@ export class SessionManager {
       if (previousSession && !previousSession.isUntouched) this.calls.offerReturn(previousSession.record);
       return true;
     } catch (error) {
-      return this.rejectAction(say.notMade(this.errorMessages.errorMessage(error)));
+      return this.rejectAction(say.notMadeMessage(this.errorMessages.errorMessage(error)));
     }
   }
 
@@ -228,7 +228,7 @@ export class SessionManager {
     const session = this.calls.session();
     if (!session) return;
     const lengthError = tooLongMessage(session.record);
-    if (lengthError) this.rejectAction(say.noProjectSaved(lengthError));
+    if (lengthError) this.rejectAction(say.noProjectSavedMessage(lengthError));
     else download(session.record.name, ".mcsp", new Blob([projectText(session.record)], { type: "application/octet-stream" }));
   }
 

@@ -58,7 +58,7 @@ export class Trash {
       this.unsavedTexts.forget(record.id);
       return true;
     } catch (error) {
-      this.refuse(say.notDeleted(record.name, describeStoreError(error)));
+      this.refuse(say.notDeletedMessage(record.name, describeStoreError(error)));
       return false;
     } finally {
       release();
@@ -77,7 +77,7 @@ export class Trash {
         await this.store.put(record);
         this.deleted = this.deleted.filter((candidate) => candidate !== record);
       } catch (error) {
-        this.refuse(say.notRestored(record.name, describeStoreError(error)));
+        this.refuse(say.notRestoredMessage(record.name, describeStoreError(error)));
       }
     }
   }

@@ -166,7 +166,7 @@ export class EditorView {
       handleGutterClick: (line) => this.calls.toggleBreakpoint(line),
       handleGutterMenu: (line, event) => this.openMarginMenu(line, event),
       handleNameClick: () => this.language.isInstruction && this.names.goToDefinition(),
-      reportTooLong: (size) => this.status.set(say.notInserted(size.toLocaleString("en"), MAX_STORED_LENGTH.toLocaleString("en"))),
+      reportTooLong: (size) => this.status.set(say.notInsertedMessage(size.toLocaleString("en"), MAX_STORED_LENGTH.toLocaleString("en"))),
       complete: ({ line, ch }) => this.language.complete(this.lines, line, ch),
     };
   }
