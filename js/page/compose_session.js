@@ -84,7 +84,7 @@ export function makeLinkSharing(page) {
 /**
  * Returns the callbacks for the links in a story.
  * @param {Page} page
- * @returns {import("../core/help/story_actions.js").ActionCalls}
+ * @returns {import("../core/help/story_actions.js").ActionCallbacks}
  */
 function makeStoryCalls({ layout, snapshotView, keyPresser, runController, source, travel }) {
   return {

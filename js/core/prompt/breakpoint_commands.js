@@ -70,7 +70,7 @@ export class BreakpointCommands {
    * @param {string} argumentText the arguments: location, number of the first hit that stops, condition and note
    */
   async add(argumentText) {
-    const { session, machine, calls } = this.prompt;
+    const { session, machine, callbacks } = this.prompt;
     const [, place, from = "1", condition = "", note = ""] = /** @type {RegExpExecArray} */ (BREAKPOINT_ARGUMENTS.exec(argumentText));
     const { line, address } = findInstruction(place, session);
     const previous = this.list.findByAddress(address);
@@ -86,7 +86,7 @@ export class BreakpointCommands {
     }
     await machine.saveAndReport();
     const { address: placedAddress } = this.list.get(newBreakpoint.id) || newBreakpoint;
-    calls.print(say.breakpointAt(newBreakpoint.id, formatAddress(session, placedAddress)));
+    callbacks.print(say.breakpointAt(newBreakpoint.id, formatAddress(session, placedAddress)));
     this.lastBreakpointNumber = newBreakpoint.id;
     return newBreakpoint.id;
   }
@@ -146,14 +146,14 @@ export class BreakpointCommands {
     const place = prompt.parsePlace(argumentText, "watch");
     if (RAM_NIBBLE.test(place)) {
       await prompt.serve(`watch ${place.slice("ram.".length).replace(".", " ")}`);
-      prompt.calls.print(say.isWatchedMessage(place));
+      prompt.callbacks.print(say.isWatchedMessage(place));
       return;
     }
     if (watchedPlace !== "" && watchedPlace !== place) {
       rejectCommand(say.onlyOneWatchAllowed(watchedPlace));
     }
     this.watchedPlace = place;
-    prompt.calls.print(say.watchedByContinue(place));
+    prompt.callbacks.print(say.watchedByContinue(place));
   }
 
   /**

@@ -109,10 +109,10 @@ export class MoveCommands {
    */
   continueRun(argumentText) {
     if (argumentText !== "") rejectCommand(say.CONTINUE_SYNTAX);
-    const { session, watchedPlace, calls, machine } = this.prompt;
+    const { session, watchedPlace, callbacks, machine } = this.prompt;
     const hasWatches = watchedPlace !== "" || session.debugger.session.ask("watches\n")[0] !== "watches -";
     const canStop = session.breakpoints.enabledCount > 0 || hasWatches;
-    if (!canStop && !calls.isInteractive) rejectCommand(say.NOTHING_STOPS);
+    if (!canStop && !callbacks.isInteractive) rejectCommand(say.NOTHING_STOPS);
     return this.moveAndShow(() => machine.go(watchedPlace === "" ? null : { kind: "change", place: watchedPlace }));
   }
 

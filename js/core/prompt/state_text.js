@@ -111,9 +111,9 @@ export function formatRam(session) {
  * @param {DebugSession} session
  */
 export function formatPorts(session) {
-  const { sources, roms, chains, keys } = readState(session).ports;
+  const { srcBytes, roms, chains, keys } = readState(session).ports;
   return [
-    `src ${sources.join(" ")}`,
+    `src ${srcBytes.join(" ")}`,
     ...roms.map(({ chip, out, in: reads }) => `rom ${chip} out ${out} in ${reads}`),
     ...chains.map((bits, at) => `chain ${at} ${bits.replace(/.{10}(?=.)/g, "$& ")}`),
     `keys ${keys.join(" ") || "-"}`,
