@@ -90,7 +90,7 @@ def check_errors(browser):
     verdict("the caret stays, and nothing is selected", browser.script(GET_CARET, PROGRAM), [1, 3, ""])
     verdict("each fault is in the margin of its line",
             browser.script("return document.querySelectorAll('#program-editor .mark-faults').length"), 5)
-    verdict("the tab shows how many", browser.text("#program-tab"), re.compile("5 faults$"))
+    verdict("the tab shows how many", browser.text("#program-tab"), re.compile("5 errors$"))
     browser.click(f"{PROGRAM} .send")
     eventually(browser, "a program with faults is not assembled", GET_STATUS_OF.format(PROGRAM), re.compile("^line 1: LDX is not an instruction.*4 more$"))
     browser.click(f"{PROGRAM} .fault-list li:nth-child(3) button")

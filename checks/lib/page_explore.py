@@ -170,7 +170,7 @@ def check_errors(browser):
                ["line 1: write `wait TIME to TIME`, from 1 cycle to 100,000 (1.08 s), as in: wait 1 ms to 20 ms",
                 "line 2: the board has no lamp purple; it has: locked open alarm (column 7)",
                 "line 3: the board has no key A; it has: 1 2 3 4 5 6 7 8 9 * 0 #"])
-    verdict("the tab shows how many", browser.script(GET_MARK), "3 faults")
+    verdict("the tab shows how many", browser.script(GET_MARK), "3 errors")
     browser.click("#explore")
     eventually(browser, "nothing is looked for then", GET_PROPERTIES_STATUS, re.compile("^Nothing was run: Properties, line 1: write .* and 2 more.$"))
     for seconds, seed, message in ((0, 1, "Seconds must be a number from 1 to 86,400."), ("x", -1, re.compile("^Seconds .* The seed must be a number"))):

@@ -71,7 +71,7 @@ def check_errors(browser):
     eventually(browser, "faults are reported while one types", GET_ERRORS,
                ["line 2: the board has no lamp green; it has: left middle right (column 9)",
                 "line 3: the board has no key x; its text names no keys (`# row 0: NAME ..`)"])
-    verdict("the tab shows how many", browser.script(GET_MARK), "2 faults")
+    verdict("the tab shows how many", browser.script(GET_MARK), "2 errors")
     browser.click(f"{EDITOR} .send")
     eventually(browser, "nothing is run then", GET_TESTS_STATUS,
                "Nothing was run: Tests, line 2: the board has no lamp green; it has: left middle right (column 9), and 1 more.")

@@ -32,7 +32,7 @@ export function checkArguments(words, names, max = names.length, hasProject = fa
  */
 export function parseCount(name, word, max) {
   const number = /^[1-9]\d{0,8}$/.test(word) ? Number(word) : 0;
-  if (number < 1 || number > max) throw new UsageError(say.notInRange(name, word, max));
+  if (number < 1 || number > max) throw new UsageError(say.notInRangeMessage(name, word, max));
   return number;
 }
 

@@ -3,7 +3,7 @@ import { readBoard } from "../core/bench/answers.js";
 import { Face } from "../core/board/face.js";
 import { findNameErrors, wireBoard } from "../core/testing/test_preparation.js";
 import { pressLines } from "../core/testing/press_lines.js";
-import { keysWithoutNames, noKeyOnBoard } from "../words/commands.js";
+import { keysWithoutNames, noKeyOnBoardMessage } from "../words/commands.js";
 import { createRejectedTextsError } from "./native_program.mjs";
 import { CommandError } from "./output.mjs";
 
@@ -15,10 +15,10 @@ import { CommandError } from "./output.mjs";
  * @param {InputText} boardFile
  */
 export async function readBoardAndFace(engine, boardFile) {
-  const { faults, answers } = wireBoard(engine, boardFile.text);
+  const { errors: boardErrors, answers } = wireBoard(engine, boardFile.text);
   const face = new Face(boardFile.text);
   const board = readBoard(answers);
-  const errors = faults.length > 0 ? faults : findNameErrors(face, board);
+  const errors = boardErrors.length > 0 ? boardErrors : findNameErrors(face, board);
   if (errors.length > 0) throw await createRejectedTextsError(engine, { board: boardFile }, errors);
   return { board, face, answers };
 }
@@ -34,5 +34,5 @@ export function makeKeyLines(face, boardName, keys, pace) {
   const { lines, unknown: unknownKey } = pressLines(face, keys, pace);
   if (unknownKey === null) return lines;
   const hasNames = face.test !== null || [...face.keys.values()].some(({ text }) => text !== "");
-  throw new CommandError(hasNames ? noKeyOnBoard(boardName, unknownKey) : keysWithoutNames(boardName));
+  throw new CommandError(hasNames ? noKeyOnBoardMessage(boardName, unknownKey) : keysWithoutNames(boardName));
 }

@@ -33,7 +33,7 @@ async function findSuggestions(word, words) {
 async function createUnknownOptionError(word, options) {
   const isLong = word.startsWith("--");
   const suggestions = isLong ? await findSuggestions(word.slice(2), Object.keys(options)) : [];
-  return new UsageError(say.noOption(word, suggestions.map((name) => `--${name}`)));
+  return new UsageError(say.noOptionMessage(word, suggestions.map((name) => `--${name}`)));
 }
 
 /**
@@ -50,7 +50,7 @@ const lacksValue = (value, isInline) => value === undefined || value === "" || (
 async function checkOption({ name, rawName, value, inlineValue }, options) {
   const option = options[name];
   if (!option) throw await createUnknownOptionError(rawName, options);
-  if (option.type === "boolean" && value !== undefined) throw new UsageError(say.noValue(rawName));
+  if (option.type === "boolean" && value !== undefined) throw new UsageError(say.noValueMessage(rawName));
   if (option.type === "string" && lacksValue(value, inlineValue === true)) {
     throw new UsageError(say.valueMissing(option.value || name.toUpperCase(), rawName));
   }
@@ -133,7 +133,7 @@ export async function runCommand(name, words, load = COMMANDS[name].load) {
  */
 async function rejectCommand(word) {
   const names = [...Object.keys(COMMANDS), ...Object.keys(say.BUILT_IN_COMPLETIONS)];
-  printErrorLines("mcs4", say.noCommand(word, await findSuggestions(word, names)));
+  printErrorLines("mcs4", say.noCommandMessage(word, await findSuggestions(word, names)));
   return WRONG_ARGUMENTS_STATUS;
 }
 

@@ -65,8 +65,8 @@ async function askModel(command, keySequences) {
   const { status, stdout, stderr, signal } = await runCommand("sh", ["-c", command], `${keySequences.join("\n")}\n`);
   const lines = stdout.split("\n").slice(0, -1);
   const [words] = stderr.split("\n");
-  if (status !== 0) return { expectedTexts: [], fault: say.modelEnded(signal || `status ${status}`, words) };
-  return { expectedTexts: lines, fault: lines.length === keySequences.length ? "" : say.modelPrinted(lines.length, keySequences.length) };
+  if (status !== 0) return { expectedTexts: [], error: say.modelEnded(signal || `status ${status}`, words) };
+  return { expectedTexts: lines, error: lines.length === keySequences.length ? "" : say.modelPrinted(lines.length, keySequences.length) };
 }
 
 /** The search of one campaign. A campaign consists of the properties in one file. */
@@ -89,11 +89,11 @@ class Exploration {
    */
   async readTexts() {
     const { engine, settings: { texts: { board, program, properties } } } = this;
-    const { prepared, faults: textErrors } = prepareTests(engine, { boardText: board.text, programText: program.text });
+    const { prepared, errors: textErrors } = prepareTests(engine, { boardText: board.text, programText: program.text });
     if (!prepared) throw await createRejectedTextsError(engine, { board, program }, textErrors);
     const subject = createSubject(engine, board.text, program.text, program.linesBefore);
-    const { campaign, faults } = readCampaign(properties.text, subject);
-    if (faults.length > 0) throw new CommandError(faults.map(({ line, words }) => `${properties.name}:${line}: ${words}`).join("\n"));
+    const { campaign, errors } = readCampaign(properties.text, subject);
+    if (errors.length > 0) throw new CommandError(errors.map(({ line, words }) => `${properties.name}:${line}: ${words}`).join("\n"));
     const testText = readStartTests(campaign, properties.name);
     const { searchSetup, message: words } = await startCampaign({ subject, campaign }, prepared, testText);
     if (words) throw new CommandError(`${properties.name}:${campaign.from ? campaign.from.line : 0}: ${words}`);
@@ -139,7 +139,7 @@ class Exploration {
     const end = performance.now() + 1000 * seconds;
     while (performance.now() < end && !isStopped && !run.isDone) {
       const counterexample = await run.runFor(SLICE_TIME);
-      if (run.fault && !isStopped) throw new CommandError(`${names.properties}:${campaign.properties[run.modelIndex].line}: ${run.fault}`);
+      if (run.error && !isStopped) throw new CommandError(`${names.properties}:${campaign.properties[run.modelIndex].line}: ${run.error}`);
       if (counterexample) this.printCounterexample(campaign.properties[counterexample.property], counterexample.counterexample);
       await yieldToMessages();
     }
@@ -198,7 +198,7 @@ function readReport(name) {
   } catch {
     // The statement below throws the error.
   }
-  throw new CommandError(say.notAReport(name));
+  throw new CommandError(say.notAReportMessage(name));
 }
 
 /**

@@ -2,7 +2,7 @@
 import { closeSync, openSync } from "node:fs";
 import { CommandError } from "./output.mjs";
 import { readStream, readUserFile, statInput } from "./user_files.mjs";
-import { noAnswers } from "../words/commands.js";
+import { noAnswersMessage } from "../words/commands.js";
 
 /** The maximum sizes of a session script, of the bench's answers, and of a single text, in bytes. */
 export const MAX_SCRIPT_BYTES = 16777216;
@@ -135,7 +135,7 @@ export class InputTexts {
    * @param {string} command the command that reads the answers
    */
   readAnswers(command) {
-    if (this.readStandardInput(MAX_ANSWERS_BYTES).length === 0) throw new CommandError(noAnswers(command));
+    if (this.readStandardInput(MAX_ANSWERS_BYTES).length === 0) throw new CommandError(noAnswersMessage(command));
     return decodeText(this.readStandardInput(MAX_ANSWERS_BYTES)).text.split("\n").slice(0, -1).map((line) => line.replace(/\r$/, ""));
   }
 

@@ -10,7 +10,7 @@ import { CommandError } from "./output.mjs";
 import { loadChildProcess } from "./lazy_child_process.mjs";
 import { TOP } from "./top_folder.mjs";
 import {
-  NO_PROGRAM_IN_COPY, inUse, needsProgram, noNamedProver, noProver, notForSystem, otherProgram, runsOnModule, sessionRefused,
+  NO_PROGRAM_IN_COPY, inUse, needsProgram, noNamedProverMessage, noProverMessage, notForSystemMessage, otherProgram, runsOnModule, sessionRefused,
 } from "../words/commands.js";
 
 /**
@@ -47,7 +47,7 @@ function runStarter(script) {
 
 /** @returns {FoundProgram} the result if the starter cannot run: an editor extension does not contain it, and Windows has no shell for it */
 const createNoProgramResult = () => (
-  { program: "", reason: hasStarter ? notForSystem(type(), process.arch) : NO_PROGRAM_IN_COPY, isUnsupported: true });
+  { program: "", reason: hasStarter ? notForSystemMessage(type(), process.arch) : NO_PROGRAM_IN_COPY, isUnsupported: true });
 
 /** @type {FoundProgram | null} the cached result of the search for the program */
 let foundProgram = null;
@@ -74,10 +74,10 @@ export function findProgramPath() {
  */
 export function findProverPath() {
   const { MCS4_PROVE: proverName } = process.env;
-  if (proverName && !existsSync(proverName)) throw new CommandError(noNamedProver(proverName));
+  if (proverName && !existsSync(proverName)) throw new CommandError(noNamedProverMessage(proverName));
   if (proverName) return proverName;
   const { program, reason, isUnsupported } = runStarter(FIND_PROVER) || createNoProgramResult();
-  if (program === "" && !isUnsupported) throw new CommandError(noProver(reason));
+  if (program === "" && !isUnsupported) throw new CommandError(noProverMessage(reason));
   return program;
 }
 
@@ -160,11 +160,11 @@ export async function openSession(engine, texts, session) {
  * Resolves to the error for rejected texts. The first call loads the modules that compose the messages.
  * @param {EngineHost} engine
  * @param {import("./rejected_texts.mjs").CheckedTexts} givenTexts
- * @param {import("../core/testing/test_preparation.js").TextFault[]} faults
+ * @param {import("../core/testing/test_preparation.js").ProjectTextError[]} errors
  */
-export async function createRejectedTextsError(engine, givenTexts, faults) {
+export async function createRejectedTextsError(engine, givenTexts, errors) {
   const { RejectedTexts } = await import("./rejected_texts.mjs");
-  return new CommandError(new RejectedTexts(engine, givenTexts).formatMessage(faults));
+  return new CommandError(new RejectedTexts(engine, givenTexts).formatMessage(errors));
 }
 
 /**
@@ -175,8 +175,8 @@ export async function createRejectedTextsError(engine, givenTexts, faults) {
  */
 export async function readCheckedMap(engine, codes, program) {
   const { sessionProgram } = await import("../core/engine/session_program.js");
-  const { faults, difference: otherByte, map } = sessionProgram(engine, codes, program.text);
-  if (faults.length > 0) throw await createRejectedTextsError(engine, { program }, faults);
+  const { errors, difference: otherByte, map } = sessionProgram(engine, codes, program.text);
+  if (errors.length > 0) throw await createRejectedTextsError(engine, { program }, errors);
   if (!otherByte) return map;
   const { address, romByte, line, sourceByte } = otherByte;
   throw new CommandError(otherProgram(program.name, address, romByte, line + program.linesBefore, sourceByte));
@@ -198,8 +198,8 @@ export async function yieldToMessages() {
  */
 export async function assembleProgram(engine, program) {
   const { readSource } = await import("../core/engine/session_program.js");
-  const { faults, map, bytes } = readSource(engine, program.text);
-  if (faults.length > 0) throw await createRejectedTextsError(engine, { program }, faults);
+  const { errors, map, bytes } = readSource(engine, program.text);
+  if (errors.length > 0) throw await createRejectedTextsError(engine, { program }, errors);
   return { map, bytes };
 }
 

@@ -52,10 +52,10 @@ export class PanelTerminal {
   constructor() {
     const { stdin, stdout, env } = process;
     if (!stdin.isTTY || !stdout.isTTY) throw new CommandError(say.NO_TERMINAL);
-    if (isDumb(env)) throw new CommandError(say.isDumb(env.TERM || ""));
+    if (isDumb(env)) throw new CommandError(say.isDumbMessage(env.TERM || ""));
     this.input = stdin;
     this.output = stdout;
-    if (!fitsPanel(this.size)) throw new CommandError(say.tooSmall(MIN_SIZE_TEXT, this.size.columns, this.size.rows));
+    if (!fitsPanel(this.size)) throw new CommandError(say.tooSmallMessage(MIN_SIZE_TEXT, this.size.columns, this.size.rows));
     this.paint = choosePainter(stdout, env);
     this.isOn = false;
     /** True if the terminal is no longer available, or if the panel must end. */

@@ -43,11 +43,11 @@ class ProofSession {
     const engine = await startEngine();
     if (this.program === "") this.module = (await import("./module_prover.mjs")).makeModuleProver();
     const { board, program, properties } = this.texts;
-    const { prepared, faults: textErrors } = prepareTests(engine, { boardText: board.text, programText: program.text });
+    const { prepared, errors: textErrors } = prepareTests(engine, { boardText: board.text, programText: program.text });
     if (!prepared) throw await createRejectedTextsError(engine, { board, program }, textErrors);
     const subject = createSubject(engine, board.text, program.text, program.linesBefore);
-    const { campaign, faults } = readCampaign(properties.text, subject, false);
-    if (faults.length > 0) throw new CommandError(faults.map(({ line, words }) => `${properties.name}:${line}: ${words}`).join("\n"));
+    const { campaign, errors } = readCampaign(properties.text, subject, false);
+    if (errors.length > 0) throw new CommandError(errors.map(({ line, words }) => `${properties.name}:${line}: ${words}`).join("\n"));
     return new PropertyJudge(subject, campaign, {
       ask: (question) => this.ask(question, this.limits),
       askBySets: (question) => this.ask(question, { maxStates: 0, sets: MAX_SETS }),

@@ -101,7 +101,7 @@ export class RejectedLines {
       const { input, lineNumber, answer } = answeredInput;
       if (answer === "") {
         const shownLine = `    ${input.line.slice(0, MAX_SHOWN_LENGTH)}`;
-        return [...lines, say.notAnswered(lineNumber, index === inputs.length - 1), shownLine, ...this.formatAddressLines(answeredInput)];
+        return [...lines, say.notAnsweredMessage(lineNumber, index === inputs.length - 1), shownLine, ...this.formatAddressLines(answeredInput)];
       }
       const refusal = parseRefusal(answer);
       if (refusal) lines.push(...this.describeInput(answeredInput, refusal));

@@ -16,8 +16,8 @@ import { readPageData } from "./page_parts.mjs";
 
 /**
  * @typedef {import("../core/engine/engine_host.js").EngineHost} EngineHost
- * @typedef {import("../core/testing/test_preparation.js").TextFault} TextFault
- * @typedef {import("../core/text/sendable_text.js").Fault} Fault
+ * @typedef {import("../core/testing/test_preparation.js").ProjectTextError} ProjectTextError
+ * @typedef {import("../core/text/sendable_text.js").TextError} TextError
  * @typedef {import("./input_texts.mjs").InputText} InputText
  *
  * The texts that the bench may have rejected, by kind.
@@ -110,9 +110,9 @@ export class RejectedTexts {
 
   /**
    * Returns the error in a text, with its line and its message. Returns null if the line is not known.
-   * @param {TextFault} fault
+   * @param {ProjectTextError} error
    * @param {string} text
-   * @returns {Fault | null}
+   * @returns {TextError | null}
    */
   findError({ text: kind, line, number }, text) {
     if (kind === "board") return line > 0 ? null : this.findBoardError(text);
@@ -125,29 +125,29 @@ export class RejectedTexts {
 
   /**
    * Returns the message about an error, followed by the wrong line.
-   * @param {TextFault} fault
+   * @param {ProjectTextError} error
    */
-  formatError(fault) {
-    const { text: kind, file, line, number } = fault;
-    if (kind === "tests") return `${file}:${line}: ${fault.words}`;
+  formatError(error) {
+    const { text: kind, file, line, number, words } = error;
+    if (kind === "tests") return `${file}:${line}: ${words}`;
     const checkedText = kind === "properties" ? undefined : this.givenTexts[kind];
     if (!checkedText) throw new Error(`there is no text of the kind ${kind}`);
     const { name, text, linesBefore } = checkedText;
-    const error = number > 0 ? this.findError(fault, text) : null;
-    const lineNumber = line || (error ? error.line : 0);
+    const locatedError = number > 0 ? this.findError(error, text) : null;
+    const lineNumber = line || (locatedError ? locatedError.line : 0);
     const shownLines = lineNumber > 0 && number > 0 ? [text.split("\n")[lineNumber - 1]] : [];
     const hint = number === UNKNOWN_FORM && shownLines.length > 0 ? findSpellingHint(shownLines[0]) : "";
-    const reason = `${number > 0 ? `no ${number}: ` : ""}${fault.words || (error ? error.words : describeRefusal(number))}${hint}`;
+    const reason = `${number > 0 ? `no ${number}: ` : ""}${words || (locatedError ? locatedError.words : describeRefusal(number))}${hint}`;
     const location = lineNumber > 0 ? `line ${lineNumber + linesBefore}: ` : "";
     return [`${name}: ${location}${reason}`, ...shownLines.map((shownLine) => `    ${shownLine.slice(0, MAX_SHOWN_LENGTH)}`)].join("\n");
   }
 
   /**
    * Returns the messages about the first MAX_ERRORS errors, and the number of further errors.
-   * @param {TextFault[]} faults
+   * @param {ProjectTextError[]} errors
    */
-  formatMessage(faults) {
-    const moreLines = faults.length > MAX_ERRORS ? [`and ${faults.length - MAX_ERRORS} more`] : [];
-    return [...faults.slice(0, MAX_ERRORS).map((fault) => this.formatError(fault)), ...moreLines].join("\n");
+  formatMessage(errors) {
+    const moreLines = errors.length > MAX_ERRORS ? [`and ${errors.length - MAX_ERRORS} more`] : [];
+    return [...errors.slice(0, MAX_ERRORS).map((error) => this.formatError(error)), ...moreLines].join("\n");
   }
 }

@@ -15,7 +15,7 @@ import { TerminalPrompt } from "./terminal_prompt.mjs";
  * Returns the callbacks of the prompt for a program and a terminal.
  * @param {SessionProcess} program
  * @param {{ print: (words: string) => void, complain: (words: string) => void }} terminal
- * @returns {import("../core/prompt/bench_prompt.js").SessionPromptCalls}
+ * @returns {import("../core/prompt/bench_prompt.js").SessionPromptCallbacks}
  */
 function makePromptCalls(program, terminal) {
   /** @type {import("./page_parts.mjs").PageData | null} */

@@ -2,7 +2,7 @@
 import { accessSync, constants, mkdtempSync, rmSync } from "node:fs";
 import { tmpdir } from "node:os";
 import { join } from "node:path";
-import { noFolderIn } from "../words/commands.js";
+import { noFolderInMessage } from "../words/commands.js";
 import { CommandError } from "./output.mjs";
 
 /** @type {Set<string>} the existing folders */
@@ -34,7 +34,7 @@ export function createTemporaryFolder(name) {
     folders.add(folder);
     return folder;
   } catch {
-    throw new CommandError(noFolderIn(root));
+    throw new CommandError(noFolderInMessage(root));
   }
 }
 

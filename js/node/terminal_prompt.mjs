@@ -21,7 +21,7 @@ import { isDumb, makePainter } from "./terminal.mjs";
 
 /**
  * The streams and callbacks of a prompt at a terminal.
- * @typedef {object} TerminalCalls
+ * @typedef {object} TerminalCallbacks
  * @property {import("node:tty").WriteStream} output the terminal that shows the prompt and the messages
  * @property {() => void} [onServed] called after the execution of a line
  * @property {() => void} [onLeave] called when the prompt returns the terminal: at Ctrl-Z and at its end
@@ -62,12 +62,12 @@ function replaceControlCharacters(text) {
 export class TerminalPrompt {
   /**
    * @param {LinePrompt} prompt
-   * @param {TerminalCalls} calls
+   * @param {TerminalCallbacks} callbacks
    */
   constructor(prompt, { output, onServed = () => {}, onLeave = () => {}, onReturn = () => {} }) {
     this.prompt = prompt;
     this.output = output;
-    this.calls = { onServed, onLeave, onReturn };
+    this.callbacks = { onServed, onLeave, onReturn };
     this.isDumb = isDumb(process.env);
     this.paint = makePainter(process.env);
     this.history = new PromptHistory(process.env);
@@ -182,7 +182,7 @@ export class TerminalPrompt {
       this.endWithError(error);
       return;
     }
-    this.calls.onServed();
+    this.callbacks.onServed();
     if (this.prompt.isEnded) this.end();
     else if (!this.hasEnded) this.showNextPrompt();
   }
@@ -208,11 +208,11 @@ export class TerminalPrompt {
     this.resolveEnd();
   }
 
-  /** Switches off bracketed paste and calls `onLeave`. (Readline restores the terminal's mode when it closes, and Node when it ends.) */
+  /** Switches off bracketed paste and callbacks `onLeave`. (Readline restores the terminal's mode when it closes, and Node when it ends.) */
   releaseTerminal() {
     if (this.hasReleasedTerminal) return;
     this.hasReleasedTerminal = true;
-    this.calls.onLeave();
+    this.callbacks.onLeave();
     if (!this.isDumb) this.output.write(PASTE_SEQUENCES.off);
   }
 
@@ -314,13 +314,13 @@ export class TerminalPrompt {
 
   /** Handles Ctrl-Z: leaves the terminal to the shell until the process continues. */
   suspend() {
-    this.calls.onLeave();
+    this.callbacks.onLeave();
     this.output.write(PASTE_SEQUENCES.off);
     process.stdin.setRawMode(false);
     process.once("SIGCONT", () => {
       process.stdin.setRawMode(true);
       this.output.write(PASTE_SEQUENCES.on);
-      this.calls.onReturn();
+      this.callbacks.onReturn();
       this.terminal.prompt(true);
     });
     process.kill(process.pid, "SIGTSTP");

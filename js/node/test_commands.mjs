@@ -57,8 +57,8 @@ export async function runTestCommand({ Counting, checkNames = () => {}, formatOu
     print(formatOutcome(outcome, number, total));
   };
   const suite = { boardText: board.text, programText: program.text, sources };
-  const { faults, outcomes, coverage, profile } = await runTests(engine, suite, yieldToMessages, { Counting, ended: printOutcome });
-  if (!coverage || !profile) throw await createRejectedTextsError(engine, { board, program }, faults);
+  const { errors, outcomes, coverage, profile } = await runTests(engine, suite, yieldToMessages, { Counting, ended: printOutcome });
+  if (!coverage || !profile) throw await createRejectedTextsError(engine, { board, program }, errors);
   printCounts({ coverage, profile }, program);
   return outcomes.some(({ failure }) => failure) ? 1 : 0;
 }
@@ -79,12 +79,12 @@ export async function countCycles({ name, Counting, checkNames = () => {}, print
   const program = texts.readText(programName, "asm");
   const engine = await startEngine();
   const state = await openSession(engine, texts, session);
-  const { faults, other: otherByte, counted: counts } = await countSession(engine, state, program.text, cycles, Counting);
+  const { errors, other: otherByte, counted: counts } = await countSession(engine, state, program.text, cycles, Counting);
   if (otherByte) {
     const { address, romByte, line, sourceByte } = otherByte;
     throw new CommandError(otherProgram(programName, address, romByte, line + program.linesBefore, sourceByte));
   }
-  if (!counts) throw await createRejectedTextsError(engine, { program }, faults);
+  if (!counts) throw await createRejectedTextsError(engine, { program }, errors);
   if (counts.stop !== "end") printError(`${name}: ${sessionStopped(counts.elapsed, counts.stop)}\n`);
   printCounts(counts, program);
   return 0;

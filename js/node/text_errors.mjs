@@ -28,5 +28,5 @@ export async function findTextErrors(word, text, board, { manual, wordsOf }) {
   if (!isBoard) textBench.setBoard(word === "asm" ? board : null);
   const search = new TextErrorFinder(textBench.createQueries(), { instructions: readInstructions(manual), tables: boardTables(manual) }, wordsOf);
   const result = await (isBoard ? search.findInBoard(text, () => true) : search.findInProgram(text, () => true));
-  return result ? result.faults : [];
+  return result ? result.errors : [];
 }

@@ -319,15 +319,16 @@ function readBeginning(name, count) {
  */
 export function checkOutputFile(name, begin, reason, inputs) {
   const stat = withFileError(`cannot write ${name}`, () => statSync(name, { throwIfNoEntry: false }));
-  if (inputs.some((input) => isSameFile(name, input))) throw new UserFileError(say.isInputFile(name));
-  if (stat && stat.isDirectory()) throw new UserFileError(say.isFolder(name));
+  if (inputs.some((input) => isSameFile(name, input))) throw new UserFileError(say.isInputFileMessage(name));
+  if (stat && stat.isDirectory()) throw new UserFileError(say.isFolderMessage(name));
   withFileError(`cannot write ${name}`, () => {
     if (stat && !stat.isFile()) return accessSync(name, constants.W_OK);
     const target = followLinks(name);
-    if (!isWritable(dirname(target))) throw new UserFileError(say.noFolderToWrite(name));
+    if (!isWritable(dirname(target))) throw new UserFileError(say.noFolderToWriteMessage(name));
     return stat && checkWritable(target, stat);
   });
-  if (stat && stat.isFile() && stat.size > 0 && readBeginning(name, begin.length) !== begin) throw new UserFileError(say.isOtherKind(name, reason));
+  const hasContents = stat && stat.isFile() && stat.size > 0;
+  if (hasContents && readBeginning(name, begin.length) !== begin) throw new UserFileError(say.isOtherKindMessage(name, reason));
 }
 
 // --- new files in a folder ---
@@ -378,7 +379,7 @@ function replaceTargets(replacements) {
 export function writeNewFiles(folder, files, names) {
   const withFolderError = (/** @type {() => any} */ operation) => withFileError(`cannot write in ${folder}`, operation);
   const stat = withFolderError(() => statSync(folder, { throwIfNoEntry: false }));
-  if (stat && !stat.isDirectory()) throw new UserFileError(say.isNotFolder(folder));
+  if (stat && !stat.isDirectory()) throw new UserFileError(say.isNotFolderMessage(folder));
   const existingPath = withFolderError(() => names.map((name) => join(folder, name)).find((name) => lstatSync(name, { throwIfNoEntry: false })));
   if (existingPath) throw new UserFileError(say.alreadyExists(existingPath));
   const createdFolders = withFileError(`cannot make ${folder}`, () => makeFolder(folder));

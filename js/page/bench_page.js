@@ -106,14 +106,14 @@ export class Page {
   listener() {
     return {
       frame: (frame) => this.runController.handleFrame(frame),
-      failed: (fault) => this.recovery.reportFailure(fault),
+      failed: (error) => this.recovery.reportFailure(error),
       died: () => this.recovery.restart(),
     };
   }
 
   /** Compares the program's source text with the contents of ROM. Called whenever the text or ROM may have changed. */
   checkSource() {
-    return this.source.check().catch((fault) => this.recovery.reportFailure(fault));
+    return this.source.check().catch((error) => this.recovery.reportFailure(error));
   }
 
   /**

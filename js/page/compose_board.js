@@ -39,17 +39,17 @@ export function makeSnapshotView(page) {
     toggleBreakpoint: (address) => page.breakpoints.manager.toggleAddress(address),
     revealAddress: (address) => page.source.reveal(address),
     watchLamps: (face, number) => {
-      page.bench.call("watchLamps", [face, number]).catch((fault) => page.recovery.reportFailure(fault));
+      page.bench.call("watchLamps", [face, number]).catch((error) => page.recovery.reportFailure(error));
     },
     setPrinter: (printer) => {
-      page.bench.call("printOn", [printer]).catch((fault) => page.recovery.reportFailure(fault));
+      page.bench.call("printOn", [printer]).catch((error) => page.recovery.reportFailure(error));
     },
     clear: () => {
       page.currentSession.markChanged();
-      page.bench.call("clearPrintout", []).catch((fault) => page.recovery.reportFailure(fault));
+      page.bench.call("clearPrintout", []).catch((error) => page.recovery.reportFailure(error));
     },
     timeOf: (cycles) => runController.clock.displayDuration(cycles),
-    reportFailure: (fault) => page.recovery.reportFailure(fault),
+    reportFailure: (error) => page.recovery.reportFailure(error),
   });
 }
 
@@ -116,7 +116,7 @@ export function makeDrawingController(page) {
     insertKeyScan: insertScan,
     session: () => currentSession.session,
     saveSession: () => currentSession.markChangedAndSave(),
-    reportFailure: (fault) => page.recovery.reportFailure(fault),
+    reportFailure: (error) => page.recovery.reportFailure(error),
   });
   tabs.onShown("wiring", () => {
     wiring.showLevels();
@@ -152,9 +152,9 @@ export function makeScope(page) {
       try {
         return await page.progressView.show(say.RECORDING_LINES,
           (signal, progress) => page.bench.call("record", [cycles, isBefore, textsWithValues(values)], { signal, progress }));
-      } catch (fault) {
-        if (fault instanceof CancelledError) scope.status.set(say.NOTHING_RECORDED);
-        else page.recovery.reportFailure(fault);
+      } catch (error) {
+        if (error instanceof CancelledError) scope.status.set(say.NOTHING_RECORDED);
+        else page.recovery.reportFailure(error);
         return null;
       }
     },
@@ -171,8 +171,8 @@ export function makeScope(page) {
 async function resultOrReport(page, call) {
   try {
     return await call;
-  } catch (fault) {
-    page.recovery.reportFailure(fault);
+  } catch (error) {
+    page.recovery.reportFailure(error);
     return null;
   }
 }

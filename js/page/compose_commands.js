@@ -68,7 +68,7 @@ function makeProjectCalls({ exportView, notice, recovery, sessionsController, li
     openProjects: () => void view.open(),
     openExamples: () => void view.openExamples(),
     share: () => {
-      linkSharing.share().catch((fault) => recovery.reportFailure(fault));
+      linkSharing.share().catch((error) => recovery.reportFailure(error));
     },
     openNotices: () => notice.list.open(),
     hasNotices: () => notice.list.messages.length > 0,
@@ -277,7 +277,7 @@ export class Commands {
    */
   execute(command) {
     const reason = command.unavailableReason(this.calls);
-    if (reason) this.page.runController.showMessage(say.notDone(command.label, reason));
+    if (reason) this.page.runController.showMessage(say.notDoneMessage(command.label, reason));
     else command.act(this.calls);
   }
 
@@ -291,6 +291,6 @@ export class Commands {
     sessionsController.manager.savedSessions().then((records) => {
       this.projects = records.map(({ id, name }) => ({ id, name }));
       this.palette.refresh();
-    }, (fault) => recovery.reportFailure(fault));
+    }, (error) => recovery.reportFailure(error));
   }
 }

@@ -77,7 +77,7 @@ export function makeRunController(page) {
     countInvalidBreakpoints: () => page.breakpoints.manager.errors.size,
     describeRefusal: (number) => page.errorMessages.refusalMeaning(number),
     step: () => page.lineServer.serveLines("step\n"),
-    reportFailure: (fault) => page.recovery.reportFailure(fault),
+    reportFailure: (error) => page.recovery.reportFailure(error),
   });
 }
 
@@ -103,6 +103,6 @@ export function makeLineServer(page) {
     forgetGoal: () => runController.forgetGoal(),
     describeStop: (stop) => runController.describeStop(stop, null),
     showMessage: (message) => runController.showMessage(message),
-    reportFailure: (fault) => page.recovery.reportFailure(fault),
+    reportFailure: (error) => page.recovery.reportFailure(error),
   });
 }

@@ -56,7 +56,7 @@ export function makeBreakpointsController(page) {
     ensureSourceChecked: () => page.source.waitForCheck(),
     checkSource: () => page.source.check(),
     showMessage: (message) => page.snapshotView.message.show(message),
-    reportFailure: (fault) => page.recovery.reportFailure(fault),
+    reportFailure: (error) => page.recovery.reportFailure(error),
   });
 }
 
@@ -102,8 +102,8 @@ function makeLastChangeView({ bench, snapshotView, source, runController, recove
     describeLastChange: async ({ place, name }, signal) => {
       try {
         return lastChangeText(name, await bench.call("lastChange", [place], { signal }), source.map);
-      } catch (fault) {
-        if (!(fault instanceof CancelledError) && !(fault instanceof WorkerDiedError)) recovery.reportFailure(fault);
+      } catch (error) {
+        if (!(error instanceof CancelledError) && !(error instanceof WorkerDiedError)) recovery.reportFailure(error);
         return "";
       }
     },
@@ -139,12 +139,12 @@ export function makeHeatView(page) {
   const { bench, snapshotView, runController, recovery } = page;
   return new HeatView(page.layout.preferences, {
     isRunning: () => runController.clock.isRunning,
-    countChanges: (cycles, signal) => bench.call("heat", [cycles], { signal }).catch((fault) => {
-      if (!(fault instanceof CancelledError) && !(fault instanceof WorkerDiedError)) recovery.reportFailure(fault);
+    countChanges: (cycles, signal) => bench.call("heat", [cycles], { signal }).catch((error) => {
+      if (!(error instanceof CancelledError) && !(error instanceof WorkerDiedError)) recovery.reportFailure(error);
       return null;
     }),
     setWatch: (isOn) => {
-      bench.call("watchRam", [isOn]).catch((fault) => recovery.reportFailure(fault));
+      bench.call("watchRam", [isOn]).catch((error) => recovery.reportFailure(error));
     },
     showCells: (heatByPlace) => snapshotView.ram.showHeat(heatByPlace),
     describePlace: (place) => snapshotView.ram.describePlace(place),
@@ -192,7 +192,7 @@ export function makeMistakesView(page, problems) {
     describeAddress: (address) => addressWithName(hex(address, 3), page.source.map),
     goTo: (address) => page.snapshotView.goTo.show(address),
     stopAtMistakes: (kinds) => {
-      page.bench.call("stopAtFaults", [kinds]).catch((fault) => page.recovery.reportFailure(fault));
+      page.bench.call("stopAtMistakes", [kinds]).catch((error) => page.recovery.reportFailure(error));
     },
     showCount: (count) => problems.showMistakeCount(count),
     storedKinds: () => preferences.get("stops"),

@@ -63,7 +63,7 @@ export function makeExportView(page) {
     program: () => page.programEditor.text,
     hex: () => page.romFiles.hex(),
     image: () => page.romFiles.image(),
-    reportFailure: (fault) => page.recovery.reportFailure(fault),
+    reportFailure: (error) => page.recovery.reportFailure(error),
   });
 }
 
@@ -84,7 +84,7 @@ export function makeLinkSharing(page) {
 /**
  * Returns the callbacks for the links in a story.
  * @param {Page} page
- * @returns {import("../core/help/story_actions.js").ActionCalls}
+ * @returns {import("../core/help/story_actions.js").ActionCallbacks}
  */
 function makeStoryCalls({ layout, snapshotView, keyPresser, runController, source, travel }) {
   return {

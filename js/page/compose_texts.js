@@ -38,15 +38,15 @@ export function makeEditors(page, manual) {
     pauseTime: () => runController.pause(),
     resumeTime: () => runController.run(),
     counter: () => page.snapshotView.counter,
-    toggleBreakpoint: (line) => page.breakpoints.toggleLine(line).catch((fault) => page.recovery.reportFailure(fault)),
-    editBreakpoint: (line, fieldName) => page.breakpoints.editLine(line, fieldName).catch((fault) => page.recovery.reportFailure(fault)),
+    toggleBreakpoint: (line) => page.breakpoints.toggleLine(line).catch((error) => page.recovery.reportFailure(error)),
+    editBreakpoint: (line, fieldName) => page.breakpoints.editLine(line, fieldName).catch((error) => page.recovery.reportFailure(error)),
     openMarginMenu: (line, point) => page.breakpoints.openMenu(line, point),
     describeName: (name) => page.source.meaningOf(name),
     valuesAt: (text, index) => page.sourceValues.valueAt(text, index),
     makeEditable: (cell, { place, name }) => page.snapshotView.editor.makeEditable(cell, { place, name, digits: 1 }),
     replaceBoard: (text, message) => page.textsController.replace("board", text, message),
     showErrorCount: (name, count) => page.layout.tabs.setMark(name, count > 0 ? formatErrorCount(count) : ""),
-    reportFailure: (fault) => page.recovery.reportFailure(fault),
+    reportFailure: (error) => page.recovery.reportFailure(error),
   });
 }
 
@@ -58,13 +58,13 @@ export function makeProblemsView(page) {
   /** @type {Record<string, import("./text/text_editor_view.js").EditorView>} */
   const editors = { program: page.programEditor, board: page.boardEditor, tests: page.testsTab.editor, properties: page.exploreTab.editor };
   const problems = new ProblemsView({
-    goTo: (name, fault) => {
+    goTo: (name, error) => {
       page.layout.showText(name);
-      editors[name].goToError(fault);
+      editors[name].goToError(error);
     },
     showCount: (count) => page.layout.dock.setMark("problems", count > 0 ? String(count) : ""),
   });
-  for (const [name, editor] of Object.entries(editors)) editor.onErrorsChange = (faults) => problems.setErrors(name, faults);
+  for (const [name, editor] of Object.entries(editors)) editor.onErrorsChange = (errors) => problems.setErrors(name, errors);
   return problems;
 }
 
@@ -119,7 +119,7 @@ export function makeTextsController(page) {
       page.layout.tabs.choose(shownName);
       page.sessionsController.offeredLines.offer(lines);
     },
-    reportFailure: (fault) => page.recovery.reportFailure(fault),
+    reportFailure: (error) => page.recovery.reportFailure(error),
   });
 }
 
@@ -148,7 +148,7 @@ export function makeTestsTab(page, manual) {
   const tab = new TestsTab(manual, {
     texts: () => ({ boardText: page.boardEditor.text, programText: page.programEditor.text }),
     labels: () => (page.source.map ? [...page.source.map.labels.values()].flat() : []),
-    faults: (texts) => bench.call("testFaults", [texts]),
+    findErrors: (texts) => bench.call("findTestErrors", [texts]),
     sample: (texts) => bench.call("sampleTest", [texts]),
     run: async (texts) => {
       // The worker serves one call at a time, so time cannot run during the tests. Pausing first shows this to the user.
@@ -164,7 +164,7 @@ export function makeTestsTab(page, manual) {
     open: (name, file, texts) => page.sessionsController.manager.openNew(async () => newRecord(name, file, texts)),
     showMark: (label, isGood) => page.layout.tabs.setMark("tests", label, isGood),
     handleEdit: () => page.textsController.handleEdit(),
-    reportFailure: (fault) => page.recovery.reportFailure(fault),
+    reportFailure: (error) => page.recovery.reportFailure(error),
   });
   page.layout.tabs.onShown("tests", () => tab.refresh());
   return tab;
@@ -216,7 +216,7 @@ export function makeExploreTab(page, manual, makeBench) {
   const tab = new ExploreTab(manual, {
     texts: () => ({ boardText: page.boardEditor.text, programText: page.programEditor.text, testText: page.testsTab.editor.text }),
     labels: () => (page.source.map ? [...page.source.map.labels.values()].flat() : []),
-    faults: (texts) => bench.call("propertyFaults", [texts]),
+    findErrors: (texts) => bench.call("findPropertyErrors", [texts]),
     explore: (texts, request, signal, showProgress) => explorer.explore(texts, request, signal, showProgress),
     describeRefusal: (number) => errorMessages.refusalMeaning(number),
     goToSource: (line) => {
@@ -232,7 +232,7 @@ export function makeExploreTab(page, manual, makeBench) {
     addTest: (test) => addTest(page, test),
     showMark: (label, isGood) => page.layout.tabs.setMark("properties", label, isGood),
     handleEdit: () => page.textsController.handleEdit(),
-    reportFailure: (fault) => page.recovery.reportFailure(fault),
+    reportFailure: (error) => page.recovery.reportFailure(error),
   });
   page.layout.tabs.onShown("properties", () => tab.refresh());
   return tab;

@@ -121,7 +121,7 @@ function listenToChoices(page) {
   speedSelect.replaceChildren(...SPEEDS.map(({ id, label: words }) => element("option", { value: id }, words)));
   speedSelect.addEventListener("change", () => {
     preferences.set("speed", speedSelect.value);
-    page.runController.setSpeed(findSpeed(speedSelect.value)).catch((fault) => page.recovery.reportFailure(fault));
+    page.runController.setSpeed(findSpeed(speedSelect.value)).catch((error) => page.recovery.reportFailure(error));
   });
   typingField.addEventListener("change", () => {
     page.isTyping = typingField.checked;
@@ -227,8 +227,8 @@ async function main() {
   const errorMessages = new ErrorMessages(data.refusals);
   try {
     await start(loading, errorMessages, notice, pageFrame, data);
-  } catch (fault) {
-    notice.show(say.cannotStart(errorMessages.errorMessage(fault), readEmbeddedText("needs")));
+  } catch (error) {
+    notice.show(say.cannotStartMessage(errorMessages.errorMessage(error), readEmbeddedText("needs")));
   }
 }
 

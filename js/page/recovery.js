@@ -41,14 +41,14 @@ export class Recovery {
 
   /**
    * Reports a failed call and pauses time. The failed call has not changed the session.
-   * @param {unknown} fault
+   * @param {unknown} error
    */
-  reportFailure(fault) {
+  reportFailure(error) {
     const { bench, notice, errorMessages, calls } = this;
-    console.error(fault);
+    console.error(error);
     // While a new worker starts, pending calls to the old worker still fail. `restart` reports the termination to the user.
     if (this.isRestarting) return;
-    notice.show(errorMessages.failureMessage(fault));
+    notice.show(errorMessages.failureMessage(error));
     if (!calls.session()) return;
     const isRunning = calls.isRunning();
     calls.showPaused(say.PAUSED);
@@ -69,8 +69,8 @@ export class Recovery {
       await calls.reopenSession(session.record);
       this.isRestarting = false;
       calls.showPaused(say.PAUSED);
-    } catch (fault) {
-      notice.show(say.cannotRestart(errorMessages.errorMessage(fault)));
+    } catch (error) {
+      notice.show(say.cannotRestartMessage(errorMessages.errorMessage(error)));
     } finally {
       this.isRestarting = false;
     }

@@ -47,7 +47,7 @@ import * as say from "../words/page.js";
  *   text of the front panel's comments and `number` the panel's serial number.
  * @property {(cycles: number) => number} timeOf Returns the duration of a number of cycles in milliseconds at the current speed; Infinity
  *   at full speed and at one instruction per second.
- * @property {(fault: unknown) => void} reportFailure Reports an error that a call threw.
+ * @property {(error: unknown) => void} reportFailure Reports an error that a call threw.
  */
 
 /** @typedef {import("./board/printer_view.js").PrinterCalls & ViewCalls} SnapshotCalls */
@@ -104,7 +104,7 @@ export class SnapshotView {
    */
   async toggleWatch(isSet, place, anchor) {
     const refusal = this.refusalMessage(await this.calls.serveLine(`${isSet ? "un" : ""}watch ${place}\n`));
-    if (refusal) this.message.show(say.notSet(refusal), anchor);
+    if (refusal) this.message.show(say.notSetMessage(refusal), anchor);
   }
 
   /**

@@ -211,12 +211,12 @@ test("reading a text takes a number of accesses that is proportional to its leng
 });
 
 test("up to 32 brackets and braces can be open; one more is an error in its line", () => {
-  const errorsOf = (text) => readBoardText(text).faults.map(({ line, words }) => `${line}: ${words}`);
+  const errorsOf = (text) => readBoardText(text).errors.map(({ line, words }) => `${line}: ${words}`);
   const tooDeep = "more than 32 brackets and braces are open here";
   assert.deepEqual(errorsOf(`\nx = ${"[".repeat(32)}${"]".repeat(32)}\n`), []);
   assert.deepEqual(errorsOf(`\nx = ${"[".repeat(33)}${"]".repeat(33)}\ny = 1 2\n`), [`2: ${tooDeep}`, "3: the line must end here"]);
   assert.deepEqual(errorsOf(`x = ${"[\n".repeat(16300)}`).slice(0, 1), [`33: ${tooDeep}`]);
   assert.deepEqual(errorsOf(`x = ${"{a = [".repeat(10000)}`), [`1: ${tooDeep}`]);
-  const [error] = readProjectToml(`board = "b"\nprogram = ${"[".repeat(16300)}`).faults;
+  const [error] = readProjectToml(`board = "b"\nprogram = ${"[".repeat(16300)}`).errors;
   assert.deepEqual([error.line, error.words], [2, tooDeep]);
 });

@@ -167,15 +167,15 @@ before(() => {
  */
 const USES = {
   test: (text) => {
-    const { tests: [{ steps: [{ action }] }], faults } = readTests(`test t\n expect ${text}\n`, names);
-    if (faults.length > 0) return faults[0].words;
+    const { tests: [{ steps: [{ action }] }], errors } = readTests(`test t\n expect ${text}\n`, names);
+    if (errors.length > 0) return errors[0].words;
     const { file } = session.debugger.session;
     return new TestSession(engine, file, new ExecutionRecorder(new Uint8Array(4096)), async () => {}).check(action.condition).holds;
   },
   Watch: (text) => {
-    const { watch: watched, error: fault } = parseWatch(text, names);
+    const { watch: watched, error } = parseWatch(text, names);
     const snapshot = ["state\n", "ram 0\n"].map((line) => session.debugger.session.ask(line).join("\n"));
-    return fault || joinPieces(watched.pieces(new MachineState(snapshot), names)) === "true";
+    return error || joinPieces(watched.pieces(new MachineState(snapshot), names)) === "true";
   },
   "mcs4 debug": async (text) => {
     conditionContext();
@@ -184,23 +184,23 @@ const USES = {
   },
   breakpoint: (text) => {
     const breakpoint = { id: 1, address: 0, condition: text, from: 1, note: "", hits: 0 };
-    const { softBreakpoint: soft, error: fault } = compileBreakpoint(breakpoint, names);
-    return fault || soft.holds(readValues(soft));
+    const { softBreakpoint: soft, error } = compileBreakpoint(breakpoint, names);
+    return error || soft.holds(readValues(soft));
   },
   "log message": (text) => {
-    const { note, error: fault } = compileNote(`{${text}}`, names);
-    return fault || note.textOf(readValues(note)) === "true";
+    const { note, error } = compileNote(`{${text}}`, names);
+    return error || note.textOf(readValues(note)) === "true";
   },
   evaluate: (text) => resultOrError(() => evaluateExpression(text, conditionContext()) === "true"),
   console: (text) => resultOrError(async () => (
     (await new Console({ isMoving: false }, conditionContext(), null, {}).serveLine(text)).text === "true")),
   trigger: (text) => {
-    const { trigger, fault } = readTrigger(text, createBoardLines(names.board, BOARD, true, []), names);
-    return fault || trigger.holds(readValues(trigger));
+    const { trigger, error } = readTrigger(text, createBoardLines(names.board, BOARD, true, []), names);
+    return error || trigger.holds(readValues(trigger));
   },
   property: (text) => {
-    const { campaign, faults } = readCampaign(`press A\nalways ${text}\n`, { names, instructions: [] });
-    return faults.length > 0 ? faults[0].words : campaign.properties[0].condition.holds(readValues(campaign.properties[0].condition));
+    const { campaign, errors } = readCampaign(`press A\nalways ${text}\n`, { names, instructions: [] });
+    return errors.length > 0 ? errors[0].words : campaign.properties[0].condition.holds(readValues(campaign.properties[0].condition));
   },
 };
 
@@ -235,8 +235,8 @@ test("an error in a condition is the same in each place of use; a breakpoint wit
     assert.match(String(await evaluate("accu = 10")), /accu: no such place; the accumulator is acc/, use);
   }
   const breakpoint = { id: 1, address: 0, condition: "accu = 10", from: 1, note: "", hits: 0 };
-  const { softBreakpoint: soft, error: fault } = compileBreakpoint(breakpoint, names);
-  assert.equal(fault, "accu: no such place; the accumulator is acc (column 1)");
+  const { softBreakpoint: soft, error } = compileBreakpoint(breakpoint, names);
+  assert.equal(error, "accu: no such place; the accumulator is acc (column 1)");
   assert.equal(soft.holds([]), true);
 });
 
@@ -306,7 +306,7 @@ test("conditions that no trace shows are rejected in traced conditions", () => {
 });
 
 test("errors have a column and a suggestion", () => {
-  for (const [text, column, fault] of [
+  for (const [text, column, error] of [
     ["accu = 10", 0, "accu: no such place; the accumulator is acc"], ["cy = 1 and carry = 1", 11, "carry: no such place; the carry is cy"],
     ["r5 = 10 or (r4 = 3", 11, "this parenthesis is not closed"], ["r5 = 12x", 5, "12x is not a number; numbers are 10, 0xA or 0b1010"],
     ["r5 = 10)", 7, "): a condition ends before this; join two by and, or"], ["r5 = limits", 5, "limits: no such place; perhaps limit"],
@@ -320,7 +320,7 @@ test("errors have a column and a suggestion", () => {
     ["x".repeat(MAX_LENGTH + 1), MAX_LENGTH - 1, "a condition has at most 2000 characters"],
   ]) {
     const result = compileCondition(text, names);
-    assert.deepEqual([result.error, result.column], [fault, column], text);
+    assert.deepEqual([result.error, result.column], [error, column], text);
   }
 });
 
@@ -340,9 +340,9 @@ test("random texts are parsed in limited time, and errors have a column in the t
     const parseSetting = (assignment) => readSetting(assignment, names.map, names.board);
     const readers = [compileCondition, compileExpression, compileTestCondition, compileTracedCondition, parseSetting];
     for (const parse of readers) {
-      const { error: fault, column } = parse(text, names);
-      if (fault === "") acceptedCount += 1;
-      else assert.ok(column >= 0 && (column < text.length || (column === 0 && text === "")), `${JSON.stringify(text)}: ${fault} ${column}`);
+      const { error, column } = parse(text, names);
+      if (error === "") acceptedCount += 1;
+      else assert.ok(column >= 0 && (column < text.length || (column === 0 && text === "")), `${JSON.stringify(text)}: ${error} ${column}`);
     }
   }
   assert.ok(acceptedCount > 200, String(acceptedCount));
@@ -354,10 +354,10 @@ test("random texts are parsed in limited time, and errors have a column in the t
       " for 5 ms"][randomBelow(random, 3)];
     readCampaign(line, { names, instructions: [] });
     readTests(`test t\nexpect ${text}\nuntil ${text} within 5\nset ${text}\n`, names);
-    for (const fault of [parseWatch(text, names).error, parseWatch(`x = ${text}`, names).error, parseGoal(text, names).error,
+    for (const error of [parseWatch(text, names).error, parseWatch(`x = ${text}`, names).error, parseGoal(text, names).error,
       compileNote(`a {${text}} b`, names).error, replaceNames(`set ${text}`, session.map).message]) {
-      const column = / \(column (\d+)\)\.?$/.exec(fault);
-      assert.ok(fault === "" || column === null || Number(column[1]) <= text.length + 8, `${text}: ${fault}`);
+      const column = / \(column (\d+)\)\.?$/.exec(error);
+      assert.ok(error === "" || column === null || Number(column[1]) <= text.length + 8, `${text}: ${error}`);
     }
   }
   // The limit is in microseconds of processor time.

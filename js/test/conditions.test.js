@@ -37,8 +37,8 @@ function readValues(calls, { places }) {
 }
 
 const compile = (text) => {
-  const { condition, error: fault } = compileCondition(text, names);
-  assert.equal(fault, "", text);
+  const { condition, error } = compileCondition(text, names);
+  assert.equal(error, "", text);
   return condition;
 };
 test("conditions are evaluated with the values that the bench reports", async () => {

@@ -303,8 +303,8 @@ test("log messages show lamps by their names and ports as digits", () => {
   const face = new Face(BOARD);
   const lamps = [0, 1].flatMap((line) => ["[[lamp]]", `line = "ram0.0.${line}"`]);
   const board = readBoard(["board", "[[rom]]", "chip = 0", 'port = "0000"', ...lamps]);
-  const { note, error: fault } = compileNote("{one}{two} rom {rom0} {", { board, face, map: null });
-  assert.deepEqual([fault, note.places.length], ["", 3]);
+  const { note, error } = compileNote("{one}{two} rom {rom0} {", { board, face, map: null });
+  assert.deepEqual([error, note.places.length], ["", 3]);
   assert.equal(note.textOf(["1", "0", "9"]), "*. rom 9 {");
 });
 

@@ -105,14 +105,14 @@ test("a recording in pieces has the same rows as a whole recording", () => {
 test("a decoder can be searched for changes, and a key scan for keys; a decoder cannot be a trigger", () => {
   const waves = createRecording(SCAN, 100);
   const findMoments = (text) => {
-    const { search, fault } = readSearch(text, waves, -1);
-    return search ? [find(waves, search, 0, true), find(waves, search, 100, false)] : fault;
+    const { search, error } = readSearch(text, waves, -1);
+    return search ? [find(waves, search, 0, true), find(waves, search, 100, false)] : error;
   };
   assert.deepEqual([findMoments("key scan = CE"), findMoments("scan.keys = 1.0"), findMoments("scan.keys changes")],
     [[30, 30], [70, 70], [10, 90]]);
   assert.match(findMoments("scan.keys = 3"), /^scan\.keys is decoded/);
   assert.match(findMoments("4003 shift-in 0 rises"), /^shift\.chain0 is decoded/);
-  assert.match(readTrigger("shift.chain0 changes", LINES, /** @type {any} */ ({})).fault, /^shift\.chain0 is decoded from other lines/);
+  assert.match(readTrigger("shift.chain0 changes", LINES, /** @type {any} */ ({})).error, /^shift\.chain0 is decoded from other lines/);
 });
 
 test("a VCD file has decoders as strings without blanks, and decoders that change are shown by default", () => {

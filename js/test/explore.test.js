@@ -83,15 +83,15 @@ four:   BBL 0
 `;
 const subject = createSubject(engine, BOARD, PROGRAM);
 const campaignOf = (text) => readCampaign(text, subject);
-const errorsOf = (text) => campaignOf(text).faults.map(({ line, words }) => `${line}: ${words}`);
+const errorsOf = (text) => campaignOf(text).errors.map(({ line, words }) => `${line}: ${words}`);
 
 /** The maximum number of cycles to simulate while a counterexample is minimised. */
 const MAX_MINIMISING_CYCLES = 5e6;
 
 /** Searches for at most some seconds. Resolves to the results. */
 async function explore(text, seconds = 20, confirm = () => true, seed = 1) {
-  const { campaign, faults } = campaignOf(text);
-  assert.deepEqual(faults, []);
+  const { campaign, errors } = campaignOf(text);
+  assert.deepEqual(errors, []);
   const run = new CampaignRun(subject, campaign, seed, confirm, MAX_MINIMISING_CYCLES);
   const propertyCount = campaign.properties.filter(({ line }) => line > 0).length;
   const deadline = performance.now() + 1000 * seconds;
@@ -122,7 +122,7 @@ test("errors in a text of properties are reported with the valid names", () => {
 
 test("a text without inputs is an error, unless the front panel has keys or TEST", () => {
   const bareSubject = createSubject(engine, BOARD.replace(/^#.*\n/gm, ""), PROGRAM);
-  assert.match(readCampaign("never lamp 0 on\n", bareSubject).faults[0].words, /^nothing may change/);
+  assert.match(readCampaign("never lamp 0 on\n", bareSubject).errors[0].words, /^nothing may change/);
   assert.deepEqual(readCampaign("test\n", bareSubject).campaign.inputs.map(({ downTestLine }) => downTestLine), ["set test 0"]);
   assert.deepEqual(campaignOf("").campaign.inputs.map(({ name }) => name), ["A", "B", "C", "D", "WALK"]);
   assert.deepEqual(campaignOf("press B\nreset\n").campaign.inputs.map(({ name }) => name), ["B"]);
@@ -191,22 +191,22 @@ test("a model determines what the display must show, and its errors are reported
     .replace("lamp = [", 'lamp = [{ line = "ram0.0.3" }, { line = "ram0.0.2" }, ')
     .replace('{ line = "ram0.0.0" }, { line = "ram0.0.1" }', '{ line = "ram0.0.1" }, { line = "ram0.0.0" }');
   const displaySubject = createSubject(engine, board, PROGRAM);
-  const { campaign, faults } = readCampaign("press A B\npace 300 200\nmodel ./says\n", displaySubject);
-  assert.deepEqual(faults, []);
+  const { campaign, errors } = readCampaign("press A B\npace 300 200\nmodel ./says\n", displaySubject);
+  assert.deepEqual(errors, []);
   const askedKeys = [];
   // The lamp stays on until the user presses B. This wrong model ignores B.
   const answerModel = (chains) => {
     askedKeys.push(...chains);
-    return { expectedTexts: chains.map((keys) => (keys.includes("A") ? "1" : "0")), fault: "" };
+    return { expectedTexts: chains.map((keys) => (keys.includes("A") ? "1" : "0")), error: "" };
   };
   const run = new CampaignRun(displaySubject, campaign, 1, () => true, MAX_MINIMISING_CYCLES, answerModel);
   while (!run.counterexamples[0]) await run.runFor(20);
   assert.equal(run.counterexamples[0].test, "test model ./says\n  pace 300 200\n  keys A B\n  expect display 1\n");
   assert.match(askedKeys[0], /^[AB]( [AB])*$/);
   const failingRun = new CampaignRun(displaySubject, campaign, 1, () => true, MAX_MINIMISING_CYCLES,
-    () => ({ expectedTexts: [], fault: "it died" }));
+    () => ({ expectedTexts: [], error: "it died" }));
   await failingRun.runFor(20);
-  assert.equal(failingRun.fault, "it died");
+  assert.equal(failingRun.error, "it died");
 });
 
 test("a model whose command is not allowed is reported as not run, which is not the expected result", () => {
@@ -424,8 +424,8 @@ const pause = async () => {};
 
 test("a search can begin from a state that a test saves, and each counterexample starts with the test's lines", async () => {
   const propertiesText = "from both\npress A B\nwait 20 to 300\nnever lamp on on\n";
-  const { searchSetup, faults } = await prepareSearch(engine, { ...texts, propertiesText });
-  assert.deepEqual(faults, []);
+  const { searchSetup, errors } = await prepareSearch(engine, { ...texts, propertiesText });
+  assert.deepEqual(errors, []);
   assert.deepEqual(initialDownInputs(searchSetup.campaign), [0, 1]);
   const search = new SlicedSearch(engine, texts, searchSetup, { seed: 1, seconds: 5 }, pause);
   let progress = await search.runFor(1000);
@@ -439,8 +439,8 @@ test("a search can begin from a state that a test saves, and each counterexample
 
 test("errors of the start state are reported", async () => {
   const errorOf = async (line, testText = SAVING) => {
-    const { faults } = await prepareSearch(engine, { ...texts, testText, propertiesText: `${line}\n` });
-    return faults.map(({ line: errorLine, words }) => `${errorLine}: ${words}`).join();
+    const { errors } = await prepareSearch(engine, { ...texts, testText, propertiesText: `${line}\n` });
+    return errors.map(({ line: errorLine, words }) => `${errorLine}: ${words}`).join();
   };
   assert.equal(await errorOf("from there"), "1: no test saves a state there; there is: lit both");
   assert.equal(await errorOf("from lit", ""), "1: there are no tests, so none saves the state lit");
@@ -496,24 +496,24 @@ test("a search ends when its time is up, it is stopped, or its worker dies; erro
     explorer.explore({}, { seconds: 0.05, seed: 1 }, signal, (report) => reports.push(report)));
   const endingAnswers = { explore: () => [], exploreOn: () => ({ isDone: reports.length === 2 }) };
   const endEvents = [];
-  assert.deepEqual(await run(createExplorer(endingAnswers, endEvents)), { faults: [], isStopped: false });
+  assert.deepEqual(await run(createExplorer(endingAnswers, endEvents)), { errors: [], isStopped: false });
   assert.deepEqual([reports.length, endEvents], [3, ["ended"]]);
-  assert.deepEqual(await run(createExplorer({ ...endingAnswers, explore: () => ["a fault"] })), { faults: ["a fault"], isStopped: false });
+  assert.deepEqual(await run(createExplorer({ ...endingAnswers, explore: () => ["a fault"] })), { errors: ["a fault"], isStopped: false });
   const dyingAnswers = { ...endingAnswers, exploreOn: () => Promise.reject(new WorkerDiedError()) };
-  assert.deepEqual(await run(createExplorer(dyingAnswers)), { faults: [], isStopped: true });
+  assert.deepEqual(await run(createExplorer(dyingAnswers)), { errors: [], isStopped: true });
   const controller = new AbortController();
   controller.signal.addEventListener("abort", () => reports.push("stopped"));
   const stoppedExplorer =
     createExplorer({ ...endingAnswers, exploreOn: () => (controller.abort(), Promise.reject(new WorkerDiedError())) }, endEvents);
-  assert.deepEqual(await run(stoppedExplorer, controller), { faults: [], isStopped: true });
+  assert.deepEqual(await run(stoppedExplorer, controller), { errors: [], isStopped: true });
   assert.equal(endEvents.length, 3);
 });
 
 test("the lines before a counterexample contain shared steps instead of `do`, and repeated lines", async () => {
   const testText = "steps on\n  press A\n  reset\ntest it is lit\n  repeat 2\n    run 5\n    do on\n  end\n  save lit\n";
   const propertiesText = "from lit\npress A B\nnever lamp on on\n";
-  const { searchSetup, faults } = await prepareSearch(engine, { ...texts, testText, propertiesText });
-  assert.deepEqual(faults, []);
+  const { searchSetup, errors } = await prepareSearch(engine, { ...texts, testText, propertiesText });
+  assert.deepEqual(errors, []);
   assert.deepEqual(searchSetup.campaign.leadingLines, ["  repeat 2", "  run 5", "  press A", "  reset", "  end"]);
   // After a power cycle, the number of open calls is unknown.
   assert.equal(searchSetup.campaign.calls.min, 0);

@@ -57,13 +57,13 @@ const LATE_PROGRAM = PROGRAM.replace("wait:   JCN pressed, foul\n        ISZ R4,
 const INPUTS = "press START PRESS\nwait 20 to 200\nnote lamps\nheld at most 30\n";
 
 const campaignOf = (text, program = PROGRAM) => readCampaign(INPUTS + text, createSubject(engine, BOARD, program));
-const errorsOf = (text) => campaignOf(text).faults.map(({ words }) => words).join();
+const errorsOf = (text) => campaignOf(text).errors.map(({ words }) => words).join();
 
 /** Searches for some seconds. Resolves to the counterexample of the first property, or to null if the search finds none. */
 async function findCounterexample(text, program, seconds) {
   const subject = createSubject(engine, BOARD, program);
-  const { campaign, faults } = readCampaign(INPUTS + text, subject);
-  assert.deepEqual(faults, []);
+  const { campaign, errors } = readCampaign(INPUTS + text, subject);
+  assert.deepEqual(errors, []);
   const run = new CampaignRun(subject, campaign, 1, () => true, 5e6);
   const deadline = performance.now() + 1000 * seconds;
   while (performance.now() < deadline && run.counterexamples[0] === null) await run.runFor(20);
@@ -72,8 +72,8 @@ async function findCounterexample(text, program, seconds) {
 
 /** Resolves to true if a program test fails on a program. */
 async function testFails(text, program) {
-  const { faults, outcomes } = await runTests(engine, { boardText: BOARD, programText: program, testText: text }, async () => true);
-  assert.deepEqual(faults, []);
+  const { errors, outcomes } = await runTests(engine, { boardText: BOARD, programText: program, testText: text }, async () => true);
+  assert.deepEqual(errors, []);
   return outcomes[0].failure !== null;
 }
 

@@ -13,21 +13,21 @@ test("expressions have the values that Intel's assembler gives them", () => {
     "<X+255": 4, ">100H+X": 1, "LOW(1FFH)": 255, "HIGH(1FFH)": 1, "0FF0H&0F0H": 240, "7/2": 3, "$+2": 18, "*-1": 15,
   };
   for (const [text, value] of Object.entries(values)) {
-    assert.deepEqual(evaluate(text, 16, names), { value, isKnown: true, fault: "" }, text);
+    assert.deepEqual(evaluate(text, 16, names), { value, isKnown: true, error: "" }, text);
   }
 });
 
 test("an invalid expression has an error, and the value of an undefined name is unknown", () => {
   const errors = { "1+": "an operand is missing", "(1": "a bracket is missing", "1/0": "a division by 0", Y: "no line defines the name Y",
     "9Z": "`9Z` is not a number", "1 2": "`2` is not understood", "'\u00e4'": "'\u00e4' has a character that is not ASCII" };
-  for (const [text, error] of Object.entries(errors)) assert.equal(evaluate(text, 0, names).fault, error);
-  assert.deepEqual(evaluate("LATER+1", 0, names), { value: 1, isKnown: false, fault: "" });
-  assert.match(evaluate("(".repeat(60), 0, names).fault, /more than 50 nested brackets/);
+  for (const [text, error] of Object.entries(errors)) assert.equal(evaluate(text, 0, names).error, error);
+  assert.deepEqual(evaluate("LATER+1", 0, names), { value: 1, isKnown: false, error: "" });
+  assert.match(evaluate("(".repeat(60), 0, names).error, /more than 50 nested brackets/);
 });
 
 test("long names with a common beginning stay distinct, and each line has at most one error", () => {
   const { text } = importProgram("ABCDEFGHIJKLMNOPQ EQU 1\nABCDEFGHIJKLMNOPR EQU 2\nABCDEFGHIJKLMN_2 EQU 3\n");
   assert.equal(text, "ABCDEFGHIJKLMNOP = 1\nABCDEFGHIJKLMN_2 = 2\nABCDEFGHIJKLMN_3 = 3\n");
-  const { faults } = importProgram(" LDM nowhere+(\n FOO\n");
-  assert.deepEqual(faults.map(({ line }) => line), [1, 2]);
+  const { errors } = importProgram(" LDM nowhere+(\n FOO\n");
+  assert.deepEqual(errors.map(({ line }) => line), [1, 2]);
 });

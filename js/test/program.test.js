@@ -8,9 +8,9 @@ import { createProgramTexts, describeAssembled } from "../core/text/asm_texts.js
 import { findDefinedNames, splitStatement, tokenizeLine, wordAt } from "../core/text/assembly.js";
 import { completeProgram } from "../core/text/completion.js";
 import { readInstructions } from "../core/help/manual.js";
-import { findProgramFaults, isProbablyNotProgram } from "../core/text/program_errors.js";
+import { findProgramErrors, isProbablyNotProgram } from "../core/text/program_errors.js";
 import { explainProgramLine } from "../core/text/program_words.js";
-import { MAX_SENT_LENGTH, findLineFaults, sentText } from "../core/text/sendable_text.js";
+import { MAX_SENT_LENGTH, findSendingErrors, sentText } from "../core/text/sendable_text.js";
 import { helpForProgram } from "../core/text/text_help.js";
 
 // The manual's tables, as page/build reads them.
@@ -106,8 +106,8 @@ const createFakeBench = (errors, number = 0) => {
 test("all errors have a message and a position; lines that cannot be sent are sent empty", async () => {
   const bench = createFakeBench([{ line: 1, number: 30 }, { line: 2, number: 32 }]);
   const text = "start: LDX 5\n FIM P0, strat\ncaf\u00e9: NOP\n";
-  const result = await findProgramFaults(text, instructions, () => "", bench);
-  assert.deepEqual(result.faults.map(({ line, from, words }) => [line, from, words.split(";")[0]]),
+  const result = await findProgramErrors(text, instructions, () => "", bench);
+  assert.deepEqual(result.errors.map(({ line, from, words }) => [line, from, words.split(";")[0]]),
     [[1, 7, "LDX is not an instruction"], [2, 9, "strat is not defined"], [3, 3, "\u00e9 is not an ASCII character"]]);
   assert.deepEqual([result.isComplete, result.generalRefusal, bench.asked.refused], [true, null, 0]);
   assert.deepEqual(bench.asked.sent, ["start: LDX 5\nFIM P0, strat\n\n"]);
@@ -115,10 +115,10 @@ test("all errors have a message and a position; lines that cannot be sent are se
 
 test("a program without errors is tried on the board; after 100 errors there can be more", async () => {
   const bench = createFakeBench([], 42);
-  const result = await findProgramFaults("NOP\n", instructions, () => "", bench);
-  assert.deepEqual(result, { faults: [], isComplete: true, generalRefusal: { number: 42, line: 0 } });
+  const result = await findProgramErrors("NOP\n", instructions, () => "", bench);
+  assert.deepEqual(result, { errors: [], isComplete: true, generalRefusal: { number: 42, line: 0 } });
   const benchWithManyErrors = createFakeBench(Array.from({ length: 100 }, (_, at) => ({ line: at + 1, number: 30 })));
-  assert.equal((await findProgramFaults("LDX\n".repeat(101), instructions, () => "", benchWithManyErrors)).isComplete, false);
+  assert.equal((await findProgramErrors("LDX\n".repeat(101), instructions, () => "", benchWithManyErrors)).isComplete, false);
 });
 
 test("a text is sent line by line, without comments and indentation", () => {
@@ -127,7 +127,7 @@ test("a text is sent line by line, without comments and indentation", () => {
   assert.equal(sentText("a = \"\"\"\n  b # \u00e9\n\"\"\"\n", "#"), "a = \"\"\"\n  b #  \n\"\"\"\n");
   assert.equal(sentText("", ";"), "");
   assert.equal(sentText("NOP\n\t", ";"), "NOP\n\n");
-  assert.deepEqual(findLineFaults("NOP\n\t", ";"), []);
+  assert.deepEqual(findSendingErrors("NOP\n\t", ";"), []);
   assert.equal(sentText("NOP\n . ; no end\n.\n", ";"), "NOP\n .\n.\n");
   assert.equal(sentText("\tNOP ; .\n\t. ; a dot alone\n  . \nx: ;\n ; y\n\n  LDM 1", ";"), "NOP\n .\n .\nx:\n\n\nLDM 1\n");
   assert.equal(sentText("a = 'x#\"' # \"d\"\ny = \"\\\"#\" # e\nz = \"no end # f\n", "#"), "a = 'x#\"'\ny = \"\\\"#\"\nz = \"no end # f\n");
@@ -135,10 +135,10 @@ test("a text is sent line by line, without comments and indentation", () => {
 
 test("lines that cannot be sent are reported with their positions", () => {
   /** @type {(text: string) => (number | string)[][]} */
-  const errorsOf = (text) => findLineFaults(text, ";").map(({ line, from, to, number }) => [line, from, to, number]);
+  const errorsOf = (text) => findSendingErrors(text, ";").map(({ line, from, to, number }) => [line, from, to, number]);
   assert.deepEqual(errorsOf("  caf\u00e9: NOP ; \u00e9\n"), [[1, 5, 6, 14]]);
   assert.deepEqual(errorsOf("NOP\n.\nNOP\n"), [[2, 0, 1, 0]]);
-  assert.equal(findLineFaults("\ufeffNOP\n", ";")[0].words, "an invisible character (U+FEFF); delete it");
+  assert.equal(findSendingErrors("\ufeffNOP\n", ";")[0].words, "an invisible character (U+FEFF); delete it");
   assert.deepEqual(errorsOf("NOP\n . ; no end\n"), []);
   assert.deepEqual(errorsOf(`NOP\n  ${"x".repeat(256)}\n`), [[2, 257, 258, 12]]);
   assert.deepEqual(errorsOf(`NOP ;${"x".repeat(256)}\n`), []);
@@ -189,15 +189,15 @@ test("the message about assembled bytes names the bytes that stay in ROM", () =>
 test("a text with an error in each line of code is probably not a program", () => {
   const createErrors = (...lines) => lines.map((line) => ({ number: 30, line, from: 0, to: 1, words: "" }));
   assert.equal(isProbablyNotProgram("hello there\n\n; a remark\nand more\n",
-    { faults: createErrors(1, 4), isComplete: true, generalRefusal: null }),
+    { errors: createErrors(1, 4), isComplete: true, generalRefusal: null }),
     true);
-  assert.equal(isProbablyNotProgram("hello there\n NOP\n", { faults: createErrors(1), isComplete: true, generalRefusal: null }), false);
+  assert.equal(isProbablyNotProgram("hello there\n NOP\n", { errors: createErrors(1), isComplete: true, generalRefusal: null }), false);
   // The search for errors stops after a maximum number of errors.
   const longText = "prose\n".repeat(500);
   const errors = createErrors(...Array.from({ length: 20 }, (_, line) => line + 1));
-  assert.equal(isProbablyNotProgram(longText, { faults: errors, isComplete: false, generalRefusal: null }), true);
-  assert.equal(isProbablyNotProgram(`NOP\n${longText}`, { faults: createErrors(2, 3), isComplete: false, generalRefusal: null }), false);
+  assert.equal(isProbablyNotProgram(longText, { errors, isComplete: false, generalRefusal: null }), true);
+  assert.equal(isProbablyNotProgram(`NOP\n${longText}`, { errors: createErrors(2, 3), isComplete: false, generalRefusal: null }), false);
   for (const textWithoutCode of ["", "; a remark\n"]) {
-    assert.equal(isProbablyNotProgram(textWithoutCode, { faults: [], isComplete: true, generalRefusal: null }), false);
+    assert.equal(isProbablyNotProgram(textWithoutCode, { errors: [], isComplete: true, generalRefusal: null }), false);
   }
 });

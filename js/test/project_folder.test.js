@@ -11,14 +11,14 @@ import { projectIn } from "../node/project_on_disk.mjs";
 const VALID_PROJECT = "board = \"board.toml\"\nprogram = \"main.asm\" # the source\n";
 const bytesOf = (text) => new TextEncoder().encode(text);
 const firstErrorOf = (text) => {
-  const [{ line, words }] = readProjectToml(text).faults;
+  const [{ line, words }] = readProjectToml(text).errors;
   return `${line}: ${words}`;
 };
 
 test("a project file contains the names of files, and a speed", () => {
   const optionalKeys = "tests = [\n  \"a.test\",\n  \"more/b.test\",\n]\nproperties = []\nspeed = \"full\"\r\n";
-  const { names, faults } = readProjectToml(`\uFEFF${VALID_PROJECT}${optionalKeys}`);
-  assert.deepEqual(faults, []);
+  const { names, errors } = readProjectToml(`\uFEFF${VALID_PROJECT}${optionalKeys}`);
+  assert.deepEqual(errors, []);
   assert.deepEqual(names.board, { path: "board.toml", key: "board", line: 1, from: 8, to: 20 });
   assert.deepEqual(names.tests.map(({ path, line }) => [path, line]), [["a.test", 4], ["more/b.test", 5]]);
   assert.deepEqual([names.properties, names.speed], [[], "full"]);

@@ -190,7 +190,7 @@ test("the view shows source, registers and lamps in each size, and marks changed
   assert.match((await ask("view")).join(), /^refused: the view needs a terminal/);
   assert.match((await ask("view far")).join(), /^refused: write view, view on or view off$/);
   const viewChanges = [];
-  prompt.calls.view = { toggle: () => "no room", turn: (isOn) => { viewChanges.push(isOn); return ""; } };
+  prompt.callbacks.view = { toggle: () => "no room", turn: (isOn) => { viewChanges.push(isOn); return ""; } };
   assert.deepEqual(await ask("tui enable", "layout src", "view off"), []);
   assert.deepEqual([viewChanges, await ask("view")], [[true, true, false], ["refused: no room"]]);
   const unmarked = (text) => text;
@@ -283,7 +283,7 @@ test("commands can run at a breakpoint's stops", async () => {
   assert.deepEqual([prompt.drop(), prompt.drop()], ["the commands of breakpoint 1 are dropped", ""]);
   // The user interrupts an endless run.
   let pauseCount = 0;
-  prompt.calls.pause = async () => {
+  prompt.callbacks.pause = async () => {
     pauseCount += 1;
     if (pauseCount === 5) prompt.interrupt();
   };

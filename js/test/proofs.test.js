@@ -75,14 +75,14 @@ class RecordingEngine extends Engine {
 async function runProofs(answer, { most: maximum = 50000, answerMistakes, answerSets, answerTimes, ...others } = {}) {
   const engine = new RecordingEngine(answer, answerMistakes, answerSets, answerTimes);
   const stateCounts = [];
-  const { proving, faults } = beginProving(engine, { ...texts, ...others }, maximum, {
+  const { proving, errors } = beginProving(engine, { ...texts, ...others }, maximum, {
     seen: async (states) => {
       stateCounts.push(states);
     },
     yieldToMessages: async () => {},
   });
   const lines = proving ? (await proving.judgeAll()).map(createPropertyVerdict) : [];
-  return { faults, engine, seen: stateCounts, all: lines.filter(({ line }) => line > 0), made: lines.filter(({ line }) => line === 0) };
+  return { errors, engine, seen: stateCounts, all: lines.filter(({ line }) => line > 0), made: lines.filter(({ line }) => line === 0) };
 }
 
 const kindsOf = (all) => all.map(({ verdict: { kind } }) => kind);
@@ -179,8 +179,8 @@ test("an unconfirmed counterexample leaves a property undecided, and an unexpect
   const wrongResult = await runProofs(() => "may fail 1\n", { propertiesText: "test\nnever lamp 1 on\n" });
   assert.deepEqual(wrongResult.all[0].verdict, { kind: "open", reason: "the bench does not confirm the counterexample that was found" });
   await assert.rejects(runProofs(() => "no 25\n"), /ended without an answer: no 25/);
-  const { faults } = await runProofs(() => "holds 1\n", { propertiesText: "never lamp purple on\n" });
-  assert.deepEqual(faults.map(({ line }) => line), [1]);
+  const { errors } = await runProofs(() => "holds 1\n", { propertiesText: "never lamp purple on\n" });
+  assert.deepEqual(errors.map(({ line }) => line), [1]);
 });
 
 test("a verdict remains valid while its property, the program and the board are unchanged", () => {
@@ -247,9 +247,9 @@ test("the page receives each verdict and the number of states so far", async () 
   const engine = new RecordingEngine((bound,
     nevers) => (nevers.length === 1 ? LAMP_ON_ANSWER : bound < 20000 ? "too many\n" : "holds 12345\n"));
   const reports = [];
-  const { faults, isStopped } = await createProver(engine).prove(texts, 50000, new AbortController().signal,
+  const { errors, isStopped } = await createProver(engine).prove(texts, 50000, new AbortController().signal,
     ({ verdicts: all, count, states }) => reports.push([all.length, count, states]));
-  assert.deepEqual([faults, isStopped], [[], false]);
+  assert.deepEqual([errors, isStopped], [[], false]);
   assert.deepEqual(reports[0], [0, 10, 0]);
   assert.ok(reports.some(([, , states]) => states === 10000));
   assert.deepEqual(reports[reports.length - 1], [10, 10, 0]);
@@ -260,7 +260,7 @@ test("cancelling ends the worker at once; a silent worker is not ended", async (
   const prover = createProver(engine);
   const controller = new AbortController();
   const result = await prover.prove(texts, 50000, controller.signal, () => controller.abort());
-  assert.deepEqual(result, { faults: [], isStopped: true });
+  assert.deepEqual(result, { errors: [], isStopped: true });
   const { bench } = prover;
   bench.worker = createFakeWorker(engine);
   bench.pendingRequests.set(1, { done: () => {}, fail: () => {}, progress: () => {} });

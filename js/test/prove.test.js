@@ -117,8 +117,8 @@ const questionOf = (text, usedSubject = subject) => (
 test("comparisons have the same meaning as their condition", () => {
   const states = [...generateRandomStates()];
   for (const text of CONDITIONS) {
-    const { condition, error: fault } = compileTracedCondition(text, subject.names);
-    assert.ok(condition, `${text}: ${fault}`);
+    const { condition, error } = compileTracedCondition(text, subject.names);
+    assert.ok(condition, `${text}: ${error}`);
     for (const expected of [true, false]) {
       const lists = listComparisons(condition, expected, board);
       for (const state of states) {

@@ -68,8 +68,8 @@ class FixedAnswerEngine extends Engine {
 /** Returns the verdicts on the properties of a text. */
 async function findVerdicts(propertiesText, usedEngine = engine, programText = PROGRAM) {
   const texts = { boardText: BOARD, programText, testText: "", propertiesText };
-  const { proving, faults } = beginProving(usedEngine, texts, 100000, { seen: async () => {}, yieldToMessages: async () => {} });
-  assert.deepEqual(faults, []);
+  const { proving, errors } = beginProving(usedEngine, texts, 100000, { seen: async () => {}, yieldToMessages: async () => {} });
+  assert.deepEqual(errors, []);
   return (await proving.judgeAll()).filter(({ property: { line } }) => line > 0).map(({ verdict }) => verdict);
 }
 

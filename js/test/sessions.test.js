@@ -112,7 +112,7 @@ function createController(answers, programText, found) {
   const controller = new TextsController(editor("# b"), editor(programText), editor(""), editor(""), ask, notice, {
     handleEdit: () => {},
     session: () => shown.session, markChanged: () => {}, save: async () => "", updateNames: () => {}, source: async () => found,
-    reportFailure: (fault) => { throw fault; },
+    reportFailure: (error) => { throw error; },
     isProbablyNotProgram: async (text) => text.includes("prose"), handleLoadedTexts: () => {},
   });
   return { controller, seen, shown, session };

@@ -67,7 +67,7 @@ test("the registers and the ports of a state are parsed", () => {
     returns: ["000", "001", "000"],
   });
   assert.deepEqual(parsePorts(ports), {
-    sources: ["10", "0.10", "1.00"],
+    srcBytes: ["10", "0.10", "1.00"],
     roms: [{ chip: "0", out: "3", in: "0" }, { chip: "1", out: "0", in: "6" }, { chip: "2", out: "0", in: "0" }],
     chains: ["1100000000"], keys: ["0.1", "1.2"],
   });
@@ -78,6 +78,6 @@ test("an empty bench has an empty snapshot, and an invalid state is an error", (
   assert.deepEqual(reader.take([EMPTY]), { lamps: "", keys: [], test: "1" });
   const changes = reader.readOtherChanges();
   assert.deepEqual([changes.breakpoints, changes.watches], [[], []]);
-  assert.deepEqual(changes.ports, { sources: ["00"], roms: [], chains: [], keys: [] });
+  assert.deepEqual(changes.ports, { srcBytes: ["00"], roms: [], chains: [], keys: [] });
   assert.throws(() => reader.take(["no 90"]), /the bench answers state by no 90/);
 });

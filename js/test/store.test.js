@@ -9,7 +9,7 @@ class FakeBase {
   constructor() {
     this.records = new Map();
     this.log = [];
-    this.fault = null;
+    this.error = null;
   }
 
   transaction(_name, mode, options) {
@@ -18,7 +18,7 @@ class FakeBase {
       error: null, isAborted: false, wanted: [],
       objectStore: () => ({
         put: (record) => {
-          if (this.fault) throw this.fault;
+          if (this.error) throw this.error;
           const copy = structuredClone(record);
           change.wanted.push(() => this.records.set(copy.id, copy));
         },
@@ -93,11 +93,11 @@ test("save calls during a write share the next write", async () => {
 test("a failure of the store is reported, and the session stays unchanged", async () => {
   const base = new FakeBase();
   const session = new OpenSession(new Store(base, true), createRecord(), () => {});
-  base.fault = new DOMException("", "QuotaExceededError");
+  base.error = new DOMException("", "QuotaExceededError");
   assert.equal(await session.save(), "the browser has no more space for this page");
-  base.fault = new DOMException("", "UnknownError");
+  base.error = new DOMException("", "UnknownError");
   assert.equal(await session.save(), "the browser's store failed (UnknownError)");
-  base.fault = null;
+  base.error = null;
   assert.equal(await session.save(), "");
   assert.deepEqual([...base.records.get(session.record.id).file], [1, 2]);
 });

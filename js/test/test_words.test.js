@@ -58,8 +58,8 @@ test("test results are described", () => {
   assert.deepEqual([testsTabMark([outcome({})]), testsTabMark([outcome(null)])], ["1 failed", "passed"]);
   assert.equal(testDuration(outcome(null)), "92,593 cycles, 1.00 s");
   assert.equal(testDuration({ cycles: 1 }), "1 cycle, 0.0 ms");
-  const fault = { text: "tests", line: 3, number: 0, words: "a condition is missing" };
-  assert.equal(textErrorsMessage([fault, fault], () => ""), "Nothing was run: Tests, line 3: a condition is missing, and 1 more.");
+  const error = { text: "tests", line: 3, number: 0, words: "a condition is missing" };
+  assert.equal(textErrorsMessage([error, error], () => ""), "Nothing was run: Tests, line 3: a condition is missing, and 1 more.");
   const refused = { text: "board", line: 0, number: 25, words: "" };
   assert.equal(textErrorsMessage([refused], (number) => `refusal ${number}`), "Nothing was run: Board: no 25: refusal 25.");
   const jump = { line: 2, count: 3, isJump: true, jumpCount: 3 };

@@ -26,8 +26,8 @@ before(async () => {
 });
 
 test("tests pass, and their coverage and profile are counted", async () => {
-  const { faults, outcomes, coverage, profile } = await runTests(engine, texts(example("three_lamps.test")), always);
-  assert.deepEqual(faults, []);
+  const { errors, outcomes, coverage, profile } = await runTests(engine, texts(example("three_lamps.test")), always);
+  assert.deepEqual(errors, []);
   assert.deepEqual(outcomes.map(({ failure, cycles }) => [failure, cycles]), [[null, 1621], [null, 538]]);
   assert.equal(formatCoverageSummary(coverage), "20 of 20 instructions were run (100.0 %), 6 of 6 branch directions (100.0 %)");
   assert.deepEqual(coverage.lines.find(({ line }) => line === 18), { line: 18, count: 4, isJump: true, jumpCount: 1 });
@@ -58,14 +58,14 @@ test("a test whose start state was never saved is not run", async () => {
 
 test("a comment can follow a line unless its mark is the name of a key", async () => {
   const text = "test a # 1 ; 2\n run 5   # a moment\n mark ;\n run 10 us ; # ;\n expect cycles 1 #\n expect lamps #none\n";
-  const { faults } = parseTestedTexts(engine, texts(text));
-  assert.deepEqual(faults.map(({ line, words }) => `${line}: ${words.slice(0, 26)}`), ["6: the board has no lamp #non"]);
+  const { errors } = parseTestedTexts(engine, texts(text));
+  assert.deepEqual(errors.map(({ line, words }) => `${line}: ${words.slice(0, 26)}`), ["6: the board has no lamp #non"]);
   const { outcomes } = await runTests(engine, texts(text.replace("#none", "... ; dark")), always);
   assert.deepEqual(outcomes.map(({ name, failure }) => [name, failure]), [["a # 1 ; 2", null]]);
   const lock = textsOf("lock");
   const keys = "test b\n press 1 # 2 ; keys\n release # ; the key #\n keys # ; #\n press x ; y\n";
-  const [fault, ...more] = parseTestedTexts(engine, { ...lock, testText: keys }).faults;
-  assert.deepEqual([fault.line, more], [5, []]);
+  const [error, ...more] = parseTestedTexts(engine, { ...lock, testText: keys }).errors;
+  assert.deepEqual([error.line, more], [5, []]);
 });
 
 test("failures in `repeat` and shared steps have their iteration and the last passed label", async () => {
@@ -92,18 +92,18 @@ test("a test with many repetitions can be cancelled", async () => {
 
 test("if the texts have errors, they are reported and no test is run", async () => {
   const report = await runTests(engine, texts("test a\n  until lamps green within 10 ms\n  press x\n  run 10 years\n"), always);
-  assert.deepEqual(report.faults.map(({ text, line, words }) => `${text}:${line}: ${words}`), [
+  assert.deepEqual(report.errors.map(({ text, line, words }) => `${text}:${line}: ${words}`), [
     "tests:2: the board has no lamp green; it has: left middle right (column 9)",
     "tests:3: the board has no key x; its text names no keys (`# row 0: NAME ..`)",
     "tests:4: write `run TIME`, as in: run 500, run 20 ms, run 1.5 s",
   ]);
   assert.deepEqual([report.outcomes, report.coverage, report.profile], [[], null, null]);
-  assert.deepEqual(parseTestedTexts(engine, texts("", " JUN nowhere\n")).faults, [{ text: "program", line: 1, number: 32, words: "" }]);
-  assert.equal(parseTestedTexts(engine, { ...texts(""), boardText: "rom = 3\n" }).faults[0].text, "board");
-  const [named] = parseTestedTexts(engine, { ...texts(""), boardText: `# lamp 7: x\n${boardText}` }).faults;
+  assert.deepEqual(parseTestedTexts(engine, texts("", " JUN nowhere\n")).errors, [{ text: "program", line: 1, number: 32, words: "" }]);
+  assert.equal(parseTestedTexts(engine, { ...texts(""), boardText: "rom = 3\n" }).errors[0].text, "board");
+  const [named] = parseTestedTexts(engine, { ...texts(""), boardText: `# lamp 7: x\n${boardText}` }).errors;
   assert.equal(named.words, "the lamp x is number 7, but the board has 3");
-  assert.equal(parseTestedTexts(engine, texts("")).faults[0].words, "there is no line `test NAME`");
-  assert.match(parseTestedTexts(engine, texts("test a\n run 1 \u00fc\n")).faults[0].words, /^a byte that is neither/);
+  assert.equal(parseTestedTexts(engine, texts("")).errors[0].words, "there is no line `test NAME`");
+  assert.match(parseTestedTexts(engine, texts("test a\n run 1 \u00fc\n")).errors[0].words, /^a byte that is neither/);
 });
 
 test("long work is cancelled between pieces", async () => {
@@ -132,8 +132,8 @@ test("tenths are rounded half to even, as by printf", () => {
 test("the sample test presses the first key and expects what the bench shows then, so it passes", async () => {
   const sampleOf = async (given) => {
     const testText = await sampleTest(engine, given);
-    const { faults, outcomes } = await runTests(engine, { ...given, testText }, always);
-    assert.deepEqual([faults, outcomes.map(({ failure }) => failure)], [[], [null]]);
+    const { errors, outcomes } = await runTests(engine, { ...given, testText }, always);
+    assert.deepEqual([errors, outcomes.map(({ failure }) => failure)], [[], [null]]);
     return testText.split("\n").slice(2, -1).map((line) => line.trim());
   };
   assert.deepEqual(await sampleOf(textsOf("calculator")), ["test 50 ms after the key 7", "press 7", "run 50 ms", "expect display 7"]);

@@ -12,7 +12,7 @@ test("numbers are parsed and formatted", () => {
 });
 
 test("errors keep their class on the way from the worker to the page", () => {
-  const there = (fault) => unpackError(JSON.parse(JSON.stringify(packError(fault))));
+  const there = (error) => unpackError(JSON.parse(JSON.stringify(packError(error))));
   assert.equal(there(new BenchRefusal(90)).number, 90);
   assert.ok(there(new BenchTrap("unreachable")) instanceof BenchTrap);
   assert.ok(there(new CancelledError()) instanceof CancelledError);

@@ -5,7 +5,7 @@ import { CYCLES_PER_SECOND, CYCLE_US, EYE_CYCLES, FRAME_CYCLES, FRAME_MS, cycles
 import { MAX_EARLY_MS, MAX_CYCLES_PER_FRAME, RealTime } from "../core/time/real_time.js";
 import { formatDuration } from "../core/bench/error_messages.js";
 import { PLACES_ARE } from "../words/conditions.js";
-import { cannotSearchFor } from "../words/time.js";
+import { cannotSearchForMessage } from "../words/time.js";
 
 test("cycles of the 4004: eight periods of a clock of 740,740.7 Hz", () => {
   const cycles = (seconds) => (seconds * (5185185.185 / 7)) / 8;
@@ -116,6 +116,6 @@ test("durations are formatted", () => {
 });
 
 test("the status bar answers an unknown place with some examples", () => {
-  assert.equal(cannotSearchFor(`nonsense: no such place; ${PLACES_ARE} (column 1)`),
+  assert.equal(cannotSearchForMessage(`nonsense: no such place; ${PLACES_ARE} (column 1)`),
     "Nothing was done: nonsense: no such place; enter something such as r5, lamp 3 or rom0.2 (column 1).");
 });

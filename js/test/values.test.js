@@ -177,12 +177,12 @@ test("watched expressions can have names, and invalid expressions are reported",
     ["P2 + acc", "P2 + acc", "101 (0x65)"],
     ["count > 5 and digit = 7", "count > 5 and digit = 7", "true"], ["count + digit", "count + digit", "13 (0xD)"],
     ["total + 1", "total + 1", "14 (0xE)"], ["0b101", "0b101", "5"], ["acc - P2", "acc - P2", "-91"], ["test = 1", "test = 1", "true"]]) {
-    const { watch: watched, error: fault } = parseWatch(text, names);
-    assert.deepEqual([fault, watched?.name, joinPieces(watched?.pieces(machineState, names) || [])], ["", name, wanted], text);
+    const { watch: watched, error } = parseWatch(text, names);
+    assert.deepEqual([error, watched?.name, joinPieces(watched?.pieces(machineState, names) || [])], ["", name, wanted], text);
     assert.equal(parseWatch(watched.text, names).watch.name, name);
   }
   assert.deepEqual(parseWatch("a = P2").watch.pieces(machineState, names).map(({ place }) => place), ["r4", "r5"]);
-  for (const [text, fault] of [
+  for (const [text, error] of [
     ["", "An expression is missing, as in: "], ["a =", "An expression is missing, as in: "],
     ["loop", "in loop: in loop: in loop: loop uses names that use other names"],
     ["r16", "r16: no such place; the registers are r0 to r15 (column 1)"],
@@ -192,15 +192,15 @@ test("watched expressions can have names, and invalid expressions are reported",
     ["coumt + 1", "coumt: no such place; perhaps count (column 1)"], ["R4 + (1", "this parenthesis is not closed (column 6)"],
   ]) {
     const read = parseWatch(text, names);
-    assert.ok(read.error.startsWith(fault), `${text}: ${read.error}`);
+    assert.ok(read.error.startsWith(error), `${text}: ${read.error}`);
   }
   // An expression with names is checked only when the names are known.
   assert.equal(parseWatch("r16").error, "");
   assert.equal(joinPieces(parseWatch("r16").watch.pieces(machineState, names)), "r16: no such place; the registers are r0 to r15");
   assert.match(parseWatch("1a = R5").error, /^A name has letters/);
   assert.match(parseWatch(`a = ${"x".repeat(200)}`).error, /^It has more than 200/);
-  const { all, error: fault } = parseWatches(["a = R1", "r5 +", 5, null, "R2"]);
+  const { all, error } = parseWatches(["a = R1", "r5 +", 5, null, "R2"]);
   assert.deepEqual(all.map(({ text }) => text), ["a = R1", "R2"]);
-  assert.match(fault, /^a value is missing after \+ \(column 4\)/);
+  assert.match(error, /^a value is missing after \+ \(column 4\)/);
   assert.deepEqual(parseWatches({ a: 1 }), { all: [], error: "" });
 });

@@ -39,8 +39,8 @@ test("values and edges are found in both directions", () => {
   const waves = wavesOf();
   const marked = 6;
   const all = (text, isForward = true) => {
-    const { search, fault } = readSearch(text, waves, marked);
-    assert.equal(fault, "", text);
+    const { search, error } = readSearch(text, waves, marked);
+    assert.equal(error, "", text);
     const moments = [];
     for (let moment = find(waves, search, isForward ? 0 : 50, isForward); moment >= 0; moment = find(waves, search, moment, isForward)) {
       moments.push(moment);
@@ -58,15 +58,15 @@ test("values and edges are found in both directions", () => {
 
 test("invalid searches are rejected with a reason", () => {
   const waves = wavesOf();
-  const fault = (text, marked = 6) => readSearch(text, waves, marked).fault;
-  assert.match(fault(""), /^Enter a search: a value of the marked line/);
-  assert.match(fault("A"), /^A is not a number such as 10, 0x0A or 0b1010/);
-  assert.equal(fault("16"), "r5 has 4 bits: its value is at most 15.");
-  assert.equal(fault("2", 0), "rom0.0 has 1 bit: its value is at most 1.");
-  assert.equal(fault("r9 = 3"), "Nothing that was recorded is called r9: select it and record again.");
-  assert.equal(fault("r5 rises"), "r5 is a number: search for a change, or for a value such as = 5.");
-  assert.equal(fault("@nowhere"), "The program of this recording has no label nowhere.");
-  assert.equal(fault("3", -1), "No line is marked.");
+  const error = (text, marked = 6) => readSearch(text, waves, marked).error;
+  assert.match(error(""), /^Enter a search: a value of the marked line/);
+  assert.match(error("A"), /^A is not a number such as 10, 0x0A or 0b1010/);
+  assert.equal(error("16"), "r5 has 4 bits: its value is at most 15.");
+  assert.equal(error("2", 0), "rom0.0 has 1 bit: its value is at most 1.");
+  assert.equal(error("r9 = 3"), "Nothing that was recorded is called r9: select it and record again.");
+  assert.equal(error("r5 rises"), "r5 is a number: search for a change, or for a value such as = 5.");
+  assert.equal(error("@nowhere"), "The program of this recording has no label nowhere.");
+  assert.equal(error("3", -1), "No line is marked.");
 });
 
 test("an edge found in two million cycles is the one that the bench reports", async () => {

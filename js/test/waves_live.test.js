@@ -17,8 +17,8 @@ const wholeText = (waves) => [...vcdParts(waves, waves.lines.map((_, line) => li
 
 /** Starts a recording, and returns it. Its function `did` takes the answers of calls, which contain parts of the recording. */
 function record(calls, texts, { most = 1000000, behind = 0, trigger = "", stopsTime = false } = {}) {
-  const { recorded, error: fault } = calls.recordLive(texts, { trigger, cyclesAfterTrigger: behind, stopsMachine: stopsTime });
-  assert.equal(fault, "");
+  const { recorded, error } = calls.recordLive(texts, { trigger, cyclesAfterTrigger: behind, stopsMachine: stopsTime });
+  assert.equal(error, "");
   const live = new LiveWaves(recorded, { maxCycles: most, cyclesAfterTrigger: behind, trigger, stopsTime });
   return { live, did: (shown) => live.append(shown.waves) };
 }
@@ -151,7 +151,7 @@ test("the reason for the end of a recording is reported", async () => {
 test("an invalid trigger is reported, and nothing is recorded", async () => {
   const { calls, texts } = await beginWith("calculator");
   const recordWith = (trigger) => calls.recordLive(texts, { trigger, cyclesAfterTrigger: 0, stopsMachine: false });
-  const faults = {
+  const errors = {
     "r99 rises": 'nothing here is called r99; the menu Rows lists the names',
     "rom0 rises": "rom0 is a number: write rom0 changes, or as rom0 = 5",
     "pc changes": "write a place of the program as @LABEL",
@@ -159,11 +159,11 @@ test("an invalid trigger is reported, and nothing is recorded", async () => {
     "@nowhere": /nowhere/,
     rubbish: /./,
   };
-  for (const [trigger, words] of Object.entries(faults)) {
-    const { recorded, error: fault } = recordWith(trigger);
+  for (const [trigger, words] of Object.entries(errors)) {
+    const { recorded, error } = recordWith(trigger);
     assert.equal(recorded, null, trigger);
-    if (typeof words === "string") assert.equal(fault, words);
-    else assert.match(fault, words);
+    if (typeof words === "string") assert.equal(error, words);
+    else assert.match(error, words);
   }
   assert.equal(calls.advance(100).waves, null);
 });

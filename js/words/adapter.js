@@ -3,11 +3,11 @@
 // --- adapter/adapter_connection.js ---
 export const MESSAGE_SYNTAX = "a message has a number seq, the type \"request\" and a command";
 /** @type {(command: string) => string} */
-export const noCommand = (command) => `unsupported request: ${command}`;
+export const noCommandMessage = (command) => `unsupported request: ${command}`;
 
 // --- adapter/progress.js ---
 /** @type {(id: string) => string} */
-export const noProgress = (id) => `no work in progress has the progressId ${id}`;
+export const noProgressMessage = (id) => `no work in progress has the progressId ${id}`;
 
 // --- adapter/query_handlers.js ---
 export const ROM_CONTENTS = "the contents of ROM";
@@ -31,13 +31,13 @@ export const BASE_64_REQUIRED = "data must be in base 64";
 // --- adapter/client_breakpoints.js ---
 export const HIT_COUNT_SYNTAX = "a hit count is a number, such as 5: the breakpoint stops at that hit and at each later one";
 /** @type {(maximum: number) => string} */
-export const tooManyEnabled = (maximum) => `at most ${maximum} breakpoints can be on`;
+export const tooManyEnabledMessage = (maximum) => `at most ${maximum} breakpoints can be on`;
 /** @type {(place: string) => string} */
-export const notWatched = (place) => (
+export const notWatchedMessage = (place) => (
   `${place} cannot be watched; registers, pairs, ports, lines, lamps, chains and RAM characters that the board has can`);
 export const ONLY_CHANGES = "only changes are watched (accessType write)";
 /** @type {(kind: string) => string} */
-export const noFilter = (kind) => `unknown exception filter: ${kind}`;
+export const noFilterMessage = (kind) => `unknown exception filter: ${kind}`;
 /** @type {(place: string) => string} */
 export const placeChanges = (place) => `${place} changes`;
 
@@ -47,7 +47,7 @@ press KEY, release KEY: a key goes down, or up; while running, press is a short 
 until LABEL or ADDRESS, change PLACE: runs up to there. back, back PLACE: an instruction back, or before the last change. forward: returns.
 R4, P2, ram.0.0x12, rom1, lamps, display, a name, a condition (r9 = 9 or lamp open on): its current value. set PLACE = VALUE.`;
 /** @type {(maximum: number) => string} */
-export const tooLong = (maximum) => `a line has at most ${maximum} characters`;
+export const tooLongMessage = (maximum) => `a line has at most ${maximum} characters`;
 /** @type {(reason: string) => string} */
 export const seeHelp = (reason) => `${reason}; help shows what a line can be`;
 /** @type {(word: string) => string} */
@@ -60,9 +60,9 @@ export const placeSyntax = (syntax) => `write ${syntax}`;
 export const UNTIL_SYNTAX = "until LABEL, until ADDRESS or until CONDITION";
 export const CHANGE_SYNTAX = "change PLACE, as in change r4";
 /** @type {(maximum: number) => string} */
-export const tooManyLines = (maximum) => `at most ${maximum} lines are accepted at once`;
+export const tooManyLinesMessage = (maximum) => `at most ${maximum} lines are accepted at once`;
 /** @type {(word: string) => string} */
-export const noAddress = (word) => `${word} is neither a label of the program nor an address such as 0x00D`;
+export const noAddressMessage = (word) => `${word} is neither a label of the program nor an address such as 0x00D`;
 export const ADDRESS_RANGE = "addresses are 0x000 to 0xFFF";
 
 // --- adapter/debug_adapter.js ---
@@ -77,7 +77,7 @@ export const LAUNCH_ONCE = "launch can be sent only once";
 /** @type {(reason: string) => string} */
 export const sourceDiffers = (reason) => `The source differs from ROM now: ${reason}.`;
 /** @type {(name: string) => string} */
-export const notInProgram = (name) => `it is not in the program that is debugged, ${name}`;
+export const notInProgramMessage = (name) => `it is not in the program that is debugged, ${name}`;
 export const NO_DEBUG = "this runs without a debugger (noDebug)";
 
 // --- node/file_locks.mjs, node/debug_host.mjs ---
@@ -98,20 +98,20 @@ export const LAUNCH_NEEDS =
 export const boardHint = (error) => `${error}; without "board" it is the project's, or board.toml next to the program`;
 export const ONE_FILE = "program and session name the same file";
 /** @type {(file: string) => string} */
-export const noProjectFile = (file) => `there is no ${file}, which names the board and the program of a project`;
+export const noProjectFileMessage = (file) => `there is no ${file}, which names the board and the program of a project`;
 export const DOT_ALONE = "a line with only a dot";
 /** @type {(program: string) => string} */
-export const noBoardBeside = (program) => `there is no board.toml next to ${program}: "board" names the board's text`;
+export const noBoardBesideMessage = (program) => `there is no board.toml next to ${program}: "board" names the board's text`;
 /** @type {(session: string) => string} */
 export const sessionMissing = (session) => `${session} does not exist; "board" and "program" create it`;
 export const ATTACH_NEEDS = "attach needs \"session\", a session file; launch starts a program";
 /** @type {(session: string) => string} */
-export const noSession = (session) => `there is no session file ${session}`;
+export const noSessionMessage = (session) => `there is no session file ${session}`;
 export const PROGRAM_HAS_ERRORS = "the program has errors";
 /** @type {(hasRom: boolean, address: string) => string} */
 export const romDiffers = (hasRom, address) => `ROM has ${hasRom ? "another byte" : "no chip"} at 0x${address}`;
 /** @type {(program: string, session: string, reason: string) => string} */
-export const notInRomOf = (program, session, reason) => `${program} differs from the ROM of ${session}: ${reason}`;
+export const notInRomOfMessage = (program, session, reason) => `${program} differs from the ROM of ${session}: ${reason}`;
 /** @type {(difference: string) => string} */
 export const loadHint = (difference) => (
   `${difference}. "load": true puts it there; without "program" the source is disassembled from ROM`);
@@ -126,7 +126,7 @@ export const earlierNotesOmitted = (count) => `(${count} notes before these)`;
 // --- adapter/test_launch.js ---
 export const TEST_NEEDS_TESTS = "a test needs `tests`, the name of its text";
 /** @type {(name: string, file: string) => string} */
-export const noSuchTest = (name, file) => `${file} has no test ${name}`;
+export const noSuchTestMessage = (name, file) => `${file} has no test ${name}`;
 /** @type {(name: string) => string} */
 export const testHasPassed = (name) => `The test ${name} passed. The session is at the end of the test; step back to see how it got there.`;
 /** @type {(file: string, line: number, error: string) => string} */
@@ -143,11 +143,11 @@ export const FORMAT_OBJECT_SYNTAX = "format must be an object, such as { \"hex\"
 
 // --- adapter/dap_protocol.js ---
 /** @type {(name: string) => string} */
-export const mustBeInteger = (name) => `${name} must be a whole number`;
+export const mustBeIntegerMessage = (name) => `${name} must be a whole number`;
 /** @type {(name: string) => string} */
-export const mustBeBoolean = (name) => `${name} must be true or false`;
+export const mustBeBooleanMessage = (name) => `${name} must be true or false`;
 /** @type {(name: string) => string} */
-export const mustBeList = (name) => `${name} must be a list`;
+export const mustBeListMessage = (name) => `${name} must be a list`;
 
 // --- adapter/scopes.js ---
 /** @type {(chips: number, isSelected: boolean) => string} */
@@ -168,19 +168,19 @@ export const lampIs = (isOn) => (isOn ? "on" : "off");
 export const DOWN = "down";
 export const UP = "up";
 /** @type {(name: string) => string} */
-export const notFoundHere = (name) => `there is no ${name} here`;
+export const notFoundHereMessage = (name) => `there is no ${name} here`;
 /** @type {(name: string) => string} */
-export const nothingSets = (name) => `${name} cannot be set: only the machine changes it`;
+export const nothingSetsMessage = (name) => `${name} cannot be set: only the machine changes it`;
 
 // --- adapter/place_assignment.js ---
 /** @type {(text: string) => string} */
-export const noNumber = (text) => `${text} is neither a number (10, 0x0A, 0b1010) nor a name`;
+export const noNumberMessage = (text) => `${text} is neither a number (10, 0x0A, 0b1010) nor a name`;
 export const NOTHING = "nothing";
 export const KEY_VALUE_SYNTAX = "a key is down or up";
 /** @type {(place: string, maximum: number) => string} */
 export const valueRange = (place, maximum) => `${place} holds 0 to ${maximum}`;
 /** @type {(place: string, answer: string) => string} */
-export const cannotBeSet = (place, answer) => `${place} cannot be set: the bench answered ${answer}`;
+export const cannotBeSetMessage = (place, answer) => `${place} cannot be set: the bench answered ${answer}`;
 
 // --- adapter/remote_front_panel.js ---
 export const KEY_PLACE = "a key's place is its row and column, such as 0 2, or test and a level";

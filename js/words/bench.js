@@ -3,7 +3,7 @@
 // --- bench/script_answers.js ---
 export const FIRST_IS_SESSION = "the first line of the answers must be `session N`";
 /** @type {(answerLine: number, answer: string, scriptLine: number, scriptText: string) => string} */
-export const noAnswer = (answerLine, answer, scriptLine, scriptText) => (
+export const noAnswerMessage = (answerLine, answer, scriptLine, scriptText) => (
   `line ${answerLine} of the answers, \`${answer}\`, does not answer line ${scriptLine} of the script, \`${scriptText}\``);
 /** @type {(mismatch: string, commands: number) => string} */
 export const wrongCommandCount = (mismatch, commands) => `${mismatch}: ${commands} commands were accepted before it`;
@@ -32,9 +32,9 @@ export const mergedRuns = (runs, cycles) => `run .. (${runs} lines, ${cycles} cy
 // --- bench/rom_image.js ---
 export const NO_BYTE = "it has no byte";
 /** @type {(bytes: string, room: string) => string} */
-export const tooManyBytes = (bytes, room) => `it has ${bytes} bytes, and ROM has ${room}`;
+export const tooManyBytesMessage = (bytes, room) => `it has ${bytes} bytes, and ROM has ${room}`;
 /** @type {(bytes: string, room: string, first: string) => string} */
-export const tooManyFrom = (bytes, room, first) => `it has ${bytes} bytes, and only ${room} fit from the address ${first}`;
+export const tooManyFromMessage = (bytes, room, first) => `it has ${bytes} bytes, and only ${room} fit from the address ${first}`;
 export const BEGINS_WITH_COLON = "a record of Intel HEX begins with `:`";
 export const RECORD_SYNTAX = "a record has `:`, ten hexadecimal digits and two for each byte";
 /** @type {(count: number, bytes: number) => string} */
@@ -49,7 +49,7 @@ export const addressPastLast = (type) => `type 0${type} with a value other than 
 /** @type {(type: string, size: number) => string} */
 export const wrongRecordSize = (type, size) => `a record of type ${type} has ${["no", "one", "two", "three", "four"][size]} bytes`;
 /** @type {(type: string) => string} */
-export const noType = (type) => `type ${type}, which has no meaning for a 4004`;
+export const noTypeMessage = (type) => `type ${type}, which has no meaning for a 4004`;
 export const AFTER_LAST = "a record after the last one (type 01)";
 /** @type {(line: number, error: string) => string} */
 export const imageLine = (line, error) => `line ${line}: ${error}`;

@@ -119,15 +119,15 @@ export const wiredAt = (line) => `at ${line}`;
 
 // --- board/lamp_answers.js ---
 /** @type {(board: string) => string} */
-export const hasNoDisplay = (board) => `${board} has no display: a comment \`# display 0: 4 digits\` makes one`;
+export const hasNoDisplayMessage = (board) => `${board} has no display: a comment \`# display 0: 4 digits\` makes one`;
 /** @type {(line: number, answer: string) => string} */
-export const isRefusal = (line, answer) => `line ${line} of the answers is a refusal: ${answer}; mcs4 explain says why`;
+export const isRefusalMessage = (line, answer) => `line ${line} of the answers is a refusal: ${answer}; mcs4 explain says why`;
 /** @type {(line: number, board: string) => string} */
-export const isInstant = (line, board) => (
+export const isInstantMessage = (line, board) => (
   `line ${line} of the answers has the lamps at an instant, and the digits of ${board} are multiplexed; `
   + `\`trace ${EYE_CYCLES} lamps\` reports what is perceived in ${EYE_PERSISTENCE_MS} ms`);
 /** @type {(line: number, count: number, board: string, needed: number) => string} */
-export const tooFewLamps = (line, count, board, needed) => (
+export const tooFewLampsMessage = (line, count, board, needed) => (
   `line ${line} of the answers has ${count} lamps, and the display of ${board} needs ${needed}`);
 export const ENDS_WITHIN_TRACE = "the answers end within one to `trace`";
 export const NO_LAMPS_SHOWN = "no answer shows the lamps";

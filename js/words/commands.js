@@ -615,7 +615,7 @@ export const HELP_OPTION = "Prints this help.";
 /** @type {(lines: string[]) => string} */
 export const formatUsage = ([first, ...others]) => [`usage: ${first}`, ...others.map((line) => `       ${line}`)].join("\n");
 /** @type {(word: string, similar: string[]) => string} */
-export const noCommand = (word, similar) => `there is no command ${word}${didYouMean(similar, "mcs4 help lists the commands")}`;
+export const noCommandMessage = (word, similar) => `there is no command ${word}${didYouMean(similar, "mcs4 help lists the commands")}`;
 export const MANUAL_SECTIONS = {
   name: "NAME", synopsis: "SYNOPSIS", description: "DESCRIPTION", options: "OPTIONS", commands: "COMMANDS", examples: "EXAMPLES",
   status: "EXIT STATUS", environment: "ENVIRONMENT", files: "FILES", seeAlso: "SEE ALSO",
@@ -624,11 +624,11 @@ export const FILES_OF_MCS4 = ["mcs4.toml", "names the files of the project in it
 export const MANUAL_REFERENCE = "The manual, docs/MANUAL.md in the folder that `mcs4 version` shows.";
 export const MANUAL_TITLE = "The bench Fethsaim";
 /** @type {(word: string, similar: string[]) => string} */
-export const noOption = (word, similar) => `there is no option ${word}${didYouMean(similar, "")}`;
+export const noOptionMessage = (word, similar) => `there is no option ${word}${didYouMean(similar, "")}`;
 /** @type {(value: string, option: string) => string} */
 export const valueMissing = (value, option) => `${value} is missing after ${option}`;
 /** @type {(option: string) => string} */
-export const noValue = (option) => `${option} takes no value`;
+export const noValueMessage = (option) => `${option} takes no value`;
 /** @type {(option: string) => string} */
 export const optionTwice = (option) => `${option} is given twice`;
 /** @type {(word: string) => string} */
@@ -643,7 +643,7 @@ export const argumentsMissing = (names, hasNoProject) => {
   return `${list} missing${hasNoProject ? ", and there is no mcs4.toml here" : ""}`;
 };
 /** @type {(name: string, word: string, maximum: number) => string} */
-export const notInRange = (name, word, maximum) => `${name}: '${word}' is not a decimal number from 1 to ${maximum}`;
+export const notInRangeMessage = (name, word, maximum) => `${name}: '${word}' is not a decimal number from 1 to ${maximum}`;
 /** @type {(file: string, kind: string) => string} */
 export const projectLacks = (file, kind) => `${file} names no ${kind}; name some there, or after the command`;
 /** @type {(version: string) => string} */
@@ -656,13 +656,13 @@ export const excludeEachOther = (first, second) => `${first} and ${second} exclu
 /** @type {(session: string) => string} */
 export const inUse = (session) => `${session} is in use: it changed while it was read; end the program that uses it, or try again`;
 /** @type {(name: string) => string} */
-export const noNamedProver = (name) => `MCS4_PROVE names ${name}, which is not there; unset it, or name another program`;
+export const noNamedProverMessage = (name) => `MCS4_PROVE names ${name}, which is not there; unset it, or name another program`;
 /** @type {(error: string) => string} */
-export const noProver = (error) => (
+export const noProverMessage = (error) => (
   `the program that searches, shipped/mcs4-prove, could not be started: ${error}; tools/build mcs4_prove proves and builds it`);
 export const NO_PROGRAM_IN_COPY = "this copy of the bench has no native program";
 /** @type {(platform: string, machine: string) => string} */
-export const notForSystem = (platform, machine) => `it is for Linux on x86-64, and this is ${platform} on ${machine}`;
+export const notForSystemMessage = (platform, machine) => `it is for Linux on x86-64, and this is ${platform} on ${machine}`;
 /** @type {(error: string) => string} */
 export const needsProgram = (error) => (
   `a session file needs the native program, which is not started: ${error}. Commands without a session file run here`);
@@ -681,13 +681,13 @@ export const sessionStopped = (cycles, reason) => `the session stopped after ${c
 
 export const NOT_AN_LCOV_FILE = "does not begin like an LCOV file (TN:)";
 /** @type {(name: string) => string} */
-export const isFolder = (name) => `${name} is a folder, not a file`;
+export const isFolderMessage = (name) => `${name} is a folder, not a file`;
 /** @type {(name: string) => string} */
-export const isInputFile = (name) => `${name} is an input of this command, so it is not written; name another file`;
+export const isInputFileMessage = (name) => `${name} is an input of this command, so it is not written; name another file`;
 /** @type {(name: string, reason: string) => string} */
-export const isOtherKind = (name, reason) => `${name} exists, and ${reason}; name another file, or move it away`;
+export const isOtherKindMessage = (name, reason) => `${name} exists, and ${reason}; name another file, or move it away`;
 /** @type {(name: string) => string} */
-export const noFolderToWrite = (name) => `cannot write ${name}: its folder does not exist or cannot be written`;
+export const noFolderToWriteMessage = (name) => `cannot write ${name}: its folder does not exist or cannot be written`;
 
 // --- wave ---
 
@@ -698,11 +698,12 @@ export const boardDiffers = (board) => `the session has another board than ${boa
 const BUZZER_COMMENT = "a comment `# buzzer rom0.3: NAME`";
 export const NO_BUZZER_GIVEN = `no line of a buzzer is given; name it, or give --board BOARD, whose text has ${BUZZER_COMMENT}`;
 /** @type {(board: string) => string} */
-export const noBuzzer = (board) => `${board} has no buzzer: ${BUZZER_COMMENT} makes one`;
+export const noBuzzerMessage = (board) => `${board} has no buzzer: ${BUZZER_COMMENT} makes one`;
 /** @type {(line: string) => string} */
-export const noOutputLine = (line) => `the board has no output line ${line}; a buzzer is at one, such as rom0.3, ram0.1.3 or chain0.5`;
+export const noOutputLineMessage = (line) => (
+  `the board has no output line ${line}; a buzzer is at one, such as rom0.3, ram0.1.3 or chain0.5`);
 /** @type {(board: string, line: number, place: string) => string} */
-export const noOutputAt = (board, line, place) => `${board}: line ${line}: the board has no output line ${place}`;
+export const noOutputAtMessage = (board, line, place) => `${board}: line ${line}: the board has no output line ${place}`;
 /** @type {(cycles: number) => string} */
 export const stoppedAtCode = (cycles) => `the session stopped after ${cycles} cycles, before a code that is not an instruction`;
 
@@ -710,26 +711,26 @@ export const stoppedAtCode = (cycles) => `the session stopped after ${cycles} cy
 
 export const SPLIT_OR_JOIN = "split or join is missing";
 /** @type {(word: string) => string} */
-export const neitherSplitNorJoin = (word) => `'${word}' is neither split nor join`;
+export const neitherSplitNorJoinMessage = (word) => `'${word}' is neither split nor join`;
 /** @type {(name: string, folder: string) => string} */
 export const leadsOutOf = (name, folder) => `${name} is a link that leads out of ${folder}`;
 /** @type {(name: string) => string} */
-export const containsNul = (name) => `${name} contains NUL bytes, so it is not a text`;
+export const containsNulMessage = (name) => `${name} contains NUL bytes, so it is not a text`;
 /** @type {(name: string) => string} */
-export const notUtf8 = (name) => `${name} is not a text in UTF-8`;
+export const notUtf8Message = (name) => `${name} is not a text in UTF-8`;
 /** @type {(file: string, count: number, kind: string) => string} */
-export const tooManyTexts = (file, count, kind) => `${file} names ${count} texts of ${kind}; a project of the page has one`;
+export const tooManyTextsMessage = (file, count, kind) => `${file} names ${count} texts of ${kind}; a project of the page has one`;
 /** @type {(name: string) => string} */
-export const noSessionFile = (name) => `${name} is not a session file`;
+export const noSessionFileMessage = (name) => `${name} is not a session file`;
 /** @type {(name: string) => string} */
 export const emptyName = (name) => `${name} is empty; it must have the name of the session`;
 /** @type {(name: string) => string} */
-export const noSessionToDebug = (name) => `there is no file ${name}; mcs4 debug BOARD PROGRAM ${name} begins a session in it`;
+export const noSessionToDebugMessage = (name) => `there is no file ${name}; mcs4 debug BOARD PROGRAM ${name} begins a session in it`;
 /** @type {(folder: string) => string} */
-export const noFolder = (folder) => `there is no folder ${folder}`;
+export const noFolderMessage = (folder) => `there is no folder ${folder}`;
 export const NOT_A_PROJECT = "is not a project";
 /** @type {(folder: string) => string} */
-export const isNotFolder = (folder) => `${folder} exists and is not a folder`;
+export const isNotFolderMessage = (folder) => `${folder} exists and is not a folder`;
 /** @type {(name: string) => string} */
 export const alreadyExists = (name) => `${name} already exists; name another folder, or move it away`;
 
@@ -737,7 +738,7 @@ export const alreadyExists = (name) => `${name} already exists; name another fol
 
 export const LOAD_ASK_OR_SAVE = "load, ask or save is missing";
 /** @type {(word: string) => string} */
-export const noRomAction = (word) => `'${word}' is not load, ask or save`;
+export const noRomActionMessage = (word) => `'${word}' is not load, ask or save`;
 /** @type {(action: string, format: string) => string} */
 export const unsupportedFormat = (action, format) => `rom ${action} takes no --${format}`;
 export const ADDRESS_RANGE = "ADDRESS is 0 to 4095, decimal or with 0x";
@@ -750,13 +751,13 @@ export const BINARY_HINT = " (is it a binary file? --binary)";
 export const NO_TERMINAL = "an image cannot be shown at a terminal; write it to a file (> IMAGE), or as --hex";
 export const NO_ANSWERS = "no answers on standard input; it reads what mcs4 has answered, as in: mcs4 rom save FIRST COUNT < ANSWERS";
 /** @type {(line: number, text: string) => string} */
-export const answerIsRefusal = (line, text) => `line ${line} of the answers is a refusal: ${text}; mcs4 explain says why`;
+export const answerIsRefusalMessage = (line, text) => `line ${line} of the answers is a refusal: ${text}; mcs4 explain says why`;
 /** @type {(address: string) => string} */
-export const noAnswerShows = (address) => `no answer shows the byte at ${address}; mcs4 rom ask makes the questions`;
+export const noAnswerShowsMessage = (address) => `no answer shows the byte at ${address}; mcs4 rom ask makes the questions`;
 
 // --- board_file.mjs, keys ---
 /** @type {(board: string, key: string) => string} */
-export const noKeyOnBoard = (board, key) => `${board} has no key ${key}`;
+export const noKeyOnBoardMessage = (board, key) => `${board} has no key ${key}`;
 /** @type {(board: string) => string} */
 export const keysWithoutNames = (board) => `${board} has no comments \`# row R: NAME ..\` that name its keys`;
 /** @type {(answer: string, meaning: string) => string} */
@@ -774,12 +775,12 @@ export const inLine = (line, message) => `line ${line}: ${message.replace(/\.$/,
 
 // --- answers on standard input ---
 /** @type {(command: string) => string} */
-export const noAnswers = (command) => (
+export const noAnswersMessage = (command) => (
   `no answers on standard input; it reads what mcs4 has answered, as in: mcs4 ${command} .. < ANSWERS`);
 
 // --- cycles ---
 /** @type {(word: string) => string} */
-export const notALineNumber = (word) => `FIRST and LAST are line numbers; '${word}' is not a number`;
+export const notALineNumberMessage = (word) => `FIRST and LAST are line numbers; '${word}' is not a number`;
 export const FIRST_AND_LAST = "FIRST is at least 1, and LAST is not before it";
 
 // --- explain ---
@@ -795,7 +796,7 @@ export const rejectedLine = (line, refusal, textLine, meaning) =>
 /** @type {(number: number, meaning: string) => string} */
 export const sessionWasRefusedBy = (number, meaning) => `the session was rejected: no ${number}: ${meaning}`;
 /** @type {(line: number, isLast: boolean) => string} */
-export const notAnswered = (line, isLast) => `line ${line} ${isLast ? "was" : "and those after it were"} not answered`;
+export const notAnsweredMessage = (line, isLast) => `line ${line} ${isLast ? "was" : "and those after it were"} not answered`;
 
 // --- resume ---
 /** @type {(session: string, script: string, mismatch: string, differences: string[]) => string} */
@@ -811,7 +812,7 @@ export const NO_FLOCK = "the program flock is not found; on Debian: apt-get inst
 /** @type {(session: string) => string} */
 export const usedByAnother = (session) => `${session} is in use by another program; wait until that has ended`;
 /** @type {(name: string) => string} */
-export const cannotWrite = (name) => `cannot write ${name}`;
+export const cannotWriteMessage = (name) => `cannot write ${name}`;
 /** @type {(commands: number, records: number) => string} */
 export const describeRemovableCommands = (commands, records) => {
   if (records === 0) return `session ${commands}: its log has no commands, so it cannot go back`;
@@ -828,7 +829,7 @@ export const wouldDiffer = (session, expected, actual) => `${session} would not 
 
 // --- temporary_folders.mjs ---
 /** @type {(parent: string) => string} */
-export const noFolderIn = (parent) => `cannot make a folder in ${parent}; TMPDIR names another place for temporary files`;
+export const noFolderInMessage = (parent) => `cannot make a folder in ${parent}; TMPDIR names another place for temporary files`;
 
 // --- debug ---
 export const NOT_A_BREAKPOINTS_FILE = "is not a file of breakpoints: it does not begin with `# Breakpoints of mcs4 debug`";
@@ -854,6 +855,6 @@ export const foundLine = (place, text, isGoal, steps) => `${place}: ${text}: ${i
 /** @type {(status: number | null) => string} */
 export const jobEnded = (status) => `a job ended with status ${status}`;
 /** @type {(name: string) => string} */
-export const notAReport = (name) => `${name} is not a report of mcs4 explore (--report)`;
+export const notAReportMessage = (name) => `${name} is not a report of mcs4 explore (--report)`;
 /** @type {(name: string, first: string) => string} */
 export const differentTexts = (name, first) => `${name} has another board, program or properties than ${first}`;

@@ -6,7 +6,7 @@ export const NAMED_PLACES = "acc, cy, dcl, r0 to r15, ram.B.S, st.B.H.K, rom1.2,
 
 // --- conditions/keyword_conditions.js ---
 /** @type {(name: string, lampNames: string) => string} */
-export const noLamp = (name, lampNames) => (
+export const noLampMessage = (name, lampNames) => (
   `the board has no lamp ${name}; ${lampNames ? `it has: ${lampNames}` : "its text names no lamps (`# lamp 0: NAME ..`)"}`);
 export const LAMPS_SYNTAX = "write `lamps PATTERN`, or `lamps NAME ..`, or `lamps none`";
 /** @type {(length: number, count: number) => string} */
@@ -21,11 +21,11 @@ export const PRINTED_SYNTAX = "write `printed TEXT`, the last lines of the print
 export const CYCLES_SYNTAX = "write `cycles TIME`, `cycles at most TIME` or `cycles at least TIME`";
 export const WITHIN_INSTRUCTION = ", within an instruction";
 /** @type {(name: string) => string} */
-export const noLabel = (name) => `the program has no label ${name}`;
+export const noLabelMessage = (name) => `the program has no label ${name}`;
 /** @type {(chip: string) => string} */
-export const noRom = (chip) => `the board has no ROM ${chip}`;
+export const noRomMessage = (chip) => `the board has no ROM ${chip}`;
 /** @type {(chain: number) => string} */
-export const noChain = (chain) => `the board has no chain ${chain}`;
+export const noChainMessage = (chain) => `the board has no chain ${chain}`;
 /** @type {(name: string) => string} */
 const romPortSyntax = (name) => `write \`${name} in VALUE\` or \`${name} out VALUE\`, 0 to 15`;
 /** @type {(name: string) => string} */
@@ -34,46 +34,46 @@ const ramPortSyntax = (name) => `write \`${name} out VALUE\`, 0 to 15`;
 export const chainBits = (chain, bits) => `chain ${chain} has ${bits} bits, each 0, 1, or ? for any`;
 export const NO_RAM_FOR_LAST = "the board has no RAM chip for the last of these characters";
 /** @type {(place: string) => string} */
-export const isOneValue = (place) => `${place} is one value`;
+export const isOneValueMessage = (place) => `${place} is one value`;
 /** @type {(place: string, maximum: number, word: string) => string} */
 export const valueRange = (place, maximum, word) => `${place} holds 0 to ${maximum}, not ${word}`;
 
 // --- conditions/condition_language.js ---
 export const NO_CONDITION = "a condition is missing";
 /** @type {(subject: string, actual: string, expected: string, isMany: boolean, isNot: boolean) => string} */
-export const mustBe = (subject, actual, expected, isMany, isNot) => (
+export const mustBeMessage = (subject, actual, expected, isMany, isNot) => (
   `${subject} ${isMany ? "are" : "is"} ${actual || "dark"}, but must ${isNot ? "not " : ""}be ${expected}`);
 /** @type {(count: number, maximum: number) => string} */
-export const tooManyPlaces = (count, maximum) => `it reads ${count} places; at most ${maximum} are allowed`;
+export const tooManyPlacesMessage = (count, maximum) => `it reads ${count} places; at most ${maximum} are allowed`;
 export const AT_SYNTAX = "write `at LABEL`";
 export const DIGITS_ARE_MULTIPLEXED = "the digits are multiplexed, so no instant shows a number: `display` is only for the lines of a test";
 export const LINE_BY_LINE = "printed text arrives line by line: `printed` is only for the lines of a test";
 /** @type {(subject: string) => string} */
 export const onlyInTests = (subject) => `no run changes ${subject}, and no trace shows it: it is only for the lines of a test`;
 /** @type {(place: string) => string} */
-export const noTraceShows = (place) => `no run changes ${place}, and no trace shows it: ask for it at a breakpoint`;
+export const noTraceShowsMessage = (place) => `no run changes ${place}, and no trace shows it: ask for it at a breakpoint`;
 
 // --- conditions/scanner.js ---
 export const NO_END_OF_TEXT = "the closing quotation mark is missing";
 /** @type {(word: string) => string} */
 export const unknownSign = (word) => `${word} has no meaning in a condition`;
 /** @type {(text: string) => string} */
-export const noNumeral = (text) => `${text} is not a number; numbers are 10, 0xA or 0b1010`;
+export const noNumeralMessage = (text) => `${text} is not a number; numbers are 10, 0xA or 0b1010`;
 
 // --- conditions/parser.js ---
 /** @type {(maximum: number) => string} */
-export const tooLong = (maximum) => `a condition has at most ${maximum} characters`;
+export const tooLongMessage = (maximum) => `a condition has at most ${maximum} characters`;
 /** @type {(maximum: number) => string} */
-export const tooDeep = (maximum) => `parentheses can be nested at most ${maximum} deep`;
+export const tooDeepMessage = (maximum) => `parentheses can be nested at most ${maximum} deep`;
 export const NOT_CLOSED = "this parenthesis is not closed";
 /** @type {(word: string) => string} */
-export const notExpected = (word) => `${word}: a condition ends before this; join two by and, or`;
+export const notExpectedMessage = (word) => `${word}: a condition ends before this; join two by and, or`;
 /** @type {(value: string) => string} */
-export const noComparison = (value) => `${value}: a comparison is missing, as in: ${value} = 4`;
+export const noComparisonMessage = (value) => `${value}: a comparison is missing, as in: ${value} = 4`;
 /** @type {(name: string) => string} */
 export const portSyntax = (name) => (/^rom/i.test(name) ? romPortSyntax(name) : ramPortSyntax(name));
 /** @type {(condition: string) => string} */
-export const noValue = (condition) => `${condition}: this is a condition, but a value is needed`;
+export const noValueMessage = (condition) => `${condition}: this is a condition, but a value is needed`;
 /** @type {(word: string) => string} */
 export const missingBefore = (word) => `a value is missing before ${word}`;
 /** @type {(sign: string) => string} */
@@ -83,7 +83,7 @@ export const KEY_SYNTAX = "write `key NAME down` or `key NAME up`";
 
 // --- conditions/values.js ---
 /** @type {(name: string, keyNames: string) => string} */
-export const noKeyOfPanel = (name, keyNames) => (
+export const noKeyOfPanelMessage = (name, keyNames) => (
   `the board has no key ${name}; ${keyNames ? `it has: ${keyNames}` : "its text names no keys"}`);
 /**
  * Returns the message that the board does not have a place.
@@ -94,15 +94,15 @@ export function boardLacks(place) {
   const [, rom] = /^rom(\d+)/.exec(place) || [];
   const [, chip] = /^ram(\d+\.\d+)/.exec(place) || [];
   const [, chain] = /^chain(\d+)$/.exec(place) || [];
-  if (rom !== undefined) return noRom(rom);
+  if (rom !== undefined) return noRomMessage(rom);
   if (chip !== undefined) return `the board has no RAM chip ${chip}`;
-  if (chain !== undefined) return noChain(Number(chain));
+  if (chain !== undefined) return noChainMessage(Number(chain));
   return /^(ram|st)\./.test(place) ? `the board has no RAM chip for ${place}` : `the board has no ${place}`;
 }
 /** @type {(place: string) => string} */
-export const isNoNumber = (place) => `${place} is not one number`;
+export const isNoNumberMessage = (place) => `${place} is not one number`;
 /** @type {(place: string, proposed: string) => string} */
-export const noSuchPlace = (place, proposed) => `${place}: no such place; ${proposed}`;
+export const noSuchPlaceMessage = (place, proposed) => `${place}: no such place; ${proposed}`;
 export const ACCUMULATOR_HINT = "the accumulator is acc";
 export const CARRY_HINT = "the carry is cy";
 export const COUNTER_HINT = "the counter is pc";
@@ -118,18 +118,18 @@ export const PLACES_ARE = "places are acc, cy, pc, dcl, test, r0 to r15, p0 to p
 /** @type {(name: string, maximum: number) => string} */
 export const namesTooDeep = (name, maximum) => `${name} uses names that use other names: at most ${maximum} levels are allowed`;
 /** @type {(name: string, text: string) => string} */
-export const isNoValue = (name, text) => `${name} is the condition ${text}, but a value is needed`;
+export const isNoValueMessage = (name, text) => `${name} is the condition ${text}, but a value is needed`;
 /** @type {(name: string, error: string) => string} */
 export const errorInName = (name, error) => `in ${name}: ${error}`;
 /** @type {(text: string) => string} */
-export const noConstant = (text) => `${text} is neither a number nor a name of the program`;
+export const noConstantMessage = (text) => `${text} is neither a number nor a name of the program`;
 /** @type {(text: string) => string} */
-export const noNames = (text) => `${text} is not a number; names are known only while the source is the same as ROM`;
+export const noNamesMessage = (text) => `${text} is not a number; names are known only while the source is the same as ROM`;
 
 // --- conditions/set_command.js ---
 export const SET_SYNTAX = "write `set PLACE = VALUE`, as in: set r4 = 7, set test 0, set ram.0.0x12 = 7";
 /** @type {(place: string) => string} */
-export const cannotBeSet = (place) => (
+export const cannotBeSetMessage = (place) => (
   `${place} cannot be set; places to set are acc, cy, pc, dcl, test, r0 to r15, p0 to p7, ram.B.S, st.B.H.K and rom.A`);
 
 // --- conditions/compiler.js ---

@@ -2,19 +2,19 @@
 
 // --- debug/breakpoint_manager.js ---
 /** @type {(maximum: number) => string} */
-export const tooManyEnabled = (maximum) => (
+export const tooManyEnabledMessage = (maximum) => (
   `${maximum} breakpoints are on, the most that the bench has. This one is off: disable another one first.`);
 /** @type {(reason: string) => string} */
 export const inactiveUntilThen = (reason) => `${reason} Until then this breakpoint stops nothing.`;
 /** @type {(maximum: number) => string} */
-export const tooManyBreakpoints = (maximum) => `There can be at most ${maximum} breakpoints: remove one first.`;
+export const tooManyBreakpointsMessage = (maximum) => `There can be at most ${maximum} breakpoints: remove one first.`;
 
 // --- debug/breakpoints.js ---
 /** @type {(line: number, next: number) => string} */
 export const breakpointMovedToLine = (line, next) =>
   `Line ${line} puts no bytes into ROM: its breakpoint is at the next instruction, line ${next}.`;
 /** @type {(line: number) => string} */
-export const nothingFollows = (line) => `No instruction follows line ${line}: its breakpoint stops nothing.`;
+export const nothingFollowsMessage = (line) => `No instruction follows line ${line}: its breakpoint stops nothing.`;
 /** @type {(address: string, line: number) => string} */
 export const insideInstruction = (address, line) => `${address} is inside the instruction of line ${line}.`;
 /** @type {(address: string, line: number, next: number) => string} */
@@ -40,9 +40,9 @@ export const usesRom = (name, isWrite, chip) => `${name} ${isWrite ? "writes to"
 /** @type {(access: string, location: string) => string} */
 export const whichLacks = (access, location) => `${access}, which the board lacks${location}`;
 /** @type {(access: string, location: string) => string} */
-export const noOutputs = (access, location) => `${access}, whose port has no output line${location}`;
+export const noOutputsMessage = (access, location) => `${access}, whose port has no output line${location}`;
 /** @type {(access: string, location: string) => string} */
-export const noInputs = (access, location) => `${access}, whose port has no input line${location}`;
+export const noInputsMessage = (access, location) => `${access}, whose port has no input line${location}`;
 /** @type {(instruction: string, earlierRom: number, lastSrc: string) => string} */
 export const selectedByEarlierSrc = (instruction, earlierRom, lastSrc) =>
   `this ${instruction}, and before it used ROM ${earlierRom}: the last SRC${lastSrc}`;
@@ -112,7 +112,7 @@ export const comesNext = (description) => `${description}, and comes next`;
 /** @type {(out: string, read: string) => string} */
 export const outAndIn = (out, read) => `out ${out}, in ${read}`;
 /** @type {(maximum: number) => string} */
-export const tooLong = (maximum) => `It has more than ${maximum} characters.`;
+export const tooLongMessage = (maximum) => `It has more than ${maximum} characters.`;
 export const NAME_SYNTAX = "A name has letters, digits and _, as in: count = R5.";
 export const EXPRESSION_MISSING = "An expression is missing, as in: count = R5, r4 + 1 > 9.";
 /** @type {(number: string, digits: string) => string} */

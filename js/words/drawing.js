@@ -9,7 +9,7 @@ export const needsInput = (name, target) => `${name} is an output line: ${target
 /** @type {(name: string, target: string) => string} */
 export const needsOutput = (name, target) => `${name} is an input line: ${target} needs an output line.`;
 /** @type {(name: string) => string} */
-export const cannotDrive = (name) => (
+export const cannotDriveMessage = (name) => (
   `Consecutive bits of one chain drive the rows of the keys: ${name} cannot drive this one.`);
 /** @type {(name: string, kind: string, target: string) => string} */
 export const needsChipLine = (name, kind, target) => (
@@ -24,7 +24,7 @@ export const TEST_NEEDS_NAME = "The part at TEST needs a name.";
 export const BUZZER_NEEDS_NAME = "A buzzer needs a name.";
 export const NO_OWN_NAME = "This part cannot have a name.";
 /** @type {(colour: string, colours: string) => string} */
-export const noColour = (colour, colours) => `${colour} is not a colour; the colours are ${colours}.`;
+export const noColourMessage = (colour, colours) => `${colour} is not a colour; the colours are ${colours}.`;
 /** @type {(digits: string) => string} */
 export const displayAdded = (digits) => `A display of ${digits} was added`;
 /** @type {(part: string, original: string) => string} */
@@ -73,7 +73,7 @@ export const NO_KEYS = "The board has no keys.";
 export const maxRows = (maximum) => `A key matrix has at most ${maximum} rows.`;
 export const MIN_ROWS = "A key matrix has at least one row; or delete the keys.";
 /** @type {(chain: number) => string} */
-export const noBitForRow = (chain) => `Chain ${chain} has no bit for another row: give it another chip.`;
+export const noBitForRowMessage = (chain) => `Chain ${chain} has no bit for another row: give it another chip.`;
 /** @type {(maximum: number) => string} */
 export const maxColumns = (maximum) => `A key matrix has at most ${maximum} columns.`;
 /** @type {(maximum: number, count: number) => string} */
@@ -119,7 +119,7 @@ export const wireBegins = (pin, pins) => `Wire from ${pin}: it can end at ${pins
 export const NO_WIRE = "No wire was drawn.";
 export const NO_CHANGE = "No change.";
 /** @type {(reason: string) => string} */
-export const notDone = (reason) => `It was not done. ${reason}`;
+export const notDoneMessage = (reason) => `It was not done. ${reason}`;
 export const UNDONE = "Undone.";
 export const REDONE = "Redone.";
 export const NOTHING_TO_UNDO = "There is nothing to undo.";

@@ -2,11 +2,11 @@
 
 // --- explore/start_state.js ---
 /** @type {(state: string) => string} */
-export const noTests = (state) => `there are no tests, so none saves the state ${state}`;
+export const noTestsMessage = (state) => `there are no tests, so none saves the state ${state}`;
 /** @type {(line: number, message: string) => string} */
-export const testsFault = (line, message) => `its tests have an error in line ${line}: ${message}`;
+export const testsHaveError = (line, message) => `its tests have an error in line ${line}: ${message}`;
 /** @type {(state: string, states: string) => string} */
-export const noSuchState = (state, states) => `no test saves a state ${state}${states && `; there is: ${states}`}`;
+export const noSuchStateMessage = (state, states) => `no test saves a state ${state}${states && `; there is: ${states}`}`;
 /** @type {(line: number, text: string, message: string) => string} */
 export const testFails = (line, text, message) => `line ${line} of its tests fails: ${text}: ${message}`;
 
@@ -29,10 +29,10 @@ export const BEGIN_SYNTAX = "write `begin after TIME`: nothing before that is ch
 export const PACE_SYNTAX = "write `pace TIME TIME`: how long a key is down for a model, and how long it is up";
 export const NOTE_SYNTAX = "write `note PLACE ..`: what makes a state new, as in: note lamps r10 ram.0.0x12";
 /** @type {(maximum: number) => string} */
-export const tooManyNotes = (maximum) => `at most ${maximum} places are noted`;
+export const tooManyNotesMessage = (maximum) => `at most ${maximum} places are noted`;
 export const PC_NOT_ALLOWED = "pc changes at each instruction, so it cannot make a state new";
 /** @type {(word: string) => string} */
-export const noTrace = (word) => `no trace shows ${word}`;
+export const noTraceMessage = (word) => `no trace shows ${word}`;
 export const NEVER_SYNTAX = "write `never CONDITION` or `never CONDITION for TIME`";
 export const FOR_SYNTAX = "it ends with `for TIME`, as in: for 20 ms";
 export const AT_SYNTAX = "write `at @LABEL CONDITION`";
@@ -40,11 +40,11 @@ export const AFTER_SYNTAX = "write `after press KEY within TIME CONDITION`, as i
 export const GUARD_SYNTAX = "a guard is written as `while CONDITION,`, `once CONDITION,`, `after press KEY,` or "
   + "`after press KEY within TIME,` before never, always, at, after press or reach";
 /** @type {(maximum: number) => string} */
-export const tooManyGuards = (maximum) => `at most ${maximum} guards are before a property`;
+export const tooManyGuardsMessage = (maximum) => `at most ${maximum} guards are before a property`;
 export const WITHIN_SYNTAX = "write `@LABEL to @LABEL within TIME`, as in: @scan to @shown within 20 ms";
 export const EVERY_SYNTAX = "write `every TIME @LABEL`, as in: every 20 ms @scan";
 /** @type {(line: string) => string} */
-export const noInstructionIn = (line) => `line ${line} of the program has no instruction`;
+export const noInstructionInMessage = (line) => `line ${line} of the program has no instruction`;
 export const MODEL_TWICE = "an earlier line already has a model";
 export const MODEL_SYNTAX = "write `model COMMAND`: the command gets keys, and prints what the display must show";
 export const DISPLAY_IS_MULTIPLEXED = "the display's digits are multiplexed, but a model needs a display that shows its number at once";
@@ -91,7 +91,7 @@ export const NO_LONE_RETURN = "no BBL without a call";
 
 // --- explore/report.js ---
 /** @type {(place: string, text: string) => string} the message about a model line that was not run; `place` is its location */
-export const notRun = (place, text) => `not run: ${text} (${place}): it runs a command of your shell; --allow-model allows it`;
+export const notRunMessage = (place, text) => `not run: ${text} (${place}): it runs a command of your shell; --allow-model allows it`;
 /** @type {(count: number, lines: string) => string} */
 export const lineList = (count, lines) => `${count === 1 ? "line" : "lines"} ${lines}`;
 /** @type {(count: number, total: number) => string} */
@@ -120,4 +120,4 @@ export const foundByTool = (board, program) => `# Found by mcs4 explore: mcs4 te
 
 // --- explore/subject.js ---
 /** @type {(which: string, number: number, line: string) => string} */
-export const isRefused = (which, number, line) => `the ${which} is rejected: no ${number}${line}`;
+export const isRefusedMessage = (which, number, line) => `the ${which} is rejected: no ${number}${line}`;

@@ -2,7 +2,7 @@
 
 // --- help/guide.js ---
 /** @type {(name: string) => string} */
-export const noSuchStory = (name) => `The address names a story, "${name}", that this page does not have.`;
+export const noSuchStoryMessage = (name) => `The address names a story, "${name}", that this page does not have.`;
 export const PROGRAM_IN_SOURCE = "The program of this step is in Source.";
 
 // --- help/help_view.js ---
@@ -20,9 +20,9 @@ export const SECTIONS_OF_LINES = ["Commands", "Queries"];
 
 // --- help/story_actions.js ---
 /** @type {(label: string) => string} */
-export const noLabel = (label) => `Nothing was done: the source is not the same as ROM, or it has no label ${label}.`;
+export const noLabelMessage = (label) => `Nothing was done: the source is not the same as ROM, or it has no label ${label}.`;
 /** @type {(legend: string) => string} */
-export const noKey = (legend) => `Nothing was done: the board has no key ${legend}.`;
+export const noKeyMessage = (legend) => `Nothing was done: the board has no key ${legend}.`;
 
 // --- help/tour.js ---
 /** The board of the tour with the first program. */

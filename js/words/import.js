@@ -6,18 +6,18 @@ export const longLine = (maximum) => `the line has more than ${maximum} bytes be
 
 // --- import/expressions.js ---
 /** @type {(text: string) => string} */
-export const notUnderstood = (text) => `\`${text}\` is not understood`;
+export const notUnderstoodMessage = (text) => `\`${text}\` is not understood`;
 export const DIVISION_BY_0 = "a division by 0";
 /** @type {(maximum: number) => string} */
-export const tooDeep = (maximum) => `more than ${maximum} nested brackets or signs`;
+export const tooDeepMessage = (maximum) => `more than ${maximum} nested brackets or signs`;
 /** @type {(text: string) => string} */
-export const noNumber = (text) => `\`${text}\` is not a number`;
+export const noNumberMessage = (text) => `\`${text}\` is not a number`;
 /** @type {(text: string) => string} */
-export const noCharacter = (text) => `${text} has a character that is not ASCII`;
+export const noCharacterMessage = (text) => `${text} has a character that is not ASCII`;
 export const NO_OPERAND = "an operand is missing";
 export const NO_BRACKET = "a bracket is missing";
 /** @type {(name: string) => string} */
-export const noName = (name) => `no line defines the name ${name}`;
+export const noNameMessage = (name) => `no line defines the name ${name}`;
 
 // --- import/program_import.js ---
 /** @type {(name: string, line: number) => string} */
@@ -30,16 +30,16 @@ export const outOfRange = (text, value, from, to) => `\`${text}\` is ${value}; i
 export const oddPair = (text, number) => (
   `a pair begins at an even register, 0 to 14, and \`${text}\` does not; if it is the number of a pair, write ${number}P`);
 /** @type {(text: string) => string} */
-export const noPair = (text) => `\`${text}\` is not a pair; pairs are 0P to 7P, or 0<, 2< to 14< by their first register`;
+export const noPairMessage = (text) => `\`${text}\` is not a pair; pairs are 0P to 7P, or 0<, 2< to 14< by their first register`;
 export const NC_IS_AMBIGUOUS = "NC means no condition (0) for Intel, and no carry (10) for AS: write 0 or 10";
 /** @type {(word: string) => string} */
 export const instructionOf4040 = (word) => `${word} is an instruction of the 4040`;
 export const NO_PROGRAM_RAM = "WPM writes program RAM, which a board here does not have";
 /** @type {(word: string) => string} */
-export const notSupported = (word) => `${word} is not supported; write the lines that it stands for`;
+export const notSupportedMessage = (word) => `${word} is not supported; write the lines that it stands for`;
 export const PAST_LAST = "past the last address, FFF";
 /** @type {(word: string) => string} */
-export const noInstruction = (word) => `\`${word}\` is neither an instruction nor a directive that is supported`;
+export const noInstructionMessage = (word) => `\`${word}\` is neither an instruction nor a directive that is supported`;
 /** @type {(word: string, count: number) => string} */
 export const operandCount = (word, count) => (
   count === 0 ? `${word} has no operand` : `${word} is written with ${count === 1 ? "one operand" : "two operands"}`);

@@ -49,19 +49,20 @@ const FORM_BY_FIRST_WORD = new Map(LINES_BY_GROUPS.flatMap(({ lines }) => lines.
 
 // --- bench/line_forms.js ---
 /** @type {(word: string, similarWords: string[]) => string} */
-export const noLine = (word, similarWords) => `${word} is not a command${didYouMean(similarWords) || "; help shows the commands"}`;
+export const noLineMessage = (word, similarWords) => `${word} is not a command${didYouMean(similarWords) || "; help shows the commands"}`;
 /** @type {(word: string) => string} */
 export const lineSyntax = (word) => `${word} is written as: ${FORM_BY_FIRST_WORD.get(word)}`;
 /** @type {(word: string, similarWords: string[]) => string} */
-export const noPlace = (word, similarWords) => `${word} is not a place${didYouMean(similarWords) || "; help places shows the places"}`;
+export const noPlaceMessage = (word, similarWords) => (
+  `${word} is not a place${didYouMean(similarWords) || "; help places shows the places"}`);
 /** @type {(word: string) => string} */
-export const noSuchPlace = (word) => `there is no place ${word}; help places shows the ranges of the numbers in it`;
+export const noSuchPlaceMessage = (word) => `there is no place ${word}; help places shows the ranges of the numbers in it`;
 /** @type {(maximum: number) => string} */
-export const tooManyPlaces = (maximum) => `trace has at most ${maximum} places`;
+export const tooManyPlacesMessage = (maximum) => `trace has at most ${maximum} places`;
 /** @type {(word: string, first: number, last: number) => string} */
-export const notInRange = (word, first, last) => `${word} is not a number from ${first} to ${last.toLocaleString("en")}`;
+export const notInRangeMessage = (word, first, last) => `${word} is not a number from ${first} to ${last.toLocaleString("en")}`;
 /** @type {(maximum: number, length: number) => string} */
-export const tooLong = (maximum, length) => `the line has ${length} characters; a line has at most ${maximum}`;
+export const tooLongMessage = (maximum, length) => `the line has ${length} characters; a line has at most ${maximum}`;
 /** @type {(character: string) => string} */
 export const invalidCharacter = (character) => {
   const code = /** @type {number} */ (character.codePointAt(0)).toString(16).toUpperCase();

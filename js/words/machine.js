@@ -61,11 +61,11 @@ export const inHexadecimal = (name) => `${name}, in hexadecimal digits`;
 export const beyondLast = (word) => `${word} is not an address: the last one is FFF, or 4095.`;
 export const ADDRESS_FORMS = "write an address as the listing does (01E), as 0x01E or in decimal (30)";
 /** @type {(forms: string) => string} */
-export const nothingToGoTo = (forms) => `Enter where to go: ${forms}.`;
+export const nothingToGoToMessage = (forms) => `Enter where to go: ${forms}.`;
 /** @type {(word: string, forms: string) => string} */
-export const noNameOrAddress = (word, forms) => `${word} is neither a name of the program nor an address: ${forms}.`;
+export const noNameOrAddressMessage = (word, forms) => `${word} is neither a name of the program nor an address: ${forms}.`;
 /** @type {(word: string, forms: string) => string} */
-export const notAnAddress = (word, forms) =>
+export const notAnAddressMessage = (word, forms) =>
   `${word} is not an address: ${forms}. Names are known only while the source is the same as ROM.`;
 
 // --- machine/heat_levels.js ---
@@ -88,7 +88,7 @@ export const NOTHING_EARLIER = "No earlier cycle is remembered.";
 /** @type {(time: string, isAll: boolean) => string} */
 export const inTheLast = (time, isAll) => `In the last ${time}${isAll ? "" : " (no more is remembered)"},`;
 /** @type {(period: string) => string} */
-export const nothingChanged = (period) => `${period} no character of RAM has changed.`;
+export const nothingChangedMessage = (period) => `${period} no character of RAM has changed.`;
 /** @type {(period: string, name: string, change: string) => string} */
 export const oneChanged = (period, name, change) => `${period} one character has changed: ${name}, ${change}.`;
 /** @type {(name: string, count: string) => string} */
@@ -154,13 +154,13 @@ export const inSourceLine = (line) => ` in line ${line}`;
 /** @type {(location: string, error: string) => string} */
 export const sourceHasError = (location, error) => `The source has an error${location}: ${error}.`;
 /** @type {(address: string, line: number) => string} */
-export const noRomAt = (address, line) => `The board has no ROM at ${address}, where line ${line} of the source goes.`;
+export const noRomAtMessage = (address, line) => `The board has no ROM at ${address}, where line ${line} of the source goes.`;
 /** @type {(address: string, line: number) => string} */
 export const differsAt = (address, line) => `Source and ROM differ from line ${line} (${address}). Assemble to update.`;
 
 // --- machine/source_locations.js ---
 /** @type {(address: string) => string} */
-export const notInSource = (address) => `${address}, which the source does not fill`;
+export const notInSourceMessage = (address) => `${address}, which the source does not fill`;
 /** @type {(address: string, line: number, code: string) => string} */
 export const inSource = (address, line, code) => `${address}, line ${line}: ${code}`;
 

@@ -7,7 +7,7 @@ export const LINES_HINT = "Enter runs, Shift+Enter adds a line, the up arrow rec
 /** @type {(line: string, count: number) => string} */
 export const textLines = (line, count) => `${line} .. (${count} lines)`;
 /** @type {(error: string) => string} */
-export const notKept = (error) => `not kept: ${error}`;
+export const notKeptMessage = (error) => `not kept: ${error}`;
 
 // --- lines/line_server.js ---
 export const SENDING_LINES = "Sending the lines.";
@@ -42,7 +42,7 @@ export const NOTHING_RECORDED = "It was cancelled, and nothing was recorded.";
 
 // --- snapshot_view.js ---
 /** @type {(reason: string) => string} */
-export const notSet = (reason) => `Not set: ${reason}`;
+export const notSetMessage = (reason) => `Not set: ${reason}`;
 export const NOT_DONE = "It was not done.";
 
 // --- bench_page.js ---
@@ -57,7 +57,7 @@ export const BIG_INTEGERS = "integers of any size (BigInt)";
 /** @type {(feature: string, requirements: string) => string} */
 export const featureMissing = (feature, requirements) => `This browser has no ${feature}. ${requirements}`;
 /** @type {(reason: string, requirements: string) => string} */
-export const cannotStart = (reason, requirements) => `The bench could not be started: ${reason}. ${requirements}`;
+export const cannotStartMessage = (reason, requirements) => `The bench could not be started: ${reason}. ${requirements}`;
 
 // --- ui/status_view.js ---
 export const ROM_MATCHES = "ROM matches source";
@@ -75,7 +75,7 @@ export const boardTitle = (name) => `${name}: board`;
 export const PAUSED = "Paused.";
 export const WORKER_RESTARTED = "The bench's worker stopped and was restarted. The session is unchanged.";
 /** @type {(reason: string) => string} */
-export const cannotRestart = (reason) => `The bench has stopped and could not be restarted: ${reason}. Save the session to a file.`;
+export const cannotRestartMessage = (reason) => `The bench has stopped and could not be restarted: ${reason}. Save the session to a file.`;
 
 // --- compose_session.js ---
 export const DISASSEMBLE_ROM = "Disassemble ROM";

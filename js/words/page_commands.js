@@ -139,7 +139,7 @@ export const PANELS = {
 
 // --- the reasons why a command cannot run now ---
 /** @type {(command: string, reason: string) => string} */
-export const notDone = (command, reason) => `${command}: ${reason}.`;
+export const notDoneMessage = (command, reason) => `${command}: ${reason}.`;
 export const NOT_NOW = "not possible now";
 export const NOTHING_UNDONE = "nothing was undone";
 export const NO_BUZZER = "the board has no buzzer";

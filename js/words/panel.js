@@ -5,7 +5,7 @@
 export const refused = (line, answer, meaning) => `${line} is rejected: ${answer}: ${meaning}`;
 export const NOTHING_HERE = "this key does nothing here; the last line lists the keys";
 /** @type {(key: string) => string} */
-export const noKey = (key) => `the board has no key ${key}`;
+export const noKeyMessage = (key) => `the board has no key ${key}`;
 
 // --- panel/screen.js ---
 /** @type {(title: string, session: string, commands: string, state: string) => string} */
@@ -36,9 +36,9 @@ export const noteOfBoard = (line, error) => `line ${line}: ${error}`;
 // --- node/commands/panel.mjs, node/panel_terminal.mjs ---
 export const NO_TERMINAL = "standard input and output must be a terminal";
 /** @type {(kind: string) => string} */
-export const isDumb = (kind) => `it draws on the whole screen, and a terminal of the kind '${kind}' (TERM) cannot do that`;
+export const isDumbMessage = (kind) => `it draws on the whole screen, and a terminal of the kind '${kind}' (TERM) cannot do that`;
 /** @type {(minimum: string, columns: number, rows: number) => string} */
-export const tooSmall = (minimum, columns, rows) => `it needs a terminal of ${minimum}, and this one has ${columns} by ${rows}`;
+export const tooSmallMessage = (minimum, columns, rows) => `it needs a terminal of ${minimum}, and this one has ${columns} by ${rows}`;
 /** @type {(columns: number, rows: number) => string} */
 export const columnsByRows = (columns, rows) => `${columns} columns by ${rows} lines`;
 /** @type {(minimum: string, columns: number, rows: number) => string} */

@@ -5,16 +5,16 @@ export const BREAKPOINT_NUMBER_MISSING = "which one? info breakpoints shows thei
 /** @type {(id: number, address: string) => string} */
 export const breakpointAt = (id, address) => `Breakpoint ${id} at ${address}.`;
 /** @type {(word: string) => string} */
-export const noBreakpoint = (word) => `there is no breakpoint ${word}; info breakpoints shows their numbers`;
+export const noBreakpointMessage = (word) => `there is no breakpoint ${word}; info breakpoints shows their numbers`;
 /** @type {(place: string) => string} */
-export const isWatched = (place) => `${place} is watched.`;
+export const isWatchedMessage = (place) => `${place} is watched.`;
 /** @type {(watched: string) => string} */
 export const onlyOneWatchAllowed = (watched) => (
   `${watched} is watched, and only one place other than RAM characters can be watched: delete ${watched} first`);
 /** @type {(place: string) => string} */
 export const watchedByContinue = (place) => `${place} is watched by continue.`;
 /** @type {(place: string) => string} */
-export const notWatched = (place) => `${place} is not watched`;
+export const notWatchedMessage = (place) => `${place} is not watched`;
 /** @type {(place: string) => string} */
 export const byContinue = (place) => `${place}, by continue`;
 export const NOTHING_WATCHED = "nothing is watched";
@@ -41,7 +41,7 @@ export const breakpointWillIgnore = (id, count) => {
   return `Breakpoint ${id} lets the next ${count === 1 ? "hit" : `${count.toLocaleString("en")} hits`} pass.`;
 };
 /** @type {(maximum: number) => string} */
-export const tooManyCommands = (maximum) => `a breakpoint has at most ${maximum} commands; these are dropped`;
+export const tooManyCommandsMessage = (maximum) => `a breakpoint has at most ${maximum} commands; these are dropped`;
 /** @type {(id: number) => string} */
 export const commandsDropped = (id) => `the commands of breakpoint ${id} are dropped`;
 /** @type {(id: number) => string} */
@@ -53,9 +53,9 @@ export const savedIn = (name, count) => `${count} ${count === 1 ? "breakpoint" :
 /** @type {(address: string, name: string) => string} */
 export const addressWithName = (address, name) => `0x${address}${name && ` <${name}>`}`;
 /** @type {(format: string, formats: string) => string} */
-export const noFormat = (format, formats) => `${format || "nothing"} is not a format; formats are ${formats}`;
+export const noFormatMessage = (format, formats) => `${format || "nothing"} is not a format; formats are ${formats}`;
 /** @type {(value: string) => string} */
-export const noNumberOf = (value) => `${value} is not a number, so it has no format`;
+export const noNumberOfMessage = (value) => `${value} is not a number, so it has no format`;
 
 // --- prompt/change_commands.js ---
 export const BENCH_SYNTAX = "write bench LINE, as in bench state";
@@ -64,7 +64,7 @@ export const SOURCE_IN_ROM = "The source is in ROM.";
 
 // --- prompt/prompt_commands.js ---
 /** @type {(word: string) => string} */
-export const noCommand = (word) => `there is no command ${word}; help shows them all`;
+export const noCommandMessage = (word) => `there is no command ${word}; help shows them all`;
 /** @type {(word: string, names: string) => string} */
 export const ambiguousCommand = (word, names) => `${word} is ambiguous: ${names}`;
 /** @type {(names: string) => string} */
@@ -78,7 +78,7 @@ export const keysDown = (keys) => `down: ${keys}`;
 /** @type {(command: string) => string} */
 export const keySyntax = (command) => `write ${command} KEY; info keys shows their names`;
 /** @type {(word: string, names: string) => string} */
-export const noKey = (word, names) => `the board has no key ${word}; it has: ${names}`;
+export const noKeyMessage = (word, names) => `the board has no key ${word}; it has: ${names}`;
 
 // --- prompt/inspect_commands.js ---
 export const NO_LAMPS = "the board has no lamps";
@@ -87,7 +87,8 @@ export const VIEW_SYNTAX = "write view, view on or view off";
 export const VIEW_NEEDS_TERMINAL = "the view needs a terminal: it is above the commands that are typed there";
 export const NO_DISPLAY = "there is no such display; info display shows their numbers";
 /** @type {(place: string) => string} */
-export const noPlaceOfMemory = (place) => `${place} is neither a label nor an address; examples: x/8 LABEL, x/8 0x00F, x/16 ram.0.0x10`;
+export const noPlaceOfMemoryMessage = (place) => (
+  `${place} is neither a label nor an address; examples: x/8 LABEL, x/8 0x00F, x/16 ram.0.0x10`);
 export const NO_LINE_THERE = "the source has no line there; x shows what is in ROM";
 /** @type {(count: number) => string} */
 export const sourceHas = (count) => `the source has ${count} lines`;
@@ -112,9 +113,9 @@ export const THE_CALL = ", the call";
 export const NO_NAMES = "the source has no names";
 export const NO_BREAKPOINTS = "there are no breakpoints";
 /** @type {(place: string) => string} */
-export const noPlaceOfRam = (place) => `${place} is not a place of RAM such as ram.0.0x10`;
+export const noPlaceOfRamMessage = (place) => `${place} is not a place of RAM such as ram.0.0x10`;
 /** @type {(place: string) => string} */
-export const noRamAt = (place) => `the board has no RAM at ${place}`;
+export const noRamAtMessage = (place) => `the board has no RAM at ${place}`;
 
 // --- prompt/move_commands.js ---
 export const UNTIL_SYNTAX = "write until PLACE or until CONDITION, as in until show or until r5 > 8";
@@ -123,7 +124,7 @@ export const FINISH_SYNTAX = "finish takes no argument";
 export const CONTINUE_SYNTAX = "continue takes no argument; run TIME runs for a time";
 export const NOTHING_STOPS = "nothing would stop it: set a breakpoint, or run for a time, as in run 100 ms";
 /** @type {(message: string, keys: string) => string} */
-export const notPressed = (message, keys) => `${message} Not pressed: ${keys}.`;
+export const notPressedMessage = (message, keys) => `${message} Not pressed: ${keys}.`;
 
 // --- prompt/prompt_moves.js ---
 /** @type {(location: string) => string} */
@@ -139,16 +140,16 @@ export const SESSION_REMEMBERS = "the session remembers";
 /** @type {(command: string) => string} */
 export const placeSyntax = (command) => `write ${command} PLACE, as in ${command} r4`;
 /** @type {(text: string, places: string) => string} */
-export const noPlace = (text, places) => `${text} is not a place; places are ${places}`;
+export const noPlaceMessage = (text, places) => `${text} is not a place; places are ${places}`;
 
 // --- prompt/argument_parsers.js ---
 export const FORMS_IN_PROGRAM = "a line of the source such as 12, a label such as show or show + 2, an address such as 0x00F";
 /** @type {(line: string) => string} */
-export const noInstructionIn = (line) => `neither line ${line} of the source nor a line after it has an instruction`;
+export const noInstructionInMessage = (line) => `neither line ${line} of the source nor a line after it has an instruction`;
 /** @type {(text: string, forms: string) => string} */
-export const notInProgram = (text, forms) => `${text} is not a place in the program; write ${forms}`;
+export const notInProgramMessage = (text, forms) => `${text} is not a place in the program; write ${forms}`;
 /** @type {(maximum: string, text: string) => string} */
 export const countRange = (maximum, text) => `a count is 1 to ${maximum}, not ${text}`;
 /** @type {(text: string) => string} */
-export const noTime = (text) => `${text} is not a time; write a number of cycles such as 538, or 54 us, 20 ms, 1.5 s`;
+export const noTimeMessage = (text) => `${text} is not a time; write a number of cycles such as 538, or 54 us, 20 ms, 1.5 s`;
 export const NOTHING = "nothing";

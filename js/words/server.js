@@ -29,7 +29,7 @@ export const EXIT_AFTER_SHUTDOWN = "after shutdown only exit is accepted";
 export const INITIALIZE_FIRST = "send initialize first";
 export const INITIALIZE_ONCE = "initialize can be sent only once";
 /** @type {(method: string) => string} */
-export const noMethod = (method) => `there is no ${method} here`;
+export const noMethodMessage = (method) => `there is no ${method} here`;
 /** @type {(id: number | string | null) => string} */
 export const requestPending = (id) => `a request with the id ${id} waits for its answer`;
 
@@ -60,15 +60,15 @@ export const hintOfData = (address, bytes) => `0x${address}, ${bytes} byte${byte
 
 // --- server/text_kinds.js ---
 /** @type {(key: string, path: string) => string} */
-export const noFile = (key, path) => `${key}: there is no file ${path}`;
+export const noFileMessage = (key, path) => `${key}: there is no file ${path}`;
 
 // --- server/language_server.js ---
 /** @type {(uri: string) => string} */
-export const notOpen = (uri) => `${uri} is not open`;
+export const notOpenMessage = (uri) => `${uri} is not open`;
 export const CONTENT_CHANGES_SYNTAX = "contentChanges must be a list";
 export const TEXT_OF_CHANGE = "the text of a change";
 /** @type {(uri: string, errors: string) => string} */
-export const faultsOf = (uri, errors) => `the errors of ${uri}: ${errors}`;
+export const cannotCheckMessage = (uri, message) => `cannot check ${uri}: ${message}`;
 
 // --- server/program_calls.js ---
 export const PROGRAM_BEGIN = "(start of the program)";
@@ -93,14 +93,14 @@ export const NO_NAME_HERE = "There is no name of the program here.";
 
 // --- server/lsp_protocol.js ---
 /** @type {(name: string) => string} */
-export const mustBeText = (name) => `${name} must be a text`;
+export const mustBeTextMessage = (name) => `${name} must be a text`;
 export const POSITION_IS = "a position has a line and a character, whole numbers from 0";
 
 // --- server/requests.js ---
 /** @type {(name: string) => string} */
-export const mustBeList = (name) => `${name} must be a list`;
+export const mustBeListMessage = (name) => `${name} must be a list`;
 /** @type {(command: string) => string} */
-export const noCommand = (command) => `there is no command ${command} here`;
+export const noCommandMessage = (command) => `there is no command ${command} here`;
 
 // --- server/test_language.js ---
 export const RUN_TEST = "Run test";
@@ -109,18 +109,18 @@ export const RUN_TEST = "Run test";
 /** @type {(file: string) => string} */
 export const missingDependency = (file) => `There is no ${file}, so nothing was run; mcs4.toml can name a board and a program.`;
 /** @type {(name: string) => string} */
-export const noTest = (name) => `There is no test ${name}.`;
+export const noTestMessage = (name) => `There is no test ${name}.`;
 /** @type {(name: string) => string} */
 export const testPassed = (name) => `The test ${name} passed.`;
 /** @type {(name: string, line: number, message: string) => string} */
 export const testFailed = (name, line, message) => `The test ${name} failed in line ${line}: ${message}.`;
 /** @type {(file: string, line: number, message: string) => string} */
-export const notRun = (file, line, message) => `Nothing was run: ${file}${line > 0 ? `:${line}` : ""}: ${message}.`;
+export const notRunMessage = (file, line, message) => `Nothing was run: ${file}${line > 0 ? `:${line}` : ""}: ${message}.`;
 
 // --- project/project_folder.js ---
 export const PROJECT_FILE_IS_EMPTY = "it is empty; it should name the project's files, as in board = \"board.toml\"";
 /** @type {(size: number, maximum: number) => string} */
-export const tooLong = (size, maximum) => `it has ${size} bytes, more than a project file can have (${maximum})`;
+export const tooLongMessage = (size, maximum) => `it has ${size} bytes, more than a project file can have (${maximum})`;
 export const CONTAINS_NUL = "it contains NUL bytes, so it is not a text";
 
 /** @type {(path: string) => string} */
@@ -140,11 +140,11 @@ export const pathHasControlCharacter = (key) => `a path of ${key} has a control 
 /** @type {(key: string) => string} */
 export const pathHasBackslash = (key) => `a path of ${key} has a \\; separate folders by /`;
 /** @type {(path: string, key: string) => string} */
-export const noPath = (path, key) => `${path} is not a path from the project's folder; ${key} names files in it`;
+export const noPathMessage = (path, key) => `${path} is not a path from the project's folder; ${key} names files in it`;
 /** @type {(path: string, key: string) => string} */
 export const outOfFolder = (path, key) => `${path} leads out of the project's folder; ${key} names files in it`;
 /** @type {(name: string) => string} */
-export const noKey = (name) => `a project has no key ${name}; it has board, program, tests, properties and speed`;
+export const noKeyMessage = (name) => `a project has no key ${name}; it has board, program, tests, properties and speed`;
 /** @type {(name: string, line: number) => string} */
 export const keyRepeated = (name, line) => `${name} is already in line ${line}`;
 export const NO_TABLES = "a project has no tables; each of its keys begins a line";

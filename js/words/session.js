@@ -6,16 +6,16 @@ export const manySessions = (count) => `${count} sessions`;
 /** @type {(name: string) => string} */
 export const openElsewhere = (name) => `The session "${name}" is open in another tab, so it was not deleted.`;
 /** @type {(name: string, reason: string) => string} */
-export const notDeleted = (name, reason) => `The session "${name}" was not deleted: ${reason}.`;
+export const notDeletedMessage = (name, reason) => `The session "${name}" was not deleted: ${reason}.`;
 /** @type {(name: string, reason: string) => string} */
-export const notRestored = (name, reason) => `The session "${name}" was not restored: ${reason}.`;
+export const notRestoredMessage = (name, reason) => `The session "${name}" was not restored: ${reason}.`;
 
 // --- session/current_session.js ---
 export const PAUSED = "Paused.";
 /** @type {(name: string) => string} */
 export const titleOfPage = (name) => `${name} - Fethsaim`;
 /** @type {(reason: string) => string} */
-export const notKept = (reason) => `This session is not kept: ${reason}. It is still in this page; save it to a file.`;
+export const notKeptMessage = (reason) => `This session is not kept: ${reason}. It is still in this page; save it to a file.`;
 
 // --- session/session_summary.js ---
 /** The kinds of parts that a session's summary counts, in the singular. */
@@ -33,16 +33,16 @@ export const BIN_FILE = "the contents of ROM, byte by byte from 000";
 /** @type {(ending: string) => string} */
 export const saveAs = (ending) => `Save ${ending}`;
 /** @type {(file: string) => string} */
-export const nothingSaved = (file) => `Nothing was saved: there is nothing in it (${file}).`;
+export const nothingSavedMessage = (file) => `Nothing was saved: there is nothing in it (${file}).`;
 
 // --- session/folder_project.js ---
 /** @type {(path: string, kind: string) => string} */
-export const noText = (path, kind) => `${path} has no text of ${kind}`;
+export const noTextMessage = (path, kind) => `${path} has no text of ${kind}`;
 /** @type {(paths: string, isOne: boolean) => string} */
 export const textsOmitted = (paths, isOne) => `The page has one text of each kind: ${paths} ${isOne ? "is" : "are"} left out.`;
 export const NO_PROJECT_FILE = "there is no such file; it names the files of a project";
 /** @type {(path: string) => string} */
-export const noFile = (path) => `there is no file ${path}`;
+export const noFileMessage = (path) => `there is no file ${path}`;
 
 // --- session/session_list.js ---
 export const DELETE_CHOSEN = "Delete the selected ones";
@@ -81,7 +81,7 @@ export const supportedFiles = (reason) => (
 export const NAMES_FILES = "it names files of a project: drop its folder on the page, or choose all of them";
 export const NOT_A_KIND = "not a kind of text that the bench has";
 /** @type {(size: string, maximum: string) => string} */
-export const tooLong = (size, maximum) => `a text of ${size} characters; at most ${maximum} are accepted`;
+export const tooLongMessage = (size, maximum) => `a text of ${size} characters; at most ${maximum} are accepted`;
 export const NOT_A_TEXT = "not a text, a session or a project";
 export const EMPTY = "it is empty";
 
@@ -99,7 +99,7 @@ export const textTooLong = (text, size, maximum) => `${text} has ${size} charact
 /** @type {(line: number, expected: string) => string} */
 export const lineMustBe = (line, expected) => `line ${line} of the project must be ${expected}`;
 /** @type {(word: string) => string} */
-export const noEnd = (word) => `the text after \`${word}\` has no end, a line with only a dot`;
+export const noEndMessage = (word) => `the text after \`${word}\` has no end, a line with only a dot`;
 export const NO_PROJECT = "not a project of Fethsaim";
 /** @type {(version: string) => string} */
 export const otherVersion = (version) => `a project of version ${version}, which is unknown here`;
@@ -108,7 +108,7 @@ export const projectCutOff = (line) => `the project is cut off: its last line, \
 export const OTHER_CHECKSUM = "the project is damaged or was edited: its checksum is wrong. "
   + "After editing a project, delete its line `cksum`";
 /** @type {(line: number) => string} */
-export const notOfSession = (line) => `line ${line} of the project is not one of a session`;
+export const notOfSessionMessage = (line) => `line ${line} of the project is not one of a session`;
 export const TOO_MANY_BYTES = "the file has more bytes than a project can have";
 export const END_OF_FILE = "the end of the file";
 export const NOT_UTF8 = "the project is damaged: it is not a text in UTF-8";
@@ -120,9 +120,9 @@ export const CONTAINS_NUL = "the project contains NUL bytes, so it is not a text
 export const ABOUT_PROJECT_FILE = "# The project of this folder: commands, editors and the page use these files unless others are named.";
 export const UNNAMED = "session";
 /** @type {(line: number) => string} */
-export const noBreakpoint = (line) => `line ${line} is not a breakpoint such as \`break line 14\` or \`break at 0x00F\``;
+export const noBreakpointMessage = (line) => `line ${line} is not a breakpoint such as \`break line 14\` or \`break at 0x00F\``;
 /** @type {(count: number, maximum: number) => string} */
-export const tooManyBreakpoints = (count, maximum) => `it has ${count} breakpoints, more than a project can have (${maximum})`;
+export const tooManyBreakpointsMessage = (count, maximum) => `it has ${count} breakpoints, more than a project can have (${maximum})`;
 /** @type {(line: number) => string} */
 export const emptyValue = (line) => `line ${line} is empty; a value is a line such as \`count = R5\``;
 
@@ -138,19 +138,19 @@ export const bytesInRom = (bytes, name, isOne, first) => (
 export const IN_ANOTHER_TAB = "This session is open in another tab. Continue there, close that tab, or open a copy of it.";
 export const OPEN_A_COPY = "Open a copy";
 /** @type {(reason: string) => string} */
-export const cannotReadKept = (reason) => `The saved sessions could not be read: ${reason}.`;
+export const cannotReadKeptMessage = (reason) => `The saved sessions could not be read: ${reason}.`;
 export const NO_LONGER_KEPT = "it is no longer saved here";
 /** @type {(reason: string) => string} */
-export const notOpened = (reason) => `Cannot open the session: ${reason}.`;
+export const notOpenedMessage = (reason) => `Cannot open the session: ${reason}.`;
 /** @type {(reason: string) => string} */
-export const notMade = (reason) => `No session was made: ${reason}.`;
+export const notMadeMessage = (reason) => `No session was made: ${reason}.`;
 /** @type {(name: string) => string} */
 export const copyName = (name) => `${name}, a copy`;
 /** @type {(name: string, reason: string) => string} */
 export const fileNotOpened = (name, reason) => `Cannot open ${name}: ${reason}. The session shown is unchanged.`;
 export const THE_FOLDER = "the folder";
 /** @type {(reason: string) => string} */
-export const noProjectSaved = (reason) => (
+export const noProjectSavedMessage = (reason) => (
   `No project was saved: ${reason}. Shorten it first; "Save session for mcs4" saves the session without its texts.`);
 
 // --- session/sessions_controller.js ---
@@ -163,14 +163,14 @@ export const sessionLeft = (name, isKept) => (
   `"${name}" ${isKept ? "is saved" : "stays until this page is closed"}.`);
 export const REOPEN = "Reopen";
 /** @type {(name: string) => string} */
-export const noSuchExample = (name) => `The address names an example, "${name}", that this page does not have.`;
+export const noSuchExampleMessage = (name) => `The address names an example, "${name}", that this page does not have.`;
 /** @type {(hash: string) => string} */
 export const namesNothing = (hash) => (
   `The address ends with ${hash}, which names nothing here. It can end with #example= and a name, or with a link that *Share* has made.`);
 /** @type {(names: string) => string} */
 export const sessionsDeleted = (names) => `Deleted ${names}.`;
 /** @type {(name: string) => string} */
-export const notOpenedAutomatically = (name) => (
+export const notOpenedAutomaticallyMessage = (name) => (
   `The session "${name}" was not opened automatically: the last time, opening it did not finish.`);
 export const OPEN_IT = "Open it";
 export const DELETE_IT = "Delete it";
@@ -199,7 +199,7 @@ export const LINK_FROM_FILE = " This page was opened from a file, so the link wo
   + "begins with # to the address of their own page.";
 export const LONG = "Some messaging programs cut a link of more than 8,000 characters; a project file is safer.";
 /** @type {(reason: string) => string} */
-export const noLink = (reason) => `No link was made: ${reason}. Shorten it first.`;
+export const noLinkMessage = (reason) => `No link was made: ${reason}. Shorten it first.`;
 /** @type {(count: string) => string} */
 export const characters = (count) => `${count} characters`;
 /** @type {(size: string, warning: string) => string} */

@@ -27,8 +27,8 @@ export const sourcesTooDeep = (maximum) => `source files can be nested at most $
 /** @type {(name: string, dropped: string) => string} */
 export const endsTooSoon = (name, dropped) => `${name} ends too soon; ${dropped}`;
 /** @type {(key: string, row: number, column: number) => string} */
-export const noKey = (key, row, column) => `the board has no key ${key}; its rows are 0 to ${row}, its columns 0 to ${column}`;
+export const noKeyMessage = (key, row, column) => `the board has no key ${key}; its rows are 0 to ${row}, its columns 0 to ${column}`;
 /** @type {(place: string) => string} */
-export const noRomAt = (place) => `the board has no ROM with the address of ${place}; board shows its chips`;
+export const noRomAtMessage = (place) => `the board has no ROM with the address of ${place}; board shows its chips`;
 /** @type {(cycles: string) => string} */
 export const invalidRunLength = (cycles) => `a run takes 1 to 100,000 cycles, not ${cycles}`;

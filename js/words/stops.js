@@ -149,11 +149,11 @@ export function pauseMessage(goal, { reason, cycles, endsAtReturn, change }, whe
 /**
  * Returns a breakpoint's condition and hit count in words, for example `, when r9 = 9, at hit 5`.
  * @param {{ condition: string, from: number, hits: number } | undefined} breakpoint
- * @param {string} [fault] the error in the breakpoint; a breakpoint with an error stops at every hit
+ * @param {string} [error] the error in the breakpoint; a breakpoint with an error stops at every hit
  */
-export function describeBreakpointCondition(breakpoint, fault = "") {
+export function describeBreakpointCondition(breakpoint, error = "") {
   if (!breakpoint) return "";
-  if (fault !== "") return ` that has an error, ${fault}`;
+  if (error !== "") return ` that has an error, ${error}`;
   const { condition, from, hits } = breakpoint;
   return (condition.trim() ? `, when ${condition.trim()}` : "") + (from > 1 ? `, at hit ${hits.toLocaleString("en")}` : "");
 }

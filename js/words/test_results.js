@@ -5,12 +5,12 @@ import { formatCoverageSummary } from "../core/testing/coverage.js";
 import { CYCLE_MS } from "../core/time/mcs4_time.js";
 
 /**
- * @typedef {import("../core/testing/test_preparation.js").TextFault} TextFault
+ * @typedef {import("../core/testing/test_preparation.js").ProjectTextError} ProjectTextError
  * @typedef {import("../core/testing/test_suite.js").Report} Report
  * @typedef {import("../core/testing/test_run.js").Outcome} Outcome
  */
 
-/** @type {Record<TextFault["text"], string>} the titles of the texts */
+/** @type {Record<ProjectTextError["text"], string>} the titles of the texts */
 const WHERE = { board: "Board", program: "Source", tests: "Tests", properties: "Properties" };
 
 /**
@@ -34,13 +34,13 @@ export function testsTabMark(outcomes) {
 
 /**
  * Returns the message that no test has run because the texts have errors.
- * @param {TextFault[]} faults
+ * @param {ProjectTextError[]} errors
  * @param {(number: number) => string} describeRefusal
  */
-export function textErrorsMessage(faults, describeRefusal) {
-  const [{ text, line, number, words }] = faults;
+export function textErrorsMessage(errors, describeRefusal) {
+  const [{ text, line, number, words }] = errors;
   const what = words || `no ${number}: ${describeRefusal(number)}`;
-  const more = faults.length > 1 ? `, and ${faults.length - 1} more` : "";
+  const more = errors.length > 1 ? `, and ${errors.length - 1} more` : "";
   return `Nothing was run: ${WHERE[text]}${line > 0 ? `, line ${line}` : ""}: ${what}${more}.`;
 }
 

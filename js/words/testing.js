@@ -78,11 +78,11 @@ export const orDigitKey = (digit) => `, nor ${digit}`;
 /** @type {(cycles: number, reason: string, message: string) => string} */
 export const runStoppedAt = (cycles, reason, message) => `the run stopped after ${cycles} cycles ${reason}; ${message}`;
 /** @type {(cycles: number, message: string, passed: string) => string} */
-export const notReached = (cycles, message, passed) => `it did not become true within ${cycles} cycles: ${message}${passed}`;
+export const notReachedMessage = (cycles, message, passed) => `it did not become true within ${cycles} cycles: ${message}${passed}`;
 
 // --- testing/test_text.js ---
 /** @type {(word: string) => string} */
-export const noRomAt = (word) => `the board has no ROM at ${word}`;
+export const noRomAtMessage = (word) => `the board has no ROM at ${word}`;
 export const RUN_SYNTAX = "write `run TIME`, as in: run 500, run 20 ms, run 1.5 s";
 export const REPEAT_SYNTAX = "write `repeat COUNT`, 1 to 100,000: the lines down to its `end` are run COUNT times";
 export const CHOICE_SYNTAX =
@@ -106,7 +106,7 @@ export const stepsUseThemselves = (name) => `the steps ${name} cannot run themse
 /** @type {(knownNames: string, name: string) => string} */
 export const knownSteps = (knownNames, name) => (knownNames ? `; there are: ${knownNames}` : `; \`steps ${name}\` starts them`);
 /** @type {(name: string, knownNames: string) => string} */
-export const noSteps = (name, knownNames) => `there are no steps ${name} before this line${knownNames}`;
+export const noStepsMessage = (name, knownNames) => `there are no steps ${name} before this line${knownNames}`;
 /** @type {(word: string) => string} */
 export const takesNoArgument = (word) => `\`${word}\` takes no argument`;
 /** @type {(word: string, firstWords: string) => string} */
@@ -115,21 +115,21 @@ export const unknownFirstWord = (word, firstWords) => `a line of a test cannot b
 export const stateSyntax = (word) => `write \`${word} STATE\`: the name of a state is one word`;
 export const SAVED_ONCE = "a state is saved once: `save` cannot be in a `repeat`";
 /** @type {(word: string) => string} */
-export const noStates = (word) => `shared steps have no states: \`${word}\` belongs in a test`;
+export const noStatesMessage = (word) => `shared steps have no states: \`${word}\` belongs in a test`;
 /** @type {(state: string, test: string) => string} */
 export const savedBefore = (state, test) => `the state ${state} is already saved by an earlier test, \`${test}\``;
 export const FROM_POSITION = "`from` must be right below `test`";
 /** @type {(states: string) => string} */
 export const knownStates = (states) => `; there is: ${states}`;
 /** @type {(state: string, hint: string) => string} */
-export const noSuchState = (state, hint) => `no earlier test saves a state ${state}${hint}`;
+export const noSuchStateMessage = (state, hint) => `no earlier test saves a state ${state}${hint}`;
 export const OWN_STATE = "a test cannot begin with a state that it saves itself";
 /** @type {(word: string, areMany: boolean) => string} */
 export const keysSyntax = (word, areMany) => `write \`${word} ${areMany ? "KEYS" : "KEY .."}\``;
 /** @type {(name: string, word: string) => string} */
 export const nameNorWord = (name, word) => `${name}, nor ${word}`;
 /** @type {(key: string, keyNames: string) => string} */
-export const noKey = (key, keyNames) => (
+export const noKeyMessage = (key, keyNames) => (
   `the board has no key ${key}; ${keyNames ? `it has: ${keyNames}` : "its text names no keys (`# row 0: NAME ..`)"}`);
 export const UNTIL_SYNTAX = "write `until CONDITION within TIME`";
 export const WITHIN_SYNTAX = "it ends with `within TIME`, as in: within 500, within 20 ms, within 1.5 s";

@@ -38,13 +38,13 @@ export const equalsMissing = (name) => `= is missing after ${name}`;
 /** @type {(key: string) => string} */
 export const valueMissing = (key) => `the value of ${key} is missing`;
 /** @type {(text: string) => string} */
-export const noValue = (text) => `a value is needed here, not ${text}`;
+export const noValueMessage = (text) => `a value is needed here, not ${text}`;
 /** @type {(text: string) => string} */
-export const hasLeadingZero = (text) => `a number has no leading zero; write a text in quotes: "${text}"`;
+export const hasLeadingZeroMessage = (text) => `a number has no leading zero; write a text in quotes: "${text}"`;
 /** @type {(text: string) => string} */
-export const needsQuotes = (text) => `${text} is a text: write it in quotes: "${text}"`;
+export const needsQuotesMessage = (text) => `${text} is a text: write it in quotes: "${text}"`;
 /** @type {(maximum: number) => string} */
-export const tooDeep = (maximum) => `more than ${maximum} brackets and braces are open here`;
+export const tooDeepMessage = (maximum) => `more than ${maximum} brackets and braces are open here`;
 export const NO_BRACKET = "the closing ] is missing";
 export const VALUE_COMMA_MISSING = "write a comma between two values, ] after the last";
 export const NO_BRACE = "the closing } is missing in this line";
@@ -54,16 +54,16 @@ export const KEY_COMMA_MISSING = "write a comma between two keys, } after the la
 /** @type {(name: string, line: number) => string} */
 export const alreadyThere = (name, line) => `${name} is already in line ${line}`;
 /** @type {(line: string, chip: string) => string} */
-export const noSuchRom = (line, chip) => `the board has no line ${line}: no [[rom]] has chip = ${chip}`;
+export const noSuchRomMessage = (line, chip) => `the board has no line ${line}: no [[rom]] has chip = ${chip}`;
 /** @type {(line: string, bank: string) => string} */
-export const noSuchBank = (line, bank) => `the board has no line ${line}: no [[ram]] has bank = ${bank}`;
+export const noSuchBankMessage = (line, bank) => `the board has no line ${line}: no [[ram]] has bank = ${bank}`;
 /** @type {(line: string, bank: string, chips: number) => string} */
-export const noChipInBank = (line, bank, chips) => (
+export const noChipInBankMessage = (line, bank, chips) => (
   `the board has no line ${line}: bank ${bank} has ${chips === 1 ? "only chip 0" : `chips 0 to ${chips - 1}`}`);
 /** @type {(line: string, chain: string, last: number) => string} */
-export const noBitInChain = (line, chain, last) => `the board has no line ${line}: chain ${chain} has bits 0 to ${last}`;
+export const noBitInChainMessage = (line, chain, last) => `the board has no line ${line}: chain ${chain} has bits 0 to ${last}`;
 /** @type {(chain: string, chains: number) => string} */
-export const noChain = (chain, chains) => (
+export const noChainMessage = (chain, chains) => (
   `the board has no chain ${chain}: it has ${["no [[chain]]", "only chain 0"][chains] || `chains 0 to ${chains - 1}`}`);
 /** @type {(firstBit: number, lastBit: number, chain: number, highestBit: number) => string} */
 export const rowsNeed = (firstBit, lastBit, chain, highestBit) =>
@@ -75,23 +75,23 @@ export const needsOutput = (key, line, isBit) => (
   `${line} is ${isBit ? "a bit of a chain" : "an input line (i in its ROM's port)"}; ${
     key === "line" ? "a lamp needs an output line" : `${key} needs an output line of a ROM or a RAM chip`}`);
 /** @type {(name: string) => string} */
-export const noLineName = (name) => `${name} is not the name of a line; names are like "rom1.0", "ram0.0.3" and "chain0.5"`;
+export const noLineNameMessage = (name) => `${name} is not the name of a line; names are like "rom1.0", "ram0.0.3" and "chain0.5"`;
 /** @type {(key: string, number: string) => string} */
 export const withoutQuotes = (key, number) => `${key} is a number: write ${number} without quotes`;
 /** @type {(maximum: number, table: string) => string} */
-export const tooManyTables = (maximum, table) => `a board has at most ${maximum} [[${table}]]`;
+export const tooManyTablesMessage = (maximum, table) => `a board has at most ${maximum} [[${table}]]`;
 /** @type {(maximum: number) => string} */
-export const tooManyColumns = (maximum) => `a key matrix has at most ${maximum} columns`;
+export const tooManyColumnsMessage = (maximum) => `a key matrix has at most ${maximum} columns`;
 /** @type {(key: string, values: string) => string} */
 export const keyMustBe = (key, values) => `${key} must be ${values}`;
 /** @type {(section: string) => string} */
-export const mustBeTable = (section) => `a ${section} must be a table: [[${section}]]`;
+export const mustBeTableMessage = (section) => `a ${section} must be a table: [[${section}]]`;
 /** @type {(name: string, kind: string, suggestion: string) => string} */
-export const noKeyOf = (name, kind, suggestion) => `${name} is not a key of ${kind}${suggestion}`;
+export const noKeyOfMessage = (name, kind, suggestion) => `${name} is not a key of ${kind}${suggestion}`;
 /** @type {(keys: string) => string} */
 export const whichHasKeys = (keys) => `, which has ${keys}`;
 /** @type {(kind: string, suggestion: string) => string} */
-export const noPart = (kind, suggestion) => `${kind} is not a part of a board${suggestion}`;
+export const noPartMessage = (kind, suggestion) => `${kind} is not a part of a board${suggestion}`;
 export const ONE_MATRIX = "a board has one key matrix: [keys]";
 /** @type {(kind: string) => string} */
 export const tableArraySyntax = (kind) => `there can be several: write [[${kind}]]`;
@@ -110,7 +110,7 @@ export const jumpCounts = (taken, notTaken) => `; it jumped ${taken} and continu
 // --- text/text_editor_view.js ---
 export const ERRORS = "Errors";
 /** @type {(size: string, maximum: string) => string} */
-export const notInserted = (size, maximum) =>
+export const notInsertedMessage = (size, maximum) =>
   `It was not inserted: the text would have ${size} characters; at most ${maximum} are accepted.`;
 /** @type {(size: string, maximum: string, unit: string) => string} */
 export const textSize = (size, maximum, unit) => `${size} of ${maximum} ${unit}`;
@@ -126,7 +126,7 @@ export const problemAt = (name, line) => `${TEXTS[name]}, line ${line}: `;
 export const BOARD_WIRED = "Board applied.";
 export const FIRST_BOARD = "The first board's text is in Board.";
 /** @type {(line: number, message: string, others: number) => string} */
-export const firstFault = (line, message, others) => `line ${line}: ${message}${others > 0 ? `, and ${others} more` : ""}`;
+export const firstErrorMessage = (line, message, others) => `line ${line}: ${message}${others > 0 ? `, and ${others} more` : ""}`;
 
 // --- text/field_bar.js ---
 export const GO = "Go";
@@ -161,7 +161,7 @@ export const lineIs = (last) => `The line must be a number from 1 to ${last}.`;
 
 // --- text/program_errors.js ---
 /** @type {(chip: number, address: string) => string} */
-export const noRomForLine = (chip, address) => (
+export const noRomForLineMessage = (chip, address) => (
   `this line is at ${address}, and the board has no ROM ${chip}: wire a [[rom]] with chip = ${chip}`);
 
 // --- text/program_format.js ---
@@ -182,11 +182,11 @@ export const VALUE_OPERAND = "a value, 0 to 15";
 export const BYTE_OPERAND = "a byte, 0 to 255";
 export const ADDRESS_OPERAND = "an address, 0 to 4095, or a name";
 /** @type {(number: string) => string} */
-export const isHexadecimal = (number) => `hexadecimal is ${number}`;
+export const isHexadecimalMessage = (number) => `hexadecimal is ${number}`;
 /** @type {(number: string) => string} */
-export const isBinary = (number) => `binary numbers are not supported; it is ${number}`;
+export const isBinaryMessage = (number) => `binary numbers are not supported; it is ${number}`;
 /** @type {(letter: string, number: string) => string} */
-export const isLetter = (letter, number) => `characters are not supported; the code of ${letter} is ${number}`;
+export const isLetterMessage = (letter, number) => `characters are not supported; the code of ${letter} is ${number}`;
 /** @type {(number: string) => string} */
 export const withoutNumberSign = (number) => `without #: ${number}`;
 export const NO_NEGATIVES = "there are no negative numbers";
@@ -197,11 +197,11 @@ export const NUMBER_SYNTAX = "a number is decimal digits, or 0x and hexadecimal 
 export const nameTooLong = (maximum, length) => `a name has at most ${maximum} characters; this has ${length}`;
 export const NAME_SYNTAX = "a name has letters, digits and _, and does not begin with a digit";
 /** @type {(name: string) => string} */
-export const isInstruction = (name) => `${name} is an instruction, so it cannot be a name`;
+export const isInstructionMessage = (name) => `${name} is an instruction, so it cannot be a name`;
 /** @type {(name: string) => string} */
-export const cannotBeName = (name) => `${name} cannot be a name`;
+export const cannotBeNameMessage = (name) => `${name} cannot be a name`;
 /** @type {(name: string) => string} */
-export const isRegister = (name) => `${name} is a register, so it cannot be a name`;
+export const isRegisterMessage = (name) => `${name} is a register, so it cannot be a name`;
 /** @type {(instruction: string, operands: string) => string} */
 export const takes = (instruction, operands) => `${instruction} takes ${operands}`;
 /** @type {(instruction: string, operand: string) => string} */
@@ -210,7 +210,7 @@ export const NO_WPM = "this bench has no WPM: a program cannot write its ROM";
 /** @type {(name: string, number: string) => string} */
 export const nameGetsNumber = (name, number) => `define a name with =: ${name} = ${number}`;
 /** @type {(name: string, question: string) => string} */
-export const noInstruction = (name, question) => `${name} is not an instruction${question}`;
+export const noInstructionMessage = (name, question) => `${name} is not an instruction${question}`;
 /** @type {(name: string) => string} */
 export const labelSyntax = (name) => `; a label has a colon: ${name}:`;
 /** @type {(reason: string) => string} */
@@ -231,7 +231,7 @@ export const takesOperands = (name, operands, extra) => `${name} takes ${operand
 /** @type {(operand: string) => string} */
 export const extraOperandNote = (operand) => `; ${operand} is more`;
 /** @type {(name: string, suggestion: string) => string} */
-export const notDefined = (name, suggestion) => `${name} is not defined${suggestion}`;
+export const notDefinedMessage = (name, suggestion) => `${name} is not defined${suggestion}`;
 /** @type {(name: string, line: number|undefined) => string} */
 export const definedBefore = (name, line) => `${name} is already defined in line ${line}`;
 /** @type {(name: string, head: string) => string} */
@@ -252,11 +252,11 @@ export const NAME_RULE = "A name has ASCII letters, digits and _, and does not b
 /** @type {(maximum: number, length: number) => string} */
 export const nameHasMost = (maximum, length) => `A name has at most ${maximum} characters; this has ${length}.`;
 /** @type {(name: string) => string} */
-export const nameIsInstruction = (name) => `${name} is an instruction.`;
+export const nameIsInstructionMessage = (name) => `${name} is an instruction.`;
 /** @type {(name: string) => string} */
-export const nameIsRegister = (name) => `${name} is a register.`;
+export const nameIsRegisterMessage = (name) => `${name} is a register.`;
 /** @type {(name: string, line: number) => string} */
-export const isDefined = (name, line) => `${name} is already defined in line ${line}.`;
+export const isDefinedMessage = (name, line) => `${name} is already defined in line ${line}.`;
 
 // --- text/search_bar.js ---
 /** @type {(label: string) => string} */
@@ -327,4 +327,4 @@ export const keyIs = (name, table, values) => `${name} of ${table}: ${values}.`;
 /** @type {(quote: string) => string} */
 export const closingMissing = (quote) => `the closing ${quote} of the text is missing`;
 /** @type {(character: string) => string} */
-export const noMeaning = (character) => `${character} has no meaning here`;
+export const noMeaningMessage = (character) => `${character} has no meaning here`;

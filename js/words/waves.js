@@ -32,7 +32,7 @@ export const howManyCycles = (minimum, maximum) => `Enter a number of cycles, fr
 /** @type {(maximum: string) => string} */
 export const maxAfter = (maximum) => `${maximum} cycles are kept: at most that many can follow the trigger.`;
 /** @type {(error: string) => string} */
-export const triggerFault = (error) => `The trigger is not understood: ${error}.`;
+export const triggerNotUnderstood = (error) => `The trigger is not understood: ${error}.`;
 export const STOP_RECORDING = "Stop recording";
 /** @type {(query: string, isForward: boolean, cycle: string) => string} */
 export const notFound = (query, isForward, cycle) => `${query}: not ${isForward ? "after" : "before"} cycle ${cycle} of this recording.`;
@@ -40,10 +40,10 @@ export const NO_LINE_CHOSEN = "No line is chosen: choose the lines for the file.
 
 // --- waves/trigger.js ---
 /** @type {(name: string) => string} */
-export const noSuchName = (name) => `nothing here is called ${name}; the menu Rows lists the names`;
+export const noSuchNameMessage = (name) => `nothing here is called ${name}; the menu Rows lists the names`;
 export const LABEL_SYNTAX = "write a place of the program as @LABEL";
 /** @type {(name: string) => string} */
-export const isDecodedLine = (name) => `${name} is decoded from other lines: name one of those, as in: rom0.0 rises`;
+export const isDecodedLineMessage = (name) => `${name} is decoded from other lines: name one of those, as in: rom0.0 rises`;
 /** @type {(name: string) => string} */
 export const numberConditionSyntax = (name) => `${name} is a number: write ${name} changes, or as ${name} = 5`;
 
@@ -78,9 +78,9 @@ export const inKilohertz = (kilohertz) => `${kilohertz} kHz`;
 
 // --- waves/wave_catalog.js ---
 /** @type {(name: string) => string} */
-export const noName = (name) => `Nothing here is called ${name}.`;
+export const noNameMessage = (name) => `Nothing here is called ${name}.`;
 /** @type {(count: number) => string} */
-export const notListed = (count) => (
+export const notListedMessage = (count) => (
   `${count === 1 ? "1 nibble of RAM is" : `${count.toLocaleString("en")} nibbles of RAM are`} not listed: find one, `
   + "as in: ram 0 0x12, or: st 0 1.");
 /** @type {Record<string, string>} the titles of the line groups */
@@ -127,16 +127,16 @@ export const SEARCH_FORMS = "a value of the marked line, such as 9 or 0x1F; r5 =
 /** @type {(forms: string) => string} */
 export const searchQuestion = (forms) => `Enter a search: ${forms}.`;
 /** @type {(label: string) => string} */
-export const noLabel = (label) => `The program of this recording has no label ${label}.`;
+export const noLabelMessage = (label) => `The program of this recording has no label ${label}.`;
 /** @type {(name: string) => string} */
-export const notRecorded = (name) => `Nothing that was recorded is called ${name}: select it and record again.`;
+export const notRecordedMessage = (name) => `Nothing that was recorded is called ${name}: select it and record again.`;
 export const NO_LINE_MARKED = "No line is marked.";
 /** @type {(name: string) => string} */
-export const isDecoded = (name) => `${name} is decoded: search for its next change, or for a key of the key scan.`;
+export const isDecodedMessage = (name) => `${name} is decoded: search for its next change, or for a key of the key scan.`;
 /** @type {(name: string) => string} */
-export const isNumber = (name) => `${name} is a number: search for a change, or for a value such as = 5.`;
+export const isNumberMessage = (name) => `${name} is a number: search for a change, or for a value such as = 5.`;
 /** @type {(value: string, forms: string) => string} */
-export const noNumber = (value, forms) => `${value} is not a number such as 10, 0x0A or 0b1010. Forms: ${forms}.`;
+export const noNumberMessage = (value, forms) => `${value} is not a number such as 10, 0x0A or 0b1010. Forms: ${forms}.`;
 /** @type {(name: string, width: number, maximum: number) => string} */
 export const valueTooLarge = (name, width, maximum) =>
   `${name} has ${width === 1 ? "1 bit" : `${width} bits`}: its value is at most ${maximum}.`;
@@ -160,11 +160,11 @@ export const recordedSpan = (cycles, time) => `${cycles} recorded, ${time}.`;
 /** @type {(text: string) => string} */
 export const codeFollows = (text) => `${text} A code that is not an instruction follows.`;
 /** @type {(text: string) => string} */
-export const noFurtherBack = (text) => `${text} The remembered past reaches no further back.`;
+export const noFurtherBackMessage = (text) => `${text} The remembered past reaches no further back.`;
 
 // --- waves/line_choice.js ---
 /** @type {(name: string) => string} */
-export const noSuchLine = (name) => `the board has no line ${name}; mcs4 wave --lines SESSION prints the names of its lines`;
+export const noSuchLineMessage = (name) => `the board has no line ${name}; mcs4 wave --lines SESSION prints the names of its lines`;
 export const LABEL_NEEDS_PROGRAM = "`label` needs the program that is in ROM: --names PROGRAM";
 /** @type {(name: string) => string} */
 export const lineTwice = (name) => `the line ${name} is given twice`;

@@ -14,7 +14,7 @@ import { MAX_PIECE_CYCLES } from "../debug/debug_session.js";
 import { MAX_CYCLES_PER_CALL } from "../debug/common_mistakes.js";
 import { optionalList, needNumber, needText, optionalText, errorMessage } from "./dap_protocol.js";
 import * as say from "../../words/adapter.js";
-import { errorInColumn, noLabel } from "../../words/conditions.js";
+import { errorInColumn, noLabelMessage } from "../../words/conditions.js";
 import { KINDS } from "../../words/debug.js";
 import { stopsEachTime } from "../../words/machine.js";
 
@@ -145,7 +145,7 @@ export class ClientBreakpoints {
     return this.setRequestedBreakpoints("labels", optionalList(args, "breakpoints").map((item) => {
       const name = needText(item, "name").trim();
       const programName = map.names.get(name);
-      const message = programName && programName.isLabel ? "" : noLabel(name);
+      const message = programName && programName.isLabel ? "" : noLabelMessage(name);
       const address = programName && programName.isLabel ? programName.value : -1;
       const line = address < 0 ? 0 : map.lineOf(address);
       return this.newBreakpoint({ ...readCommonFields(item), line, address, ...(message ? { error: message } : {}) });
@@ -212,7 +212,8 @@ export class ClientBreakpoints {
     const errors = new Map();
     const breakpoints = [...this.mergeBreakpoints().values()];
     const isOverLimit = (/** @type {number} */ index) => index >= MAX_ENABLED_BREAKPOINTS;
-    breakpoints.forEach((breakpoint, index) => isOverLimit(index) && errors.set(breakpoint, say.tooManyEnabled(MAX_ENABLED_BREAKPOINTS)));
+    const limitMessage = say.tooManyEnabledMessage(MAX_ENABLED_BREAKPOINTS);
+    breakpoints.forEach((breakpoint, index) => isOverLimit(index) && errors.set(breakpoint, limitMessage));
     const hits = new Map([...this.byId].map(([id, { address }]) => [address, (session.breakpoints.get(id) || { hits: 0 }).hits]));
     session.breakpoints = new BreakpointList();
     this.byId.clear();
@@ -269,7 +270,7 @@ export class ClientBreakpoints {
       const place = watchablePlace(name, board);
       const access = optionalText(item, "accessType") || "write";
       this.lastId += 1;
-      const error = !place ? say.notWatched(name) : access !== "write" ? say.ONLY_CHANGES : hitConditionError;
+      const error = !place ? say.notWatchedMessage(name) : access !== "write" ? say.ONLY_CHANGES : hitConditionError;
       return { id: this.lastId, name: place ? place.name : name, condition: optionalText(item, "condition"), from, error };
     });
     const errors = await this.applyDataBreakpoints();
@@ -326,7 +327,7 @@ export class ClientBreakpoints {
     commonMistakes.stoppingKinds = new Set();
     commonMistakes.conditions = new Map();
     const answers = exceptionFilters.map(({ kind, condition: text }) => {
-      if (!Object.prototype.hasOwnProperty.call(KINDS, kind)) return { verified: false, message: say.noFilter(kind) };
+      if (!Object.prototype.hasOwnProperty.call(KINDS, kind)) return { verified: false, message: say.noFilterMessage(kind) };
       const mistake = /** @type {MistakeKind} */ (kind);
       const isAlways = text.trim() === "";
       const { condition, error, column } = isAlways ? { condition: null, error: "", column: -1 } : compileCondition(text, session.names);

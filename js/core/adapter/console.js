@@ -12,7 +12,7 @@ import { AdapterError, fail, errorMessage } from "./dap_protocol.js";
 import { compileSetLine } from "./place_assignment.js";
 import { evaluateExpression } from "./expression_values.js";
 import * as say from "../../words/adapter.js";
-import { noKey } from "../../words/testing.js";
+import { noKeyMessage } from "../../words/testing.js";
 
 /**
  * @typedef {import("./debugged_machine.js").Machine} Machine
@@ -72,7 +72,7 @@ export class Console {
    */
   async serveLine(text, shouldContinue, base) {
     const line = text.trim();
-    if (line.length > MAX_LENGTH) fail(say.tooLong(MAX_LENGTH));
+    if (line.length > MAX_LENGTH) fail(say.tooLongMessage(MAX_LENGTH));
     const [word, ...operands] = line.split("\n")[0].split(/[ \t]+/);
     if (line === "" || line === "help" || line === "?") return textResult(say.HELP);
     const hasRowAndColumn = operands.length === 2 && operands.every((operand) => !Number.isNaN(parseNumber(operand)));
@@ -104,7 +104,7 @@ export class Console {
   findKey(name) {
     const names = [...this.keys.keys()].join(" ");
     const key = this.keys.get(name);
-    return key || fail(noKey(name, names));
+    return key || fail(noKeyMessage(name, names));
   }
 
   /**
@@ -192,7 +192,7 @@ export class Console {
     const { lines, message } = replaceNames(`${line}\n`, this.session.map);
     if (message) fail(message);
     const kinds = readInputs(lines).map(({ kind }) => kind);
-    if (kinds.length > MAX_INPUTS) fail(say.tooManyLines(MAX_INPUTS));
+    if (kinds.length > MAX_INPUTS) fail(say.tooManyLinesMessage(MAX_INPUTS));
     if (this.machine.isMoving && kinds.some((kind) => RUN_WORDS.has(kind))) fail(say.MACHINE_IS_RUNNING);
     if (kinds.every(isQuery)) return textResult(this.session.debugger.session.ask(lines).join("\n"));
     const result = await this.runBenchLines(lines, shouldContinue);
@@ -232,6 +232,6 @@ export function findAddress(text, { session }) {
   const word = text.trim().replace(/^@/, "");
   const number = /^[0-9A-Fa-f]{3}$/.test(word) && Number.isNaN(parseNumber(word)) ? parseInt(word, 16) : parseNumber(word);
   const address = Number.isNaN(number) ? session.map.findValue(word) : number;
-  if (address === undefined) return fail(say.noAddress(word));
+  if (address === undefined) return fail(say.noAddressMessage(word));
   return address <= LAST_ADDRESS ? address : fail(say.ADDRESS_RANGE);
 }

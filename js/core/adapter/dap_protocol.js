@@ -2,7 +2,7 @@
 
 import { getField } from "../server/framing.js";
 import * as say from "../../words/adapter.js";
-import { mustBeText } from "../../words/server.js";
+import { mustBeTextMessage } from "../../words/server.js";
 
 /** The error that a request handler throws to reject its request. */
 export class AdapterError extends Error {
@@ -38,7 +38,7 @@ export function fail(message) {
  */
 export function needText(from, name) {
   const value = getField(from, name);
-  return typeof value === "string" ? value : fail(mustBeText(name));
+  return typeof value === "string" ? value : fail(mustBeTextMessage(name));
 }
 
 /**
@@ -62,7 +62,7 @@ export function optionalText(from, name) {
 export function needNumber(from, name, defaultValue) {
   const value = getField(from, name);
   if ((value === undefined || value === null) && defaultValue !== undefined) return defaultValue;
-  return Number.isSafeInteger(value) ? value : fail(say.mustBeInteger(name));
+  return Number.isSafeInteger(value) ? value : fail(say.mustBeIntegerMessage(name));
 }
 
 /**
@@ -75,7 +75,7 @@ export function needNumber(from, name, defaultValue) {
 export function optionalFlag(from, name, defaultValue) {
   const value = getField(from, name);
   if (value === undefined || value === null) return defaultValue;
-  return typeof value === "boolean" ? value : fail(say.mustBeBoolean(name));
+  return typeof value === "boolean" ? value : fail(say.mustBeBooleanMessage(name));
 }
 
 /**
@@ -87,7 +87,7 @@ export function optionalFlag(from, name, defaultValue) {
 export function optionalList(from, name) {
   const value = getField(from, name);
   if (value === undefined || value === null) return [];
-  return Array.isArray(value) ? value : fail(say.mustBeList(name));
+  return Array.isArray(value) ? value : fail(say.mustBeListMessage(name));
 }
 
 /**

@@ -294,7 +294,7 @@ export class DebugAdapter {
     if (queryHandlers.isProgram(source) && launchResult.isDebugged) {
       return this.changeBreakpoints((breakpoints) => breakpoints.setLineBreakpoints(args, (line) => line + 1 - this.firstLine));
     }
-    const message = launchResult.isDebugged ? say.notInProgram(queryHandlers.programName)
+    const message = launchResult.isDebugged ? say.notInProgramMessage(queryHandlers.programName)
       : say.NO_DEBUG;
     return { breakpoints: optionalList(args, "breakpoints").map((item) => ({ verified: false, line: needNumber(item, "line"), message })) };
   }
@@ -324,7 +324,7 @@ export class DebugAdapter {
     const reference = needNumber(args, "variablesReference", 0);
     const placeName = reference > 0 ? queryHandlers.findWatchPlace(reference, name) : name;
     const dataBreakpoint = describeDataBreakpoint(placeName, launchResult.session);
-    if (!dataBreakpoint) return { dataId: null, description: say.notWatched(name) };
+    if (!dataBreakpoint) return { dataId: null, description: say.notWatchedMessage(name) };
     return { ...dataBreakpoint, accessTypes: ["write"] };
   }
 

@@ -9,7 +9,7 @@ import { parseKey, keyLine, formatKey } from "../board/key_place.js";
 import { AdapterError } from "./dap_protocol.js";
 import * as say from "../../words/adapter.js";
 import { listNamedKeys } from "../testing/test_text.js";
-import { cannotBeSet, errorInColumn } from "../../words/conditions.js";
+import { cannotBeSetMessage, errorInColumn } from "../../words/conditions.js";
 
 /** @typedef {import("../debug/debug_session.js").DebugSession} DebugSession */
 
@@ -22,10 +22,10 @@ import { cannotBeSet, errorInColumn } from "../../words/conditions.js";
 export function evaluateNumber(text, session, startColumn = 0) {
   // A client can send a displayed value with its suffix, such as `0x012, line 9`.
   const valueText = text.trim().replace(/^(\w+),.*$/, "$1");
-  if (valueText === "") throw new AdapterError(say.noNumber(say.NOTHING));
+  if (valueText === "") throw new AdapterError(say.noNumberMessage(say.NOTHING));
   const { expression, error, column } = compileExpression(valueText, session.names);
   if (!expression) throw new AdapterError(errorInColumn(error, startColumn + column));
-  if (!expression.number) throw new AdapterError(say.noNumber(valueText));
+  if (!expression.number) throw new AdapterError(say.noNumberMessage(valueText));
   return expression.number(session.debugger.readPlaces(expression.places));
 }
 
@@ -74,7 +74,7 @@ export function findSettablePlace(text, face) {
   const [, name = ""] = /^key\s+(.+)$/i.exec(text.trim()) || [];
   const namedKey = listNamedKeys(face).get(name);
   if (namedKey) return `key ${formatKey(namedKey.key)}`;
-  if (place === "") throw new AdapterError(cannotBeSet(text.trim()));
+  if (place === "") throw new AdapterError(cannotBeSetMessage(text.trim()));
   return place;
 }
 
@@ -86,5 +86,5 @@ export function findSettablePlace(text, face) {
  */
 export async function setPlace(session, place, text) {
   const { first } = await session.debugger.session.serve(assignmentLines(place, text, session), async () => true);
-  if (parseRefusal(first)) throw new AdapterError(say.cannotBeSet(place, first));
+  if (parseRefusal(first)) throw new AdapterError(say.cannotBeSetMessage(place, first));
 }

@@ -87,7 +87,7 @@ export class Progress {
    */
   stop(progressId) {
     const task = this.tasksById.get(progressId);
-    if (!task) throw new AdapterError(say.noProgress(progressId));
+    if (!task) throw new AdapterError(say.noProgressMessage(progressId));
     task.stop();
   }
 }

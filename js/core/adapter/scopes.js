@@ -138,20 +138,20 @@ function characterVariables({ machineState, session }, bank, register) {
 function portVariables({ machineState, face }) {
   /** @type {(port: string) => string} */
   const portName = (port) => (face.ports.has(port) ? `${port} ${(face.ports.get(port) || { text: "" }).text}` : port);
-  const { roms, chains, sources } = machineState.ports;
+  const { roms, chains, srcBytes } = machineState.ports;
   const rams = [...machineState.ram].flatMap(([bank, ram]) => [...ram.ports].map(([name, out]) => ({ bank, name, out })));
   return [
     ...roms.map(({ chip, out, in: read }) => (
       createReadOnlyVariable(portName(`rom${chip}`), `out ${toHex(out)}, in ${toHex(read)}`, `rom${chip}`))),
     ...rams.map(({ name, out }) => createReadOnlyVariable(portName(`ram${name}`), `out ${toHex(out)}`, `ram${name}`)),
     ...chains.map((bits, chain) => createReadOnlyVariable(portName(`chain${chain}`), bits, `chain${chain}`)),
-    ...sources.map((source) => srcVariable(source)),
+    ...srcBytes.map((item) => srcVariable(item)),
   ];
 }
 
-/** @param {string} source the SRC byte latched in the ROMs (`21`), or in a RAM bank (`0.21` for bank 0) */
-function srcVariable(source) {
-  const [bank, byte] = source.split(".");
+/** @param {string} item the SRC byte latched in the ROMs (`21`), or in a RAM bank (`0.21` for bank 0) */
+function srcVariable(item) {
+  const [bank, byte] = item.split(".");
   if (byte === undefined) return createVariable("SRC", say.selectsRom(toHex(bank), parseInt(bank[0], 16)));
   return createVariable(sourceOfBank(bank), `${toHex(byte)}: ${describeCharacter(parseInt(byte, 16))}`);
 }
@@ -250,8 +250,8 @@ export class Scopes {
    */
   async setVariable(reference, name, value, base) {
     const variable = (this.variables(reference) || []).find((candidate) => candidate.name === name);
-    if (!variable) throw new Error(say.notFoundHere(name));
-    if (variable.place === "") throw new Error(say.nothingSets(name));
+    if (!variable) throw new Error(say.notFoundHereMessage(name));
+    if (variable.place === "") throw new Error(say.nothingSetsMessage(name));
     await setPlace(this.session, variable.place, value);
     const newVariable = (this.variables(reference, base) || []).find((candidate) => candidate.name === name);
     return newVariable ? newVariable.value : value;

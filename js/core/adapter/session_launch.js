@@ -10,7 +10,7 @@ import { PROJECT_FILE, readProjectToml } from "../project/project_toml.js";
 import { getField } from "../server/framing.js";
 import { fileUri, uriFileName, createTestSession, findTestFiles } from "./test_launch.js";
 import { findBoard } from "../server/text_kinds.js";
-import { findLineFaults, sentText } from "../text/sendable_text.js";
+import { findSendingErrors, sentText } from "../text/sendable_text.js";
 import { readProgram, findDifference } from "../engine/program_check.js";
 import { disassembleRom } from "../engine/text_recovery.js";
 import { SessionWriter } from "./session_writer.js";
@@ -94,9 +94,9 @@ export function readRequestedFiles(args, host) {
 function findProjectFiles(name, host) {
   const file = baseName(name) === PROJECT_FILE ? name : host.nameOf(PROJECT_FILE, name);
   const text = host.read(file);
-  if (text === null) throw new AdapterError(say.noProjectFile(file), true);
-  const { names, faults: [fault] } = readProjectToml(text);
-  if (!names) throw new AdapterError(`${file}, line ${fault.line}: ${fault.words}`, true);
+  if (text === null) throw new AdapterError(say.noProjectFileMessage(file), true);
+  const { names, errors: [error] } = readProjectToml(text);
+  if (!names) throw new AdapterError(`${file}, line ${error.line}: ${error.words}`, true);
   const [board, program] = [names.board, names.program].map(({ path, key, line }) => {
     const fullName = host.beside(path, file);
     if (!host.isInside(fullName, host.beside(".", file))) throw new AdapterError(`${file}, line ${line}: ${key}: ${leadsOut(path)}`, true);
@@ -128,8 +128,8 @@ function readBenchText(name, mark, host) {
   const text = host.read(name);
   if (text === null) throw new AdapterError(host.readErrorMessage(name), true);
   const normalizedText = text.replace(/^\uFEFF/, "").replace(/\r\n?/g, "\n");
-  const [fault] = findLineFaults(normalizedText, mark);
-  if (fault) throw new AdapterError(`${baseName(name)}, line ${fault.line}: ${fault.words}`, true);
+  const [error] = findSendingErrors(normalizedText, mark);
+  if (error) throw new AdapterError(`${baseName(name)}, line ${error.line}: ${error.words}`, true);
   return normalizedText;
 }
 
@@ -154,7 +154,7 @@ function refusalError(name, { number, line }, messages) {
  */
 function sessionFromTexts(engine, requestedFiles, host, messages) {
   if (requestedFiles.board === "") {
-    throw new AdapterError(say.noBoardBeside(requestedFiles.program), true);
+    throw new AdapterError(say.noBoardBesideMessage(requestedFiles.program), true);
   }
   const [board, program] = [readBenchText(requestedFiles.board, "#", host), readBenchText(requestedFiles.program, ";", host)];
   const session = new DebugSession(engine, { board, program });
@@ -267,7 +267,7 @@ function checkRom(session, engine, { program, session: file }, messages) {
   if (refusal) throw refusalError(program, refusal, messages);
   const differenceText = describeDifference(session);
   if (differenceText === "") return;
-  const message = say.notInRomOf(baseName(program), baseName(file), differenceText);
+  const message = say.notInRomOfMessage(baseName(program), baseName(file), differenceText);
   throw new AdapterError(say.loadHint(message), true);
 }
 
@@ -300,7 +300,7 @@ export async function attach(engine, args, host, messages) {
   if (optionalText(args, "session") === "") throw new AdapterError(say.ATTACH_NEEDS, true);
   const isWritten = optionalFlag(args, "write", false);
   const requestedFiles = readRequestedFiles(args, host);
-  if (!host.fileExists(requestedFiles.session)) throw new AdapterError(say.noSession(requestedFiles.session), true);
+  if (!host.fileExists(requestedFiles.session)) throw new AdapterError(say.noSessionMessage(requestedFiles.session), true);
   const loadSession = isWritten ? sessionFromFile : sessionFromCopy;
   const openedSession = await loadSession(engine, requestedFiles, host, messages);
   return { ...createLaunchResult(openedSession, requestedFiles, args, host), isAttached: true };

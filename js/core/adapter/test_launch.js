@@ -60,11 +60,11 @@ export async function createTestSession(engine, texts, { name, file }, pause) {
   const sessions = [];
   const shouldContinue = () => pause().then(() => true);
   const options = { only: { name, source: file }, ran: (/** @type {TestSession} */ session) => sessions.push(session) };
-  const { faults: [fault], outcomes } = await runTests(engine, texts, shouldContinue, options);
-  if (fault) throw new AdapterError(say.testsHaveError(fault.file || fault.text, fault.line, fault.words || ""), true);
+  const { errors: [error], outcomes } = await runTests(engine, texts, shouldContinue, options);
+  if (error) throw new AdapterError(say.testsHaveError(error.file || error.text, error.line, error.words || ""), true);
   const outcome = outcomes.pop();
   const run = sessions.pop();
-  if (!outcome) throw new AdapterError(say.noSuchTest(name, file), true);
+  if (!outcome) throw new AdapterError(say.noSuchTestMessage(name, file), true);
   if (!run || (outcome.failure && !outcome.failure.file)) throw new AdapterError(failureLine(outcome).trim(), true);
   const session = new DebugSession(engine, { file: engine.bytesOf(run.initialFile), board: texts.boardText, program: texts.programText });
   const lines = replayLines(run);

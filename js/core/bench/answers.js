@@ -16,9 +16,9 @@ import { isListingLine } from "./answer_table.js";
  * @typedef {{ registers: Map<string, RamRegister>, ports: Map<string, string> }} Ram the registers and output ports of a RAM bank, by name
  * @typedef {{ chip: string, out: string, in: string }} RomPort the latched output and the input levels of a ROM port
  *
- * The ports. `sources` are the SRC bytes latched in the ROMs (`21`) and in each bank (`0.21`). `chains` are the bits of each chain, and
+ * The ports. `srcBytes` are the SRC bytes latched in the ROMs (`21`) and in each bank (`0.21`). `chains` are the bits of each chain, and
  * `keys` the pressed keys.
- * @typedef {{ sources: string[], roms: RomPort[], chains: string[], keys: string[] }} Ports
+ * @typedef {{ srcBytes: string[], roms: RomPort[], chains: string[], keys: string[] }} Ports
  * @typedef {{ address: number, line: string }} ListingLine a line of a listing, and its address
  * @typedef {{ line: number, address: number, size: number }} MappedLine a program line: its number from 1, its address, and its size in
  *   bytes

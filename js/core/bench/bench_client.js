@@ -12,7 +12,7 @@ import { WorkerDiedError, unpackError } from "./bench_errors.js";
  * @typedef {keyof Requests} CallName
  *
  * The callbacks of a request that has no reply yet: for its result, its error, and its progress.
- * @typedef {{ done: (result: any) => void, fail: (fault: Error) => void, progress: (done: number, total: number) => void }} PendingRequest
+ * @typedef {{ done: (result: any) => void, fail: (error: Error) => void, progress: (done: number, total: number) => void }} PendingRequest
  *
  * Options of a request: a signal that cancels it, and a callback for its progress.
  * @typedef {{ signal?: AbortSignal, progress?: (done: number, total: number) => void }} CallOptions
@@ -23,7 +23,7 @@ import { WorkerDiedError, unpackError } from "./bench_errors.js";
  *
  * Callbacks for messages without a request: a frame of a run at full speed, an error that stopped the run, and the termination of a worker
  * that stopped answering.
- * @typedef {{ frame: (frame: Frame) => void, failed: (fault: Error) => void, died: () => void }} Listener
+ * @typedef {{ frame: (frame: Frame) => void, failed: (error: Error) => void, died: () => void }} Listener
  */
 
 /**

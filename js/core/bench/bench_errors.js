@@ -33,13 +33,13 @@ export const OUT_OF_MEMORY = 90;
 
 /**
  * The representation of an error in a message between page and worker.
- * @typedef {{ kind: "refusal" | "trap" | "cancelled" | "other", message: string, number: number }} PackedFault
+ * @typedef {{ kind: "refusal" | "trap" | "cancelled" | "other", message: string, number: number }} PackedError
  */
 
 /**
  * Converts an error to its message representation.
  * @param {unknown} error
- * @returns {PackedFault}
+ * @returns {PackedError}
  */
 export function packError(error) {
   if (error instanceof BenchRefusal) return { kind: "refusal", message: error.message, number: error.number };
@@ -50,7 +50,7 @@ export function packError(error) {
 
 /**
  * Converts the message representation of an error back to an error.
- * @param {PackedFault} fault
+ * @param {PackedError} error
  * @returns {Error}
  */
 export function unpackError({ kind, message, number }) {

@@ -44,11 +44,11 @@ export class ErrorMessages {
 }
 
 /**
- * Returns the number of errors as text, such as `2 faults`.
+ * Returns the number of errors as text, such as `2 errors`.
  * @param {number} count
  */
 export function formatErrorCount(count) {
-  return formatQuantity(count, "fault");
+  return formatQuantity(count, "error");
 }
 
 /**

@@ -8,7 +8,7 @@ import * as say from "../../words/lines.js";
 
 /**
  * The error in a line: the bench's error number, and a message that names the wrong word.
- * @typedef {{ number: number, message: string }} LineFault
+ * @typedef {{ number: number, message: string }} BenchLineError
  *
  * The syntax of a kind of place: the pattern of its name, the maximum of each number in the name (`maxima`), and the maximum value of the
  * place (`maxValue`).
@@ -78,11 +78,11 @@ const parseNumeral = (word) => (new RegExp(`^${NUMERAL}$`).test(word) ? Number(w
  * Returns an error if a word is not a number in the range, otherwise null.
  * @param {string} word
  * @param {Range} range
- * @returns {LineFault | null}
+ * @returns {BenchLineError | null}
  */
 function findRangeError(word, [first, last]) {
   const number = parseNumeral(word);
-  return number >= first && number <= last ? null : { number: BAD_NUMBER, message: say.notInRange(word, first, last) };
+  return number >= first && number <= last ? null : { number: BAD_NUMBER, message: say.notInRangeMessage(word, first, last) };
 }
 
 /**
@@ -104,10 +104,10 @@ function isInRange(word, { pattern, maxima }) {
   return placeNumbers.every((number, index) => number <= maxima[index]);
 }
 
-/** @type {(word: string, names: string[]) => LineFault} */
-const unknownPlaceError = (word, names) => ({ number: NOT_A_COMMAND, message: say.noPlace(word, findSimilarWords(word, names)) });
-/** @type {(word: string) => LineFault} */
-const noSuchPlaceError = (word) => ({ number: BAD_NUMBER, message: say.noSuchPlace(word) });
+/** @type {(word: string, names: string[]) => BenchLineError} */
+const unknownPlaceError = (word, names) => ({ number: NOT_A_COMMAND, message: say.noPlaceMessage(word, findSimilarWords(word, names)) });
+/** @type {(word: string) => BenchLineError} */
+const noSuchPlaceError = (word) => ({ number: BAD_NUMBER, message: say.noSuchPlaceMessage(word) });
 
 /**
  * Returns the error in the words after `poke`; null if there is none.
@@ -129,7 +129,7 @@ function findTraceError(count, places) {
   const syntaxes = [...PLACE_SYNTAXES, ...TRACE_ONLY_SYNTAXES];
   const unknownWord = places.slice(0, MAX_PLACES).find((word) => !findPlaceSyntax(word, syntaxes));
   if (unknownWord !== undefined) return unknownPlaceError(unknownWord, TRACE_NAMES);
-  if (places.length > MAX_PLACES) return { number: NOT_A_COMMAND, message: say.tooManyPlaces(MAX_PLACES) };
+  if (places.length > MAX_PLACES) return { number: NOT_A_COMMAND, message: say.tooManyPlacesMessage(MAX_PLACES) };
   const wrongWord = places.find((word) => !isInRange(word, /** @type {PlaceSyntax} */ (findPlaceSyntax(word, syntaxes))));
   return wrongWord === undefined ? findRangeError(count, [1, MAX_CYCLES]) : noSuchPlaceError(wrongWord);
 }
@@ -137,12 +137,12 @@ function findTraceError(count, places) {
 /**
  * Finds the error in a line that is already split into words. Returns null if there is none.
  * @param {string[]} words
- * @returns {LineFault | null}
+ * @returns {BenchLineError | null}
  */
 function findWordError([first, ...words]) {
   if (first === undefined) return null;
   if (!ANSWER_FORMATS.has(first)) {
-    return { number: NOT_A_COMMAND, message: say.noLine(first, findSimilarWords(first, ANSWER_FORMATS.keys())) };
+    return { number: NOT_A_COMMAND, message: say.noLineMessage(first, findSimilarWords(first, ANSWER_FORMATS.keys())) };
   }
   const syntaxError = { number: NOT_A_COMMAND, message: say.lineSyntax(first) };
   if (first === "trace") return words.length === 0 ? syntaxError : findTraceError(words[0], words.slice(1));
@@ -164,10 +164,10 @@ export function invalidCharacterIn(line) {
 /**
  * Returns the syntax error in a line; null if the syntax is correct. The bench can still reject the line, for example because of its board.
  * @param {string} line without a line feed
- * @returns {LineFault | null}
+ * @returns {BenchLineError | null}
  */
 export function findLineError(line) {
-  if (line.length > MAX_LINE_LENGTH) return { number: LINE_TOO_LONG, message: say.tooLong(MAX_LINE_LENGTH, line.length) };
+  if (line.length > MAX_LINE_LENGTH) return { number: LINE_TOO_LONG, message: say.tooLongMessage(MAX_LINE_LENGTH, line.length) };
   const character = invalidCharacterIn(line);
   if (character !== "") return { number: NOT_ASCII, message: say.invalidCharacter(character) };
   return findWordError(line.split(/[ \t]+/).filter((word) => word !== ""));

@@ -3,7 +3,7 @@
 /**
  * @typedef {import("../engine/worker_session.js").LinesResult} LinesResult
  * @typedef {import("../engine/examples.js").Example} Example
- * @typedef {import("./bench_errors.js").PackedFault} PackedFault
+ * @typedef {import("./bench_errors.js").PackedError} PackedError
  * @typedef {import("./run_log.js").RunEntry} RunEntry
  *
  * A session state for the page. `snapshot`: the answers to the snapshot queries. `file`: the bytes of the session file (transferred).
@@ -44,12 +44,12 @@
  * @typedef {Request | Cancel | Ping | SpareBuffer} ToWorker
  *
  * The messages to the page.
- * @typedef {{ kind: "reply", number: number, result?: any, error?: PackedFault }} Reply
+ * @typedef {{ kind: "reply", number: number, result?: any, error?: PackedError }} Reply
  * @typedef {{ kind: "early", number: number, result: any }} EarlyReply a copy of the result, sent before the reply
  * @typedef {{ kind: "progress", number: number, done: number, total: number }} Progress the completed and the total amount of a request's
  *   work
  * @typedef {{ kind: "frame", frame: Frame }} FrameMessage the result of a period in which the machine ran at full speed
- * @typedef {{ kind: "failed", error: PackedFault }} FailureMessage the error that stopped the machine at full speed
+ * @typedef {{ kind: "failed", error: PackedError }} FailureMessage the error that stopped the machine at full speed
  * @typedef {{ kind: "pong" }} Pong
  * @typedef {Reply | EarlyReply | Progress | FrameMessage | FailureMessage | Pong} ToPage
  */

@@ -56,7 +56,7 @@ export function readBytes(file, from = 0) {
   if (file.length === 0) throw new ImageError(say.NO_BYTE);
   if (from + file.length > ADDRESS_COUNT) {
     const [size, room] = [file.length, ADDRESS_COUNT - from].map((count) => count.toLocaleString("en"));
-    throw new ImageError(from === 0 ? say.tooManyBytes(size, room) : say.tooManyFrom(size, room, hex(from, 3)));
+    throw new ImageError(from === 0 ? say.tooManyBytesMessage(size, room) : say.tooManyFromMessage(size, room, hex(from, 3)));
   }
   const image = new ImageBytes(from);
   image.put(0, file);
@@ -109,7 +109,7 @@ const DATA_SIZES = new Map([[END_TYPE, 0], ...BASE_TYPES.map((type) => /** @type
 function storeRecord({ address, type, data }, image) {
   const size = DATA_SIZES.get(type);
   if (type === DATA_TYPE) image.put(address, data);
-  else if (size === undefined) throw new ImageError(say.noType(hex(type, 2)));
+  else if (size === undefined) throw new ImageError(say.noTypeMessage(hex(type, 2)));
   else if (data.length !== size) throw new ImageError(say.wrongRecordSize(hex(type, 2), size));
   else if (BASE_TYPES.includes(type) && data.some((byte) => byte !== 0)) throw new ImageError(say.addressPastLast(type));
 }

@@ -86,7 +86,7 @@ class AnswerMatcher {
     if (this.isDone) return "";
     const { answers, nextIndex: start } = this;
     const first = answers[start];
-    const messageAt = (/** @type {number} */ index) => say.noAnswer(index + 1, answers[index], line, input.line);
+    const messageAt = (/** @type {number} */ index) => say.noAnswerMessage(index + 1, answers[index], line, input.line);
     const [word, count] = first.split(" ");
     if (!canBeginAnswer(input, first)) this.message = messageAt(start);
     else if (word === "ok" && Number(count) !== this.commandCount + 1) {

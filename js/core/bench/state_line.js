@@ -68,9 +68,9 @@ export function parseRegisters(part) {
  * @returns {Ports}
  */
 export function parsePorts(part) {
-  const [source, , banks, , roms, , , , chains, , keys] = part.split(" ");
+  const [srcByte, , banks, , roms, , , , chains, , keys] = part.split(" ");
   return {
-    sources: [source, ...parseItems(banks)],
+    srcBytes: [srcByte, ...parseItems(banks)],
     roms: parseItems(roms).map((rom) => {
       const [chip, out, reads] = rom.split(".");
       return { chip, out, in: reads };

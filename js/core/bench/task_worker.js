@@ -5,10 +5,10 @@ import { WorkerDiedError } from "./bench_errors.js";
 
 /**
  * @typedef {import("./bench_client.js").Bench} Bench
- * @typedef {import("../testing/test_preparation.js").TextFault} TextFault
+ * @typedef {import("../testing/test_preparation.js").ProjectTextError} ProjectTextError
  *
  * The result of the work: the errors in the texts that prevented the work, and whether the user stopped the work.
- * @typedef {{ faults: TextFault[], isStopped: boolean }} TaskResult
+ * @typedef {{ errors: ProjectTextError[], isStopped: boolean }} TaskResult
  */
 
 /** A worker for one kind of long work. */
@@ -36,7 +36,7 @@ export class TaskWorker {
   /**
    * Starts the worker, runs the work in it, and ends the worker.
    * @param {AbortSignal} signal when aborted, terminates the worker at once
-   * @param {(bench: Bench) => Promise<TextFault[]>} work
+   * @param {(bench: Bench) => Promise<ProjectTextError[]>} work
    * @returns {Promise<TaskResult>}
    */
   async runTask(signal, work) {
@@ -44,9 +44,9 @@ export class TaskWorker {
     signal.addEventListener("abort", () => bench.end());
     try {
       await bench.start();
-      return { faults: await work(bench), isStopped: false };
+      return { errors: await work(bench), isStopped: false };
     } catch (error) {
-      if (error instanceof WorkerDiedError) return { faults: [], isStopped: true };
+      if (error instanceof WorkerDiedError) return { errors: [], isStopped: true };
       throw error;
     } finally {
       bench.end();

@@ -8,7 +8,7 @@ import * as say from "../../words/board.js";
 /**
  * An error in a front-panel line. `isFatal` is true if names or displays depend on the line. A tool that needs names or displays then
  * rejects the text.
- * @typedef {{ line: number, message: string, isFatal: boolean }} Fault
+ * @typedef {{ line: number, message: string, isFatal: boolean }} FaceError
  * @typedef {import("./face_words.js").Kind} Kind
  * @typedef {import("./key_place.js").MatrixKey} MatrixKey
  * @typedef {{ text: string, line: number }} FaceText a name or a colour, and the number of its line
@@ -61,7 +61,7 @@ export class Face {
     this.printer = null;
     /** @type {Map<string, FaceText>} the names of the devices at ports and chains, by port or chain (`rom0`, `ram0.0`, `chain0`) */
     this.ports = new Map();
-    /** @type {Fault[]} */
+    /** @type {FaceError[]} */
     this.errors = [];
     /** All front-panel lines as one text. Callers compare this text to find changes of the front panel. */
     this.comments = "";
@@ -344,7 +344,7 @@ const LINE_READERS = {
 /**
  * Returns the errors in the front panel of a board text, sorted by line.
  * @param {string} text
- * @returns {Fault[]}
+ * @returns {FaceError[]}
  */
 export function findFaceErrors(text) {
   return sortByLine(new Face(text).errors);
@@ -352,17 +352,17 @@ export function findFaceErrors(text) {
 
 /**
  * Returns a message with the number of errors that a list omits; "" if it omits none.
- * @param {unknown[]} faults
+ * @param {unknown[]} errors
  * @param {number} maxListed the maximum number of listed errors
  */
-export function moreErrors(faults, maxListed) {
-  return faults.length > maxListed ? say.andMore((faults.length - maxListed).toLocaleString("en")) : "";
+export function moreErrors(errors, maxListed) {
+  return errors.length > maxListed ? say.andMore((errors.length - maxListed).toLocaleString("en")) : "";
 }
 
 /**
  * Returns errors sorted by line.
- * @param {Fault[]} faults
+ * @param {FaceError[]} errors
  */
-export function sortByLine(faults) {
-  return [...faults].sort((a, b) => a.line - b.line);
+export function sortByLine(errors) {
+  return [...errors].sort((a, b) => a.line - b.line);
 }

@@ -9,7 +9,7 @@ import { indices } from "../bench/numbers.js";
 /**
  * @typedef {import("../bench/answers.js").Board} Board
  * @typedef {import("./face.js").Face} Face
- * @typedef {import("./face.js").Fault} Fault
+ * @typedef {import("./face.js").FaceError} FaceError
  * @typedef {import("./face.js").Group} Group
  */
 
@@ -117,33 +117,33 @@ export function printerLines({ strobe, port }) {
  * Returns an error for each front-panel part whose keys, lamps, lines or chips the board lacks, sorted by line.
  * @param {Face} face
  * @param {Board} board
- * @returns {Fault[]}
+ * @returns {FaceError[]}
  */
 export function missingParts(face, board) {
-  /** @type {Fault[]} */
-  const faults = [];
+  /** @type {FaceError[]} */
+  const errors = [];
   const count = board.lamps.length;
   /** @type {(kind: string, line: number, messageName: string, ...values: (string | number)[]) => void} */
-  const addFault = (kind, line, messageName, ...values) => {
-    faults.push({ line, message: formatMessage(messageName, ...values), isFatal: isFatal(kind) });
+  const addError = (kind, line, messageName, ...values) => {
+    errors.push({ line, message: formatMessage(messageName, ...values), isFatal: isFatal(kind) });
   };
   for (const { text, line, key: { row, column } } of face.keys.values()) {
     if (text === "" || (row < board.rows && column < board.columns)) continue;
-    addFault("row", line, board.rows ? "key not there" : "no keys", text, row, column, board.rows, board.columns);
+    addError("row", line, board.rows ? "key not there" : "no keys", text, row, column, board.rows, board.columns);
   }
-  for (const [lamp, { text, line }] of face.lamps) if (lamp >= count) addFault("lamp", line, "lamp not there", text, lamp, count);
-  for (const [line, lamp] of lastColouredLamps(face)) if (lamp >= count) addFault("colour", line, "no lamp for colour", lamp, count);
-  for (const { lamp, line } of face.grid) if (lamp >= count) addFault("grid", line, "no lamp for place", lamp, count);
+  for (const [lamp, { text, line }] of face.lamps) if (lamp >= count) addError("lamp", line, "lamp not there", text, lamp, count);
+  for (const [line, lamp] of lastColouredLamps(face)) if (lamp >= count) addError("colour", line, "no lamp for colour", lamp, count);
+  for (const { lamp, line } of face.grid) if (lamp >= count) addError("grid", line, "no lamp for place", lamp, count);
   for (const group of face.groups) {
-    if (groupEnd(group) > count) addFault(group.kind, group.line, "no lamps for group", group.kind, groupEnd(group) - 1, count);
+    if (groupEnd(group) > count) addError(group.kind, group.line, "no lamps for group", group.kind, groupEnd(group) - 1, count);
   }
   const { buzzer } = face;
-  if (buzzer && !hasOutput(board, buzzer.place)) addFault("buzzer", buzzer.line, "no output line", buzzer.place);
+  if (buzzer && !hasOutput(board, buzzer.place)) addError("buzzer", buzzer.line, "no output line", buzzer.place);
   const { printer } = face;
   const missingLine = printer && printerLines(printer).find((line) => !hasOutput(board, line));
-  if (printer && missingLine) addFault("printer", printer.line, "no output line", missingLine);
-  for (const [place, { line }] of face.ports) if (!hasPart(board, place)) addFault("port", line, "port not there", place);
-  return sortByLine(faults);
+  if (printer && missingLine) addError("printer", printer.line, "no output line", missingLine);
+  for (const [place, { line }] of face.ports) if (!hasPart(board, place)) addError("port", line, "port not there", place);
+  return sortByLine(errors);
 }
 
 /**

@@ -44,7 +44,7 @@ class LampAnswerReader {
    */
   lampCountError(marks, line) {
     const count = marks === "-" ? 0 : marks.length;
-    return count < this.requiredLampCount ? say.tooFewLamps(line, count, this.name, this.requiredLampCount) : "";
+    return count < this.requiredLampCount ? say.tooFewLampsMessage(line, count, this.name, this.requiredLampCount) : "";
   }
 
   /**
@@ -57,10 +57,10 @@ class LampAnswerReader {
   readAnswer(answers, index) {
     const makeFailure = (/** @type {string} */ error) => ({ text: "", error, count: 1 });
     const answer = answers[index];
-    if (REFUSAL_ANSWER.test(answer)) return makeFailure(say.isRefusal(index + 1, answer));
+    if (REFUSAL_ANSWER.test(answer)) return makeFailure(say.isRefusalMessage(index + 1, answer));
     const [word, marks = ""] = answer.split(" ");
     if (word === "lamps") {
-      const message = this.lampCountError(marks, index + 1) || (this.isScanned ? say.isInstant(index + 1, this.name) : "");
+      const message = this.lampCountError(marks, index + 1) || (this.isScanned ? say.isInstantMessage(index + 1, this.name) : "");
       return message === "" ? { text: joinDisplayText(this.text.read(marks)), error: message, count: 1 } : makeFailure(message);
     }
     const [, rows, first] = TRACE_ANSWER.exec(answer) || [];
@@ -82,7 +82,7 @@ class LampAnswerReader {
  * @returns {DisplayTexts}
  */
 export function convertLampAnswers(face, board, name, answers) {
-  if (!face.groups.some(({ kind }) => kind === "display")) return { lines: [], error: say.hasNoDisplay(name) };
+  if (!face.groups.some(({ kind }) => kind === "display")) return { lines: [], error: say.hasNoDisplayMessage(name) };
   const reader = new LampAnswerReader(face, board, name);
   /** @type {string[]} */
   const lines = [];

@@ -53,7 +53,7 @@ function compareValues(value, sign, required) {
     explain: (values, _, isNot) => {
       const number = required.read(values);
       const expected = required.isConstant ? String(number) : say.valueIs(required.name, number);
-      return say.mustBe(value.name, String(value.read(values)), sign === "=" ? expected : `${sign} ${expected}`, false, isNot);
+      return say.mustBeMessage(value.name, String(value.read(values)), sign === "=" ? expected : `${sign} ${expected}`, false, isNot);
     },
   };
 }
@@ -114,7 +114,7 @@ function compilePlaceValues({ place, values, text, column }, names, dependencies
     address: -1,
     matches: (answers) => nibbles.every((value, index) => value.read(answers) === required[index].read(answers)),
     explain: (answers, _, isNot) => (
-      say.mustBe(nibbles[0].name, joinValues(nibbles, answers), joinValues(required, answers), false, isNot)
+      say.mustBeMessage(nibbles[0].name, joinValues(nibbles, answers), joinValues(required, answers), false, isNot)
     ),
   };
 }
@@ -144,7 +144,8 @@ function compilePanelState({ subject, name, isOn }, names, dependencies) {
   return {
     address: -1,
     matches: (values) => value.read(values) === Number(isOn),
-    explain: (values, _, isNot) => say.mustBe(`${subject} ${name}`, stateNames[value.read(values)], stateNames[Number(isOn)], false, isNot),
+    explain: (values, _, isNot) => (
+      say.mustBeMessage(`${subject} ${name}`, stateNames[value.read(values)], stateNames[Number(isOn)], false, isNot)),
   };
 }
 

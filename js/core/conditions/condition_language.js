@@ -63,7 +63,7 @@ const isStatePlace = (place) => STATE_PLACES.has(place);
  * @param {string[]} places
  */
 function checkPlaceCount({ length }) {
-  if (length > MAX_PLACES) fail(say.tooManyPlaces(length, MAX_PLACES), 0);
+  if (length > MAX_PLACES) fail(say.tooManyPlacesMessage(length, MAX_PLACES), 0);
 }
 
 /**
@@ -178,7 +178,7 @@ export function compileTestCondition(conditionText, names) {
 export function compileTracedCondition(text, names) {
   const read = compileCondition(text, names);
   const statePlace = read.condition ? read.condition.places.find((place) => STATE_PLACES.has(place)) : undefined;
-  return statePlace === undefined ? read : { condition: null, error: say.noTraceShows(statePlace), column: 0 };
+  return statePlace === undefined ? read : { condition: null, error: say.noTraceShowsMessage(statePlace), column: 0 };
 }
 
 /**

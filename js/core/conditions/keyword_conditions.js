@@ -36,7 +36,7 @@ function createCondition({ subject, required, isPlural = false, measure, matches
     matches: (values, extraValues) => matches(measure(values, extraValues), extraValues),
     explain: (values, extraValues, isNot) => {
       const actual = measure(values, extraValues);
-      return say.mustBe(subject, actual, required + (remark ? remark(actual) : ""), isPlural, isNot);
+      return say.mustBeMessage(subject, actual, required + (remark ? remark(actual) : ""), isPlural, isNot);
     },
   };
 }

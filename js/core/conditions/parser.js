@@ -116,7 +116,7 @@ class Parser {
   parseCompleteText() {
     const node = this.parseJoined("or");
     const token = this.scanner.peek();
-    if (token.kind !== "end") fail(say.notExpected(this.tokenText(token)), token.column);
+    if (token.kind !== "end") fail(say.notExpectedMessage(this.tokenText(token)), token.column);
     return node;
   }
 
@@ -170,7 +170,7 @@ class Parser {
       return { kind: "at", label: node.text.slice(1), text: node.text, column: node.column };
     }
     if (node.kind === "lamp" || node.kind === "key") return fail(PANEL_MESSAGES[node.kind], node.column);
-    return fail(say.noComparison(node.text), node.column);
+    return fail(say.noComparisonMessage(node.text), node.column);
   }
 
   /**
@@ -179,7 +179,7 @@ class Parser {
    * @returns {ValueNode}
    */
   requireValue(node) {
-    return isCondition(node) ? fail(say.noValue(node.text), node.column) : node;
+    return isCondition(node) ? fail(say.noValueMessage(node.text), node.column) : node;
   }
 
   /**
@@ -298,11 +298,12 @@ class Parser {
   parseParentheses() {
     const { column } = this.scanner.next();
     this.depth += 1;
-    if (this.depth > MAX_DEPTH) fail(say.tooDeep(MAX_DEPTH), column);
+    if (this.depth > MAX_DEPTH) fail(say.tooDeepMessage(MAX_DEPTH), column);
     const node = this.parseJoined("or");
     const token = this.scanner.peek();
     if (token.text !== ")" || token.kind !== "sign") {
-      fail(token.kind === "end" ? say.NOT_CLOSED : say.notExpected(this.tokenText(token)), token.kind === "end" ? column : token.column);
+      const isEnd = token.kind === "end";
+      fail(isEnd ? say.NOT_CLOSED : say.notExpectedMessage(this.tokenText(token)), isEnd ? column : token.column);
     }
     this.depth -= 1;
     this.scanner.next();
@@ -517,7 +518,7 @@ class Parser {
  * @returns {Node}
  */
 export function parseExpression(text, isLampName = () => false) {
-  if (text.length > MAX_LENGTH) fail(say.tooLong(MAX_LENGTH), MAX_LENGTH - 1);
+  if (text.length > MAX_LENGTH) fail(say.tooLongMessage(MAX_LENGTH), MAX_LENGTH - 1);
   return new Parser(text, isLampName).parseCompleteText();
 }
 
@@ -528,7 +529,7 @@ export function parseExpression(text, isLampName = () => false) {
  * @returns {ConditionNode}
  */
 export function parseCondition(text, isLampName = () => false) {
-  if (text.length > MAX_LENGTH) fail(say.tooLong(MAX_LENGTH), MAX_LENGTH - 1);
+  if (text.length > MAX_LENGTH) fail(say.tooLongMessage(MAX_LENGTH), MAX_LENGTH - 1);
   const parser = new Parser(text, isLampName);
   return parser.requireCondition(parser.parseCompleteText());
 }

@@ -66,7 +66,7 @@ export function parseSetting(text) {
 function makeSetting({ text, column }, value) {
   const place = settablePlace(text);
   if (place !== "") return { place, value };
-  return fail(parsePlace(text) || !hintFor(text) ? say.cannotBeSet(text) : say.noSuchPlace(text, hintFor(text)), column);
+  return fail(parsePlace(text) || !hintFor(text) ? say.cannotBeSetMessage(text) : say.noSuchPlaceMessage(text, hintFor(text)), column);
 }
 
 /**

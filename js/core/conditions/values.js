@@ -111,7 +111,7 @@ export function findLampNumber(name, { face, board }) {
   if (named !== undefined) return named;
   if (/^\d+$/.test(name) && Number(name) < board.lamps.length) return Number(name);
   const knownNames = [...face.lampNumbers].sort((a, b) => a[1] - b[1]).map(([lampName]) => lampName);
-  return fail(say.noLamp(name, knownNames.join(" ")));
+  return fail(say.noLampMessage(name, knownNames.join(" ")));
 }
 
 /**
@@ -137,7 +137,7 @@ export function keyValue(name, { face }, dependencies) {
   const key = [...listKeyInputs(face), ...(face.test ? [createTestInput(face)] : [])].find((input) => input.name === name);
   if (!key) {
     const knownNames = [...listKeyInputs(face), ...(face.test ? [createTestInput(face)] : [])].map((input) => input.name);
-    return fail(say.noKeyOfPanel(name, knownNames.join(" ")));
+    return fail(say.noKeyOfPanelMessage(name, knownNames.join(" ")));
   }
   const [word, ...numbers] = key.downLine.split(" ");
   if (word === "test") return bitValue(`key ${name}`, dependencies.addPlace("test"), (answer) => Number(answer === numbers[0]));
@@ -164,7 +164,7 @@ function findProgramName(name, map) {
  */
 export function findLabelAddress(name, names) {
   const label = findProgramName(name, names.map);
-  return label && label.isLabel ? label.value : fail(say.noLabel(name));
+  return label && label.isLabel ? label.value : fail(say.noLabelMessage(name));
 }
 
 /**
@@ -180,7 +180,7 @@ function placeValue(place, { board }, dependencies) {
   const probes = place.probesOn(board);
   if (probes.length === 0) fail(say.boardLacks(name));
   const maxValue = place.maxValue(board);
-  if (maxValue < 0) fail(say.isNoNumber(name));
+  if (maxValue < 0) fail(say.isNoNumberMessage(name));
   const answerIndexes = probes.map((probe) => dependencies.addPlace(probe));
   const selectAnswers = (/** @type {string[]} */ values) => answerIndexes.map((index) => values[index]);
   return { name, maxValue, isConstant: false, read: (values) => place.number(selectAnswers(values)),
@@ -242,7 +242,7 @@ function suggestionFor(text, { map, watched, face }) {
  * @returns {never}
  */
 function failForUnknownName(text, names) {
-  return fail(say.noSuchPlace(text, suggestionFor(text, names)));
+  return fail(say.noSuchPlaceMessage(text, suggestionFor(text, names)));
 }
 
 /**
@@ -256,7 +256,7 @@ function failForUnknownName(text, names) {
 function watchNameValue(name, text, names, dependencies) {
   if (dependencies.depth >= MAX_NAME_DEPTH) return fail(say.namesTooDeep(name, MAX_NAME_DEPTH));
   const node = parseExpression(text, (lamp) => names.face.lampNumbers.has(lamp));
-  if (isCondition(node)) return fail(say.isNoValue(name, text));
+  if (isCondition(node)) return fail(say.isNoValueMessage(name, text));
   dependencies.depth += 1;
   try {
     return { ...compileValue(node, names, dependencies), name };
@@ -281,7 +281,7 @@ function nameValue(node, names, dependencies) {
   if (direction !== "") return portValue(node, names, dependencies);
   if (text.startsWith("@")) {
     const programName = findProgramName(text.slice(1), names.map);
-    return constantValue(programName ? programName.value : fail(say.noLabel(text.slice(1))));
+    return constantValue(programName ? programName.value : fail(say.noLabelMessage(text.slice(1))));
   }
   if (word === "test" || word === "owed") return bitValue(word, dependencies.addPlace(word), Number);
   const place = placeValue(parsePlace(text), names, dependencies);
@@ -305,7 +305,7 @@ function nameValue(node, names, dependencies) {
 export function nibbleValues({ text, column }, count, names, dependencies) {
   return withErrorColumn(column, () => {
     const place = parsePlace(text);
-    const [, bank, byte] = /^ram\.(\d)\.0x(\w+)$/.exec(place ? place.name : "") || fail(say.isOneValue(place ? place.name : text));
+    const [, bank, byte] = /^ram\.(\d)\.0x(\w+)$/.exec(place ? place.name : "") || fail(say.isOneValueMessage(place ? place.name : text));
     return Array.from({ length: count }, (_, index) => {
       const nibbleAddress = parseInt(byte, 16) + index;
       const nibblePlace = nibbleAddress <= LAST_NIBBLE ? parsePlace(`ram.${bank}.${nibbleAddress}`) : null;
@@ -338,7 +338,7 @@ export function evaluateConstant(node, map) {
   if (node.kind === "number") return node.value;
   if (node.kind === "sum") return OPERATIONS[node.sign](evaluateConstant(node.left, map), evaluateConstant(node.right, map));
   const programName = node.kind === "name" && node.direction === "" ? findProgramName(node.text.replace(/^@/, ""), map) : undefined;
-  return programName ? programName.value : fail(map ? say.noConstant(node.text) : say.noNames(node.text), node.column);
+  return programName ? programName.value : fail(map ? say.noConstantMessage(node.text) : say.noNamesMessage(node.text), node.column);
 }
 
 /**

@@ -179,17 +179,17 @@ export class Arrivals {
   }
 
   /** The hit counts, in the order of `breakpoints`. */
-  get hits() {
+  get counts() {
     return this.breakpoints.map(({ hits }) => hits);
   }
 
   /**
    * Restores the hit counts from before typed lines. Called if the lines fail, because the hits counted for them did not happen.
-   * @param {number[]} hits
+   * @param {number[]} counts
    */
-  restoreHits(hits) {
+  restoreCounts(counts) {
     this.breakpoints.forEach((breakpoint, index) => {
-      breakpoint.hits = hits[index];
+      breakpoint.hits = counts[index];
     });
   }
 

@@ -27,7 +27,7 @@ import * as say from "../../words/debug.js";
  * @property {(error: unknown) => void} failed Reports an error that `set` threw.
  */
 
-const TOO_MANY_ENABLED = say.tooManyEnabled(MAX_ENABLED_BREAKPOINTS);
+const TOO_MANY_ENABLED = say.tooManyEnabledMessage(MAX_ENABLED_BREAKPOINTS);
 /** The maximum number of sessions with a stored list. */
 const MAX_LISTS = 30;
 
@@ -255,7 +255,7 @@ export class BreakpointManager {
    */
   add(fields) {
     if (this.list.all.length >= MAX_BREAKPOINTS) {
-      this.callbacks.showMessage(say.tooManyBreakpoints(MAX_BREAKPOINTS));
+      this.callbacks.showMessage(say.tooManyBreakpointsMessage(MAX_BREAKPOINTS));
       return;
     }
     const isFull = this.list.enabledCount >= MAX_ENABLED_BREAKPOINTS;

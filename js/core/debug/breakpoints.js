@@ -331,7 +331,7 @@ export function instructionForLine(line, map) {
       return { line: next, address, message };
     }
   }
-  return { line, address: -1, message: say.nothingFollows(line) };
+  return { line, address: -1, message: say.nothingFollowsMessage(line) };
 }
 
 /**

@@ -1,6 +1,6 @@
 // Finds the changes of watched places. A data watch stops the machine when its place changes. The place is a register, a port, the lamps,
-// or a chain. It can also be a RAM character that the bench cannot watch, for example because the watch has a condition. Queries find the
-// changes before the session runs. The session file contains no data watch.
+// or a chain. It can also be a RAM character that the bench itself does not watch, for example because the watch has a condition. Queries
+// find the changes before the session runs. The session file contains no data watch.
 
 import { readBoard } from "../bench/answers.js";
 import { MAX_PLACES } from "../bench/inputs.js";
@@ -10,7 +10,7 @@ import { LastChangeFinder } from "../engine/past_search.js";
 import { instructionCycles } from "../engine/rom_codes.js";
 import { ForecastAnswers, parseTraceLine, rowValues } from "../engine/forecast_answers.js";
 import { plannedCycles, truncateLines } from "./goal_search.js";
-import { boardLacks, errorInColumn, tooManyPlaces } from "../../words/conditions.js";
+import { boardLacks, errorInColumn, tooManyPlacesMessage } from "../../words/conditions.js";
 import { changedFrom, CHANGES_ALWAYS } from "../../words/debug.js";
 
 /**
@@ -24,12 +24,13 @@ import { changedFrom, CHANGES_ALWAYS } from "../../words/debug.js";
  * `from`: the number of the first change that stops the machine, among those that count.
  * @typedef {{ id: number, name: string, condition: string, from: number }} RequestedWatch
  *
- * A compiled watch. `probes`: the `trace` places that report the value. `hits`: the number of changes that counted so far.
- * @typedef {{ id: number, place: Place, probes: string[], condition: Condition | null, from: number, hits: number }} DataWatch
+ * A compiled watch. `probes`: the `trace` places that report the value. `changeCount`: the number of changes that counted so far.
+ * @typedef {{ id: number, place: Place, probes: string[], condition: Condition | null, from: number,
+ *   changeCount: number }} DataWatch
  *
  * The first change that stops the machine. `cycles`: the cycles before the change, -1 for no change. `id`: the id of the watch. `change`: a
- * description of the change. `hits`: for each watch id, the number of changes that count.
- * @typedef {{ cycles: number, id: number, change: string, hits: Map<number, number> }} WatchEvents
+ * description of the change. `changes`: for each watch id, the number of changes that count.
+ * @typedef {{ cycles: number, id: number, change: string, changes: Map<number, number> }} WatchEvents
  */
 
 /** The place that cannot be watched: the program counter, because every instruction changes it. */
@@ -38,7 +39,7 @@ const UNWATCHABLE_PLACE = "pc";
 const MAX_QUERY_CYCLES = 50000;
 
 /** @returns {WatchEvents} a result without a change */
-const createEmptyResult = () => ({ cycles: -1, id: 0, change: "", hits: new Map() });
+const createEmptyResult = () => ({ cycles: -1, id: 0, change: "", changes: new Map() });
 
 /**
  * Compiles requested watches. `errors` contains the error messages of watches that cannot be compiled, by watch id.
@@ -58,11 +59,11 @@ export function compileWatches(requestedWatches, names) {
     const allPlaces = new Set([...places, ...probes, ...(condition ? condition.places : [])]);
     const placeError = !place || probes.length === 0 ? boardLacks(name)
       : name === UNWATCHABLE_PLACE ? CHANGES_ALWAYS : error && errorInColumn(error, column);
-    const message = placeError || (allPlaces.size > MAX_PLACES ? tooManyPlaces(allPlaces.size, MAX_PLACES) : "");
+    const message = placeError || (allPlaces.size > MAX_PLACES ? tooManyPlacesMessage(allPlaces.size, MAX_PLACES) : "");
     if (message) errors.set(id, message);
     if (message || !place) return [];
     for (const usedPlace of allPlaces) places.add(usedPlace);
-    return [{ id, place, probes, condition, from, hits: 0 }];
+    return [{ id, place, probes, condition, from, changeCount: 0 }];
   });
   return { watches, errors };
 }
@@ -142,11 +143,11 @@ export class DataWatches {
    * @param {string[]} after the values of all places after the instruction
    * @param {WatchEvents} events receives the count
    */
-  countChange(watch, before, after, { hits }) {
+  countChange(watch, before, after, { changes }) {
     if (!this.isCountedChange(watch, before, after)) return false;
-    const count = (hits.get(watch.id) || 0) + 1;
-    hits.set(watch.id, count);
-    return watch.hits + count >= watch.from;
+    const count = (changes.get(watch.id) || 0) + 1;
+    changes.set(watch.id, count);
+    return watch.changeCount + count >= watch.from;
   }
 
   /**
@@ -173,10 +174,10 @@ export class DataWatches {
 
   /**
    * Adds the new changes to the counts, after the session has run the lines.
-   * @param {Map<number, number>} hits the number of new changes, by watch id
+   * @param {Map<number, number>} changes the number of new changes, by watch id
    */
-  count(hits) {
-    for (const watch of this.watches) watch.hits += hits.get(watch.id) || 0;
+  count(changes) {
+    for (const watch of this.watches) watch.changeCount += changes.get(watch.id) || 0;
   }
 
   /**
@@ -260,10 +261,10 @@ export class SoftStopFinder {
     const events = this.arrivals.searchLines(engine, file, plannedLines);
     if (this.dataWatches.isEmpty) return events;
     const limitedLines = events.cycles >= 0 ? truncateLines(plannedLines, events.cycles) : plannedLines;
-    const { hits, ...changed } = this.dataWatches.searchLines(engine, file, limitedLines, this.codes);
-    if (changed.cycles < 0 || changed.cycles === events.cycles) return { ...events, changes: hits };
-    const earlierEvents = this.arrivals.searchLines(engine, file, truncateLines(plannedLines, changed.cycles));
-    return { ...earlierEvents, ...changed, reason: "watch", changes: hits };
+    const { changes, ...watchStop } = this.dataWatches.searchLines(engine, file, limitedLines, this.codes);
+    if (watchStop.cycles < 0 || watchStop.cycles === events.cycles) return { ...events, changes };
+    const earlierEvents = this.arrivals.searchLines(engine, file, truncateLines(plannedLines, watchStop.cycles));
+    return { ...earlierEvents, ...watchStop, reason: "watch", changes };
   }
 
   /**
@@ -275,20 +276,20 @@ export class SoftStopFinder {
     this.dataWatches.count(events.changes);
   }
 
-  /** The hit counts of the breakpoints, followed by those of the watches. */
-  get hits() {
-    return [...this.arrivals.hits, ...this.dataWatches.watches.map(({ hits }) => hits)];
+  /** The hit counts of the breakpoints, followed by the change counts of the watches. */
+  get counts() {
+    return [...this.arrivals.counts, ...this.dataWatches.watches.map(({ changeCount }) => changeCount)];
   }
 
   /**
-   * Restores the hit counts from before typed lines. Called if the lines fail, because the hits counted for them did not happen.
-   * @param {number[]} hits
+   * Restores the counts from before typed lines. Called if the lines fail, because the counted events did not happen.
+   * @param {number[]} counts
    */
-  restoreHits(hits) {
-    const { length } = this.arrivals.hits;
-    this.arrivals.restoreHits(hits.slice(0, length));
+  restoreCounts(counts) {
+    const { length } = this.arrivals.counts;
+    this.arrivals.restoreCounts(counts.slice(0, length));
     this.dataWatches.watches.forEach((watch, index) => {
-      watch.hits = hits[length + index];
+      watch.changeCount = counts[length + index];
     });
   }
 }

@@ -180,9 +180,9 @@ export class Debugger {
    * @param {Names} names
    */
   setWatches(requestedWatches, names) {
-    const hits = new Map(this.watches.watches.map((watch) => [watch.id, watch.hits]));
+    const changeCounts = new Map(this.watches.watches.map(({ id, changeCount }) => [id, changeCount]));
     const { watches, errors } = compileWatches(requestedWatches, names);
-    this.watches = new DataWatches(watches.map((watch) => ({ ...watch, hits: hits.get(watch.id) || 0 })));
+    this.watches = new DataWatches(watches.map((watch) => ({ ...watch, changeCount: changeCounts.get(watch.id) || 0 })));
     this.arrivals = new SoftStopFinder(this.arrivals.arrivals, this.watches, () => this.session.romBytes);
     return errors;
   }
@@ -377,7 +377,7 @@ export class Debugger {
       for (const [id, hits] of events.hits) all.hits.set(id, (all.hits.get(id) || 0) + hits);
       all.notes = [...all.notes, ...events.notes.map((note) => ({ ...note, cycles: note.cycles + done }))];
       all.noteCount += events.noteCount;
-      for (const [id, hits] of events.changes) all.changes.set(id, (all.changes.get(id) || 0) + hits);
+      for (const [id, count] of events.changes) all.changes.set(id, (all.changes.get(id) || 0) + count);
       if (events.cycles >= 0) {
         return { ...events, ...all, cycles: done + events.cycles, id: events.id, reason: events.reason, change: events.change };
       }
@@ -397,7 +397,7 @@ export class Debugger {
   async serveTyped(lines, shouldContinue) {
     const { session, arrivals } = this;
     const countBefore = session.count.total;
-    const hits = arrivals.hits;
+    const { counts } = arrivals;
     try {
       const { lines: served, runs, ...stop } = await planTypedLines(session.engine, session.file, arrivals, lines, shouldContinue);
       const result = await session.serve(served, shouldContinue);
@@ -405,7 +405,7 @@ export class Debugger {
       const tallies = runs.map(({ events, done }) => this.createTally(events, null, countBefore + done));
       return { result, typedResult: { ...stop, cycles: session.count.total - countBefore, tally: tallies.reduce(joinTallies, NO_TALLY) } };
     } catch (error) {
-      arrivals.restoreHits(hits);
+      arrivals.restoreCounts(counts);
       throw error;
     }
   }

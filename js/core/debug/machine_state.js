@@ -37,7 +37,7 @@ export class MachineState {
   /** @returns {Map<number, Ram>} the contents of the banks, by bank number */
   get ram() {
     if (!this.parsedRam) {
-      const bankNumbers = this.ports.sources.slice(1).map((item) => Number(item.split(".")[0]));
+      const bankNumbers = this.ports.srcBytes.slice(1).map((item) => Number(item.split(".")[0]));
       this.parsedRam = new Map(this.banks.map((answer, index) => [bankNumbers[index], readRam(answer.split("\n"))]));
     }
     return this.parsedRam;
@@ -49,16 +49,16 @@ export class MachineState {
   }
 
   /** The SRC byte latched in the ROMs. */
-  get source() {
-    return parseInt(this.ports.sources[0], 16);
+  get romSrcByte() {
+    return parseInt(this.ports.srcBytes[0], 16);
   }
 
   /**
    * Returns the SRC byte latched in a bank; undefined if the board does not have the bank.
    * @param {number} [bank]
    */
-  latchedSource(bank = this.bank) {
-    const latchedItem = this.ports.sources.slice(1).map((item) => item.split(".")).find(([number]) => Number(number) === bank);
+  latchedSrcByte(bank = this.bank) {
+    const latchedItem = this.ports.srcBytes.slice(1).map((item) => item.split(".")).find(([number]) => Number(number) === bank);
     return latchedItem && parseInt(latchedItem[1], 16);
   }
 
@@ -138,8 +138,8 @@ export class MachineState {
     /** @type {Map<string, string>} */
     const all = new Map([["acc", registers.accumulator], ["cy", registers.carry], ["dcl", registers.bank]]);
     registers.registers.forEach((value, index) => all.set(`R${index}`, value));
-    for (const source of ports.sources) {
-      const [bank, byte] = source.split(".");
+    for (const item of ports.srcBytes) {
+      const [bank, byte] = item.split(".");
       all.set(byte === undefined ? "SRC" : say.sourceOfBank(bank), byte === undefined ? bank : byte);
     }
     for (const [bank, ram] of this.ram) {

@@ -45,7 +45,7 @@ function registerValue(place, machineState) {
     case "owed": return registers.owed;
     case "keys": return ports.keys.join(",");
     case "lamps": return parseItems(parts.lamps).join("") || "-";
-    case "src": return hex(machineState.source, 2);
+    case "src": return hex(machineState.romSrcByte, 2);
     case "ret": return registers.returns.join(",");
     default: return undefined;
   }

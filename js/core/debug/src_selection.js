@@ -67,15 +67,15 @@ export class SrcSelection {
    * @param {number} address
    * @param {string[]} values the values of src, dcl and ret after the instruction
    */
-  applyInstruction(code, address, [source, bank]) {
+  applyInstruction(code, address, [srcByte, bank]) {
     if (isSrc(code)) {
-      this.latchedBytes.set(parseNumber(bank), parseInt(source, 16));
+      this.latchedBytes.set(parseNumber(bank), parseInt(srcByte, 16));
       this.srcAddress = address;
       this.instructionKinds.clear();
     } else if (RAM_WRITES.has(code) || RAM_READS.has(code)) this.instructionKinds.add("RAM");
     else if (code === WRR || code === RDR) {
       this.instructionKinds.add(code === WRR ? "WRR" : "RDR");
-      this.lastChips.set(address, parseInt(source[0], 16));
+      this.lastChips.set(address, parseInt(srcByte[0], 16));
     }
   }
 
@@ -86,8 +86,8 @@ export class SrcSelection {
    * @param {string[]} values the values of src, dcl and ret before the instruction
    * @returns {SelectionMistake | null}
    */
-  findMistake(code, address, [source, bank]) {
-    if (code === WRR || code === RDR) return this.findPortMistake(code === WRR ? "WRR" : "RDR", address, parseInt(source[0], 16));
+  findMistake(code, address, [srcByte, bank]) {
+    if (code === WRR || code === RDR) return this.findPortMistake(code === WRR ? "WRR" : "RDR", address, parseInt(srcByte[0], 16));
     const name = RAM_WRITES.get(code);
     return name ? this.findRamMistake(name, parseNumber(bank)) : null;
   }
@@ -104,8 +104,8 @@ export class SrcSelection {
     const isWrite = name === "WRR";
     const action = say.usesRom(name, isWrite, chip);
     if (port === undefined) return isWrite ? { kind: "chip", message: say.whichLacks(action, this.description) } : null;
-    if (isWrite && !/[01]/.test(port)) return { kind: "lines", message: say.noOutputs(action, this.description) };
-    if (!isWrite && !port.includes("i")) return { kind: "lines", message: say.noInputs(action, this.description) };
+    if (isWrite && !/[01]/.test(port)) return { kind: "lines", message: say.noOutputsMessage(action, this.description) };
+    if (!isWrite && !port.includes("i")) return { kind: "lines", message: say.noInputsMessage(action, this.description) };
     const lastChip = this.lastChips.get(address);
     const otherKind = [...this.instructionKinds].find((instructionKind) => instructionKind !== name);
     if (otherKind === undefined || lastChip === undefined || lastChip === chip) return null;

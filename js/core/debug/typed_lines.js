@@ -33,7 +33,7 @@ function runCycles(input) {
  * Plans typed lines. Throws CancelledError if `shouldContinue` resolves to false.
  * @param {Engine} engine
  * @param {Uint8Array} file the session file; not changed
- * @param {SoftStopFinder} arrivals finds the stops of the machine, and counts the hits
+ * @param {SoftStopFinder} arrivals finds the stops of the machine, and counts hits and changes
  * @param {string} lines
  * @param {(done: number) => Promise<boolean>} shouldContinue called with the number of planned characters; resolves to true to continue
  * @returns {Promise<TypedPlan>}

@@ -168,7 +168,7 @@ function expressionError(value, startColumn, names) {
  * @returns {{ watch: WatchExpression | null, error: string }}
  */
 export function parseWatch(text, names = null) {
-  if (text.length > MAX_LENGTH) return { watch: null, error: say.tooLong(MAX_LENGTH) };
+  if (text.length > MAX_LENGTH) return { watch: null, error: say.tooLongMessage(MAX_LENGTH) };
   const { name, value, column } = splitWatchExpression(text);
   if (name !== "" && !NAME.test(name)) return { watch: null, error: say.NAME_SYNTAX };
   if (value === "") return { watch: null, error: say.EXPRESSION_MISSING };

@@ -83,7 +83,7 @@ function characterPieces(bank, byte, machineState) {
 function selectionPieces(byte, machineState) {
   const chip = byte >> 4;
   const rom = machineState.romPort(chip) ? [say.romChip(chip)] : [];
-  const hasRam = machineState.latchedSource() !== undefined;
+  const hasRam = machineState.latchedSrcByte() !== undefined;
   if (!hasRam) return rom.length > 0 ? rom : [say.NOTHING_THERE];
   return [...rom.map((description) => `${description}; `), ...characterPieces(machineState.bank, byte, machineState)];
 }
@@ -117,11 +117,11 @@ function registerPieces(word, { head }, machineState) {
 function selectedPieces(name, machineState) {
   const { bank } = machineState;
   if (name === "WRR" || name === "RDR") {
-    const chip = machineState.source >> 4;
+    const chip = machineState.romSrcByte >> 4;
     const port = machineState.romPort(chip);
     return [port ? say.portOfRom(chip, port.out, port.in) : say.boardLacks(say.romChip(chip))];
   }
-  const byte = machineState.latchedSource();
+  const byte = machineState.latchedSrcByte();
   const usesRam = CHARACTER_INSTRUCTIONS.has(name) || name === "WMP" || STATUS_INSTRUCTION.test(name);
   if (byte === undefined) return usesRam ? [say.bankWithoutRam(bank)] : [];
   if (CHARACTER_INSTRUCTIONS.has(name)) return characterPieces(bank, byte, machineState);

@@ -33,12 +33,12 @@ export class BoardDraft {
     /** The offset of the start of each line in the text, and then the text length + 1. */
     this.lineOffsets = [0];
     for (const line of this.lines) this.lineOffsets.push(this.lineOffsets[this.lineOffsets.length - 1] + line.length + 1);
-    const { entries, keys, faults } = readBoardText(text);
+    const { entries, keys, errors } = readBoardText(text);
     /** The TOML keys that belong to no table. The value of such a key can be an array of parts. */
     this.keys = keys;
     this.entries = entries;
     /** True if the text has no TOML syntax error. */
-    this.isToml = faults.length === 0;
+    this.isToml = errors.length === 0;
   }
 
   /**

@@ -29,7 +29,7 @@ import * as say from "../../words/drawing.js";
 
 /**
  * The callbacks of the board editor, to the text editor and to the bench.
- * @typedef {object} DrawingCalls
+ * @typedef {object} DrawingCallbacks
  * @property {() => string} text Returns the board text in the editor.
  * @property {(lines: string) => Promise<string[]>} ask Resolves to the bench's answers to lines, without changing the session.
  * @property {(edits: TextEdit[]) => void} edit Edits the text. One undo step reverts all these edits.
@@ -41,7 +41,7 @@ import * as say from "../../words/drawing.js";
 /** The board editor: its state and its actions. */
 export class Drawing {
   /**
-   * @param {DrawingCalls} callbacks
+   * @param {DrawingCallbacks} callbacks
    * @param {(state: DrawingState) => void} show shows a state in the view
    */
   constructor(callbacks, show) {
@@ -236,7 +236,7 @@ export class Drawing {
     if (result.refusal) return this.showMessage(result.refusal);
     if (result.edits.length === 0) return this.showMessage(say.NO_CHANGE);
     const { errorMessage, answers } = await this.checkText(result.text);
-    if (errorMessage || !matchesBench(result.text, answers)) return this.showMessage(say.notDone(errorMessage || say.CANNOT_READ));
+    if (errorMessage || !matchesBench(result.text, answers)) return this.showMessage(say.notDoneMessage(errorMessage || say.CANNOT_READ));
     // If the user edited the text while the bench checked the result, perform the action on the new text.
     if (this.callbacks.text() !== text) return this.perform(action);
     this.callbacks.edit(result.edits);

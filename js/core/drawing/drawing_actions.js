@@ -115,7 +115,7 @@ function wireErrorMessage({ name, kind, isInput }, target) {
   const [inputKind] = splitTarget(target);
   if (inputKind === "column") return say.needsInput(name, targetName(target));
   if (isInput) return say.needsOutput(name, targetName(target));
-  if (inputKind === "row") return say.cannotDrive(name);
+  if (inputKind === "row") return say.cannotDriveMessage(name);
   return say.needsChipLine(name, kind, targetName(target));
 }
 
@@ -202,7 +202,7 @@ function renamePart(editedBoard, part, name) {
  * @param {string} colour "" for the default
  */
 function setColour(editedBoard, lamp, colour) {
-  if (colour !== "" && !COLOURS.has(colour)) throw new ImpossibleAction(say.noColour(colour, [...COLOURS].join(", ")));
+  if (colour !== "" && !COLOURS.has(colour)) throw new ImpossibleAction(say.noColourMessage(colour, [...COLOURS].join(", ")));
   editedBoard.edit(setLampColour(editedBoard.draft, lamp, colour));
 }
 

@@ -193,7 +193,7 @@ export function setRows(editedBoard, rows) {
   if (rows > to) throw new ImpossibleAction(say.maxRows(to));
   if (rows < from) throw new ImpossibleAction(say.MIN_ROWS);
   if (matrix.first + rows > BITS_PER_CHIP * chains[matrix.chain].chips) {
-    throw new ImpossibleAction(say.noBitForRow(matrix.chain));
+    throw new ImpossibleAction(say.noBitForRowMessage(matrix.chain));
   }
   editedBoard.edit([setValue(editedBoard.draft, editedBoard.draft.requirePart("keys", 0), "rows", rows)]);
   return "keys";

@@ -38,7 +38,7 @@ export class BreakpointRequests {
    * Sets the kinds of common mistakes that stop the machine.
    * @param {Kind[]} kinds
    */
-  stopAtFaults(kinds) {
+  stopAtMistakes(kinds) {
     this.bench.stopKinds = kinds;
     if (this.bench.currentDebugger) this.bench.currentDebugger.commonMistakes.stoppingKinds = new Set(kinds);
   }

@@ -1,6 +1,6 @@
 // Loads a board text and a program text into a new session, and reports the texts that the bench rejects.
 
-import { findLineFaults, sentText } from "../text/sendable_text.js";
+import { findSendingErrors, sentText } from "../text/sendable_text.js";
 import { lineReference } from "../../words/stops.js";
 
 /**
@@ -28,9 +28,9 @@ export function dryRun(engine, { boardText, programText }) {
   const tryText = (word, text, mark) => {
     if (text === "") return;
     // A line that consists of a dot would end the text. The bench would execute the lines after the dot as commands.
-    const [fault] = findLineFaults(text, mark);
+    const [error] = findSendingErrors(text, mark);
     const lines = `${word}\n${sentText(text, mark)}.\n`;
-    const answer = fault ? `${lineReference(fault.line)}: ${fault.words}` : engine.serve(file, lines, file).answers[0];
+    const answer = error ? `${lineReference(error.line)}: ${error.words}` : engine.serve(file, lines, file).answers[0];
     if (!/^ok /.test(answer)) rejectedTexts.push({ word, answer });
   };
   tryText("wire", boardText, "#");

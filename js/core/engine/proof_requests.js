@@ -22,7 +22,7 @@ export class ProofRequests {
    */
   prove(texts, maxStates) {
     const { bench } = this;
-    const { proving, faults } = beginProving(bench.engine, texts, maxStates, {
+    const { proving, errors } = beginProving(bench.engine, texts, maxStates, {
       seen: async (states) => {
         await bench.shouldContinue(states, maxStates);
       },
@@ -31,7 +31,7 @@ export class ProofRequests {
       },
     });
     this.proving = proving;
-    return { faults, count: proving ? proving.total : 0 };
+    return { errors, count: proving ? proving.total : 0 };
   }
 
   /** Decides the next property. Resolves to the property with its verdict, or to null if no property is left. */

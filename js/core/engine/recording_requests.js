@@ -44,7 +44,7 @@ export class RecordingRequests {
     const { engine, session } = this.bench;
     const recorder = new LiveRecorder(engine, session.file, this.bench.recordingTexts(texts));
     const names = this.bench.collectNames(texts);
-    const { trigger, fault: error } = readTrigger(options.trigger, recorder.lines, names);
+    const { trigger, error } = readTrigger(options.trigger, recorder.lines, names);
     if (error) return { recorded: null, error };
     recorder.waitFor(trigger, options);
     session.recorder = recorder;

@@ -9,15 +9,15 @@ import { readProgram } from "./program_check.js";
 
 /**
  * @typedef {import("./engine_host.js").EngineHost} EngineHost
- * @typedef {import("../testing/test_preparation.js").TextFault} TextFault
+ * @typedef {import("../testing/test_preparation.js").ProjectTextError} ProjectTextError
  *
  * The first difference between ROM and the program: the address, the byte in ROM (`romByte`), the source line, and the byte that this
  * line assembles to (`sourceByte`).
  * @typedef {{ address: string, romByte: string, line: number, sourceByte: string }} OtherByte
  *
- * The source text of a session's program, compared with ROM. `faults` are the errors in the text, `difference` is the first difference from
+ * The source text of a session's program, compared with ROM. `errors` are the errors in the text, `difference` is the first difference from
  * ROM (null for none), and `map` is the source map.
- * @typedef {{ faults: TextFault[], difference: OtherByte | null, map: SourceMap }} SessionProgram
+ * @typedef {{ errors: ProjectTextError[], difference: OtherByte | null, map: SourceMap }} SessionProgram
  */
 
 /**
@@ -37,16 +37,16 @@ function firstDifference(codes, bytes, map) {
  * Assembles a program text. Returns its source map and its bytes by address, or the errors.
  * @param {EngineHost} engine
  * @param {string} text
- * @returns {{ faults: TextFault[], map: SourceMap, bytes: Int16Array }}
+ * @returns {{ errors: ProjectTextError[], map: SourceMap, bytes: Int16Array }}
  */
 export function readSource(engine, text) {
-  const rejected = (/** @type {TextFault[]} */ faults) => ({ faults, map: new SourceMap([], ""), bytes: new Int16Array() });
-  const textFaults = findTextErrors("program", text);
-  if (textFaults.length > 0) return rejected(textFaults);
+  const rejected = (/** @type {ProjectTextError[]} */ errors) => ({ errors, map: new SourceMap([], ""), bytes: new Int16Array() });
+  const textErrors = findTextErrors("program", text);
+  if (textErrors.length > 0) return rejected(textErrors);
   const sentSource = sentText(text, ";");
   const { map, refusal, bytes } = readProgram(engine, sentSource);
   if (refusal) return rejected([{ text: "program", ...refusal, words: "" }]);
-  return { faults: [], map: new SourceMap(map, sentSource), bytes };
+  return { errors: [], map: new SourceMap(map, sentSource), bytes };
 }
 
 /**
@@ -57,6 +57,6 @@ export function readSource(engine, text) {
  * @returns {SessionProgram}
  */
 export function sessionProgram(engine, codes, text) {
-  const { faults, map, bytes } = readSource(engine, text);
-  return { faults, difference: faults.length > 0 ? null : firstDifference(codes, bytes, map), map };
+  const { errors, map, bytes } = readSource(engine, text);
+  return { errors, difference: errors.length > 0 ? null : firstDifference(codes, bytes, map), map };
 }

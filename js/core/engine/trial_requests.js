@@ -20,8 +20,8 @@ export class TrialRequests {
    * Returns the errors in a test text, or in its board and program.
    * @param {import("../testing/test_suite.js").TestedTexts} texts
    */
-  testFaults(texts) {
-    return parseTestedTexts(this.bench.engine, texts).faults;
+  findTestErrors(texts) {
+    return parseTestedTexts(this.bench.engine, texts).errors;
   }
 
   /**
@@ -44,8 +44,8 @@ export class TrialRequests {
    * Returns the errors in a properties text, or in its board and program.
    * @param {import("../explore/sliced_search.js").ExploredTexts} texts
    */
-  propertyFaults(texts) {
-    return parseSearchTexts(this.bench.engine, texts).faults;
+  findPropertyErrors(texts) {
+    return parseSearchTexts(this.bench.engine, texts).errors;
   }
 
   /**
@@ -54,11 +54,11 @@ export class TrialRequests {
    * @param {import("../explore/sliced_search.js").RunOptions} options
    */
   async explore(texts, options) {
-    const { searchSetup, faults } = await prepareSearch(this.bench.engine, texts);
+    const { searchSetup, errors } = await prepareSearch(this.bench.engine, texts);
     this.exploring = searchSetup && new SlicedSearch(this.bench.engine, texts, searchSetup, options, async () => {
       await this.bench.shouldContinue(0, 1);
     });
-    return faults;
+    return errors;
   }
 
   /**

@@ -13,9 +13,9 @@ import {
   GUARDABLE_FORMS, afterPressProperty, alwaysProperty, atProperty, everyProperty, guardedProperty, modelProperty, neverForProperty,
   neverProperty, oncePerPressProperty, onlyAfterProperty, reachAddressProperty, reachProperty, standardProperties, withinProperty,
 } from "./properties.js";
-import { NO_DISPLAY, boardLacks, errorInColumn, noLabel } from "../../words/conditions.js";
+import { NO_DISPLAY, boardLacks, errorInColumn, noLabelMessage } from "../../words/conditions.js";
 import * as say from "../../words/explore.js";
-import { noKey } from "../../words/testing.js";
+import { noKeyMessage } from "../../words/testing.js";
 
 /**
  * @typedef {import("./search_inputs.js").Input} Input
@@ -23,7 +23,7 @@ import { noKey } from "../../words/testing.js";
  * @typedef {import("./properties.js").Property} Property
  * @typedef {import("./subject.js").Subject} Subject
  * An error in a properties text. `line` counts from 1. `column` counts from 0, -1 if unknown. `words` is the message.
- * @typedef {{ line: number, column: number, words: string }} Fault
+ * @typedef {{ line: number, column: number, words: string }} PropertyError
  *
  * A campaign: the parsed contents of a properties text. Times are in cycles.
  * - `maxKeysDown`: the maximum number of keys that are down at the same time; `canReset`: true if the search can cut the power;
@@ -99,8 +99,8 @@ class PropertiesReader {
 
   /** @param {string} text */
   parseCondition(text) {
-    const { condition, error: fault, column } = compileTracedCondition(text, this.names);
-    return condition || fail(fault, Math.max(0, this.line.indexOf(text, this.searchStart)) + column);
+    const { condition, error, column } = compileTracedCondition(text, this.names);
+    return condition || fail(error, Math.max(0, this.line.indexOf(text, this.searchStart)) + column);
   }
 
   /**
@@ -131,7 +131,7 @@ class PropertiesReader {
     const name = word.replace(/^@/, "");
     const definition = this.names.map.names.get(name);
     return word.startsWith("@") && definition && definition.isLabel ? definition.value
-      : fail(word.startsWith("@") ? noLabel(name) : say.labelSyntax(word));
+      : fail(word.startsWith("@") ? noLabelMessage(name) : say.labelSyntax(word));
   }
 
   /**
@@ -144,7 +144,7 @@ class PropertiesReader {
     const input = inputs.find((candidate) => candidate.name === name && (candidate.isKey || face.test));
     if (input) return input;
     const inputNames = listInputNames(face);
-    return fail(noKey(name, inputNames.join(" ")));
+    return fail(noKeyMessage(name, inputNames.join(" ")));
   }
 
   /** @param {Input} input */
@@ -233,7 +233,7 @@ const SETTING_PARSERS = {
   note: (reader, words) => {
     if (words.length === 0) fail(say.NOTE_SYNTAX);
     for (const word of words) reader.notedPlaces.push(...findNotePlaces(reader, word));
-    if (reader.notedPlaces.length > MAX_NOTES) fail(say.tooManyNotes(MAX_NOTES));
+    if (reader.notedPlaces.length > MAX_NOTES) fail(say.tooManyNotesMessage(MAX_NOTES));
   },
 };
 
@@ -254,7 +254,7 @@ function findNotePlaces({ names }, word) {
   const place = parsePlace(word);
   const places = place ? place.probesOn(names.board) : [];
   if (places.length > 0) return places;
-  return fail(place ? boardLacks(place.name) : say.noTrace(word));
+  return fail(place ? boardLacks(place.name) : say.noTraceMessage(word));
 }
 
 /** Matches `lamp open on for 1.1 s`: the condition and the time. */
@@ -297,7 +297,7 @@ const PROPERTY_PARSERS = {
     const line = /^line (\d+)$/.exec(rest);
     if (!line && !/^@\S+$/.test(rest)) return reachProperty(text, reader.parseViolation(rest));
     const instruction = line && reader.instructions.find((candidate) => candidate.line === Number(line[1]));
-    if (line && !instruction) fail(say.noInstructionIn(line[1]));
+    if (line && !instruction) fail(say.noInstructionInMessage(line[1]));
     const address = instruction ? instruction.address : reader.parseLabel(rest);
     return reader.whileCondition === "" ? reachAddressProperty(text, address)
       : reachProperty(text, reader.parseViolation(`pc = ${address}`));
@@ -362,7 +362,7 @@ function parseGuardedLine(reader, text, firstGuard) {
     reader.searchStart = text.length - (unguardedText || text).length;
     ({ rest: unguardedText } = currentGuard);
     count += 1;
-    if (count > MAX_GUARDS) fail(say.tooManyGuards(MAX_GUARDS));
+    if (count > MAX_GUARDS) fail(say.tooManyGuardsMessage(MAX_GUARDS));
     const [, condition] = /^while (.+)$/.exec(currentGuard.guard) || [];
     if (condition === undefined) guards.push(parseGuard(reader, currentGuard.guard));
     else reader.whileCondition = `${reader.whileCondition && `${reader.whileCondition} and `}(${reader.parseCondition(condition).text})`;
@@ -454,12 +454,12 @@ function addDefaults(reader, text) {
  * @param {string} text
  * @param {Subject} subject
  * @param {boolean} [needsInputs] true if missing inputs are an error
- * @returns {{ campaign: Campaign, faults: Fault[] }}
+ * @returns {{ campaign: Campaign, errors: PropertyError[] }}
  */
 export function readCampaign(text, subject, needsInputs = true) {
   const reader = new PropertiesReader(subject);
-  /** @type {Fault[]} */
-  const faults = [];
+  /** @type {PropertyError[]} */
+  const errors = [];
   let fromLine = 0;
   text.replace(/^\uFEFF/, "").split(/\r?\n/).forEach((originalLine, index) => {
     const line = originalLine.trim().replace(/\s+/g, " ");
@@ -471,21 +471,21 @@ export function readCampaign(text, subject, needsInputs = true) {
     } catch (error) {
       if (!(error instanceof ConditionError)) throw error;
       const column = error.column < 0 ? -1 : findOriginalColumn(originalLine, error.column);
-      faults.push({ line: index + 1, column, words: column < 0 ? error.message : errorInColumn(error.message, column) });
+      errors.push({ line: index + 1, column, words: column < 0 ? error.message : errorInColumn(error.message, column) });
     }
   });
   const last = Math.max(1, text.trimEnd().split("\n").length);
-  if (!addDefaults(reader, text) && needsInputs && faults.length === 0) {
-    faults.push({ line: last, column: -1, words: say.NOTHING_CHANGES });
+  if (!addDefaults(reader, text) && needsInputs && errors.length === 0) {
+    errors.push({ line: last, column: -1, words: say.NOTHING_CHANGES });
   }
-  if (faults.length === 0 && !hasKeysForModel(reader)) {
+  if (errors.length === 0 && !hasKeysForModel(reader)) {
     const { line } = reader.properties.find(({ form }) => form === "model") || { line: 1 };
-    faults.push({ line, column: -1, words: say.MODEL_NEEDS_KEYS });
+    errors.push({ line, column: -1, words: say.MODEL_NEEDS_KEYS });
   }
   const { inputs, maxKeysDown, canReset, minWait, maxWait, maxHoldTime, minReleaseTime } = reader;
   const { checkStart, downTime, upTime, notedPlaces, command } = reader;
   const campaign = { inputs, maxKeysDown, canReset, minWait, maxWait, maxHoldTime, minReleaseTime, checkStart, downTime, upTime,
     notedPlaces, command, from: reader.from && { ...reader.from, line: fromLine }, leadingLines: [], calls: { min: 0, max: 0 },
     properties: [...reader.properties, ...standardProperties()] };
-  return { campaign, faults };
+  return { campaign, errors };
 }

@@ -99,8 +99,8 @@ export class CampaignRun {
   }
 
   /** The error message of the model command, or "". */
-  get fault() {
-    return this.model ? this.model.fault : "";
+  get error() {
+    return this.model ? this.model.error : "";
   }
 
   /**

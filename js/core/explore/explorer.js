@@ -30,14 +30,14 @@ export class Explorer extends TaskWorker {
    */
   explore(texts, options, signal, report) {
     return this.runTask(signal, async (bench) => {
-      const faults = await bench.call("explore", [texts, options]);
+      const errors = await bench.call("explore", [texts, options]);
       const end = performance.now() + 1000 * options.seconds;
-      for (let isDone = faults.length > 0; !isDone && performance.now() < end;) {
+      for (let isDone = errors.length > 0; !isDone && performance.now() < end;) {
         const progress = await bench.call("exploreOn", [REPORT_INTERVAL]);
         report(progress);
         ({ isDone } = progress);
       }
-      return faults;
+      return errors;
     });
   }
 }

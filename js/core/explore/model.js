@@ -14,7 +14,7 @@ import { runLines } from "../engine/key_queue.js";
  * @typedef {import("./walk_watcher.js").WalkStart} WalkStart
  *
  * The output of the command: the expected text after each key sequence (`expectedTexts`), or an error message.
- * @typedef {{ expectedTexts: string[], fault: string }} ModelOutput
+ * @typedef {{ expectedTexts: string[], error: string }} ModelOutput
  * @typedef {(keySequences: string[]) => ModelOutput | Promise<ModelOutput>} ModelCommand
  *
  * A key sequence after which the display differs from the expected text. `keys` are the indices of the pressed inputs. `lampsOn` are the
@@ -44,7 +44,7 @@ export class Model {
     this.keys = campaign.inputs.flatMap(({ isKey }, at) => (isKey ? [at] : []));
     this.sequenceCount = 0;
     /** The error message of the command, or "". After an error, the command is not called again. */
-    this.fault = "";
+    this.error = "";
   }
 
   /**
@@ -66,10 +66,10 @@ export class Model {
    */
   async findDifference(keySequences) {
     const names = keySequences.map((keys) => keys.map((at) => this.campaign.inputs[at].name).join(" "));
-    const { expectedTexts, fault } = await this.modelCommand(names);
-    this.fault = fault;
+    const { expectedTexts, error } = await this.modelCommand(names);
+    this.error = error;
     for (const [at, keys] of keySequences.entries()) {
-      if (fault !== "") return null;
+      if (error !== "") return null;
       const expectedText = expectedTexts[at].trim();
       const cycles = keys.length * (this.campaign.downTime + this.campaign.upTime);
       const { number, fullText, lampsOn } = this.readDisplayAfter(keys);

@@ -154,7 +154,7 @@ export function formatTap(report) {
   const lines = [TAP_HEAD, `1..${checkedProperties.length}`];
   checkedProperties.forEach((property, at) => lines.push(...formatTapLines(property, at, report)));
   for (const property of properties) {
-    if (property.isSkipped) lines.push(`# ${say.notRun(propertyLocation(property, report), property.text)}`);
+    if (property.isSkipped) lines.push(`# ${say.notRunMessage(propertyLocation(property, report), property.text)}`);
   }
   const rate = seconds > 0 ? say.stepsPerSecond(formatNumber(steps / seconds)) : "";
   lines.push(...formatCoverage(report).map((line) => `# ${line}`));

@@ -1,7 +1,7 @@
 // Runs the search for counterexamples in the page's worker, in short pieces. With the same seed, the results are the same as those of
 // `mcs4 explore`.
 //
-//     const { searchSetup, faults } = await prepareSearch(engine, texts);
+//     const { searchSetup, errors } = await prepareSearch(engine, texts);
 //     const exploring = new SlicedSearch(engine, texts, searchSetup, { seed: 1, seconds: 20 }, async () => {});
 //     const { report, found, isDone } = await exploring.runFor(200);
 
@@ -14,7 +14,7 @@ import { createSubject } from "./subject.js";
 import * as say from "../../words/explore.js";
 
 /**
- * @typedef {import("../testing/test_preparation.js").TextFault} TextFault
+ * @typedef {import("../testing/test_preparation.js").ProjectTextError} ProjectTextError
  * @typedef {import("../engine/engine_host.js").EngineHost} Engine
  * @typedef {import("./campaign.js").Campaign} Campaign
  * @typedef {import("./report.js").Report} Report
@@ -37,29 +37,29 @@ const SLICE_MS = 50;
  * @param {Engine} engine
  * @param {ExploredTexts} texts
  * @param {boolean} [needsInputs] true if missing inputs are an error
- * @returns {{ parsedTexts: (SearchSetup & { prepared: PreparedTests }) | null, faults: TextFault[] }}
+ * @returns {{ parsedTexts: (SearchSetup & { prepared: PreparedTests }) | null, errors: ProjectTextError[] }}
  */
 export function parseSearchTexts(engine, { boardText, programText, testText, propertiesText }, needsInputs = true) {
-  const { prepared, faults } = prepareTests(engine, { boardText, programText });
-  if (!prepared) return { parsedTexts: null, faults };
+  const { prepared, errors: textErrors } = prepareTests(engine, { boardText, programText });
+  if (!prepared) return { parsedTexts: null, errors: textErrors };
   const subject = createSubject(engine, boardText, programText);
-  const { campaign, faults: errors } = readCampaign(propertiesText, subject, needsInputs);
+  const { campaign, errors } = readCampaign(propertiesText, subject, needsInputs);
   const { from } = campaign;
   if (from) {
     const { message } = findLeadingTests(prepared.names, testText, from.state);
     if (message) errors.push({ line: from.line, column: -1, words: message });
   }
-  if (errors.length > 0) return { parsedTexts: null, faults: toPropertyFaults(errors) };
-  return { parsedTexts: { subject, campaign, prepared }, faults: [] };
+  if (errors.length > 0) return { parsedTexts: null, errors: toPropertyErrors(errors) };
+  return { parsedTexts: { subject, campaign, prepared }, errors: [] };
 }
 
 /**
  * Adds the name of the text to errors in the properties text.
- * @param {{ line: number, words: string }[]} faults
- * @returns {TextFault[]}
+ * @param {{ line: number, words: string }[]} errors
+ * @returns {ProjectTextError[]}
  */
-function toPropertyFaults(faults) {
-  return faults.map(({ line, words }) => ({ text: "properties", number: 0, line, words }));
+function toPropertyErrors(errors) {
+  return errors.map(({ line, words }) => ({ text: "properties", number: 0, line, words }));
 }
 
 /**
@@ -67,15 +67,15 @@ function toPropertyFaults(faults) {
  * errors in the texts.
  * @param {Engine} engine
  * @param {ExploredTexts} texts
- * @returns {Promise<{ searchSetup: SearchSetup | null, faults: TextFault[] }>}
+ * @returns {Promise<{ searchSetup: SearchSetup | null, errors: ProjectTextError[] }>}
  */
 export async function prepareSearch(engine, texts) {
-  const { parsedTexts, faults } = parseSearchTexts(engine, texts);
-  if (!parsedTexts) return { searchSetup: null, faults };
+  const { parsedTexts, errors } = parseSearchTexts(engine, texts);
+  if (!parsedTexts) return { searchSetup: null, errors };
   const { searchSetup, message } = await startCampaign(parsedTexts, parsedTexts.prepared, texts.testText);
   const { from } = searchSetup.campaign;
-  if (message && from) return { searchSetup: null, faults: toPropertyFaults([{ line: from.line, words: message }]) };
-  return { searchSetup, faults: [] };
+  if (message && from) return { searchSetup: null, errors: toPropertyErrors([{ line: from.line, words: message }]) };
+  return { searchSetup, errors: [] };
 }
 
 export class SlicedSearch {

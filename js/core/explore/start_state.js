@@ -45,13 +45,13 @@ function savesState({ steps }, state) {
  * @returns {{ tests: Test[], message: string }}
  */
 export function findLeadingTests(names, testText, state) {
-  const { tests, faults } = readTests(testText, names);
-  if (testText.trim() === "") return { tests: [], message: say.noTests(state) };
-  if (faults.length > 0) return { tests: [], message: say.testsFault(faults[0].line, faults[0].words) };
+  const { tests, errors } = readTests(testText, names);
+  if (testText.trim() === "") return { tests: [], message: say.noTestsMessage(state) };
+  if (errors.length > 0) return { tests: [], message: say.testsHaveError(errors[0].line, errors[0].words) };
   const savingTest = tests.find((test) => savesState(test, state));
   if (!savingTest) {
     const stateNames = tests.flatMap(({ steps }) => steps.flatMap(({ action }) => (action.kind === "save" ? [action.state] : [])));
-    return { tests: [], message: say.noSuchState(state, stateNames.join(" ")) };
+    return { tests: [], message: say.noSuchStateMessage(state, stateNames.join(" ")) };
   }
   const earlierTests = savingTest.from === "" ? [] : findLeadingTests(names, testText, savingTest.from).tests;
   return { tests: [...earlierTests, savingTest], message: "" };

@@ -1,4 +1,4 @@
-// Runs the actions of the links in a story, the guided text of an example. Each action calls a function of the page.
+// Runs the actions of the links in a story, the guided text of an example. Each action callbacks a function of the page.
 
 import { TEXTS } from "./story.js";
 import * as say from "../../words/help.js";
@@ -12,7 +12,7 @@ import * as say from "../../words/help.js";
 
 /**
  * The functions of the page that the actions call.
- * @typedef {object} ActionCalls
+ * @typedef {object} ActionCallbacks
  * @property {(label: string) => number | undefined} addressOf Returns the address of a label of the program in ROM; undefined if there is
  *   no such label.
  * @property {() => BoardKey[]} keys Returns the keys of the displayed board.
@@ -33,12 +33,12 @@ import * as say from "../../words/help.js";
 /**
  * Calls a function with the address of a label. Resolves to an error message, "" for none.
  * @param {string} label
- * @param {ActionCalls} calls
+ * @param {ActionCallbacks} callbacks
  * @param {(address: number) => unknown} callback
  */
-async function callWithAddress(label, calls, callback) {
-  const address = calls.addressOf(label);
-  if (address === undefined) return say.noLabel(label);
+async function callWithAddress(label, callbacks, callback) {
+  const address = callbacks.addressOf(label);
+  if (address === undefined) return say.noLabelMessage(label);
   await callback(address);
   return "";
 }
@@ -46,31 +46,32 @@ async function callWithAddress(label, calls, callback) {
 /**
  * Calls a function with the key that has a legend. Returns an error message, "" for none.
  * @param {string} legend
- * @param {ActionCalls} calls
+ * @param {ActionCallbacks} callbacks
  * @param {(key: BoardKey) => unknown} callback
  */
-function callWithKey(legend, calls, callback) {
-  const key = calls.keys().find((candidate) => candidate.legend === legend);
-  if (!key) return say.noKey(legend);
+function callWithKey(legend, callbacks, callback) {
+  const key = callbacks.keys().find((candidate) => candidate.legend === legend);
+  if (!key) return say.noKeyMessage(legend);
   callback(key);
   return "";
 }
 
 /**
  * The functions that run the actions, by the name of the action. Each function resolves to an error message, "" for none.
- * @type {Record<import("./story.js").ActionName, (argument: string, calls: ActionCalls) => Promise<string>>}
+ * @type {Record<import("./story.js").ActionName, (argument: string, callbacks: ActionCallbacks) => Promise<string>>}
  */
 const ACTIONS = {
-  run: (_, calls) => perform(() => calls.run()),
-  stop: (_, calls) => perform(() => calls.pause()),
-  back: (_, calls) => perform(() => calls.goBack({ kind: "stop" })),
-  forward: (_, calls) => perform(() => calls.goForward()),
-  "go to": (argument, calls) => callWithAddress(argument, calls, (address) => calls.goTo(address)),
-  "run to": (argument, calls) => callWithAddress(argument, calls, (address) => calls.goOn({ kind: "here", address })),
-  "back to": (argument, calls) => perform(() => calls.goBack({ kind: "change", place: argument })),
-  press: async (argument, calls) => callWithKey(argument, calls, (key) => (calls.isRunning() || !calls.isDown(key)) && calls.press(key)),
-  release: async (argument, calls) => callWithKey(argument, calls, (key) => calls.isDown(key) && calls.press(key)),
-  show: (argument, calls) => perform(() => (TEXTS.includes(argument) ? calls.showText(argument) : calls.showPanel(argument))),
+  run: (_, callbacks) => perform(() => callbacks.run()),
+  stop: (_, callbacks) => perform(() => callbacks.pause()),
+  back: (_, callbacks) => perform(() => callbacks.goBack({ kind: "stop" })),
+  forward: (_, callbacks) => perform(() => callbacks.goForward()),
+  "go to": (argument, callbacks) => callWithAddress(argument, callbacks, (address) => callbacks.goTo(address)),
+  "run to": (argument, callbacks) => callWithAddress(argument, callbacks, (address) => callbacks.goOn({ kind: "here", address })),
+  "back to": (argument, callbacks) => perform(() => callbacks.goBack({ kind: "change", place: argument })),
+  press: async (argument, callbacks) => callWithKey(argument, callbacks, (key) => (
+    (callbacks.isRunning() || !callbacks.isDown(key)) && callbacks.press(key))),
+  release: async (argument, callbacks) => callWithKey(argument, callbacks, (key) => callbacks.isDown(key) && callbacks.press(key)),
+  show: (argument, callbacks) => perform(() => (TEXTS.includes(argument) ? callbacks.showText(argument) : callbacks.showPanel(argument))),
 };
 
 /**
@@ -85,8 +86,8 @@ async function perform(callback) {
 /**
  * Runs the action of a link. Resolves to an error message, "" for none.
  * @param {StoryAction} action
- * @param {ActionCalls} calls
+ * @param {ActionCallbacks} callbacks
  */
-export function runAction({ name, argument }, calls) {
-  return ACTIONS[name](argument, calls);
+export function runAction({ name, argument }, callbacks) {
+  return ACTIONS[name](argument, callbacks);
 }

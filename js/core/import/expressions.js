@@ -5,8 +5,8 @@ import { upperCase } from "./source_lines.js";
 import * as say from "../../words/import.js";
 
 /**
- * The value of an expression. `isKnown` is false if a name in the expression has no value yet. `fault` is an error message, "" for none.
- * @typedef {{ value: number, isKnown: boolean, fault: string }} EvaluationResult
+ * The value of an expression. `isKnown` is false if a name in the expression has no value yet. `error` is the message, "" if there is none.
+ * @typedef {{ value: number, isKnown: boolean, error: string }} EvaluationResult
  *
  * The names in a program. `isDefined` returns whether a line defines a name. `valueOf` returns its value, undefined if it is not known yet.
  * @typedef {{ isDefined: (name: string) => boolean, valueOf: (name: string) => number | undefined }} NameValues
@@ -69,7 +69,7 @@ class Evaluation {
     this.at = 0;
     this.depth = 0;
     this.isKnown = true;
-    this.fault = "";
+    this.error = "";
   }
 
   /**
@@ -77,7 +77,7 @@ class Evaluation {
    * @param {string} message
    */
   fail(message) {
-    if (this.fault === "") this.fault = message;
+    if (this.error === "") this.error = message;
   }
 
   /** Skips blanks. */
@@ -130,7 +130,7 @@ class Evaluation {
     this.depth += 1;
     let value = 0;
     if (this.depth > MAX_DEPTH) {
-      this.fail(say.tooDeep(MAX_DEPTH));
+      this.fail(say.tooDeepMessage(MAX_DEPTH));
       this.at = this.text.length;
     } else {
       value = this.parseOperand();
@@ -162,7 +162,7 @@ class Evaluation {
     }
     const name = this.match(NAME);
     if (name) return this.parseName(name[0]);
-    this.fail(nextCharacter === "" ? say.NO_OPERAND : say.notUnderstood(this.text.slice(this.at)));
+    this.fail(nextCharacter === "" ? say.NO_OPERAND : say.notUnderstoodMessage(this.text.slice(this.at)));
     this.at += 1;
     return 0;
   }
@@ -194,7 +194,7 @@ class Evaluation {
    */
   parseCharacter(quoted) {
     this.at += quoted.length;
-    if (!isAscii(quoted)) this.fail(say.noCharacter(quoted));
+    if (!isAscii(quoted)) this.fail(say.noCharacterMessage(quoted));
     return quoted.charCodeAt(1);
   }
 
@@ -205,7 +205,7 @@ class Evaluation {
    */
   parseNumber([numeral, digits], base) {
     this.at += numeral.length;
-    if (/\w/.test(this.text[this.at] || "")) this.fault = say.noNumber(this.text);
+    if (/\w/.test(this.text[this.at] || "")) this.error = say.noNumberMessage(this.text);
     return parseDigits(digits, base);
   }
 
@@ -217,7 +217,7 @@ class Evaluation {
     this.at += spelling.length;
     const name = upperCase(spelling);
     const value = this.names.valueOf(name);
-    if (!this.names.isDefined(name)) this.fail(say.noName(spelling));
+    if (!this.names.isDefined(name)) this.fail(say.noNameMessage(spelling));
     else if (value === undefined) this.isKnown = false;
     return value === undefined ? 0 : value;
   }
@@ -242,7 +242,7 @@ export function evaluate(text, address, names) {
   const evaluation = new Evaluation(text, address, names);
   const value = evaluation.parseSum();
   evaluation.skipBlanks();
-  if (evaluation.at < text.length) evaluation.fail(say.notUnderstood(text.slice(evaluation.at)));
-  const { fault, isKnown } = evaluation;
-  return { value, isKnown: isKnown && fault === "", fault };
+  if (evaluation.at < text.length) evaluation.fail(say.notUnderstoodMessage(text.slice(evaluation.at)));
+  const { error, isKnown } = evaluation;
+  return { value, isKnown: isKnown && error === "", error };
 }

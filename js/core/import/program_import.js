@@ -15,7 +15,7 @@ import * as say from "../../words/import.js";
  * @typedef {import("./source_lines.js").OperandKind} OperandKind
  *
  * An error in a line; `line` counts from 1.
- * @typedef {{ line: number, words: string }} ImportFault
+ * @typedef {{ line: number, words: string }} ImportError
  *
  * The rules for the value of an operand. `from` and `to` are its lowest and highest value. `modulus` is added to negative numbers; 0 means
  * that negative numbers are not allowed. `isNumber` is true if the output must contain the value of a name instead of the name.
@@ -58,8 +58,8 @@ class ProgramImport {
   /** @param {string[]} texts the lines of the source */
   constructor(texts) {
     this.lines = readSource(texts);
-    /** @type {ImportFault[]} */
-    this.faults = [];
+    /** @type {ImportError[]} */
+    this.errors = [];
     /** @type {Map<string, number>} the number of the line that defines each name, by upper-case name */
     this.definingLines = new Map();
     /** @type {Map<string, number>} the value of each name, by upper-case name */
@@ -79,7 +79,7 @@ class ProgramImport {
   /** Converts the program. Returns the output lines; an empty list if a name is defined twice or a line is too long. */
   convertLines() {
     this.lines.forEach((line, at) => this.recordDefinition(line, at + 1));
-    if (this.faults.length > 0) return [];
+    if (this.errors.length > 0) return [];
     this.chooseSpellings();
     let passes = MAX_PASSES;
     // The value of a name can depend on later lines, so the passes continue until no value changes.
@@ -99,7 +99,7 @@ class ProgramImport {
       return convert();
     } catch (error) {
       if (!(error instanceof LineError)) throw error;
-      this.faults.push({ line, words: error.message });
+      this.errors.push({ line, words: error.message });
       return fallback;
     }
   }
@@ -233,12 +233,12 @@ class ProgramImport {
     }
     if (INSTRUCTIONS_OF_4040.has(word)) throw new LineError(say.instructionOf4040(word));
     if (word === PROGRAM_RAM_MNEMONIC) throw new LineError(say.NO_PROGRAM_RAM);
-    if (UNSUPPORTED_DIRECTIVES.has(word)) throw new LineError(say.notSupported(word));
+    if (UNSUPPORTED_DIRECTIVES.has(word)) throw new LineError(say.notSupportedMessage(word));
     if (word === "ORG") return `ORG ${this.convertExpression(operand, { to: LAST_ADDRESS, isNumber: true })}`;
     if (word === "ALIGN" || RESERVE_DIRECTIVES.has(word)) return this.convertReservation(word, operand);
     if (BYTE_DIRECTIVES.has(word)) return `DB ${this.convertBytes(operand)}`;
     const kinds = OPERAND_KINDS.get(word);
-    if (!kinds) throw new LineError(say.noInstruction(word));
+    if (!kinds) throw new LineError(say.noInstructionMessage(word));
     return this.convertInstruction(word, operand, kinds);
   }
 
@@ -265,7 +265,7 @@ class ProgramImport {
     return parts.flatMap((part) => {
       const characters = quotedCharacters(part);
       if (characters === null) return [this.convertExpression(part, { to: BYTE - 1, modulus: BYTE })];
-      if (!isAscii(characters)) throw new LineError(say.noCharacter(part));
+      if (!isAscii(characters)) throw new LineError(say.noCharacterMessage(part));
       return [...characters].map((character) => `0x${hex(character.charCodeAt(0), 2)}`);
     }).join(", ");
   }
@@ -309,8 +309,8 @@ class ProgramImport {
    * @param {OperandRules} rules
    */
   convertExpression(text, { from = 0, to, modulus = 0, isNumber = false }) {
-    const { value, isKnown, fault } = this.evaluateText(text, this.address);
-    if (fault) throw new LineError(fault);
+    const { value, isKnown, error } = this.evaluateText(text, this.address);
+    if (error) throw new LineError(error);
     if (!isKnown) throw new LineError(say.dependsOnItself(text));
     // A negative number becomes its two's complement.
     const number = modulus > 0 && value < 0 && value >= -modulus / 2 ? value + modulus : value;
@@ -344,9 +344,9 @@ class ProgramImport {
     const register = Number(first);
     if (first !== "" && register % 2 === 0 && register < NIBBLE) return `P${register / 2}`;
     if (mark === "<") throw new LineError(say.oddPair(text, register));
-    const { value, isKnown, fault } = this.evaluateText(text, this.address);
-    if (fault === "" && isKnown && value === 0) return "P0";
-    throw new LineError(say.noPair(text));
+    const { value, isKnown, error } = this.evaluateText(text, this.address);
+    if (error === "" && isKnown && value === 0) return "P0";
+    throw new LineError(say.noPairMessage(text));
   }
 
   /**
@@ -368,12 +368,12 @@ class ProgramImport {
 /**
  * Converts a program to the bench's syntax.
  * @param {string} source
- * @returns {{ text: string, faults: ImportFault[] }} the converted text ("" if a line has an error), and the errors
+ * @returns {{ text: string, errors: ImportError[] }} the converted text ("" if a line has an error), and the errors
  */
 export function importProgram(source) {
   const texts = source.split("\n").map((line) => line.replace(/\r$/, ""));
   if (texts[texts.length - 1] === "") texts.pop();
   const program = new ProgramImport(texts);
   const lines = program.convertLines();
-  return { text: program.faults.length > 0 ? "" : lines.map((line) => `${line}\n`).join(""), faults: program.faults };
+  return { text: program.errors.length > 0 ? "" : lines.map((line) => `${line}\n`).join(""), errors: program.errors };
 }

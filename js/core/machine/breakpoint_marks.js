@@ -34,12 +34,12 @@ export function describeBreakpoint(breakpoint) {
 /**
  * Returns the mark of a breakpoint and its description.
  * @param {Breakpoint} breakpoint
- * @param {string} fault the error in the breakpoint's condition or log text, or ""; a breakpoint with an error stops every time
+ * @param {string} error the error in the breakpoint's condition or log text, or ""; a breakpoint with an error stops every time
  * @returns {BreakpointMark}
  */
-export function breakpointMark(breakpoint, fault) {
+export function breakpointMark(breakpoint, error) {
   const description = describeBreakpoint(breakpoint);
-  if (fault) return { mark: ALWAYS_STOPS_MARK, description: say.stopsAlwaysByError(description, fault) };
+  if (error) return { mark: ALWAYS_STOPS_MARK, description: say.stopsAlwaysByError(description, error) };
   if (!breakpoint.isOn) return { mark: NEVER_STOPS_MARK, description: say.breakpointIsOff(description) };
   if (breakpoint.address < 0) return { mark: NEVER_STOPS_MARK, description: say.stopsLater(description) };
   if (breakpoint.note.trim()) return { mark: LOG_MARK, description };
@@ -49,15 +49,15 @@ export function breakpointMark(breakpoint, fault) {
 /**
  * Returns the breakpoint marks by source line, and by address.
  * @param {Breakpoint[]} breakpoints
- * @param {Map<number, string>} faults the error messages, by breakpoint id
+ * @param {Map<number, string>} errors the error messages, by breakpoint id
  */
-export function breakpointMarks(breakpoints, faults) {
+export function breakpointMarks(breakpoints, errors) {
   /** @type {Map<number, BreakpointMark>} */
   const lines = new Map();
   /** @type {Map<number, BreakpointMark>} */
   const addresses = new Map();
   for (const breakpoint of breakpoints) {
-    const mark = breakpointMark(breakpoint, faults.get(breakpoint.id) || "");
+    const mark = breakpointMark(breakpoint, errors.get(breakpoint.id) || "");
     if (breakpoint.line > 0) lines.set(breakpoint.line, mark);
     if (breakpoint.address >= 0) addresses.set(breakpoint.address, mark);
   }

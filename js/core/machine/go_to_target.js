@@ -39,7 +39,7 @@ export function parseGoal(text, map) {
   const address = LISTING_ADDRESS.test(word) ? parseInt(word, 16) : parseNumber(word);
   if (address <= LAST_ADDRESS) return { address, message: "" };
   if (!Number.isNaN(parseNumber(word))) return createTargetError(say.beyondLast(word));
-  if (word === "") return createTargetError(say.nothingToGoTo(say.ADDRESS_FORMS));
-  if (map) return createTargetError(say.noNameOrAddress(word, say.ADDRESS_FORMS));
-  return createTargetError(say.notAnAddress(word, say.ADDRESS_FORMS));
+  if (word === "") return createTargetError(say.nothingToGoToMessage(say.ADDRESS_FORMS));
+  if (map) return createTargetError(say.noNameOrAddressMessage(word, say.ADDRESS_FORMS));
+  return createTargetError(say.notAnAddressMessage(word, say.ADDRESS_FORMS));
 }

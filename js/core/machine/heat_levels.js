@@ -164,7 +164,7 @@ export function describeHeatStatus({ chips }, isAll) {
 export function describeHeat({ cycles, cells }, requestedCycles, nameOf, map) {
   if (cycles === 0) return say.NOTHING_EARLIER;
   const period = say.inTheLast(formatCycles(cycles), cycles >= requestedCycles);
-  if (cells.length === 0) return say.nothingChanged(period);
+  if (cells.length === 0) return say.nothingChangedMessage(period);
   const mostChanged = cells.reduce((one, other) => (other.count > one.count ? other : one));
   if (cells.length === 1) return say.oneChanged(period, nameOf(mostChanged.place), describeChanges(mostChanged, map));
   const lastChanged = cells.reduce((one, other) => (other.cyclesAgo < one.cyclesAgo ? other : one));

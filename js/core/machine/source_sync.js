@@ -34,9 +34,9 @@ function formatAddress(address) {
 }
 
 export class SourceSync {
-  /** @param {SourceSyncCallbacks} calls */
-  constructor(calls) {
-    this.calls = calls;
+  /** @param {SourceSyncCallbacks} callbacks */
+  constructor(callbacks) {
+    this.callbacks = callbacks;
     this.editor = NO_EDITOR;
     /** @type {SourceMap | null} the source map of the program in ROM; null if the source is another program */
     this.map = null;
@@ -60,15 +60,15 @@ export class SourceSync {
     this.lastResult = null;
     this.text = "";
     this.nextLine = 0;
-    this.calls.changed(null, "");
+    this.callbacks.changed(null, "");
   }
 
   /** Checks whether the source is the program in ROM. */
   async check() {
     this.lastCheck += 1;
     const { lastCheck: check } = this;
-    const text = this.calls.text();
-    const result = await this.calls.check(text);
+    const text = this.callbacks.text();
+    const result = await this.callbacks.check(text);
     if (check === this.lastCheck) this.handleResult(text, result);
   }
 
@@ -86,7 +86,7 @@ export class SourceSync {
     this.mismatch = this.findMismatch(result, map);
     this.map = this.mismatch === "" && map.count > 0 ? map : null;
     this.editor.showAddresses(listLineAddresses(map));
-    this.calls.changed(this.map, this.mismatch);
+    this.callbacks.changed(this.map, this.mismatch);
   }
 
   /**
@@ -97,12 +97,12 @@ export class SourceSync {
   findMismatch({ refusal, difference }, map) {
     if (refusal) {
       const lineText = refusal.line > 0 ? say.inSourceLine(refusal.line) : "";
-      const errorText = refusal.number > 0 ? `no ${refusal.number}: ${this.calls.describeRefusal(refusal.number)}` : say.DOT_ENDS;
+      const errorText = refusal.number > 0 ? `no ${refusal.number}: ${this.callbacks.describeRefusal(refusal.number)}` : say.DOT_ENDS;
       return say.sourceHasError(lineText, errorText);
     }
     if (!difference) return "";
     const line = map.lineOf(difference.address);
-    if (!difference.hasRom) return say.noRomAt(formatAddress(difference.address), line);
+    if (!difference.hasRom) return say.noRomAtMessage(formatAddress(difference.address), line);
     return say.differsAt(formatAddress(difference.address), line);
   }
 
@@ -131,7 +131,7 @@ export class SourceSync {
   async waitForCheck() {
     // All callers wait for the same check. A newer check discards the results of older checks, so if each caller started its own check,
     // it could happen that no result is ever accepted.
-    while (this.calls.text() !== this.text || !this.lastResult) {
+    while (this.callbacks.text() !== this.text || !this.lastResult) {
       this.pendingCheck = this.pendingCheck || this.check().finally(() => {
         this.pendingCheck = null;
       });

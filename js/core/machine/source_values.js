@@ -12,7 +12,7 @@ import { valuesAt } from "../debug/word_values.js";
 
 /**
  * The page's callbacks for values in the source.
- * @typedef {object} ValueCalls
+ * @typedef {object} ValueCallbacks
  * @property {() => import("./source_map.js").SourceMap | null} map Returns the source map of the program in ROM; null if the source is not
  *   in ROM.
  * @property {(lines: ReadonlyMap<number, string>) => void} showLines Shows the changes at the end of each line; line numbers count from 1.
@@ -22,12 +22,12 @@ import { valuesAt } from "../debug/word_values.js";
  * @property {() => void} changed Called after the values have changed, and when they become unavailable because the session starts to run.
  */
 
-/** @typedef {Program & ValueCalls} SourceValueCalls */
+/** @typedef {Program & ValueCallbacks} SourceValueCallbacks */
 
 export class SourceValues {
-  /** @param {SourceValueCalls} calls */
-  constructor(calls) {
-    this.calls = calls;
+  /** @param {SourceValueCallbacks} callbacks */
+  constructor(callbacks) {
+    this.callbacks = callbacks;
     /** @type {string[]} the last snapshot */
     this.snapshot = [];
     /** @type {MachineState | null} the state in the last snapshot */
@@ -45,8 +45,8 @@ export class SourceValues {
 
   /** @returns {MachineState | null} the state of the machine while the session is paused; null while it runs */
   get machineState() {
-    if (this.calls.isRunning()) return null;
-    const snapshot = this.calls.snapshot();
+    if (this.callbacks.isRunning()) return null;
+    const snapshot = this.callbacks.snapshot();
     if (snapshot !== this.snapshot) {
       this.snapshot = snapshot;
       this.state = snapshot.length > 0 ? new MachineState(snapshot) : null;
@@ -62,7 +62,7 @@ export class SourceValues {
    */
   valueAt(text, column) {
     const { machineState } = this;
-    return machineState ? valuesAt(text, column, machineState, this.calls) : [];
+    return machineState ? valuesAt(text, column, machineState, this.callbacks) : [];
   }
 
   /**
@@ -71,12 +71,12 @@ export class SourceValues {
    */
   updateFromSnapshot(cycles) {
     const wasRunning = this.isRunning;
-    this.isRunning = this.calls.isRunning();
+    this.isRunning = this.callbacks.isRunning();
     if (this.isRunning && wasRunning) return;
     const { machineState } = this;
-    if (machineState) this.changes.addPause(machineState, cycles, this.calls.map());
-    this.calls.showLines(machineState ? this.changes.lines : new Map());
-    this.calls.showWatched();
-    this.calls.changed();
+    if (machineState) this.changes.addPause(machineState, cycles, this.callbacks.map());
+    this.callbacks.showLines(machineState ? this.changes.lines : new Map());
+    this.callbacks.showWatched();
+    this.callbacks.changed();
   }
 }

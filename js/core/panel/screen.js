@@ -10,7 +10,7 @@ import { expandTabs } from "../text/tab_expansion.js";
 import { LARGE_ROWS, largeDigitRows } from "./large_digits.js";
 import { buildLampRows, formatCell } from "./lamp_rows.js";
 import { CHIP_ROWS } from "./panel_snapshot.js";
-import { notInSource } from "../../words/machine.js";
+import { notInSourceMessage } from "../../words/machine.js";
 import * as say from "../../words/panel.js";
 
 /**
@@ -161,7 +161,7 @@ export class Screen {
     const { subject: { source }, snapshot: { counter } } = this.panel;
     if (!source) return "";
     const line = source.map.lineOf(counter);
-    if (line === 0) return notInSource(hex(counter, 3));
+    if (line === 0) return notInSourceMessage(hex(counter, 3));
     const sourceLine = escapeControls(expandTabs(source.lines[line - 1]).trimStart());
     return say.sourceHere(this.findAddressName(counter), line + source.linesBefore, sourceLine);
   }

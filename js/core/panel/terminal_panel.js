@@ -229,7 +229,7 @@ export class Panel {
    */
   async typeKey(typedCharacter) {
     const boardKey = findBoardKey(this.keys, typedCharacter);
-    if (!boardKey) this.message = /\p{C}/u.test(typedCharacter) ? say.NOTHING_HERE : say.noKey(typedCharacter);
+    if (!boardKey) this.message = /\p{C}/u.test(typedCharacter) ? say.NOTHING_HERE : say.noKeyMessage(typedCharacter);
     else if (this.isPaused) await this.toggleKey(boardKey.key);
     else if (this.queue.changes.length < MAX_CHANGES) {
       this.queue.press(boardKey.key);

@@ -35,7 +35,7 @@ export class ProjectError extends Error {
 function findBytesError(bytes) {
   if (bytes.length === 0) return say.PROJECT_FILE_IS_EMPTY;
   const { length } = bytes;
-  if (length > MAX_PROJECT_TOML_BYTES) return say.tooLong(length, MAX_PROJECT_TOML_BYTES);
+  if (length > MAX_PROJECT_TOML_BYTES) return say.tooLongMessage(length, MAX_PROJECT_TOML_BYTES);
   return bytes.includes(0) ? say.CONTAINS_NUL : "";
 }
 
@@ -59,8 +59,8 @@ function listPaths({ board, program, tests, properties, speed }) {
 export function readProject(bytes, checkFile, file = PROJECT_FILE) {
   const message = findBytesError(bytes);
   if (message) throw new ProjectError(file, message);
-  const { names, faults } = readProjectToml(new TextDecoder().decode(bytes));
-  if (!names) throw new ProjectError(file, faults[0].words, faults[0].line);
+  const { names, errors } = readProjectToml(new TextDecoder().decode(bytes));
+  if (!names) throw new ProjectError(file, errors[0].words, errors[0].line);
   for (const { path, key, line } of listNamedFiles(names).sort((one, other) => one.line - other.line)) {
     const error = checkFile(path);
     if (error) throw new ProjectError(file, `${key}: ${error}`, line);

@@ -7,7 +7,7 @@ import * as say from "../../words/server.js";
 /**
  * @typedef {import("../text/board_reader.js").Key} Key
  * @typedef {import("../text/board_reader.js").Value} Value
- * @typedef {import("../text/sendable_text.js").Fault} Fault
+ * @typedef {import("../text/sendable_text.js").TextError} TextError
  *
  * A path in a project file, with its TOML key, its line, and the columns at which its text starts and ends. Lines count from 1, columns
  * from 0.
@@ -37,7 +37,7 @@ const REQUIRED_KEYS = ["board", "program"];
  * Returns an error in a range of the project file.
  * @param {{ line: number, from: number, to: number }} range
  * @param {string} message
- * @returns {Fault}
+ * @returns {TextError}
  */
 function errorAt({ line, from, to }, message) {
   return { number: 0, line, from, to, words: message };
@@ -53,7 +53,7 @@ function findPathError(key, path) {
   // eslint-disable-next-line no-control-regex
   if (/[\u0000-\u001f\u007f]/.test(path)) return say.pathHasControlCharacter(key);
   if (path.includes("\\")) return say.pathHasBackslash(key);
-  if (path.startsWith("/")) return say.noPath(path, key);
+  if (path.startsWith("/")) return say.noPathMessage(path, key);
   if (path.split("/").includes("..")) return say.outOfFolder(path, key);
   return "";
 }
@@ -61,11 +61,11 @@ function findPathError(key, path) {
 /**
  * Returns the errors in a key and its value.
  * @param {Key} key
- * @returns {Fault[]}
+ * @returns {TextError[]}
  */
 function findKeyErrors({ name, line, from, to, value }) {
   const description = KEY_TEXTS.get(name);
-  if (!description) return [errorAt({ line, from, to }, say.noKey(name))];
+  if (!description) return [errorAt({ line, from, to }, say.noKeyMessage(name))];
   const { inner } = value;
   const values = LIST_KEYS.includes(name) && Array.isArray(inner) ? inner : [value];
   if (LIST_KEYS.includes(name) !== Array.isArray(inner)) return [errorAt(value, description)];
@@ -80,7 +80,7 @@ function findKeyErrors({ name, line, from, to, value }) {
 /**
  * Returns an error for each repeated key.
  * @param {Key[]} keys
- * @returns {Fault[]}
+ * @returns {TextError[]}
  */
 function findDuplicateKeys(keys) {
   /** @type {Map<string, number>} */
@@ -108,14 +108,14 @@ function listFilesForKey(keys, name) {
 /**
  * Parses a project file. Returns its contents; or, if the file has errors, null and the errors in the order of their lines.
  * @param {string} text
- * @returns {{ names: ProjectNames | null, faults: Fault[] }}
+ * @returns {{ names: ProjectNames | null, errors: TextError[] }}
  */
 export function readProjectToml(text) {
-  const { entries, plainKeys, keys, faults } = readBoardText(text.replace(/^\uFEFF/, ""));
+  const { entries, plainKeys, keys, errors: tomlErrors } = readBoardText(text.replace(/^\uFEFF/, ""));
   // `plainKeys` lacks the keys whose value is an empty list, because the board reader omits them.
   const emptyLists = keys.filter(({ value: { inner } }) => Array.isArray(inner) && inner.length === 0);
   const errors = [
-    ...faults.map((fault) => ({ ...fault, number: 0 })),
+    ...tomlErrors.map((error) => ({ ...error, number: 0 })),
     ...entries.map((entry) => errorAt(entry, say.NO_TABLES)),
     ...[...plainKeys, ...emptyLists].flatMap(findKeyErrors),
     ...findDuplicateKeys(keys),
@@ -124,10 +124,10 @@ export function readProjectToml(text) {
     const missingKeys = REQUIRED_KEYS.filter((name) => !keys.some((key) => key.name === name));
     errors.push(...missingKeys.map((name) => errorAt({ line: 1, from: 0, to: 0 }, say.keyMissing(name, KEY_TEXTS.get(name)))));
   }
-  if (errors.length > 0) return { names: null, faults: errors.sort((one, other) => one.line - other.line) };
+  if (errors.length > 0) return { names: null, errors: errors.sort((one, other) => one.line - other.line) };
   const [[board], [program], tests, properties] = ["board", "program", ...LIST_KEYS].map((name) => listFilesForKey(keys, name));
   const speed = keys.find(({ name }) => name === "speed");
-  return { names: { board, program, tests, properties, speed: speed ? String(speed.value.inner) : "" }, faults: [] };
+  return { names: { board, program, tests, properties, speed: speed ? String(speed.value.inner) : "" }, errors: [] };
 }
 
 /**

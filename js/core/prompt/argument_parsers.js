@@ -48,11 +48,11 @@ export function findInstruction(text, session) {
   if (locationText === "") return { line: session.line, address: session.address };
   if (/^\d+$/.test(locationText)) {
     const { line, address } = instructionForLine(Number(locationText), session.map);
-    if (address < 0) rejectCommand(say.noInstructionIn(locationText));
+    if (address < 0) rejectCommand(say.noInstructionInMessage(locationText));
     return { line, address };
   }
   const address = parseAddress(locationText, session);
-  if (address === undefined) rejectCommand(say.notInProgram(locationText, say.FORMS_IN_PROGRAM));
+  if (address === undefined) rejectCommand(say.notInProgramMessage(locationText, say.FORMS_IN_PROGRAM));
   if (address > LAST_ADDRESS) rejectCommand(ADDRESS_RANGE);
   return { line: instructionAtAddress(address, session.map).line, address };
 }
@@ -74,7 +74,7 @@ export function parseCountArgument(text, maxCount) {
  */
 export function parseCycles(text) {
   const cycles = parseExactDuration(text.trim().split(/\s+/));
-  return cycles > 0 ? cycles : rejectCommand(say.noTime(text.trim() || say.NOTHING));
+  return cycles > 0 ? cycles : rejectCommand(say.noTimeMessage(text.trim() || say.NOTHING));
 }
 
 /**
@@ -86,6 +86,6 @@ export function parseCycles(text) {
 export function parseConditionText(text, session) {
   const isLocation = /^\d+$/.test(text) || /^[^\s:]*\.[A-Za-z0-9]+:/.test(text) || parseAddress(text, session) !== undefined;
   if (isLocation || !/[\s=<>!]/.test(text)) return "";
-  const { searchCondition, error: fault } = compileSearchCondition(text, session.names);
-  return searchCondition ? text : rejectCommand(fault);
+  const { searchCondition, error } = compileSearchCondition(text, session.names);
+  return searchCondition ? text : rejectCommand(error);
 }

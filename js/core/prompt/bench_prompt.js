@@ -1,18 +1,18 @@
 // The prompt of `mcs4 new` and `mcs4 open`. A callback sends the bench lines to the bench. The prompt also reads texts from files, prints
 // help, completes lines, and explains why the bench rejects a line.
 //
-//     const prompt = new SessionPrompt(calls);
+//     const prompt = new SessionPrompt(callbacks);
 //     await prompt.enterLine("press 3 9"); prompt.label; prompt.isEnded; await prompt.complete("pr");
 
 import { readBoard, parseRefusal } from "../bench/answers.js";
 import { findLineError } from "../bench/line_forms.js";
 import { opensText, stripCarriageReturn } from "../bench/inputs.js";
 import { matchLines, readLineForms, cellText, sectionRows } from "../help/manual.js";
-import { findLineFaults, sentText } from "../text/sendable_text.js";
+import { findSendingErrors, sentText } from "../text/sendable_text.js";
 import { FILE_WORDS, completeLine } from "./line_completion.js";
 import { SourceCommand } from "./source_command.js";
-import { LINES_BY_GROUPS, noLine } from "../../words/lines.js";
-import { NO_KEYS, noRamAt } from "../../words/prompt.js";
+import { LINES_BY_GROUPS, noLineMessage } from "../../words/lines.js";
+import { NO_KEYS, noRamAtMessage } from "../../words/prompt.js";
 import * as say from "../../words/session_prompt.js";
 
 /**
@@ -31,7 +31,7 @@ import * as say from "../../words/session_prompt.js";
 
 /**
  * The callbacks of the prompt. Completion also uses `files` and `ask`.
- * @typedef {object} SessionPromptCalls
+ * @typedef {object} SessionPromptCallbacks
  * @property {(input: string) => Promise<string>} serve Sends an input (a line, or the lines of a text) to the bench and prints the answers.
  *   Resolves to the first answer line, or "".
  * @property {(line: string) => Promise<string[]>} ask Resolves to the answers to a line. Does not print them.
@@ -61,13 +61,13 @@ const TEXT_ERROR_NUMBERS = { first: 12, last: 42 };
 class RejectedLine extends Error {}
 
 export class SessionPrompt {
-  /** @param {SessionPromptCalls} calls */
-  constructor(calls) {
-    this.calls = calls;
+  /** @param {SessionPromptCallbacks} callbacks */
+  constructor(callbacks) {
+    this.callbacks = callbacks;
     this.isEnded = false;
     /** @type {UnfinishedText | null} the text that the user is entering */
     this.openText = null;
-    this.sources = new SourceCommand(this, calls);
+    this.sources = new SourceCommand(this, callbacks);
   }
 
   /** The prompt text before a line. */
@@ -153,7 +153,7 @@ export class SessionPrompt {
    * @param {string} line
    */
   async serve(line) {
-    const refusal = parseRefusal(await this.calls.serve(`${line}\n`));
+    const refusal = parseRefusal(await this.callbacks.serve(`${line}\n`));
     if (!refusal) return true;
     this.sources.complain(await this.explainRefusal(line, refusal));
     return false;
@@ -169,8 +169,8 @@ export class SessionPrompt {
   async serveFile(word, name) {
     const text = this.read(name);
     const mark = COMMENT_MARKS[word];
-    const textFaults = findLineFaults(text, mark);
-    if (textFaults.length > 0) return this.reportTextErrors(textFaults, text, { name, linesBefore: 0 });
+    const textErrors = findSendingErrors(text, mark);
+    if (textErrors.length > 0) return this.reportTextErrors(textErrors, text, { name, linesBefore: 0 });
     return this.serveText(word, sentText(text, mark), text, { name, linesBefore: 0 });
   }
 
@@ -183,10 +183,10 @@ export class SessionPrompt {
    */
   async serveText(word, sentLines, text, place) {
     const board = word === "asm" ? await this.readBoardText() : "";
-    const first = await this.calls.serve(`${word}\n${sentLines}.\n`);
+    const first = await this.callbacks.serve(`${word}\n${sentLines}.\n`);
     const refusal = parseRefusal(first);
     if (refusal) return this.reportTextErrors(await this.findTextErrors(word, text, board, refusal), text, place);
-    if (/^errors [1-9]/.test(first)) this.reportTextErrors(await this.calls.errorsOf(word, text, board), text, place);
+    if (/^errors [1-9]/.test(first)) this.reportTextErrors(await this.callbacks.errorsOf(word, text, board), text, place);
     return true;
   }
 
@@ -200,10 +200,10 @@ export class SessionPrompt {
    */
   async findTextErrors(word, text, board, { number, line }) {
     const isTextRefusal = number >= TEXT_ERROR_NUMBERS.first && number <= TEXT_ERROR_NUMBERS.last;
-    const errors = isTextRefusal ? await this.calls.errorsOf(word, text, board) : [];
+    const errors = isTextRefusal ? await this.callbacks.errorsOf(word, text, board) : [];
     // For a board, the bench reports the line of a table, but the error can be in one of its keys.
     const isSameLine = line === 0 || COMMENT_MARKS[word] === "#" || errors.some((error) => error.line === line);
-    return isSameLine && errors.length > 0 ? errors : [{ line, words: this.calls.wordsOf(number) }];
+    return isSameLine && errors.length > 0 ? errors : [{ line, words: this.callbacks.wordsOf(number) }];
   }
 
   /**
@@ -214,7 +214,7 @@ export class SessionPrompt {
    */
   reportTextErrors(errors, text, { name, linesBefore }) {
     const lines = text.split("\n");
-    this.calls.complain(errors.flatMap(({ line, words }) => {
+    this.callbacks.complain(errors.flatMap(({ line, words }) => {
       const sourceText = line > 0 ? [`    ${(lines[line - 1] || "").slice(0, MAX_SHOWN_CHARACTERS)}`] : [];
       return [say.errorInText(name, line > 0 ? line + linesBefore : 0, words), ...sourceText];
     }).join("\n"));
@@ -223,7 +223,7 @@ export class SessionPrompt {
 
   /** Resolves to the text of the current board. */
   async readBoardText() {
-    const [, ...lines] = await this.calls.ask("board");
+    const [, ...lines] = await this.callbacks.ask("board");
     return lines.map((line) => `${line}\n`).join("");
   }
 
@@ -235,7 +235,7 @@ export class SessionPrompt {
    */
   read(name) {
     try {
-      return this.calls.read(name);
+      return this.callbacks.read(name);
     } catch (error) {
       throw new RejectedLine(error instanceof Error ? error.message : String(error));
     }
@@ -265,12 +265,12 @@ export class SessionPrompt {
     if (lineError && lineError.number === number) return lineError.message;
     const [word, ...argumentWords] = line.trim().split(/[ \t]+/);
     if (number === NO_KEY_ERROR) {
-      const { rows, columns } = readBoard(await this.calls.ask("board"));
-      return rows === 0 ? NO_KEYS : say.noKey(argumentWords.join(" "), rows - 1, columns - 1);
+      const { rows, columns } = readBoard(await this.callbacks.ask("board"));
+      return rows === 0 ? NO_KEYS : say.noKeyMessage(argumentWords.join(" "), rows - 1, columns - 1);
     }
-    if (number === NO_ROM_ERROR) return say.noRomAt(argumentWords[0]);
-    if (number === NO_RAM_ERROR) return noRamAt(word === "poke" ? argumentWords[0] : argumentWords.join(" "));
-    return number === NO_RUN_ERROR ? say.invalidRunLength(argumentWords[0]) : this.calls.wordsOf(number);
+    if (number === NO_ROM_ERROR) return say.noRomAtMessage(argumentWords[0]);
+    if (number === NO_RAM_ERROR) return noRamAtMessage(word === "poke" ? argumentWords[0] : argumentWords.join(" "));
+    return number === NO_RUN_ERROR ? say.invalidRunLength(argumentWords[0]) : this.callbacks.wordsOf(number);
   }
 
   // --- help ---
@@ -282,8 +282,8 @@ export class SessionPrompt {
   printHelp(topic) {
     const [word = ""] = topic.split(/[ \t]+/);
     const helpText = word === "" ? listAllLines() : this.describeTopic(word);
-    if (helpText === "") throw new RejectedLine(noLine(word, []));
-    this.calls.print(helpText);
+    if (helpText === "") throw new RejectedLine(noLineMessage(word, []));
+    this.callbacks.print(helpText);
     return true;
   }
 
@@ -292,8 +292,8 @@ export class SessionPrompt {
    * @param {string} word
    */
   describeTopic(word) {
-    if (/^\d\d$/.test(word)) return `no ${word}: ${this.calls.wordsOf(Number(word))}`;
-    const manual = this.calls.manual();
+    if (/^\d\d$/.test(word)) return `no ${word}: ${this.callbacks.wordsOf(Number(word))}`;
+    const manual = this.callbacks.manual();
     const places = sectionRows(manual, say.PLACES_TITLE).map((row) => `  ${row.map(cellText).join(", ").replace(", ", ": ")}`);
     if (word === "places") return places.join("\n");
     const promptLines = say.PROMPT_LINES.filter(([form]) => form.split(/[ ,]+/).includes(word))
@@ -311,7 +311,7 @@ export class SessionPrompt {
    */
   async complete(line) {
     // Inside a text, the tab key inserts a tab.
-    return this.openText ? [["\t"], ""] : completeLine(line, this.calls);
+    return this.openText ? [["\t"], ""] : completeLine(line, this.callbacks);
   }
 }
 

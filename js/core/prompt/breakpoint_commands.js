@@ -70,14 +70,14 @@ export class BreakpointCommands {
    * @param {string} argumentText the arguments: location, number of the first hit that stops, condition and note
    */
   async add(argumentText) {
-    const { session, machine, calls } = this.prompt;
+    const { session, machine, callbacks } = this.prompt;
     const [, place, from = "1", condition = "", note = ""] = /** @type {RegExpExecArray} */ (BREAKPOINT_ARGUMENTS.exec(argumentText));
     const { line, address } = findInstruction(place, session);
     const previous = this.list.findByAddress(address);
     if (previous) this.list.remove(previous.id);
     const newBreakpoint = this.list.add({ line, address, from: Math.max(1, Number(from)), condition, note });
-    const { errors: faults } = await session.applyBreakpoints();
-    const breakpointError = faults.find(([id]) => id === newBreakpoint.id);
+    const { errors } = await session.applyBreakpoints();
+    const breakpointError = errors.find(([id]) => id === newBreakpoint.id);
     if (breakpointError) {
       this.list.remove(newBreakpoint.id);
       if (previous) this.list.add(previous);
@@ -86,7 +86,7 @@ export class BreakpointCommands {
     }
     await machine.saveAndReport();
     const { address: placedAddress } = this.list.get(newBreakpoint.id) || newBreakpoint;
-    calls.print(say.breakpointAt(newBreakpoint.id, formatAddress(session, placedAddress)));
+    callbacks.print(say.breakpointAt(newBreakpoint.id, formatAddress(session, placedAddress)));
     this.lastBreakpointNumber = newBreakpoint.id;
     return newBreakpoint.id;
   }
@@ -122,7 +122,7 @@ export class BreakpointCommands {
   parseNumbers(argumentText) {
     return argumentText.split(/\s+/).filter(Boolean).map((word) => {
       const id = word === LAST_BREAKPOINT ? this.lastBreakpointNumber : /^\d+$/.test(word) ? Number(word) : 0;
-      return this.list.get(id) ? id : rejectCommand(say.noBreakpoint(word));
+      return this.list.get(id) ? id : rejectCommand(say.noBreakpointMessage(word));
     });
   }
 
@@ -146,14 +146,14 @@ export class BreakpointCommands {
     const place = prompt.parsePlace(argumentText, "watch");
     if (RAM_NIBBLE.test(place)) {
       await prompt.serve(`watch ${place.slice("ram.".length).replace(".", " ")}`);
-      prompt.calls.print(say.isWatched(place));
+      prompt.callbacks.print(say.isWatchedMessage(place));
       return;
     }
     if (watchedPlace !== "" && watchedPlace !== place) {
       rejectCommand(say.onlyOneWatchAllowed(watchedPlace));
     }
     this.watchedPlace = place;
-    prompt.calls.print(say.watchedByContinue(place));
+    prompt.callbacks.print(say.watchedByContinue(place));
   }
 
   /**
@@ -164,7 +164,7 @@ export class BreakpointCommands {
     const place = this.prompt.parsePlace(argumentText, "delete");
     if (RAM_NIBBLE.test(place)) await this.prompt.serve(`unwatch ${place.slice("ram.".length).replace(".", " ")}`);
     else if (this.watchedPlace === place) this.watchedPlace = "";
-    else rejectCommand(say.notWatched(place));
+    else rejectCommand(say.notWatchedMessage(place));
   }
 
   /** The names of the registers, ports, lamps and RAM nibbles that are watched. */

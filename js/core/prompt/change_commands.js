@@ -32,7 +32,7 @@ export class ChangeCommands {
       },
       bench: async (argumentText) => {
         const { text: words, changes } = await prompt.console.serveBenchLines(argumentText || rejectCommand(say.BENCH_SYNTAX));
-        prompt.calls.print(words);
+        prompt.callbacks.print(words);
         if (changes) await prompt.machine.saveAndReport();
       },
     };
@@ -62,8 +62,8 @@ export class ChangeCommands {
 
   /** Assembles the current text of the program file into ROM; fails if the text has an error. */
   async loadProgram() {
-    const { calls, session, console: debugConsole, machine } = this.prompt;
-    const text = calls.source();
+    const { callbacks, session, console: debugConsole, machine } = this.prompt;
+    const text = callbacks.source();
     if (text === null) return rejectCommand(say.NO_FILE);
     const refusal = await session.setProgram(text.replace(/^\uFEFF/, "").replace(/\r\n?/g, "\n"));
     if (refusal) {

@@ -1,7 +1,7 @@
 // The prompt of the debugger: each line is a command. The prompt uses the same debugger as the page (js/core/debug). It debugs a session in
 // memory, and saves the session to its file at each stop. Callbacks print output and errors.
 //
-//     const prompt = new Prompt(launchResult, { refusals, manual }, calls);         adapter/session_launch.js creates the launch result
+//     const prompt = new Prompt(launchResult, { refusals, manual }, callbacks);         adapter/session_launch.js creates the launch result
 //     await prompt.begin(); await prompt.enterLine("break show"); prompt.isEnded; prompt.complete("br")
 
 import { KEYWORDS } from "../conditions/parser.js";
@@ -35,7 +35,7 @@ import { stoppedAt } from "../../words/stops.js";
 
 /**
  * The callbacks of the debugger's prompt. `source FILE` also uses `complain` and `read`.
- * @typedef {object} PromptCalls
+ * @typedef {object} PromptCallbacks
  * @property {(words: string) => void} print Prints a message on standard output.
  * @property {(words: string) => void} complain Prints a message on standard error.
  * @property {() => Promise<void>} pause Yields to other tasks, such as the handler of Ctrl-C.
@@ -75,12 +75,12 @@ export class Prompt {
    * @param {LaunchResult} launchResult
    * @param {{ refusals: Record<string, string>, manual: import("../help/manual.js").ManualSection[] }} data the bench's error messages, by
    *   number, and the manual
-   * @param {PromptCalls} calls
+   * @param {PromptCallbacks} callbacks
    */
-  constructor(launchResult, { refusals, manual }, calls) {
+  constructor(launchResult, { refusals, manual }, callbacks) {
     this.launchResult = launchResult;
     this.session = launchResult.session;
-    this.calls = calls;
+    this.callbacks = callbacks;
     this.isEnded = false;
     /** The command line that an empty line repeats. */
     this.repeatedLine = "";
@@ -102,7 +102,7 @@ export class Prompt {
     this.breakpoints = new BreakpointCommands(this);
     this.inspectCommands = new InspectCommands(this);
     this.stops = new StopCommands(this);
-    this.sources = new SourceCommand(this, calls);
+    this.sources = new SourceCommand(this, callbacks);
     const consoleCalls = { breaksChanged: () => this.breakpoints.syncWithBench(), romChanged: () => {} };
     this.console = new Console(this.machine, this.expressionContext, new ErrorMessages(refusals), consoleCalls);
     this.keys = new BoardKeyNames(this.session, this.face);
@@ -141,9 +141,9 @@ export class Prompt {
 
   /** Yields to other tasks. In a script, ends a move that exceeds MAX_CYCLES. */
   async yieldToOtherTasks() {
-    await this.calls.pause();
+    await this.callbacks.pause();
     const { count } = this.session.debugger.session;
-    if (!this.calls.isInteractive && count.total - this.startCycles >= MAX_CYCLES) this.machine.pause();
+    if (!this.callbacks.isInteractive && count.total - this.startCycles >= MAX_CYCLES) this.machine.pause();
   }
 
   /**
@@ -154,7 +154,7 @@ export class Prompt {
   output(text, category) {
     if (category === "stderr") this.sources.complain(text.trimEnd());
     // This method ignores the message about a move that did nothing, because `makeMove` reports the same message.
-    else if (!text.startsWith(say.NOTHING_DONE)) this.calls.print(text.trimEnd());
+    else if (!text.startsWith(say.NOTHING_DONE)) this.callbacks.print(text.trimEnd());
   }
 
   // --- lines ---
@@ -165,7 +165,7 @@ export class Prompt {
    * @param {string} text
    */
   async enterLine(text) {
-    const line = text.trim() || (this.calls.isInteractive && !this.stops.unfinishedCommands ? this.repeatedLine : "");
+    const line = text.trim() || (this.callbacks.isInteractive && !this.stops.unfinishedCommands ? this.repeatedLine : "");
     this.startCycles = this.session.debugger.session.count.total;
     this.isInterrupted = false;
     const name = this.findCommandName(line);
@@ -223,7 +223,7 @@ export class Prompt {
         if (this.stopActions.hasMoved || this.isEnded) break;
       }
       stops += 1;
-      if (!this.stopActions.hasMoved || (!this.calls.isInteractive && stops === MAX_STOPS)) break;
+      if (!this.stopActions.hasMoved || (!this.callbacks.isInteractive && stops === MAX_STOPS)) break;
       await this.yieldToOtherTasks();
     }
     this.stopActions = NO_STOP_ACTIONS;
@@ -260,8 +260,8 @@ export class Prompt {
   showStop(reason) {
     this.inspectCommands.lastListedLine = 0;
     if (this.stopActions.isSilent) return;
-    if (reason) this.calls.print(reason);
-    this.calls.print(formatNextInstruction(this.session));
+    if (reason) this.callbacks.print(reason);
+    this.callbacks.print(formatNextInstruction(this.session));
     this.inspectCommands.showDisplays();
   }
 
@@ -275,7 +275,7 @@ export class Prompt {
     if (text === "") rejectCommand(say.placeSyntax(command));
     const lamp = this.face.lampNumbers.get(text.replace(/ /g, "_"));
     const place = parsePlace(lamp === undefined ? text : `lamp ${lamp}`);
-    if (!place) return rejectCommand(say.noPlace(text, NAMED_PLACES));
+    if (!place) return rejectCommand(say.noPlaceMessage(text, NAMED_PLACES));
     return this.session.values([place.name])[0] === "" ? rejectCommand(boardHasNo(place.name)) : place.name;
   }
 
@@ -310,7 +310,7 @@ export class Prompt {
     const { command } = findCommand((/^\s*([a-zA-Z-]+)/.exec(line) || ["", ""])[1]);
     const name = command ? command.name : "";
     const file = FILE_ARGUMENTS[name] ? FILE_ARGUMENTS[name].exec(line) : null;
-    if (file) return [this.calls.files(file[1]), file[1]];
+    if (file) return [this.callbacks.files(file[1]), file[1]];
     const [word] = /** @type {string[]} */ (/[\w@.+~*/-]*$/.exec(line));
     const candidates = this.listArguments(name);
     return [candidates.filter((candidate) => candidate.toLowerCase().startsWith(word.toLowerCase())), word];

@@ -32,8 +32,8 @@ const FORMATS = {
  * @param {DebugSession} session
  */
 function evaluateNumber(text, session) {
-  const { expression, error: fault, column } = compileExpression(text, session.names);
-  if (!expression) return rejectCommand(errorInColumn(fault, column));
+  const { expression, error, column } = compileExpression(text, session.names);
+  if (!expression) return rejectCommand(errorInColumn(error, column));
   const values = session.debugger.readPlaces(expression.places);
   if (expression.number) return expression.number(values);
   return expression.textOf(values) === "true" ? 1 : 0;
@@ -48,8 +48,8 @@ export function formattedValue(text, context) {
   const [, format, expression = ""] = /^\/(\w*)\s*(.*)$/.exec(text) || [];
   if (format === undefined) return evaluateExpression(text, context);
   const formatNames = Object.keys(FORMATS);
-  const formatter = formatNames.includes(format) ? FORMATS[format] : rejectCommand(say.noFormat(format, formatNames.join(", ")));
+  const formatter = formatNames.includes(format) ? FORMATS[format] : rejectCommand(say.noFormatMessage(format, formatNames.join(", ")));
   if (expression === "") rejectCommand(say.PRINT_SYNTAX);
-  if (/^(display|lamps)$/.test(expression.trim())) rejectCommand(say.noNumberOf(expression));
+  if (/^(display|lamps)$/.test(expression.trim())) rejectCommand(say.noNumberOfMessage(expression));
   return formatter(evaluateNumber(expression, context.session), context.session);
 }

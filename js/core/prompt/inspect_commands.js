@@ -44,21 +44,21 @@ export class InspectCommands {
    * @returns {Record<string, CommandHandler>}
    */
   get handlers() {
-    const { calls, machine, session } = this.prompt;
+    const { callbacks, machine, session } = this.prompt;
     return {
-      lamps: () => calls.print(machine.frontPanelText.currentText() || say.NO_LAMPS),
-      print: (argumentText) => calls.print(this.evaluate(argumentText || rejectCommand(say.PRINT_SYNTAX))),
+      lamps: () => callbacks.print(machine.frontPanelText.currentText() || say.NO_LAMPS),
+      print: (argumentText) => callbacks.print(this.evaluate(argumentText || rejectCommand(say.PRINT_SYNTAX))),
       display: (argumentText) => this.addDisplay(argumentText),
       undisplay: (argumentText) => this.removeDisplays(argumentText),
       x: (argumentText) => this.printMemory(argumentText),
       list: (argumentText) => this.listSource(argumentText),
-      info: (argumentText) => calls.print(this.formatInfo(argumentText)),
+      info: (argumentText) => callbacks.print(this.formatInfo(argumentText)),
       view: (argumentText) => this.switchView(argumentText),
-      backtrace: () => calls.print(stateText.formatFrames(session)),
-      frame: () => calls.print(this.frameText),
+      backtrace: () => callbacks.print(stateText.formatFrames(session)),
+      frame: () => callbacks.print(this.frameText),
       help: (argumentText) => {
         if (argumentText !== "" && !findCommand(argumentText).command) rejectCommand(findCommand(argumentText).message);
-        calls.print(commandHelp(argumentText));
+        callbacks.print(commandHelp(argumentText));
       },
       quit: () => {
         this.prompt.isEnded = true;
@@ -71,7 +71,7 @@ export class InspectCommands {
    * @param {string} argumentText the argument of `view` or of gdb's `layout` and `tui`
    */
   switchView(argumentText) {
-    const { view } = this.prompt.calls;
+    const { view } = this.prompt.callbacks;
     if (!/^(|on|off|enable|disable|src|regs|asm|split)$/.test(argumentText)) rejectCommand(say.VIEW_SYNTAX);
     if (!view) {
       rejectCommand(say.VIEW_NEEDS_TERMINAL);
@@ -107,7 +107,7 @@ export class InspectCommands {
    */
   showDisplays(startIndex = 0) {
     this.displays.slice(startIndex).forEach((expression, at) => {
-      this.prompt.calls.print(`${startIndex + at + 1}: ${expression} = ${this.evaluateOrExplain(expression)}`);
+      this.prompt.callbacks.print(`${startIndex + at + 1}: ${expression} = ${this.evaluateOrExplain(expression)}`);
     });
   }
 
@@ -138,16 +138,16 @@ export class InspectCommands {
    * @param {string} argumentText an optional count such as `/8`, and the first nibble or address
    */
   printMemory(argumentText) {
-    const { calls, session } = this.prompt;
+    const { callbacks, session } = this.prompt;
     const [, count = "", place = ""] = /^(?:\/(\d*)[a-z]?)?\s*(.*)$/.exec(argumentText) || [];
     const countShown = parseCountArgument(count, MAX_EXAMINED_COUNT);
     if (/^ram[. ]/i.test(place)) {
       const { name } = parsePlace(place) || { name: place };
-      return calls.print(stateText.formatNibbles(session, name, countShown));
+      return callbacks.print(stateText.formatNibbles(session, name, countShown));
     }
     const address = place === "" ? session.address : parseAddress(place, session);
-    if (address === undefined || address > LAST_ADDRESS) return rejectCommand(say.noPlaceOfMemory(place));
-    return calls.print(stateText.formatCode(session, address, countShown));
+    if (address === undefined || address > LAST_ADDRESS) return rejectCommand(say.noPlaceOfMemoryMessage(place));
+    return callbacks.print(stateText.formatCode(session, address, countShown));
   }
 
   /**
@@ -155,7 +155,7 @@ export class InspectCommands {
    * @param {string} argumentText the location; "" for the lines after the last printed line
    */
   listSource(argumentText) {
-    const { calls, session } = this.prompt;
+    const { callbacks, session } = this.prompt;
     const count = stateText.countSourceLines(session);
     let firstLine = this.lastListedLine + 1;
     if (argumentText !== "" || this.lastListedLine === 0) {
@@ -164,7 +164,7 @@ export class InspectCommands {
       firstLine = Math.max(1, line - LIST_LENGTH / 2);
     }
     if (firstLine > count) rejectCommand(say.sourceHas(count));
-    calls.print(stateText.formatSourceLines(session, firstLine, firstLine + LIST_LENGTH - 1));
+    callbacks.print(stateText.formatSourceLines(session, firstLine, firstLine + LIST_LENGTH - 1));
     this.lastListedLine = Math.min(count, firstLine + LIST_LENGTH - 1);
   }
 
@@ -194,7 +194,7 @@ export class InspectCommands {
       line: (place) => stateText.formatLineInfo(session, findInstruction(place, session)),
       symbol: (place) => {
         const address = parseAddress(place || rejectCommand(say.SYMBOL_SYNTAX), session);
-        return address === undefined ? rejectCommand(say.noPlaceOfMemory(place)) : stateText.formatAddress(session, address);
+        return address === undefined ? rejectCommand(say.noPlaceOfMemoryMessage(place)) : stateText.formatAddress(session, address);
       },
       frame: () => this.frameText,
       stack: () => stateText.formatFrames(session),

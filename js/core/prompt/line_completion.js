@@ -12,7 +12,7 @@ import { indices } from "../bench/numbers.js";
 
 /**
  * The callbacks of completion.
- * @typedef {object} CompletionCalls
+ * @typedef {object} CompletionCallbacks
  * @property {(prefix: string) => string[]} files Returns the file names that start with a prefix.
  * @property {(line: string) => Promise<string[]>} ask Resolves to the bench's answers to a line. Does not print them.
  */
@@ -62,18 +62,18 @@ const ARGUMENT_COMPLETIONS = {
 /**
  * Returns the completions of a line.
  * @param {string} line the line up to the cursor
- * @param {CompletionCalls} calls
+ * @param {CompletionCallbacks} callbacks
  * @returns {Promise<Completion>}
  */
-export async function completeLine(line, calls) {
+export async function completeLine(line, callbacks) {
   const [, first] = /^[ \t]*(\S*)$/.exec(line) || [];
   if (first !== undefined) return [filterByPrefix([...ANSWER_FORMATS.keys(), ...PROMPT_WORDS], first).map((word) => `${word} `), first];
   const [, word, unfinishedName] = /** @type {RegExpExecArray} */ (/^[ \t]*(\S+)[ \t]+(.*)$/.exec(line));
-  if (FILE_WORDS.includes(word)) return [calls.files(unfinishedName), unfinishedName];
+  if (FILE_WORDS.includes(word)) return [callbacks.files(unfinishedName), unfinishedName];
   const words = line.trimStart().split(/[ \t]+/);
   const unfinishedWord = /** @type {string} */ (words.pop());
   const findArgumentWords = ARGUMENT_COMPLETIONS[word];
   const isKnown = ANSWER_FORMATS.has(word) || word === "help";
-  const candidates = isKnown && findArgumentWords ? await findArgumentWords(words.length - 1, calls.ask) : [];
+  const candidates = isKnown && findArgumentWords ? await findArgumentWords(words.length - 1, callbacks.ask) : [];
   return [filterByPrefix(candidates, unfinishedWord), unfinishedWord];
 }

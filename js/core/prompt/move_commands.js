@@ -61,8 +61,8 @@ export class MoveCommands {
       },
       "back": (argumentText) => {
         if (argumentText === "") return this.moveAndShow(() => machine.goBack({ kind: "stop" }));
-        const { goal, error: fault } = parseGoal(argumentText, this.prompt.session.names);
-        return goal ? this.moveAndShow(() => machine.goBack(goal)) : rejectCommand(fault);
+        const { goal, error } = parseGoal(argumentText, this.prompt.session.names);
+        return goal ? this.moveAndShow(() => machine.goBack(goal)) : rejectCommand(error);
       },
       "forward": () => this.moveAndShow(() => machine.goForward()),
       "press": (argumentText) => this.pressKeys(argumentText),
@@ -109,10 +109,10 @@ export class MoveCommands {
    */
   continueRun(argumentText) {
     if (argumentText !== "") rejectCommand(say.CONTINUE_SYNTAX);
-    const { session, watchedPlace, calls, machine } = this.prompt;
+    const { session, watchedPlace, callbacks, machine } = this.prompt;
     const hasWatches = watchedPlace !== "" || session.debugger.session.ask("watches\n")[0] !== "watches -";
     const canStop = session.breakpoints.enabledCount > 0 || hasWatches;
-    if (!canStop && !calls.isInteractive) rejectCommand(say.NOTHING_STOPS);
+    if (!canStop && !callbacks.isInteractive) rejectCommand(say.NOTHING_STOPS);
     return this.moveAndShow(() => machine.go(watchedPlace === "" ? null : { kind: "change", place: watchedPlace }));
   }
 
@@ -133,7 +133,7 @@ export class MoveCommands {
       }, () => true));
       if (stopReason === "passed") continue;
       const remainingKeys = keys.slice(at + 1).map(({ name }) => name).join(" ");
-      prompt.showStop(remainingKeys === "" ? stopText : say.notPressed(stopText, remainingKeys));
+      prompt.showStop(remainingKeys === "" ? stopText : say.notPressedMessage(stopText, remainingKeys));
       return;
     }
     prompt.showStop(stoppedAt(session.counterText));

@@ -24,7 +24,7 @@ export function findCommand(word) {
   if (exactMatch) return { command: exactMatch, message: "" };
   const matching = COMMANDS.filter(({ name }) => name.startsWith(word));
   if (matching.length === 1) return { command: matching[0], message: "" };
-  if (matching.length === 0) return { command: null, message: say.noCommand(word) };
+  if (matching.length === 0) return { command: null, message: say.noCommandMessage(word) };
   return { command: null, message: say.ambiguousCommand(word, matching.map(({ name }) => name).join(", ")) };
 }
 

@@ -66,7 +66,7 @@ export class BoardKeyNames {
     /** @type {(word: string) => NamedKey} */
     const requireKey = (word) => {
       const { names } = this;
-      const message = names.length === 0 ? say.NO_KEYS : say.noKey(word, names.join(" "));
+      const message = names.length === 0 ? say.NO_KEYS : say.noKeyMessage(word, names.join(" "));
       return this.findKey(word) || rejectCommand(message);
     };
     return text.split(/\s+/).flatMap((word) => (this.findKey(word) ? [word] : [...word])).map(requireKey);

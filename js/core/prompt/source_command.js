@@ -15,12 +15,12 @@ const MAX_NESTING = 8;
 export class SourceCommand {
   /**
    * @param {LineServer} server
-   * @param {{ read: (name: string) => string, complain: (words: string) => void }} calls `read` returns the text of a file, and throws an
-   *   error if it cannot read the file; `complain` prints an error message
+   * @param {{ read: (name: string) => string, complain: (words: string) => void }} callbacks `read` returns the text of a file,
+   *   and throws an error if it cannot read the file; `complain` prints an error message
    */
-  constructor(server, calls) {
+  constructor(server, callbacks) {
     this.server = server;
-    this.calls = calls;
+    this.callbacks = callbacks;
     /** @type {{ name: string, lineNumber: number }[]} the nested files with their current line numbers, innermost last */
     this.files = [];
   }
@@ -35,7 +35,7 @@ export class SourceCommand {
    * @param {string} message
    */
   complain(message) {
-    this.calls.complain(this.file ? say.errorInFile(this.file.name, this.file.lineNumber, message) : message);
+    this.callbacks.complain(this.file ? say.errorInFile(this.file.name, this.file.lineNumber, message) : message);
   }
 
   /**
@@ -46,7 +46,7 @@ export class SourceCommand {
   async serve(name) {
     if (name === "") throw new Error(say.SOURCE_SYNTAX);
     if (this.files.length === MAX_NESTING) throw new Error(say.sourcesTooDeep(MAX_NESTING));
-    const lines = this.calls.read(name).replace(/\n$/, "").split("\n");
+    const lines = this.callbacks.read(name).replace(/\n$/, "").split("\n");
     const file = { name, lineNumber: 0 };
     this.files.push(file);
     let isDone = true;

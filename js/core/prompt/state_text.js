@@ -111,9 +111,9 @@ export function formatRam(session) {
  * @param {DebugSession} session
  */
 export function formatPorts(session) {
-  const { sources, roms, chains, keys } = readState(session).ports;
+  const { srcBytes, roms, chains, keys } = readState(session).ports;
   return [
-    `src ${sources.join(" ")}`,
+    `src ${srcBytes.join(" ")}`,
     ...roms.map(({ chip, out, in: reads }) => `rom ${chip} out ${out} in ${reads}`),
     ...chains.map((bits, at) => `chain ${at} ${bits.replace(/.{10}(?=.)/g, "$& ")}`),
     `keys ${keys.join(" ") || "-"}`,
@@ -198,11 +198,11 @@ export function formatBreakpointList({ breakpoints }, extraText) {
 export function formatNibbles(session, text, count) {
   const [, bank, address] = /^ram\.([0-7])\.(\w+)$/i.exec(text) || [];
   const first = parseNumber(address || "");
-  if (bank === undefined || !(first <= 255)) rejectCommand(say.noPlaceOfRam(text));
+  if (bank === undefined || !(first <= 255)) rejectCommand(say.noPlaceOfRamMessage(text));
   const state = readState(session);
   const values = indices(Math.min(count, 256 - first)).map((offset) => state.character(Number(bank), first + offset));
   const missing = values.findIndex((value) => value === "");
-  if (missing === 0) rejectCommand(say.noRamAt(text));
+  if (missing === 0) rejectCommand(say.noRamAtMessage(text));
   const presentValues = missing < 0 ? values : values.slice(0, missing);
   return `ram.${bank}.0x${hex(first, 2)}  ${presentValues.join("")}`;
 }

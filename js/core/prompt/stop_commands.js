@@ -96,7 +96,7 @@ export class StopCommands {
   async setCondition(argumentText) {
     const { breakpoint: { id }, remainingText } = this.parseBreakpoint(argumentText, say.CONDITION_SYNTAX);
     await this.prompt.breakpoints.change(id, { condition: remainingText.replace(/^if\s+/, "") });
-    if (remainingText === "") this.prompt.calls.print(say.stopsAlways(id));
+    if (remainingText === "") this.prompt.callbacks.print(say.stopsAlways(id));
   }
 
   /**
@@ -108,7 +108,7 @@ export class StopCommands {
     const count = /^\d{1,9}$/.test(remainingText) ? Number(remainingText) : -1;
     if (count < 0) rejectCommand(say.hitCountRange(MAX_IGNORED_HITS.toLocaleString("en"), remainingText || say.NOTHING));
     await this.prompt.breakpoints.change(id, { from: count === 0 ? 1 : hits + count + 1 });
-    this.prompt.calls.print(say.breakpointWillIgnore(id, count));
+    this.prompt.callbacks.print(say.breakpointWillIgnore(id, count));
   }
 
   // --- commands at a stop ---
@@ -134,7 +134,7 @@ export class StopCommands {
       this.unfinishedCommands = null;
     } else if (lines.length === MAX_COMMANDS) {
       this.unfinishedCommands = null;
-      rejectCommand(say.tooManyCommands(MAX_COMMANDS));
+      rejectCommand(say.tooManyCommandsMessage(MAX_COMMANDS));
     } else if (line.trim() !== "") lines.push(line.trim());
   }
 
@@ -180,8 +180,8 @@ export class StopCommands {
     if (!/^b(r(e(akpoints?)?)?)?$/.test(word) || name === "") rejectCommand(say.SAVE_SYNTAX);
     const watches = this.prompt.breakpoints.watchedPlaces.map((place) => `watch ${place}`);
     const lines = [...this.list.all.flatMap((breakpoint) => this.formatBreakpoint(breakpoint)), ...watches];
-    this.prompt.calls.write(name, `${[say.SAVED_HEAD, ...lines].join("\n")}\n`);
-    this.prompt.calls.print(say.savedIn(name, this.list.all.length));
+    this.prompt.callbacks.write(name, `${[say.SAVED_HEAD, ...lines].join("\n")}\n`);
+    this.prompt.callbacks.print(say.savedIn(name, this.list.all.length));
   }
 
   /**

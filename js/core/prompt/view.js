@@ -95,7 +95,7 @@ export class View {
     const { total } = session.debugger.session.count;
     const { registers, ports } = new MachineState(session.debugger.session.takeSnapshot());
     const { accumulator, carry, bank, test } = registers;
-    const newValues = new Map([["acc", accumulator], ["cy", carry], ["test", test], ["dcl", bank], ["SRC", ports.sources[0]]]);
+    const newValues = new Map([["acc", accumulator], ["cy", carry], ["test", test], ["dcl", bank], ["SRC", ports.srcBytes[0]]]);
     for (const at of indices(8)) newValues.set(`P${at}`, `${registers.registers[2 * at]}${registers.registers[2 * at + 1]}`);
     if (total !== this.valuesCycleCount) this.previousValues = this.currentValues.size > 0 ? this.currentValues : newValues;
     this.currentValues = newValues;

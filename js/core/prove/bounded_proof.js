@@ -1,7 +1,7 @@
 // Proves properties on the page. Asks the prover in the WebAssembly module repeatedly, each time with twice the previous limit on the
 // number of states, so that the page can show progress. Confirms a counterexample by running its test. The page's worker uses this module.
 //
-//     const { proving, faults } = beginProving(engine, texts, 1000000, { seen: async (states) => {}, yieldToMessages: async () => {} });
+//     const { proving, errors } = beginProving(engine, texts, 1000000, { seen: async (states) => {}, yieldToMessages: async () => {} });
 //     for (let judged = await proving.judgeNext(); judged; judged = await proving.judgeNext()) ..
 
 import { parseSearchTexts } from "../explore/sliced_search.js";
@@ -17,7 +17,7 @@ import * as say from "../../words/prove.js";
  * @typedef {import("../engine/engine.js").Engine} Engine
  * @typedef {import("../explore/sliced_search.js").ExploredTexts} ExploredTexts
  * @typedef {import("../explore/sliced_search.js").SearchSetup} SearchSetup
- * @typedef {import("../testing/test_preparation.js").TextFault} TextFault
+ * @typedef {import("../testing/test_preparation.js").ProjectTextError} ProjectTextError
  * @typedef {import("./verdicts.js").JudgedProperty} JudgedProperty
  * @typedef {import("./verdicts.js").Verdict} Verdict
  *
@@ -104,11 +104,11 @@ class ProverQueries {
  * @param {ExploredTexts} texts
  * @param {number} maxStates the maximum number of states per question
  * @param {ProvingCalls} calls
- * @returns {{ proving: PropertyJudge | null, faults: TextFault[] }}
+ * @returns {{ proving: PropertyJudge | null, errors: ProjectTextError[] }}
  */
 export function beginProving(engine, texts, maxStates, calls) {
-  const { parsedTexts, faults } = parseSearchTexts(engine, texts, false);
-  if (!parsedTexts) return { proving: null, faults };
+  const { parsedTexts, errors } = parseSearchTexts(engine, texts, false);
+  if (!parsedTexts) return { proving: null, errors };
   const queries = new ProverQueries(engine, texts, maxStates, calls);
   const proving = new PropertyJudge(parsedTexts.subject, parsedTexts.campaign, {
     ask: (question) => queries.ask(question),
@@ -117,7 +117,7 @@ export function beginProving(engine, texts, maxStates, calls) {
     reason: (answer) => queries.explainNoAnswer(answer),
     yieldToMessages: calls.yieldToMessages,
   });
-  return { proving, faults: [] };
+  return { proving, errors: [] };
 }
 
 /**

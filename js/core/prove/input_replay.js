@@ -110,8 +110,8 @@ class ValueReplay {
   setKeys(value) {
     const { board: { matrix, rows, columns } } = this.subject.names;
     if (!matrix) return;
-    const { sources, chains } = parsePorts(parseState(this.subject.engine.ask(this.file, "state\n").answers[0]).ports);
-    const port = `rom${parseInt(sources[0][0], 16)}`;
+    const { srcBytes, chains } = parsePorts(parseState(this.subject.engine.ask(this.file, "state\n").answers[0]).ports);
+    const port = `rom${parseInt(srcBytes[0][0], 16)}`;
     const drivenRows = indices(rows).filter((row) => chains[matrix.chain][matrix.first + row] === "1");
     const wantedLines = new Set(indices(4).filter((line) => Math.floor(value / 2 ** line) % 2 === 1));
     for (const column of indices(columns)) {

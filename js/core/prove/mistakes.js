@@ -67,7 +67,7 @@ const MISTAKE_CHECKS = {
 function parseMachineState({ codes, names: { board } }, answer) {
   const { registers, ports } = parseState(answer);
   const { counter, owed, bank, registers: [highDigit, lowDigit] } = parseRegisters(registers);
-  const { sources: [source, ...banks] } = parsePorts(ports);
+  const { srcBytes: [source, ...banks] } = parsePorts(ports);
   const address = parseInt(counter, 16);
   return {
     board, address, code: codes[address], dcl: Number(bank), pair: parseInt(highDigit + lowDigit, 16), source: parseInt(source, 16),

@@ -29,9 +29,9 @@ export class Prover extends TaskWorker {
    */
   prove(texts, maxStates, signal, report) {
     return this.runTask(signal, async (bench) => {
-      const { faults, count } = await bench.call("prove", [texts, maxStates]);
-      if (faults.length === 0) await reportVerdicts(bench, count, report);
-      return faults;
+      const { errors, count } = await bench.call("prove", [texts, maxStates]);
+      if (errors.length === 0) await reportVerdicts(bench, count, report);
+      return errors;
     });
   }
 }

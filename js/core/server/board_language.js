@@ -44,7 +44,7 @@ export class BoardLanguage {
    */
   async findErrors({ text }, isWanted) {
     const errors = await this.errorFinder.findInBoard(text, isWanted);
-    return errors && { ...errors, faults: [...errors.faults, ...findFrontPanelErrors(text)] };
+    return errors && { ...errors, errors: [...errors.errors, ...findFrontPanelErrors(text)] };
   }
 
   /**

@@ -101,7 +101,7 @@ export class Connection extends MessageStream {
     const handler = Object.prototype.hasOwnProperty.call(this.handlers.requests, method) && this.handlers.requests[method];
     if (stateError || !handler || this.pendingRequests.has(id)) {
       const notServed = handler ? new ProtocolError(INVALID_REQUEST, say.requestPending(id))
-        : new ProtocolError(METHOD_NOT_FOUND, say.noMethod(method));
+        : new ProtocolError(METHOD_NOT_FOUND, say.noMethodMessage(method));
       this.rejectRequest(id, stateError || notServed);
       return;
     }

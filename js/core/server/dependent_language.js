@@ -14,7 +14,7 @@ import * as say from "../../words/server.js";
  * @typedef {import("../engine/engine_host.js").EngineHost} Engine
  * @typedef {import("../testing/test_preparation.js").Texts} Texts
  * @typedef {import("../text/test_words.js").TestNames} TestNames
- * @typedef {import("./diagnostics.js").ShownFault} ShownFault
+ * @typedef {import("./diagnostics.js").ShownError} ShownError
  * @typedef {import("./open_text.js").OpenText} OpenText
  * @typedef {import("./lsp_protocol.js").Position} Position
  *
@@ -33,8 +33,8 @@ const VALUE_COMPLETION = 12;
  * Returns an error with a range: the word at its column, or the whole line if the column is unknown. Removes the column from the message,
  * because the range shows it.
  * @param {string[]} lines
- * @param {{ line: number, column: number, words: string }} fault the error; its line counts from 1, its column from 0 (-1 if unknown)
- * @returns {ShownFault}
+ * @param {{ line: number, column: number, words: string }} error the error; its line counts from 1, its column from 0 (-1 if unknown)
+ * @returns {ShownError}
  */
 export function locateError(lines, { line, column, words: fullMessage }) {
   const message = column < 0 ? fullMessage : fullMessage.replace(errorInColumn("", column), "");
@@ -86,15 +86,15 @@ export class DependentLanguage {
   /**
    * Returns an error if the board or the program is missing or has an error; null if both are valid.
    * @param {DependencyTexts} dependencies
-   * @returns {ShownFault | null}
+   * @returns {ShownError | null}
    */
   findDependencyError({ board, program }) {
     const missingFile = [board, program].find(({ text }) => text === null);
     const errorAtStart = (/** @type {string} */ message) => ({ number: 0, line: 1, from: 0, to: 0, words: message });
     if (missingFile) return errorAtStart(say.dependencyMissing(decodeFileName(missingFile.uri)));
-    const { faults } = this.prepareTexts({ boardText: board.text || "", programText: program.text || "" });
-    if (faults.length === 0) return null;
-    const [{ text, line }] = faults;
+    const { errors } = this.prepareTexts({ boardText: board.text || "", programText: program.text || "" });
+    if (errors.length === 0) return null;
+    const [{ text, line }] = errors;
     return errorAtStart(say.dependencyHasError(decodeFileName(text === "board" ? board.uri : program.uri), line));
   }
 

@@ -6,11 +6,11 @@ import { rangeInLine } from "./lsp_protocol.js";
 import * as say from "../../words/server.js";
 
 /**
- * @typedef {import("../text/sendable_text.js").Fault} Fault
+ * @typedef {import("../text/sendable_text.js").TextError} TextError
  * @typedef {import("./lsp_protocol.js").Range} Range
  *
  * An error or a warning in any kind of text: a warning if `number` is 0 and `isError` is not true.
- * @typedef {Fault & { isError?: boolean }} ShownFault
+ * @typedef {TextError & { isError?: boolean }} ShownError
  * @typedef {{ range: Range, severity: number, code?: number, source: string, message: string }} Diagnostic
  */
 
@@ -23,7 +23,7 @@ const SOURCE = "mcs4";
 
 /**
  * Returns the diagnostic for an error. In a board text, an error without a number concerns the front panel and is only a warning.
- * @param {ShownFault} fault
+ * @param {ShownError} error
  * @returns {Diagnostic}
  */
 export function toDiagnostic({ number, line, from, to, words, isError = number > 0 }) {
@@ -33,13 +33,13 @@ export function toDiagnostic({ number, line, from, to, words, isError = number >
 
 /**
  * Returns the diagnostics of a text. If the text has, or can have, more errors, adds a diagnostic with a message about that.
- * @param {ShownFault[]} faults
- * @param {boolean} isComplete false if the text can contain errors that `faults` lacks
+ * @param {ShownError[]} errors
+ * @param {boolean} isComplete false if the text can contain errors that `errors` lacks
  * @returns {Diagnostic[]}
  */
-export function toDiagnostics(faults, isComplete) {
-  const diagnostics = faults.slice(0, MAX_ERRORS).map(toDiagnostic);
-  const hasMore = faults.length > MAX_ERRORS || (!isComplete && faults.length > 1);
+export function toDiagnostics(errors, isComplete) {
+  const diagnostics = errors.slice(0, MAX_ERRORS).map(toDiagnostic);
+  const hasMore = errors.length > MAX_ERRORS || (!isComplete && errors.length > 1);
   if (!hasMore) return diagnostics;
   const { range } = diagnostics[diagnostics.length - 1];
   return [...diagnostics, { range, severity: INFORMATION, source: SOURCE, message: say.MAY_BE_MORE }];
@@ -49,7 +49,7 @@ export function toDiagnostics(faults, isComplete) {
  * Returns the error for a text that is too long to check; null for any other text. The range of the error is the rest of the line that
  * exceeds the maximum length.
  * @param {import("./open_text.js").OpenText} openText
- * @returns {Fault | null}
+ * @returns {TextError | null}
  */
 export function lengthError({ lines, length }) {
   if (length <= MAX_STORED_LENGTH) return null;
@@ -62,7 +62,7 @@ export function lengthError({ lines, length }) {
 
 /**
  * Returns whether the range of an error overlaps or touches a range.
- * @param {Fault} fault
+ * @param {TextError} error
  * @param {Range} range
  */
 function touchesRange({ line, from, to }, { start, end }) {
@@ -75,18 +75,18 @@ function touchesRange({ line, from, to }, { start, end }) {
 /**
  * Returns the quick fixes for the errors in a range: one for each suggested replacement of a wrong word.
  * @param {string} uri
- * @param {Fault[]} faults
+ * @param {TextError[]} errors
  * @param {Range} range
  */
-export function createQuickFixes(uri, faults, range) {
-  return faults.filter((fault) => touchesRange(fault, range)).flatMap((fault) => {
-    const texts = fault.quickFixTexts || [];
+export function createQuickFixes(uri, errors, range) {
+  return errors.filter((error) => touchesRange(error, range)).flatMap((error) => {
+    const texts = error.quickFixTexts || [];
     return texts.map((newText) => ({
       title: say.quickFixTitle(newText),
       kind: "quickfix",
-      diagnostics: [toDiagnostic(fault)],
+      diagnostics: [toDiagnostic(error)],
       isPreferred: texts.length === 1,
-      edit: { changes: { [uri]: [{ range: rangeInLine(fault.line, fault.from, fault.to), newText }] } },
+      edit: { changes: { [uri]: [{ range: rangeInLine(error.line, error.from, error.to), newText }] } },
     }));
   });
 }

@@ -13,8 +13,8 @@
  * @typedef {import("./lsp_protocol.js").TextEdit} TextEdit
  * @typedef {import("./token_codes.js").ColouredWord} ColouredWord
  *
- * The errors in a text. `isComplete` is false if the text can contain errors that `faults` lacks.
- * @typedef {{ faults: import("./diagnostics.js").ShownFault[], isComplete: boolean }} FoundFaults
+ * The errors in a text. `isComplete` is false if the text can contain errors that `errors` lacks.
+ * @typedef {{ errors: import("./diagnostics.js").ShownError[], isComplete: boolean }} FoundErrors
  *
  * The help at a position, as plain text and in Markdown.
  * @typedef {{ plainText: string, markdown: string, range?: Range }} Hover
@@ -38,7 +38,7 @@
  * The handlers for one kind of text.
  * @typedef {object} Language
  * @property {Parts} parts the patterns that delimit the foldable ranges of a text
- * @property {(openText: OpenText, isWanted: () => boolean) => Promise<FoundFaults | undefined>} findErrors resolves to undefined if
+ * @property {(openText: OpenText, isWanted: () => boolean) => Promise<FoundErrors | undefined>} findErrors resolves to undefined if
  *   `isWanted` returns false during the check
  * @property {(openText: OpenText, position: Position) => Hover | null} [hover]
  * @property {(openText: OpenText, position: Position) => Range | Location | null} [definition] returns a Range if the

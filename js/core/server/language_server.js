@@ -27,7 +27,7 @@ import * as say from "../../words/server.js";
  * @typedef {import("./connection.js").RequestHandler} RequestHandler
  * @typedef {import("./connection.js").Connection} Connection
  * @typedef {import("./diagnostics.js").Diagnostic} Diagnostic
- * @typedef {import("./diagnostics.js").ShownFault} ShownFault
+ * @typedef {import("./diagnostics.js").ShownError} ShownError
  * @typedef {import("./language.js").Language} Language
  *
  * The functions that the process provides: `readFile` returns the text of a file, and `pause` yields to other tasks.
@@ -35,7 +35,7 @@ import * as say from "../../words/server.js";
  *
  * An open text with its errors and diagnostics. `checkedEdits` is the value of `open.edits` at the last completed check, -1 before the
  * first check. `check` resolves when the current check ends.
- * @typedef {{ open: OpenText, faults: ShownFault[], diagnostics: Diagnostic[], checkedEdits: number, check: Promise<void> }} CheckedText
+ * @typedef {{ open: OpenText, errors: ShownError[], diagnostics: Diagnostic[], checkedEdits: number, check: Promise<void> }} CheckedText
  */
 
 export class LanguageServer {
@@ -90,7 +90,7 @@ export class LanguageServer {
   getRequestedText(params) {
     const uri = needText(getField(getField(params, "textDocument"), "uri"), "textDocument.uri");
     const text = this.texts.get(uri);
-    if (!text) throw new ProtocolError(INVALID_PARAMS, say.notOpen(uri));
+    if (!text) throw new ProtocolError(INVALID_PARAMS, say.notOpenMessage(uri));
     return text;
   }
 
@@ -155,7 +155,7 @@ export class LanguageServer {
     const uri = needText(getField(document, "uri"), "textDocument.uri");
     const text = needText(getField(document, "text"), "textDocument.text");
     const openText = new OpenText(uri, String(getField(document, "languageId")), text, getField(document, "version"));
-    const checkedText = { open: openText, faults: [], diagnostics: [], checkedEdits: -1, check: Promise.resolve() };
+    const checkedText = { open: openText, errors: [], diagnostics: [], checkedEdits: -1, check: Promise.resolve() };
     this.texts.set(uri, checkedText);
     this.checkWithDependents(checkedText);
   }
@@ -264,13 +264,13 @@ export class LanguageServer {
     try {
       const result = await this.findErrors(openText, isWanted);
       if (!result || !isWanted()) return;
-      Object.assign(text, { faults: result.faults, diagnostics: toDiagnostics(result.faults, result.isComplete), checkedEdits: edits });
+      Object.assign(text, { errors: result.errors, diagnostics: toDiagnostics(result.errors, result.isComplete), checkedEdits: edits });
       this.publish(text);
       // The program is assembled now, so that the first hover is fast.
-      if (result.faults.length === 0 && this.findLanguage(openText) === this.program) this.program.assembleProgram(openText);
+      if (result.errors.length === 0 && this.findLanguage(openText) === this.program) this.program.assembleProgram(openText);
     } catch (error) {
-      Object.assign(text, { faults: [], diagnostics: [], checkedEdits: edits });
-      this.connection.logMessage(say.faultsOf(uri, error instanceof Error ? error.message : String(error)));
+      Object.assign(text, { errors: [], diagnostics: [], checkedEdits: edits });
+      this.connection.logMessage(say.cannotCheckMessage(uri, error instanceof Error ? error.message : String(error)));
     }
   }
 
@@ -290,9 +290,9 @@ export class LanguageServer {
   async findErrors(openText, isWanted) {
     const tooLong = lengthError(openText);
     const isKnown = isProgram(openText) || isBoard(openText) || isTestFile(openText) || isPropertyFile(openText);
-    if (tooLong) return { faults: isKnown ? [tooLong] : [], isComplete: true };
+    if (tooLong) return { errors: isKnown ? [tooLong] : [], isComplete: true };
     const language = this.findLanguage(openText);
-    return language ? language.findErrors(openText, isWanted) : { faults: [], isComplete: true };
+    return language ? language.findErrors(openText, isWanted) : { errors: [], isComplete: true };
   }
 
   // --- tests
@@ -309,7 +309,7 @@ export class LanguageServer {
     const { message, hasPassed, failure } = await this.runs.run(text.open, name, pending);
     this.connection.show(message, !hasPassed);
     if (failure && text.open.edits === edits && failure.uri === uri) {
-      text.diagnostics = [...text.diagnostics, ...toDiagnostics([failure.fault], true)];
+      text.diagnostics = [...text.diagnostics, ...toDiagnostics([failure.error], true)];
       this.publish(text);
       if (this.client.refreshesDiagnostics) this.connection.ask("workspace/diagnostic/refresh");
     }

@@ -51,7 +51,7 @@ export function rangeInLine(line, from, to) {
  * @returns {string}
  */
 export function needText(value, parameterName) {
-  if (typeof value !== "string") throw new ProtocolError(INVALID_PARAMS, say.mustBeText(parameterName));
+  if (typeof value !== "string") throw new ProtocolError(INVALID_PARAMS, say.mustBeTextMessage(parameterName));
   return value;
 }
 

@@ -3,7 +3,7 @@
 /**
  * @typedef {import("./lsp_protocol.js").Position} Position
  * @typedef {import("./lsp_protocol.js").Range} Range
- * @typedef {import("../text/sendable_text.js").Fault} Fault
+ * @typedef {import("../text/sendable_text.js").TextError} TextError
  */
 
 const LINE_END = /\r\n|\r|\n/;

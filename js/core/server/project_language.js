@@ -26,7 +26,7 @@ export class ProjectLanguage {
    * @param {OpenText} openText
    */
   async findErrors({ uri, text }) {
-    return { faults: findProjectErrors(uri, text, this.readText), isComplete: true };
+    return { errors: findProjectErrors(uri, text, this.readText), isComplete: true };
   }
 
   /**

@@ -44,10 +44,10 @@ export class PropertyLanguage extends DependentLanguage {
   async findErrors({ uri, lines, text }) {
     const dependencies = this.findDependencies(uri);
     const dependencyError = this.findDependencyError(dependencies);
-    if (dependencyError) return { faults: [dependencyError], isComplete: true };
-    if (text.trim() === "") return { faults: [], isComplete: true };
-    const { faults } = readCampaign(text, this.subject(dependencies.board.text || "", dependencies.program.text || ""));
-    return { faults: faults.map((fault) => locateError(lines, fault)), isComplete: true };
+    if (dependencyError) return { errors: [dependencyError], isComplete: true };
+    if (text.trim() === "") return { errors: [], isComplete: true };
+    const { errors } = readCampaign(text, this.subject(dependencies.board.text || "", dependencies.program.text || ""));
+    return { errors: errors.map((error) => locateError(lines, error)), isComplete: true };
   }
 
   /**

@@ -44,7 +44,7 @@ function readFormattingOptions(options) {
  * @returns {any[]}
  */
 function needList(value, parameterName) {
-  if (!Array.isArray(value)) throw new ProtocolError(INVALID_PARAMS, say.mustBeList(parameterName));
+  if (!Array.isArray(value)) throw new ProtocolError(INVALID_PARAMS, say.mustBeListMessage(parameterName));
   return value;
 }
 
@@ -87,7 +87,7 @@ export class Requests {
    */
   execute(params, pending) {
     const command = needText(getField(params, "command"), "command");
-    if (command !== RUN_TEST) throw new ProtocolError(INVALID_PARAMS, say.noCommand(command));
+    if (command !== RUN_TEST) throw new ProtocolError(INVALID_PARAMS, say.noCommandMessage(command));
     const [uri, test] = needList(getField(params, "arguments"), "arguments");
     return this.server.runTest(needText(uri, "arguments[0]"), needText(test, "arguments[1]"), pending);
   }
@@ -162,7 +162,7 @@ export class Requests {
     const text = this.server.getRequestedText(params);
     const range = needRange(getField(params, "range"));
     await this.server.waitForCheck(text);
-    return createQuickFixes(text.open.uri, text.faults, range);
+    return createQuickFixes(text.open.uri, text.errors, range);
   }
 
   /** @param {any} params */

@@ -58,13 +58,13 @@ export class TestLanguage extends DependentLanguage {
   async findErrors({ uri, lines, text }) {
     const dependencies = this.findDependencies(uri);
     const dependencyError = this.findDependencyError(dependencies);
-    if (dependencyError) return { faults: [dependencyError], isComplete: true };
+    if (dependencyError) return { errors: [dependencyError], isComplete: true };
     const { prepared } = this.prepareTexts({ boardText: dependencies.board.text || "", programText: dependencies.program.text || "" });
-    if (!prepared || text.trim() === "") return { faults: [], isComplete: true };
+    if (!prepared || text.trim() === "") return { errors: [], isComplete: true };
     const sources = dependencies.tests.map((namedText) => (
       { name: namedText.uri, text: namedText.uri === uri ? text : namedText.text || "" }));
-    const { faults } = readSources(sources, prepared.names);
-    return { faults: faults.filter(({ file }) => file === uri).map((fault) => locateError(lines, fault)), isComplete: true };
+    const { errors } = readSources(sources, prepared.names);
+    return { errors: errors.filter(({ file }) => file === uri).map((error) => locateError(lines, error)), isComplete: true };
   }
 
   /**

@@ -10,12 +10,12 @@ import * as say from "../../words/server.js";
 
 /**
  * @typedef {import("./dependent_language.js").DependencyTexts} DependencyTexts
- * @typedef {import("./diagnostics.js").ShownFault} ShownFault
+ * @typedef {import("./diagnostics.js").ShownError} ShownError
  * @typedef {import("./open_text.js").OpenText} OpenText
  *
  * The result of a test: a message, whether the test passed, and its failure (null for none). The failure is the error in the failed line,
  * with the URI of the test file.
- * @typedef {{ message: string, hasPassed: boolean, failure: { uri: string, fault: ShownFault } | null }} TestResult
+ * @typedef {{ message: string, hasPassed: boolean, failure: { uri: string, error: ShownError } | null }} TestResult
  */
 
 /**
@@ -60,14 +60,14 @@ export class TestRuns {
       return runNumber === this.runNumber && !pending.isCancelled;
     };
     const texts = { boardText: board.text || "", programText: program.text || "", sources };
-    const { faults, outcomes } = await this.runOneTest(texts, shouldContinue, { name, source: uri });
-    if (faults.length > 0) return createNotRunResult(this.describeError(faults[0], { board, program, tests }));
+    const { errors, outcomes } = await this.runOneTest(texts, shouldContinue, { name, source: uri });
+    if (errors.length > 0) return createNotRunResult(this.describeError(errors[0], { board, program, tests }));
     const failedTest = outcomes.find(({ failure }) => failure !== null);
-    if (outcomes.length === 0) return createNotRunResult(say.noTest(name));
+    if (outcomes.length === 0) return createNotRunResult(say.noTestMessage(name));
     if (!failedTest || !failedTest.failure) return { message: say.testPassed(name), hasPassed: true, failure: null };
     const { source, line, words } = failedTest.failure;
     const message = say.testFailed(failedTest.name, line, words);
-    return { message, hasPassed: false, failure: { uri: source, fault: locateError(lines, { line, column: -1, words: message }) } };
+    return { message, hasPassed: false, failure: { uri: source, error: locateError(lines, { line, column: -1, words: message }) } };
   }
 
   /**
@@ -86,11 +86,11 @@ export class TestRuns {
 
   /**
    * Returns the message about an error that prevents a test run.
-   * @param {import("../testing/test_preparation.js").TextFault} fault
+   * @param {import("../testing/test_preparation.js").ProjectTextError} error
    * @param {DependencyTexts} dependencies
    */
   describeError({ text, file = "", line, number, words }, { board, program }) {
     const name = text === "board" ? board.uri : text === "program" ? program.uri : file;
-    return say.notRun(decodeFileName(name), line, words || this.refusalMessage(number));
+    return say.notRunMessage(decodeFileName(name), line, words || this.refusalMessage(number));
   }
 }

@@ -7,7 +7,7 @@ import * as say from "../../words/server.js";
 
 /**
  * @typedef {import("./open_text.js").OpenText} OpenText
- * @typedef {import("../text/sendable_text.js").Fault} Fault
+ * @typedef {import("../text/sendable_text.js").TextError} TextError
  *
  * A function that returns the text of a file. It returns null if the file cannot be read, or is outside the folder of the project that
  * names the file (`folder`, "" for none).
@@ -69,7 +69,7 @@ export function isProjectFile(uri) {
 export function readProject(text) {
   const { length } = text;
   if (length <= MAX_PROJECT_TOML_BYTES) return readProjectToml(text);
-  return { names: null, faults: [{ number: 0, line: 1, from: 0, to: 0, words: say.tooLong(length, MAX_PROJECT_TOML_BYTES) }] };
+  return { names: null, errors: [{ number: 0, line: 1, from: 0, to: 0, words: say.tooLongMessage(length, MAX_PROJECT_TOML_BYTES) }] };
 }
 
 /**
@@ -77,15 +77,15 @@ export function readProject(text) {
  * @param {string} uri
  * @param {string} text
  * @param {ReadText} readText
- * @returns {Fault[]}
+ * @returns {TextError[]}
  */
 export function findProjectErrors(uri, text, readText) {
-  const { names, faults } = readProject(text);
-  if (!names) return faults;
+  const { names, errors } = readProject(text);
+  if (!names) return errors;
   const folder = parentFolder(uri);
   const missingFiles = listNamedFiles(names).filter(({ path }) => readText(uriInFolder(folder, path), folder) === null);
   return missingFiles.map(({ path, key, line, from, to }) => (
-    { number: 0, line, from, to, words: say.noFile(key, path) }));
+    { number: 0, line, from, to, words: say.noFileMessage(key, path) }));
 }
 
 /**

@@ -111,7 +111,7 @@ function readTextFile(name, text) {
   for (const storedText of [texts.board, texts.program, texts.tests, texts.properties]) {
     if (storedText === null || storedText.length <= MAX_STORED_LENGTH) continue;
     const [size, maxLength] = [storedText.length, MAX_STORED_LENGTH].map((count) => count.toLocaleString("en"));
-    throw new UnusableFile(say.tooLong(size, maxLength));
+    throw new UnusableFile(say.tooLongMessage(size, maxLength));
   }
   return { kind: "texts", texts };
 }

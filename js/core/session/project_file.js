@@ -174,7 +174,7 @@ export class Lines {
   readUpToDot(word) {
     if (this.nextLine !== word) throw this.createLineError(`\`${word}\``);
     const end = this.lines.indexOf(DOT, this.at + 1);
-    if (end < 0) throw new InvalidProject(say.noEnd(word));
+    if (end < 0) throw new InvalidProject(say.noEndMessage(word));
     const lines = this.lines.slice(this.at + 1, end);
     this.at = end + 1;
     return lines;
@@ -267,7 +267,7 @@ function readFile(lines, size) {
     const match = /^([0-9a-f]{5}) ([0-9a-f]{32})$/.exec(line);
     const address = match ? parseInt(match[1], 16) : 0;
     if (!match || address % BYTES_PER_LINE !== 0 || address < end || address >= size) {
-      throw new InvalidProject(say.notOfSession(firstLineNumber + at));
+      throw new InvalidProject(say.notOfSessionMessage(firstLineNumber + at));
     }
     file.set((match[2].match(/../g) || []).map((digits) => parseInt(digits, 16)), address);
     end = address + BYTES_PER_LINE;

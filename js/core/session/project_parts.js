@@ -73,11 +73,11 @@ function splitItems(text) {
 export function parseBreakpoints(text) {
   const breakpoints = splitItems(text).map((line, at) => {
     const breakpoint = parseBreakpoint(line);
-    if (!breakpoint) throw new InvalidProject(say.noBreakpoint(at + 1));
+    if (!breakpoint) throw new InvalidProject(say.noBreakpointMessage(at + 1));
     return breakpoint;
   });
   const { length } = breakpoints;
-  if (length > MAX_BREAKPOINTS) throw new InvalidProject(say.tooManyBreakpoints(length, MAX_BREAKPOINTS));
+  if (length > MAX_BREAKPOINTS) throw new InvalidProject(say.tooManyBreakpointsMessage(length, MAX_BREAKPOINTS));
   return breakpoints;
 }
 

@@ -9,7 +9,7 @@ import * as say from "../../words/session.js";
 
 /**
  * The callbacks that RomFiles needs.
- * @typedef {object} RomCalls
+ * @typedef {object} RomCallbacks
  * @property {(lines: string) => Promise<string[]>} ask Resolves to the bench's answers to queries.
  * @property {(lines: string) => Promise<string | null>} act Executes bench lines that change the session. Resolves to the first answer. If
  *   this fails, reports the error and resolves to null.
@@ -20,14 +20,14 @@ import * as say from "../../words/session.js";
 export class MissingRom extends Error {}
 
 export class RomFiles {
-  /** @param {RomCalls} calls */
-  constructor(calls) {
-    this.calls = calls;
+  /** @param {RomCallbacks} callbacks */
+  constructor(callbacks) {
+    this.callbacks = callbacks;
   }
 
   /** Resolves to the ROM numbers on the board. */
   async readChips() {
-    return readBoard(await this.calls.ask("board\n")).roms.map(({ chip }) => chip);
+    return readBoard(await this.callbacks.ask("board\n")).roms.map(({ chip }) => chip);
   }
 
   /**
@@ -43,8 +43,8 @@ export class RomFiles {
       const chip = Math.floor(missingAddress / PAGE_BYTES);
       throw new MissingRom(say.lacksRom(chip, hex(missingAddress, 3)));
     }
-    await this.calls.stop();
-    const answer = await this.calls.act(createByteTexts(bytes).map((text) => `asm\n${text}.\n`).join(""));
+    await this.callbacks.stop();
+    const answer = await this.callbacks.act(createByteTexts(bytes).map((text) => `asm\n${text}.\n`).join(""));
     const firstAddress = bytes.findIndex((byte) => byte !== NO_BYTE);
     const count = bytes.filter((byte) => byte !== NO_BYTE).length;
     return answer === null ? "" : say.bytesInRom(formatQuantity(count, "byte"), name, count === 1, hex(firstAddress, 3));
@@ -55,7 +55,7 @@ export class RomFiles {
    */
   async bytes() {
     const chips = await this.readChips();
-    const allBytes = parseRomBytes(await this.calls.ask(listQueries(PAGE_NUMBERS.filter((page) => chips.includes(page)))));
+    const allBytes = parseRomBytes(await this.callbacks.ask(listQueries(PAGE_NUMBERS.filter((page) => chips.includes(page)))));
     return allBytes.map((byte, at) => (chips.includes(Math.floor(at / PAGE_BYTES)) ? byte : NO_BYTE));
   }
 

@@ -12,9 +12,9 @@ import { runTests } from "./test_suite.js";
  * @param {() => Promise<void>} yieldToMessages resolves after the event loop has handled waiting messages
  */
 export async function isConfirmed(engine, { boardText, programText }, test, isGoal, yieldToMessages) {
-  const { faults, outcomes } = await runTests(engine, { boardText, programText, testText: test }, async () => {
+  const { errors, outcomes } = await runTests(engine, { boardText, programText, testText: test }, async () => {
     await yieldToMessages();
     return true;
   });
-  return faults.length === 0 && outcomes.every(({ failure }) => (failure === null) === isGoal);
+  return errors.length === 0 && outcomes.every(({ failure }) => (failure === null) === isGoal);
 }

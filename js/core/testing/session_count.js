@@ -13,16 +13,16 @@ import { TestSession } from "./test_session.js";
  * @typedef {import("../engine/engine_host.js").State} State
  * @typedef {import("../engine/session_program.js").OtherByte} OtherByte
  * @typedef {import("./coverage.js").Coverage} Coverage
- * @typedef {import("./test_preparation.js").TextFault} TextFault
+ * @typedef {import("./test_preparation.js").ProjectTextError} ProjectTextError
  * @typedef {import("./profile.js").Profile} Profile
  *
  * The coverage and the profile of a run. `elapsed` is the number of executed cycles, and `stop` is the reason why the run stopped ("end" if
  * all cycles ran).
  * @typedef {{ coverage: Coverage, profile: Profile, elapsed: number, stop: string }} SessionCounts
  *
- * The result of `countSession`. If the program has errors (`faults`), or if a byte in ROM differs from the program (`other`), the session
+ * The result of `countSession`. If the program has errors (`errors`), or if a byte in ROM differs from the program (`other`), the session
  * does not run, and `counted` is null.
- * @typedef {{ faults: TextFault[], other: OtherByte | null, counted: SessionCounts | null }} SessionCount
+ * @typedef {{ errors: ProjectTextError[], other: OtherByte | null, counted: SessionCounts | null }} SessionCount
  */
 
 /**
@@ -37,12 +37,12 @@ import { TestSession } from "./test_session.js";
 export async function countSession(engine, state, programText, cycles, Counting = ExecutionRecorder) {
   const startState = copyWithoutStops(engine, state);
   const codes = romCodes(engine, startState);
-  const { faults, difference: otherByte, map } = sessionProgram(engine, codes, programText);
-  if (faults.length > 0 || otherByte) return { faults, other: otherByte, counted: null };
+  const { errors, difference: otherByte, map } = sessionProgram(engine, codes, programText);
+  if (errors.length > 0 || otherByte) return { errors, other: otherByte, counted: null };
   const recorder = new Counting(codes);
   const session = new TestSession(engine, startState, recorder, async () => {});
   const stop = await session.run(cycles);
   session.end();
   const counted = { coverage: computeCoverage(recorder, map), profile: computeProfile(recorder, map), elapsed: session.elapsed, stop };
-  return { faults: [], other: otherByte, counted };
+  return { errors: [], other: otherByte, counted };
 }

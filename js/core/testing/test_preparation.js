@@ -5,7 +5,7 @@ import { matchAnswers, readInputs } from "../bench/inputs.js";
 import { Face } from "../board/face.js";
 import { missingParts } from "../board/face_board.js";
 import { SourceMap } from "../machine/source_map.js";
-import { findLineFaults, sentText } from "../text/sendable_text.js";
+import { findSendingErrors, sentText } from "../text/sendable_text.js";
 import { romCodes } from "../engine/rom_codes.js";
 
 /**
@@ -15,7 +15,8 @@ import { romCodes } from "../engine/rom_codes.js";
  *
  * An error in a text: the line number (0 if unknown) and the message. `number` is the refusal number, or 0 if the bench did not reject the
  * text. `file` is the file name of a test text.
- * @typedef {{ text: "board" | "program" | "tests" | "properties", file?: string, line: number, number: number, words: string }} TextFault
+ * @typedef {{ text: "board" | "program" | "tests" | "properties", file?: string, line: number, number: number,
+ *   words: string }} ProjectTextError
  *
  * The data for a test run: the session file, the names in the texts, and the bytes in ROM.
  * @typedef {{ file: Uint8Array, names: Names & { map: SourceMap }, codes: Uint8Array }} PreparedTests
@@ -25,7 +26,7 @@ import { romCodes } from "../engine/rom_codes.js";
  * Returns the errors in a board's front-panel comments that make tests impossible.
  * @param {Face} face
  * @param {import("../bench/answers.js").Board} board
- * @returns {TextFault[]}
+ * @returns {ProjectTextError[]}
  */
 export function findNameErrors(face, board) {
   const nameErrors = [...face.errors, ...missingParts(face, board)].filter(({ isFatal }) => isFatal);
@@ -36,19 +37,19 @@ export function findNameErrors(face, board) {
  * Returns the errors that prevent the bench from receiving a text.
  * @param {"board" | "program"} name
  * @param {string} text
- * @returns {TextFault[]}
+ * @returns {ProjectTextError[]}
  */
 export function findTextErrors(name, text) {
-  return findLineFaults(text, name === "board" ? "#" : ";").map(({ line, number, words }) => ({ text: name, line, number, words }));
+  return findSendingErrors(text, name === "board" ? "#" : ";").map(({ line, number, words }) => ({ text: name, line, number, words }));
 }
 
 /**
  * Returns the refusal in an answer as a list of one error; an empty list if the answer is not a refusal.
  * @param {"board" | "program"} name
  * @param {string} answer
- * @returns {TextFault[]}
+ * @returns {ProjectTextError[]}
  */
-function toRefusalFaults(name, answer) {
+function toRefusalErrors(name, answer) {
   const refusal = parseRefusal(answer);
   return refusal ? [{ text: name, line: refusal.line, number: refusal.number, words: "" }] : [];
 }
@@ -57,47 +58,47 @@ function toRefusalFaults(name, answer) {
  * Wires a board in a new session. Returns the bench's answers to the query `board`, or the errors in the board text.
  * @param {Engine} engine
  * @param {string} text
- * @returns {{ faults: TextFault[], answers: string[] }}
+ * @returns {{ errors: ProjectTextError[], answers: string[] }}
  */
 export function wireBoard(engine, text) {
-  const textFaults = findTextErrors("board", text);
-  if (textFaults.length > 0) return { faults: textFaults, answers: [] };
+  const textErrors = findTextErrors("board", text);
+  if (textErrors.length > 0) return { errors: textErrors, answers: [] };
   const [wired, ...answers] = engine.ask(engine.begin(), `wire\n${sentText(text, "#")}.\nboard\n`).answers;
-  return { faults: toRefusalFaults("board", wired), answers };
+  return { errors: toRefusalErrors("board", wired), answers };
 }
 
 /**
  * Returns a new session with a board and a program. Skips an empty text.
  * @param {Engine} engine
  * @param {Texts} texts
- * @returns {{ file: Uint8Array, faults: TextFault[] }}
+ * @returns {{ file: Uint8Array, errors: ProjectTextError[] }}
  */
 export function newSession(engine, { boardText, programText }) {
   const file = engine.begin();
-  const textFaults = [...findTextErrors("board", boardText), ...findTextErrors("program", programText)];
-  if (textFaults.length > 0) return { file, faults: textFaults };
+  const textErrors = [...findTextErrors("board", boardText), ...findTextErrors("program", programText)];
+  if (textErrors.length > 0) return { file, errors: textErrors };
   const texts = [
     ...(boardText === "" ? [] : [{ name: /** @type {const} */ ("board"), lines: `wire\n${sentText(boardText, "#")}.\n` }]),
     ...(programText === "" ? [] : [{ name: /** @type {const} */ ("program"), lines: `asm\n${sentText(programText, ";")}.\n` }]),
   ];
-  if (texts.length === 0) return { file, faults: [] };
+  if (texts.length === 0) return { file, errors: [] };
   const { answers } = engine.serve(file, texts.map(({ lines }) => lines).join(""), file);
-  return { file, faults: texts.flatMap(({ name }, at) => toRefusalFaults(name, answers[at])).slice(0, 1) };
+  return { file, errors: texts.flatMap(({ name }, at) => toRefusalErrors(name, answers[at])).slice(0, 1) };
 }
 
 /**
  * Prepares the tests of a program on a board. Returns the errors if a text cannot be used.
  * @param {Engine} engine
  * @param {Texts} texts
- * @returns {{ prepared: PreparedTests | null, faults: TextFault[] }}
+ * @returns {{ prepared: PreparedTests | null, errors: ProjectTextError[] }}
  */
 export function prepareTests(engine, { boardText, programText }) {
-  const { file, faults: refused } = newSession(engine, { boardText, programText });
-  if (refused.length > 0) return { prepared: null, faults: refused };
+  const { file, errors: refused } = newSession(engine, { boardText, programText });
+  if (refused.length > 0) return { prepared: null, errors: refused };
   const program = sentText(programText, ";");
   const queries = `board\nmap\n${program}.\n`;
   const [board, map] = matchAnswers(readInputs(queries), engine.ask(file, queries).answers);
   const names = { face: new Face(boardText), board: readBoard(board), map: new SourceMap(map, program) };
-  const faults = findNameErrors(names.face, names.board);
-  return { prepared: faults.length > 0 ? null : { file, names, codes: romCodes(engine, file) }, faults };
+  const errors = findNameErrors(names.face, names.board);
+  return { prepared: errors.length > 0 ? null : { file, names, codes: romCodes(engine, file) }, errors };
 }

@@ -276,7 +276,7 @@ export class TestRun {
     const { holds, message } = session.check(condition);
     if (holds) return "";
     if (stop === "code") return say.runStoppedAt(session.elapsed - startCycles, this.describeStop(session), message);
-    return say.notReached(maxCycles, message, describeLastLabel(session, this.prepared.names.map, condition));
+    return say.notReachedMessage(maxCycles, message, describeLastLabel(session, this.prepared.names.map, condition));
   }
 
   /**

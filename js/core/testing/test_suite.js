@@ -14,7 +14,7 @@ import { readSources } from "./test_text.js";
 /**
  * @typedef {import("../engine/engine_host.js").EngineHost} Engine
  * @typedef {import("./coverage.js").Coverage} Coverage
- * @typedef {import("./test_preparation.js").TextFault} TextFault
+ * @typedef {import("./test_preparation.js").ProjectTextError} ProjectTextError
  * @typedef {import("./profile.js").Profile} Profile
  * @typedef {import("./test_run.js").Outcome} Outcome
  * @typedef {import("./test_text.js").Action} Action
@@ -32,8 +32,8 @@ import { readSources } from "./test_text.js";
  * @typedef {{ Counting?: typeof ExecutionRecorder, ended?: (outcome: Outcome, number: number, total: number) => void,
  *   ran?: (session: import("./test_session.js").TestSession) => void, only?: { name: string, source: string } | null }} Options
  *
- * The results of the tests. If the texts have errors (`faults`), no test runs, and `coverage` and `profile` are null.
- * @typedef {{ faults: TextFault[], outcomes: Outcome[], coverage: Coverage | null, profile: Profile | null }} Report
+ * The results of the tests. If the texts have errors (`errors`), no test runs, and `coverage` and `profile` are null.
+ * @typedef {{ errors: ProjectTextError[], outcomes: Outcome[], coverage: Coverage | null, profile: Profile | null }} Report
  */
 
 /** The minimum time between two calls of `shouldContinue`, in milliseconds. */
@@ -45,13 +45,13 @@ const YIELD_INTERVAL = 40;
  * @param {TestedTexts} texts
  */
 export function parseTestedTexts(engine, texts) {
-  const { prepared, faults } = prepareTests(engine, texts);
-  if (!prepared) return { prepared, faults, tests: [] };
+  const { prepared, errors } = prepareTests(engine, texts);
+  if (!prepared) return { prepared, errors, tests: [] };
   const { testText = "", sources = [{ name: "", text: testText }] } = texts;
   const parsedTests = readSources(sources, prepared.names);
-  /** @type {TextFault[]} */
-  const testFaults = parsedTests.faults.map((fault) => ({ text: "tests", number: 0, ...fault }));
-  return { prepared: testFaults.length > 0 ? null : prepared, faults: testFaults, tests: parsedTests.tests };
+  /** @type {ProjectTextError[]} */
+  const testErrors = parsedTests.errors.map((error) => ({ text: "tests", number: 0, ...error }));
+  return { prepared: testErrors.length > 0 ? null : prepared, errors: testErrors, tests: parsedTests.tests };
 }
 
 /**
@@ -103,12 +103,12 @@ const changesRom = (action) => action.kind === "set" && action.changesRom;
  */
 export async function runTests(engine, texts, shouldContinue, options = {}) {
   const { Counting = ExecutionRecorder, ended = () => {}, ran = () => {}, only = null } = options;
-  const { prepared, faults, tests: allTests } = parseTestedTexts(engine, texts);
+  const { prepared, errors, tests: allTests } = parseTestedTexts(engine, texts);
   const { sources = [] } = texts;
   const isSelected = only
     && ((/** @type {Test} */ { name, textNumber }) => name === only.name && sources[textNumber - 1].name === only.source);
   const tests = isSelected ? addPrerequisites(allTests, isSelected) : allTests;
-  if (!prepared) return { faults, outcomes: [], coverage: null, profile: null };
+  if (!prepared) return { errors, outcomes: [], coverage: null, profile: null };
   const recorder = new Counting(prepared.codes);
   /** @type {Outcome[]} */
   const outcomes = [];
@@ -131,5 +131,5 @@ export async function runTests(engine, texts, shouldContinue, options = {}) {
   }
   recorder.codes = prepared.codes;
   const { map } = prepared.names;
-  return { faults: [], outcomes, coverage: computeCoverage(recorder, map), profile: computeProfile(recorder, map) };
+  return { errors: [], outcomes, coverage: computeCoverage(recorder, map), profile: computeProfile(recorder, map) };
 }

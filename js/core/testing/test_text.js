@@ -18,7 +18,7 @@ import * as say from "../../words/testing.js";
  * @typedef {{ name: string, text: string }} Source
  *
  * An error in a test text. `column` is counted from 0; it is -1 if unknown.
- * @typedef {{ file: string, line: number, column: number, words: string }} Fault
+ * @typedef {{ file: string, line: number, column: number, words: string }} TestTextError
  *
  * A key with its name and the commands that press and release it.
  * @typedef {{ name: string, key: import("../board/key_place.js").Key, press: string, release: string }} Key
@@ -41,7 +41,7 @@ import * as say from "../../words/testing.js";
  *
  * A test. `textNumber` is the number of its text, from 1. `from` is the name of its start state, "" for power-on.
  * @typedef {{ textNumber: number, name: string, line: number, from: string, steps: Step[] }} Test
- * @typedef {{ tests: Test[], faults: Fault[] }} TestText
+ * @typedef {{ tests: Test[], errors: TestTextError[] }} TestText
  */
 
 /** The maximum count in a `repeat` line, and the maximum number of lines that a test executes, including all repetitions. */
@@ -110,8 +110,8 @@ class TestReader {
     this.textNumber = 0;
     /** @type {Test[]} */
     this.tests = [];
-    /** @type {Fault[]} */
-    this.faults = [];
+    /** @type {TestTextError[]} */
+    this.errors = [];
     /** @type {Map<string, Test>} the tests that save states, by state name, in the current text */
     this.savedBy = new Map();
     /** @type {Map<string, SharedSteps>} */
@@ -153,18 +153,18 @@ class TestReader {
       } catch (error) {
         if (!(error instanceof InvalidLineError)) throw error;
         const column = error.column < 0 ? -1 : error.column + originalLines[at].length - originalLines[at].trimStart().length;
-        this.addFault(at + 1, error.message, Math.min(column, originalLines[at].trimEnd().length - 1));
+        this.addError(at + 1, error.message, Math.min(column, originalLines[at].trimEnd().length - 1));
         // If a text does not start like a test text, one error is sufficient.
         if (!this.hasBegun && /^[\t -~]*$/.test(lines[at])) return;
       }
     }
     this.closeRepeats();
-    if (!this.hasBegun && this.faults.length === 0) this.addFault(1, say.NO_TEST);
+    if (!this.hasBegun && this.errors.length === 0) this.addError(1, say.NO_TEST);
   }
 
   /** Reports an error if the texts contain no test. */
   finish() {
-    if (this.tests.length === 0 && this.faults.length === 0) this.addFault(1, say.NO_TEST);
+    if (this.tests.length === 0 && this.errors.length === 0) this.addError(1, say.NO_TEST);
   }
 
   /**
@@ -172,8 +172,8 @@ class TestReader {
    * @param {string} message
    * @param {number} [column]
    */
-  addFault(line, message, column = -1) {
-    this.faults.push({ file: this.source.name, line, column, words: column < 0 ? message : errorInColumn(message, column) });
+  addError(line, message, column = -1) {
+    this.errors.push({ file: this.source.name, line, column, words: column < 0 ? message : errorInColumn(message, column) });
   }
 
   /**
@@ -249,7 +249,7 @@ class TestReader {
 
   /** Reports an error for each repetition whose `end` is missing, and closes the repetition. */
   closeRepeats() {
-    for (const { line } of this.openRepeats.splice(0)) this.addFault(line, say.NO_END);
+    for (const { line } of this.openRepeats.splice(0)) this.addError(line, say.NO_END);
   }
 
   /** @param {string[]} words */
@@ -311,7 +311,7 @@ class TestReader {
     const shared = this.sharedSteps.get(name);
     if (!shared) {
       const which = say.knownSteps(knownNames.join(" "), name);
-      return fail(say.noSteps(name, which));
+      return fail(say.noStepsMessage(name, which));
     }
     this.addLines(shared.lines);
     return { kind: "do", name, steps: shared.steps };
@@ -346,7 +346,7 @@ class TestReader {
     const [state] = words;
     if (words.length !== 1) fail(say.stateSyntax(kind));
     if (kind === "save" && this.openRepeats.length > 0) fail(say.SAVED_ONCE);
-    if (this.currentShared) fail(say.noStates(kind));
+    if (this.currentShared) fail(say.noStatesMessage(kind));
     const savingTest = this.savedBy.get(state);
     if (kind === "save") {
       if (savingTest) fail(say.savedBefore(state, savingTest.name));
@@ -355,7 +355,7 @@ class TestReader {
     }
     if (this.test.steps.length > 1 || this.openRepeats.length > 0) fail(say.FROM_POSITION);
     const knownStates = this.savedBy.size > 0 ? say.knownStates([...this.savedBy.keys()].join(" ")) : "";
-    if (!savingTest) fail(say.noSuchState(state, knownStates));
+    if (!savingTest) fail(say.noSuchStateMessage(state, knownStates));
     if (savingTest === this.test) fail(say.OWN_STATE);
     this.test.from = state;
     return { kind, state };
@@ -392,8 +392,8 @@ class TestReader {
     const placeName = knownPlace ? knownPlace.name : place.toLowerCase();
     if (!/^(acc|cy|dcl|r\d+|(ram|st)\..+)$/.test(placeName) || list === "") return fail(say.CHOICE_SYNTAX);
     const keys = list === undefined ? [] : list.split(",").map((name) => this.keys.get(name) || this.failForKey(name, name));
-    const { expression, error: fault } = compileExpression(place, this.names);
-    const { places: [probe] } = expression || fail(fault);
+    const { expression, error } = compileExpression(place, this.names);
+    const { places: [probe] } = expression || fail(error);
     return { word, place: placeName, probe, keys };
   }
 
@@ -406,7 +406,7 @@ class TestReader {
   failForKey(name, word) {
     const keyNames = [...this.keys.keys()].join(" ");
     const what = word.length > name.length ? say.nameNorWord(name, word) : name;
-    return fail(say.noKey(what, keyNames));
+    return fail(say.noKeyMessage(what, keyNames));
   }
 
   /**
@@ -415,8 +415,8 @@ class TestReader {
    * @param {number} startColumn the column of the condition in the line
    */
   readCondition(text, startColumn) {
-    const { condition, error: fault, column } = compileTestCondition(text, this.names);
-    return condition || fail(fault, startColumn + column);
+    const { condition, error, column } = compileTestCondition(text, this.names);
+    return condition || fail(error, startColumn + column);
   }
 
   /**
@@ -442,11 +442,11 @@ class TestReader {
    */
   readSet(text, startColumn) {
     const { board, map } = this.names;
-    const { place, lines, error: fault, column } = readSetting(text, map, board);
-    if (fault) fail(fault, startColumn + column);
+    const { place, lines, error, column } = readSetting(text, map, board);
+    if (error) fail(error, startColumn + column);
     const address = parseRomAddress(place);
     const hasRom = Number.isNaN(address) || board.roms.some(({ chip }) => Number(chip) === Math.floor(address / 256));
-    if (!hasRom) fail(say.noRomAt(text.trim().split(/[ \t=]+/)[0].slice("rom.".length)), startColumn + 1);
+    if (!hasRom) fail(say.noRomAtMessage(text.trim().split(/[ \t=]+/)[0].slice("rom.".length)), startColumn + 1);
     return { commands: lines.trimEnd().split("\n"), changesRom: !Number.isNaN(address) };
   }
 }
@@ -486,7 +486,7 @@ export function readSources(sources, names) {
   const reader = new TestReader(names);
   for (const source of sources) reader.readSource(source);
   reader.finish();
-  return { tests: reader.tests, faults: reader.faults };
+  return { tests: reader.tests, errors: reader.errors };
 }
 
 /**

@@ -4,7 +4,7 @@
 import { PART_KEYS, LINE_NAMES, MAX_PARTS, MAX_COLUMNS, BITS_PER_CHIP, VALUE_RANGES, boardLines } from "../bench/board_form.js";
 import { findSimilarWords, formatSuggestion } from "./similar_words.js";
 import { collectParts, readBoardText } from "./board_reader.js";
-import { createFaultAt } from "./sendable_text.js";
+import { createErrorAt } from "./sendable_text.js";
 import * as say from "../../words/text.js";
 
 /**
@@ -13,7 +13,7 @@ import * as say from "../../words/text.js";
  * @typedef {import("./board_reader.js").Entry} Entry
  * @typedef {import("./board_reader.js").Key} Key
  * @typedef {import("./board_reader.js").Value} Value
- * @typedef {import("./sendable_text.js").Fault} Fault
+ * @typedef {import("./sendable_text.js").TextError} TextError
  *
  * The table (`entry`) and the key with an error. `entry` is null if the text has no such table, `key` if it has no such key.
  * @typedef {{ entry: Entry | null, key: Key | null }} WrongPart
@@ -75,30 +75,30 @@ class BoardErrorText {
 
   /**
    * Returns the error with its position and message.
-   * @returns {Fault}
+   * @returns {TextError}
    */
-  createFault() {
+  createError() {
     const { number } = this.error;
-    if (number === NOT_TOML) return this.createTomlFault();
+    if (number === NOT_TOML) return this.createTomlError();
     const { entry, key } = this.findWrongPart();
-    if (number === UNKNOWN_KEY) return this.createUnknownKeyFault(entry, key);
+    if (number === UNKNOWN_KEY) return this.createUnknownKeyError(entry, key);
     const value = key && number !== MISSING_KEY ? this.findWrongValue(key) : null;
     const message = this.formatMessage(entry, key, value);
     const range = value || entry;
-    return range ? createFaultAt(number, range, message) : this.createLineFault(message);
+    return range ? createErrorAt(number, range, message) : this.createWholeLineError(message);
   }
 
   /** Returns the error in a text that is not valid TOML: a syntax error, or a key that occurs twice in a table. */
-  createTomlFault() {
+  createTomlError() {
     const { number, line } = this.error;
-    const syntaxError = this.text.faults.find((candidate) => candidate.line === line);
+    const syntaxError = this.text.errors.find((candidate) => candidate.line === line);
     if (syntaxError) return syntaxError;
     for (const keys of [this.text.keys, ...this.text.entries.map((entry) => entry.keys)]) {
       const secondKey = keys.find((key) => key.line === line);
       const first = keys.find(({ name }) => secondKey && name === secondKey.name);
-      if (secondKey && first && first !== secondKey) return createFaultAt(number, secondKey, say.alreadyThere(secondKey.name, first.line));
+      if (secondKey && first && first !== secondKey) return createErrorAt(number, secondKey, say.alreadyThere(secondKey.name, first.line));
     }
-    return this.createLineFault(this.messageFor(number));
+    return this.createWholeLineError(this.messageFor(number));
   }
 
   /**
@@ -126,7 +126,8 @@ class BoardErrorText {
     const { number, section, key: name } = this.error;
     if (number === MISSING_KEY) return say.lacksKeys(section, name);
     if (number === BAD_VALUE) return this.explainValues(value);
-    if (number === TOO_MANY) return name === "" ? say.tooManyTables(MAX_PARTS[section], section) : say.tooManyColumns(MAX_COLUMNS);
+    if (number === TOO_MANY && name === "") return say.tooManyTablesMessage(MAX_PARTS[section], section);
+    if (number === TOO_MANY) return say.tooManyColumnsMessage(MAX_COLUMNS);
     if (!entry || !key || !value) return this.messageFor(number);
     if (number === DUPLICATE) return say.alreadyThere(`${name} ${value.inner}`, this.findFirstLine(entry, key));
     if (number === MISSING_LINE) return name === "rows" ? this.explainRows(entry) : this.explainMissingLine(String(value.inner));
@@ -143,11 +144,11 @@ class BoardErrorText {
     const values = (this.tables.get(section) || new Map()).get(key);
     const inner = value ? value.inner : null;
     const isLine = LINE_KEYS.includes(key) && typeof inner !== "object" && (key !== "columns" || value !== this.findWrongPart().key?.value);
-    if (isLine) return say.noLineName(String(inner));
+    if (isLine) return say.noLineNameMessage(String(inner));
     if (typeof inner === "string" && `${section}.${key}` in VALUE_RANGES && /^\d+$/.test(inner)) return say.withoutQuotes(key, inner);
     if (key) return values ? say.keyMustBe(key, values) : this.messageFor(BAD_VALUE);
     if (section !== "keys" && index === 0) return say.tableArraySyntax(section);
-    return section === "keys" ? say.ONE_MATRIX : say.mustBeTable(section);
+    return section === "keys" ? say.ONE_MATRIX : say.mustBeTableMessage(section);
   }
 
   /**
@@ -157,13 +158,13 @@ class BoardErrorText {
   explainMissingLine(name) {
     const [, kind = "", number = "", chip = ""] = /^(rom|ram|chain)(\d+)\.(\d+)/.exec(name) || [];
     const { banks, chains } = this.parts;
-    if (kind === "") return say.noChain(name, chains.length);
-    if (kind === "rom") return say.noSuchRom(name, number);
+    if (kind === "") return say.noChainMessage(name, chains.length);
+    if (kind === "rom") return say.noSuchRomMessage(name, number);
     const bank = banks.find((candidate) => String(candidate.bank) === number);
-    if (kind === "ram" && bank && Number(chip) >= bank.chips) return say.noChipInBank(name, number, bank.chips);
-    if (kind === "ram") return say.noSuchBank(name, number);
+    if (kind === "ram" && bank && Number(chip) >= bank.chips) return say.noChipInBankMessage(name, number, bank.chips);
+    if (kind === "ram") return say.noSuchBankMessage(name, number);
     const chain = chains[Number(number)];
-    return chain ? say.noBitInChain(name, number, BITS_PER_CHIP * chain.chips - 1) : say.noChain(number, chains.length);
+    return chain ? say.noBitInChainMessage(name, number, BITS_PER_CHIP * chain.chips - 1) : say.noChainMessage(number, chains.length);
   }
 
   /**
@@ -194,16 +195,16 @@ class BoardErrorText {
    * Returns the error for an unknown key or table, with similar names as suggestions.
    * @param {Entry | null} entry
    * @param {Key | null} key
-   * @returns {Fault}
+   * @returns {TextError}
    */
-  createUnknownKeyFault(entry, key) {
+  createUnknownKeyError(entry, key) {
     const { section, key: name } = this.error;
     const knownNames = section === "" ? Object.keys(PART_KEYS) : PART_KEYS[section];
     const suggestions = findSimilarWords(name, knownNames);
     const instead = formatSuggestion(suggestions) || say.whichHasKeys(knownNames.join(", "));
-    const message = section === "" ? say.noPart(name, instead) : say.noKeyOf(name, section, instead);
+    const message = section === "" ? say.noPartMessage(name, instead) : say.noKeyOfMessage(name, section, instead);
     const range = key || entry;
-    const unknownKeyError = range ? createFaultAt(UNKNOWN_KEY, range, message) : this.createLineFault(message);
+    const unknownKeyError = range ? createErrorAt(UNKNOWN_KEY, range, message) : this.createWholeLineError(message);
     const quickFixTexts = key ? suggestions : suggestions.map(formatHeader);
     return quickFixTexts.length > 0 && range ? { ...unknownKeyError, quickFixTexts } : unknownKeyError;
   }
@@ -211,9 +212,9 @@ class BoardErrorText {
   /**
    * Returns an error whose range is the complete line that the bench reports.
    * @param {string} message the message
-   * @returns {Fault}
+   * @returns {TextError}
    */
-  createLineFault(message) {
+  createWholeLineError(message) {
     const { number } = this.error;
     const line = Math.max(1, this.error.line);
     return { number, line, from: 0, to: Infinity, words: message };
@@ -226,10 +227,10 @@ class BoardErrorText {
  * @param {BoardError} error
  * @param {Map<string, Map<string, string>>} tables the manual's descriptions of the values, by table and key
  * @param {(number: number) => string} messageFor returns the message of a refusal
- * @returns {Fault}
+ * @returns {TextError}
  */
 export function createBoardError(text, error, tables, messageFor) {
-  const boardError = new BoardErrorText(readBoardText(text), error, tables, messageFor).createFault();
+  const boardError = new BoardErrorText(readBoardText(text), error, tables, messageFor).createError();
   const line = text.split("\n")[boardError.line - 1] || "";
   return { ...boardError, to: Math.min(boardError.to, line.length) };
 }

@@ -6,7 +6,7 @@ import { tomlWords } from "./toml_words.js";
 import * as say from "../../words/text.js";
 
 /**
- * @typedef {import("./sendable_text.js").Fault} Fault
+ * @typedef {import("./sendable_text.js").TextError} TextError
  * @typedef {import("./toml_words.js").TomlWord} TomlWord
  * @typedef {string | number | boolean | Value[] | Entry} PlainValue
  *
@@ -14,7 +14,7 @@ import * as say from "../../words/text.js";
  * @typedef {{ line: number, to: number }} End
  *
  * A value (`inner`) with its position. `line`, `from` and `to` are the position of the value. For an array or an inline table, they are
- * the position of its opening bracket. `end` is the end of the complete value. `whole` is false for a number with a fraction or exponent.
+ * the position of its opening bracket. `end` is the end of the complete value. `isWhole` is false for a number with a fraction or exponent.
  * @typedef {{ inner: PlainValue, isWhole: boolean, line: number, from: number, to: number, end: End }} Value
  *
  * A key: its name, the position of the name, and its value.
@@ -25,8 +25,8 @@ import * as say from "../../words/text.js";
  * @typedef {{ table: string, line: number, from: number, to: number, keys: Key[], end?: End }} Entry
  *
  * The contents of a board text. `entries` are its tables, including inline tables. `keys` are the keys before the first table header;
- * `plainKeys` are the keys in `keys` whose values are neither tables nor arrays of tables. `faults` are the errors.
- * @typedef {{ entries: Entry[], plainKeys: Key[], keys: Key[], faults: Fault[] }} BoardText
+ * `plainKeys` are the keys in `keys` whose values are neither tables nor arrays of tables. `errors` are the syntax errors.
+ * @typedef {{ entries: Entry[], plainKeys: Key[], keys: Key[], errors: TextError[] }} BoardText
  */
 
 /** The refusal number for a text that is not TOML. */
@@ -61,8 +61,8 @@ export class BoardReader {
     this.plainKeys = [];
     /** @type {Key[]} */
     this.keys = [];
-    /** @type {Fault[]} */
-    this.faults = [];
+    /** @type {TextError[]} */
+    this.errors = [];
     /** @type {Entry | null} the current table; null before the first table */
     this.currentTable = null;
     /** The number of open brackets and braces. */
@@ -94,7 +94,7 @@ export class BoardReader {
    * @param {string} message the error message
    */
   expectMark(mark, message) {
-    if (!this.isMark(mark)) throw new TomlSyntaxError(this.word, this.word.fault || message);
+    if (!this.isMark(mark)) throw new TomlSyntaxError(this.word, this.word.error || message);
     this.at += 1;
   }
 
@@ -107,7 +107,7 @@ export class BoardReader {
       } catch (error) {
         if (!(error instanceof TomlSyntaxError)) throw error;
         const { line, from, to } = error.word;
-        this.faults.push({ number: NOT_TOML, line, from, to, words: error.message });
+        this.errors.push({ number: NOT_TOML, line, from, to, words: error.message });
         this.at = this.findNextLineStart(line, startIndex);
       }
     }
@@ -148,7 +148,7 @@ export class BoardReader {
 
   /** Reads the end of a line. Throws if another word is left on the line. */
   expectLineEnd() {
-    if (this.word.kind !== "end") throw new TomlSyntaxError(this.word, this.word.fault || say.LINE_ENDS);
+    if (this.word.kind !== "end") throw new TomlSyntaxError(this.word, this.word.error || say.LINE_ENDS);
     this.at += 1;
   }
 
@@ -184,7 +184,7 @@ export class BoardReader {
   /** @returns {Key} the key at the current position, with its value */
   readKey() {
     const name = this.word;
-    if (name.kind !== "bare" && name.kind !== "string") throw new TomlSyntaxError(name, name.fault || say.KEY_SYNTAX);
+    if (name.kind !== "bare" && name.kind !== "string") throw new TomlSyntaxError(name, name.error || say.KEY_SYNTAX);
     this.at += 1;
     this.expectMark("=", say.equalsMissing(name.text));
     return { name: name.text, line: name.line, from: name.from, to: name.to, value: this.readValue(name.text) };
@@ -196,12 +196,12 @@ export class BoardReader {
    * @returns {Value}
    */
   readValue(key) {
-    const { kind, text, line, from, to, fault } = this.word;
+    const { kind, text, line, from, to, error } = this.word;
     const range = { line, from, to };
     if (this.isMark("[")) return { inner: this.readNested(() => this.readArray(key)), isWhole: true, ...range, end: this.lastEnd };
     if (this.isMark("{")) return { inner: this.readNested(() => this.readTable()), isWhole: true, ...range, end: this.lastEnd };
     if (kind === "end") throw new TomlSyntaxError(this.word, say.valueMissing(key));
-    if (kind === "punctuation" || kind === "bad") throw new TomlSyntaxError(this.word, fault || say.noValue(text));
+    if (kind === "punctuation" || kind === "bad") throw new TomlSyntaxError(this.word, error || say.noValueMessage(text));
     const inner = this.parseScalar(kind, text);
     this.at += 1;
     return { inner, isWhole: typeof inner !== "number" || INTEGER.test(text), ...range, end: { line, to } };
@@ -214,7 +214,7 @@ export class BoardReader {
    * @returns {Read}
    */
   readNested(read) {
-    if (this.depth === MAX_DEPTH) throw new TomlSyntaxError(this.word, say.tooDeep(MAX_DEPTH));
+    if (this.depth === MAX_DEPTH) throw new TomlSyntaxError(this.word, say.tooDeepMessage(MAX_DEPTH));
     this.depth += 1;
     try {
       return read();
@@ -234,8 +234,8 @@ export class BoardReader {
     if (INTEGER.test(text)) return Number(text.replace(/_/g, ""));
     if (text === "true" || text === "false") return text === "true";
     if (/^[+-]?\d+(\.\d+)?([eE][+-]?\d+)?$/.test(text) && !/^[+-]?0\d/.test(text)) return Number(text);
-    if (/^0\d+$/.test(text)) throw new TomlSyntaxError(this.word, say.hasLeadingZero(text));
-    throw new TomlSyntaxError(this.word, say.needsQuotes(text));
+    if (/^0\d+$/.test(text)) throw new TomlSyntaxError(this.word, say.hasLeadingZeroMessage(text));
+    throw new TomlSyntaxError(this.word, say.needsQuotesMessage(text));
   }
 
   /** Skips line ends. */
@@ -257,7 +257,7 @@ export class BoardReader {
       values.push(this.readValue(key));
       this.skipLineEnds();
       if (this.isMark(",")) this.at += 1;
-      else if (!this.isMark("]")) throw new TomlSyntaxError(this.word, this.word.fault || say.VALUE_COMMA_MISSING);
+      else if (!this.isMark("]")) throw new TomlSyntaxError(this.word, this.word.error || say.VALUE_COMMA_MISSING);
     }
     this.at += 1;
     return values;
@@ -272,7 +272,7 @@ export class BoardReader {
       if (this.word.kind === "end") throw new TomlSyntaxError(this.word, say.NO_BRACE);
       keys.push(this.readKey());
       if (this.isMark(",")) this.at += 1;
-      else if (!this.isMark("}")) throw new TomlSyntaxError(this.word, this.word.fault || say.KEY_COMMA_MISSING);
+      else if (!this.isMark("}")) throw new TomlSyntaxError(this.word, this.word.error || say.KEY_COMMA_MISSING);
     }
     this.at += 1;
     return { table: "", line, from, to, keys, end: this.lastEnd };
@@ -287,8 +287,8 @@ export class BoardReader {
 export function readBoardText(text) {
   const reader = new BoardReader(text);
   reader.read();
-  const { entries, plainKeys, keys, faults } = reader;
-  return { entries, plainKeys, keys, faults };
+  const { entries, plainKeys, keys, errors } = reader;
+  return { entries, plainKeys, keys, errors };
 }
 
 /**

@@ -5,7 +5,7 @@ import { findDefinedNames, splitStatement } from "./assembly.js";
 import { hex } from "../bench/numbers.js";
 import { MAX_ERRORS } from "../bench/text_check_answers.js";
 import { explainProgramLine } from "./program_words.js";
-import { TEXT_TOO_LONG, asciiCommentsText, findLineFaults, sentLine } from "./sendable_text.js";
+import { TEXT_TOO_LONG, asciiCommentsText, findSendingErrors, sentLine } from "./sendable_text.js";
 import * as say from "../../words/text.js";
 
 /**
@@ -13,11 +13,11 @@ import * as say from "../../words/text.js";
  * @typedef {import("../help/manual.js").Instruction} Instruction
  * @typedef {import("./program_words.js").KnownWords} KnownWords
  * @typedef {import("./program_words.js").WordError} WordError
- * @typedef {import("./sendable_text.js").Fault} Fault
+ * @typedef {import("./sendable_text.js").TextError} TextError
  *
- * The errors in a program or board text. `faults` are the errors in its lines. `isComplete` is false if the text can have more errors.
+ * The errors in a program or board text. `errors` are the errors in its lines. `isComplete` is false if the text can have more errors.
  * `generalRefusal` is an error that belongs to no particular line, such as refusal 42 (the board lacks a ROM); null if there is none.
- * @typedef {{ faults: Fault[], isComplete: boolean, generalRefusal: Refusal | null }} AllFaults
+ * @typedef {{ errors: TextError[], isComplete: boolean, generalRefusal: Refusal | null }} TextErrors
  */
 
 /** The refusal number for a program that does not fit into the ROMs of the board. */
@@ -30,9 +30,9 @@ export const MISSING_ROM = 42;
  * @param {WordError | null} error the wrong word and the message; null if only the refusal number is known
  * @param {number} number the refusal number
  * @param {(number: number) => string} messageFor returns the message of a refusal
- * @returns {Fault}
+ * @returns {TextError}
  */
-function createFault(source, lineNumber, error, number, messageFor) {
+function createError(source, lineNumber, error, number, messageFor) {
   const code = source.slice(0, splitStatement(source).comment);
   const from = code.length - code.trimStart().length;
   const range = error && error.word ? { from: error.word.from, to: error.word.to } : { from, to: Math.max(from, code.trimEnd().length) };
@@ -46,11 +46,11 @@ function createFault(source, lineNumber, error, number, messageFor) {
  * @param {import("../bench/text_check_answers.js").LineError} error
  * @param {KnownWords} knownWords
  * @param {(number: number) => string} messageFor returns the message of a refusal
- * @returns {Fault}
+ * @returns {TextError}
  */
 export function createLineError(lines, { line, number }, knownWords, messageFor) {
   const text = lines[line - 1];
-  return createFault(text, line, explainProgramLine(text, number, knownWords), number, messageFor);
+  return createError(text, line, explainProgramLine(text, number, knownWords), number, messageFor);
 }
 
 /**
@@ -59,21 +59,22 @@ export function createLineError(lines, { line, number }, knownWords, messageFor)
  * @param {Map<string, Instruction>} instructions
  * @param {(number: number) => string} messageFor returns the message of a refusal
  * @param {Pick<import("./text_error_finder.js").ErrorQueries, "findLineErrors" | "findRefusal">} queries
- * @returns {Promise<AllFaults>}
+ * @returns {Promise<TextErrors>}
  */
-export async function findProgramFaults(program, instructions, messageFor, queries) {
-  const textFaults = findLineFaults(program, ";");
-  if (textFaults.some(({ number }) => number === TEXT_TOO_LONG)) return { faults: textFaults, isComplete: false, generalRefusal: null };
+export async function findProgramErrors(program, instructions, messageFor, queries) {
+  const sendingErrors = findSendingErrors(program, ";");
+  const isTooLong = sendingErrors.some(({ number }) => number === TEXT_TOO_LONG);
+  if (isTooLong) return { errors: sendingErrors, isComplete: false, generalRefusal: null };
   const lines = asciiCommentsText(program, ";").split("\n");
-  const unsentLines = new Set(textFaults.map(({ line }) => line));
+  const unsentLines = new Set(sendingErrors.map(({ line }) => line));
   const sentProgram = lines.map((line, at) => (unsentLines.has(at + 1) ? "" : sentLine(line, ";"))).join("\n");
-  const errors = await queries.findLineErrors(sentProgram);
+  const rejectedLines = await queries.findLineErrors(sentProgram);
   /** @type {KnownWords} */
   const knownWords = { instructions, names: findDefinedNames(lines) };
-  const lineErrors = errors.map((error) => createLineError(lines, error, knownWords, messageFor));
-  const faults = [...textFaults, ...lineErrors].sort((one, other) => one.line - other.line || one.from - other.from);
-  const generalRefusal = faults.length === 0 ? await queries.findRefusal(sentProgram) : null;
-  return { faults, isComplete: errors.length < MAX_ERRORS, generalRefusal };
+  const lineErrors = rejectedLines.map((error) => createLineError(lines, error, knownWords, messageFor));
+  const errors = [...sendingErrors, ...lineErrors].sort((one, other) => one.line - other.line || one.from - other.from);
+  const generalRefusal = errors.length === 0 ? await queries.findRefusal(sentProgram) : null;
+  return { errors, isComplete: rejectedLines.length < MAX_ERRORS, generalRefusal };
 }
 
 /**
@@ -81,30 +82,30 @@ export async function findProgramFaults(program, instructions, messageFor, queri
  * @param {string[]} lines the program lines
  * @param {import("../machine/source_map.js").SourceMap} map the source map of the program
  * @param {Set<number>} roms the ROM numbers on the board
- * @returns {Fault[]}
+ * @returns {TextError[]}
  */
 export function findMissingRoms(lines, map, roms) {
-  /** @type {Map<number, Fault>} */
-  const faults = new Map();
+  /** @type {Map<number, TextError>} */
+  const errors = new Map();
   lines.forEach((text, at) => {
     const line = at + 1;
     const address = map.addressOf(line);
     if (address === undefined) return;
     const chip = [Math.floor(address / 256), Math.floor((address + map.sizes[line] - 1) / 256)].find((romNumber) => !roms.has(romNumber));
-    if (chip === undefined || faults.has(chip)) return;
-    const message = say.noRomForLine(chip, hex(address, 3));
-    faults.set(chip, createFault(text, line, { word: null, message }, MISSING_ROM, () => message));
+    if (chip === undefined || errors.has(chip)) return;
+    const message = say.noRomForLineMessage(chip, hex(address, 3));
+    errors.set(chip, createError(text, line, { word: null, message }, MISSING_ROM, () => message));
   });
-  return [...faults.values()];
+  return [...errors.values()];
 }
 
 /**
  * Returns whether a text is probably not a program: it has lines with code, and each such line up to the last reported error has an error.
  * @param {string} program
- * @param {AllFaults} found the errors in the text
+ * @param {TextErrors} found the errors in the text
  */
-export function isProbablyNotProgram(program, { faults, isComplete }) {
-  const wrongLines = new Set(faults.map(({ line }) => line));
+export function isProbablyNotProgram(program, { errors, isComplete }) {
+  const wrongLines = new Set(errors.map(({ line }) => line));
   const last = isComplete ? Infinity : Math.max(0, ...wrongLines);
   /** @type {(text: string) => boolean} */
   const isCode = (text) => text.slice(0, splitStatement(text).comment).trim() !== "";

@@ -53,9 +53,9 @@ function convertForeignNumber(text) {
   const number = (hexadecimal && `0x${hexadecimal[1].toUpperCase()}`) || (binary && `${parseInt(binary[1], 2)}`)
     || (letter && `0x${letter[2].charCodeAt(0).toString(16).toUpperCase()}`) || (mark && mark[1]);
   if (!number) return null;
-  if (hexadecimal) return { number, explanation: say.isHexadecimal(number) };
-  if (binary) return { number, explanation: say.isBinary(number) };
-  if (letter) return { number, explanation: say.isLetter(letter[2], number) };
+  if (hexadecimal) return { number, explanation: say.isHexadecimalMessage(number) };
+  if (binary) return { number, explanation: say.isBinaryMessage(number) };
+  if (letter) return { number, explanation: say.isLetterMessage(letter[2], number) };
   return { number, explanation: say.withoutNumberSign(number) };
 }
 
@@ -103,9 +103,9 @@ function describeNameError(text, { instructions }) {
   const upperCaseWord = text.toUpperCase();
   if (text.length > MAX_NAME_LENGTH) return say.nameTooLong(MAX_NAME_LENGTH, text.length);
   if (!NAME.test(text)) return say.NAME_SYNTAX;
-  if (instructions.has(upperCaseWord)) return say.isInstruction(text);
-  if (upperCaseWord === "WPM" || DIRECTIVES.includes(upperCaseWord)) return say.cannotBeName(text);
-  return REGISTER.test(text) || PAIR.test(text) ? say.isRegister(text) : "";
+  if (instructions.has(upperCaseWord)) return say.isInstructionMessage(text);
+  if (upperCaseWord === "WPM" || DIRECTIVES.includes(upperCaseWord)) return say.cannotBeNameMessage(text);
+  return REGISTER.test(text) || PAIR.test(text) ? say.isRegisterMessage(text) : "";
 }
 
 /**
@@ -160,12 +160,12 @@ function findHeadError({ label, operands }, head, { instructions }) {
   const replacement = say.OTHER_ASSEMBLER_WORDS.get(upperCaseWord);
   const isName = !label && NAME.test(head.text);
   if (isName && operands.length > 0 && canStartStatement(operands[0].text.split(/\s/)[0], instructions)) {
-    return createError(head, say.noInstruction(head.text, say.labelSyntax(head.text)), [`${head.text}:`]);
+    return createError(head, say.noInstructionMessage(head.text, say.labelSyntax(head.text)), [`${head.text}:`]);
   }
   const hasNoOperands = isName && operands.length === 0;
   const similar = replacement ? [] : findSimilarWords(upperCaseWord, [...instructions.keys(), ...DIRECTIVES]);
   const question = replacement ? `; ${replacement}?` : formatSuggestion(similar);
-  const message = say.noInstruction(head.text, question || (hasNoOperands ? say.labelSyntax(head.text) : ""));
+  const message = say.noInstructionMessage(head.text, question || (hasNoOperands ? say.labelSyntax(head.text) : ""));
   const quickFixTexts = hasNoOperands && !question ? [`${head.text}:`] : similar;
   if (!replacement) return createError(head, message, quickFixTexts);
   const instructionTexts = replacement.split(" or ").filter((alternative) => /^[A-Z]+( \d+,?)?$/.test(alternative));
@@ -282,7 +282,8 @@ function findUnknownName({ operands }, { names }) {
   const similar = findSimilarWords(word.text, names.keys());
   const isHex = /^[0-9A-Fa-f]+$/.test(word.text) && similar.length === 0;
   const quickFixTexts = isHex ? [`0x${word.text.toUpperCase()}`] : similar;
-  return createError(word, say.notDefined(word.text, quickFixTexts.length > 0 ? formatSuggestion(quickFixTexts) : ""), quickFixTexts);
+  const suggestion = quickFixTexts.length > 0 ? formatSuggestion(quickFixTexts) : "";
+  return createError(word, say.notDefinedMessage(word.text, suggestion), quickFixTexts);
 }
 
 /**

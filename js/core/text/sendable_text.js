@@ -11,7 +11,7 @@ import * as say from "../../words/text.js";
  *
  * An error in a text. `number` is the refusal number (0 for none), `line` the line number from 1, and `words` the message. `from` and `to`
  * are the columns of the error. Each text in `quickFixTexts` fixes the error if it replaces these columns.
- * @typedef {{ number: number, line: number, from: number, to: number, words: string, quickFixTexts?: string[] }} Fault
+ * @typedef {{ number: number, line: number, from: number, to: number, words: string, quickFixTexts?: string[] }} TextError
  *
  * The character that starts a comment in a program (`;`) and in a board text (`#`).
  * @typedef {";" | "#"} CommentMark
@@ -29,9 +29,9 @@ export const TEXT_TOO_LONG = 13;
  * @param {number} number the refusal number
  * @param {{ line: number, from: number, to: number }} range the line number from 1, and the columns
  * @param {string} message the message
- * @returns {Fault}
+ * @returns {TextError}
  */
-export function createFaultAt(number, { line, from, to }, message) {
+export function createErrorAt(number, { line, from, to }, message) {
   return { number, line, from, to, words: message };
 }
 
@@ -86,7 +86,7 @@ export function trimBlanks(text) {
 
 /**
  * Returns a line in the form that is sent. Code that is only a dot gets a leading blank, because a line with only a dot ends the text. A
- * line that is itself only a dot stays as it is; `findLineFaults` reports it.
+ * line that is itself only a dot stays as it is; `findSendingErrors` reports it.
  * @param {string} line
  * @param {CommentMark} mark
  */
@@ -148,9 +148,9 @@ function describeCharacter(character) {
  * @param {string} line the line, with the same columns as in the original text
  * @param {string} lineToSend the line in the form that is sent
  * @param {number} lineNumber
- * @returns {Fault | null}
+ * @returns {TextError | null}
  */
-function findLineFault(line, lineToSend, lineNumber) {
+function findSendingErrorInLine(line, lineToSend, lineNumber) {
   const range = { line: lineNumber, from: 0, to: line.length };
   if (lineToSend === ".") return { number: 0, ...range, words: say.DOT_ENDS };
   if (lineToSend.length > MAX_LINE_LENGTH) {
@@ -164,7 +164,8 @@ function findLineFault(line, lineToSend, lineNumber) {
 }
 
 /**
- * Returns whether a fast check shows that all lines of a text can be sent. If not, each line needs the slower check of `findLineFault`.
+ * Returns whether a fast check shows that all lines of a text can be sent. If not, each line needs the slower check of
+ * `findSendingErrorInLine`.
  * @param {string} text
  * @param {string[]} sentLines the lines in the form that is sent
  */
@@ -176,18 +177,18 @@ function passesFastCheck(text, sentLines) {
  * Returns the errors in lines that cannot be sent. If the text is too long, the last error is at the line that exceeds the maximum.
  * @param {string} text
  * @param {CommentMark} mark
- * @returns {Fault[]}
+ * @returns {TextError[]}
  */
-export function findLineFaults(text, mark) {
+export function findSendingErrors(text, mark) {
   const textToSend = sentText(text, mark);
   const sentLines = textToSend.split("\n");
   if (textToSend.length <= MAX_SENT_LENGTH && passesFastCheck(text, sentLines)) return [];
   const lines = asciiCommentsText(text, mark).split("\n");
-  const faults = lines.map((line, at) => findLineFault(line, sentLines[at], at + 1)).filter((fault) => fault !== null);
+  const errors = lines.map((line, at) => findSendingErrorInLine(line, sentLines[at], at + 1)).filter((error) => error !== null);
   if (textToSend.length > MAX_SENT_LENGTH) {
     const last = textToSend.slice(0, MAX_SENT_LENGTH).split("\n").length;
     const message = say.textTooLong(MAX_SENT_LENGTH.toLocaleString("en"), textToSend.length.toLocaleString("en"));
-    faults.push({ number: TEXT_TOO_LONG, line: last, from: 0, to: lines[last - 1].length, words: message });
+    errors.push({ number: TEXT_TOO_LONG, line: last, from: 0, to: lines[last - 1].length, words: message });
   }
-  return /** @type {Fault[]} */ (faults);
+  return /** @type {TextError[]} */ (errors);
 }

@@ -48,7 +48,7 @@ function chooseStyle(word, isFirst, { first, otherKeywords, startsWithCondition 
 /**
  * Returns whether a comment starts at a word.
  * @param {string} restOfLine the rest of the line, starting at the word
- * @param {string} first the first word of the line; "" if `rest` starts with this word
+ * @param {string} first the first word of the line; "" if `restOfLine` starts with this word
  * @param {typeof TEST_LANGUAGE} language
  */
 function isComment(restOfLine, first, language) {

@@ -4,14 +4,14 @@
 import { findFaceErrors } from "../board/face.js";
 import { SourceMap } from "../machine/source_map.js";
 import { createBoardError } from "./board_error.js";
-import { MISSING_ROM, findProgramFaults, findMissingRoms } from "./program_errors.js";
-import { asciiCommentsText, findLineFaults, sentText } from "./sendable_text.js";
+import { MISSING_ROM, findProgramErrors, findMissingRoms } from "./program_errors.js";
+import { asciiCommentsText, findSendingErrors, sentText } from "./sendable_text.js";
 
 /**
  * @typedef {import("../bench/answers.js").Refusal} Refusal
  * @typedef {import("../help/manual.js").Instruction} Instruction
- * @typedef {import("./program_errors.js").AllFaults} AllFaults
- * @typedef {import("./sendable_text.js").Fault} Fault
+ * @typedef {import("./program_errors.js").TextErrors} TextErrors
+ * @typedef {import("./sendable_text.js").TextError} TextError
  *
  * The callbacks that query the bench. `sentBoard` and `sentProgram` are texts in the form that is sent to the bench.
  * @typedef {object} ErrorQueries
@@ -55,38 +55,38 @@ export class TextErrorFinder {
    * Resolves to the errors in a program; undefined if the result is no longer wanted when the bench has answered.
    * @param {string} text
    * @param {() => boolean} isWanted returns whether the result is still wanted
-   * @returns {Promise<AllFaults | undefined>}
+   * @returns {Promise<TextErrors | undefined>}
    */
   async findInProgram(text, isWanted) {
-    const result = await findProgramFaults(text, this.instructions, this.messageFor, this.queries);
+    const result = await findProgramErrors(text, this.instructions, this.messageFor, this.queries);
     if (!isWanted()) return undefined;
-    if (!result || !result.generalRefusal || result.generalRefusal.number !== MISSING_ROM || result.faults.length > 0) return result;
+    if (!result || !result.generalRefusal || result.generalRefusal.number !== MISSING_ROM || result.errors.length > 0) return result;
     const sentProgram = sentText(text, ";");
     const map = new SourceMap(await this.queries.readMap(sentProgram), sentProgram);
-    return { ...result, faults: findMissingRoms(asciiCommentsText(text, ";").split("\n"), map, await this.queries.readRomNumbers()) };
+    return { ...result, errors: findMissingRoms(asciiCommentsText(text, ";").split("\n"), map, await this.queries.readRomNumbers()) };
   }
 
   /**
    * Resolves to the errors in a board text; undefined if the result is no longer wanted when the bench has answered.
    * @param {string} text
    * @param {() => boolean} isWanted returns whether the result is still wanted
-   * @returns {Promise<AllFaults | undefined>}
+   * @returns {Promise<TextErrors | undefined>}
    */
   async findInBoard(text, isWanted) {
-    const textFaults = findLineFaults(text, "#");
-    if (textFaults.length > 0) return { faults: textFaults, isComplete: true, generalRefusal: null };
+    const textErrors = findSendingErrors(text, "#");
+    if (textErrors.length > 0) return { errors: textErrors, isComplete: true, generalRefusal: null };
     const error = await this.queries.findBoardError(sentText(text, "#"));
     if (!isWanted()) return undefined;
-    if (!error) return { faults: [], isComplete: true, generalRefusal: null };
+    if (!error) return { errors: [], isComplete: true, generalRefusal: null };
     const boardError = createBoardError(asciiCommentsText(text, "#"), error, this.tables, this.messageFor);
-    return { faults: [boardError], isComplete: false, generalRefusal: null };
+    return { errors: [boardError], isComplete: false, generalRefusal: null };
   }
 }
 
 /**
  * Returns the errors in the front-panel comments of a board text. The bench accepts a board text with such errors.
  * @param {string} text
- * @returns {Fault[]}
+ * @returns {TextError[]}
  */
 export function findFrontPanelErrors(text) {
   const lines = text.split("\n");

@@ -4,9 +4,9 @@ import * as say from "../../words/text.js";
 
 /**
  * A word of a TOML text: a punctuation mark, a string, a bare word, the end of a line, or an invalid word (`bad`). The text of a string has
- * no quotes; its range includes them. Line numbers start at 1. `fault` is the error message for an invalid word; otherwise "".
+ * no quotes; its range includes them. Line numbers start at 1. `error` is the error message for an invalid word; otherwise "".
  * @typedef {{ kind: "punctuation" | "string" | "bare" | "end" | "bad", text: string, line: number, from: number, to: number,
- *   fault: string }} TomlWord
+ *   error: string }} TomlWord
  */
 
 const BLANK = /^[ \t]+/;
@@ -26,18 +26,18 @@ function parseWord(text, line, from) {
   const string = STRING.exec(remainingText);
   if (string) {
     const inside = string[1] === undefined ? string[2] : string[1];
-    return { kind: "string", text: inside, line, from, to: from + string[0].length, fault: "" };
+    return { kind: "string", text: inside, line, from, to: from + string[0].length, error: "" };
   }
   if (/^["']/.test(remainingText)) {
     const to = text.length;
-    return { kind: "bad", text: remainingText, line, from, to, fault: say.closingMissing(remainingText[0]) };
+    return { kind: "bad", text: remainingText, line, from, to, error: say.closingMissing(remainingText[0]) };
   }
   const bare = BARE_WORD.exec(remainingText);
-  if (bare) return { kind: "bare", text: bare[0], line, from, to: from + bare[0].length, fault: "" };
+  if (bare) return { kind: "bare", text: bare[0], line, from, to: from + bare[0].length, error: "" };
   const isPunctuation = /^[[\]{}=,.]/.test(remainingText);
   const [character] = remainingText;
   const word = { text: character, line, from, to: from + 1 };
-  return isPunctuation ? { kind: "punctuation", ...word, fault: "" } : { kind: "bad", ...word, fault: say.noMeaning(character) };
+  return isPunctuation ? { kind: "punctuation", ...word, error: "" } : { kind: "bad", ...word, error: say.noMeaningMessage(character) };
 }
 
 /**
@@ -60,7 +60,7 @@ export function tomlWords(lines) {
       words.push(word);
       from = word.to;
     }
-    words.push({ kind: "end", text: "", line: at + 1, from: text.length, to: text.length, fault: "" });
+    words.push({ kind: "end", text: "", line: at + 1, from: text.length, to: text.length, error: "" });
   });
   return words;
 }

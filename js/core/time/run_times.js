@@ -45,7 +45,7 @@ export function runTimes(answers, firstAnswer, lastAnswer, describePlace) {
     const answer = answers[at - 1];
     if (answer.startsWith("ok ")) isOpen = false;
     if (at >= firstAnswer && (at <= lastAnswer || lastAnswer === 0)) {
-      if (REFUSAL.test(answer)) return createErrorResult(say.isRefusal(at, answer));
+      if (REFUSAL.test(answer)) return createErrorResult(say.isRefusalMessage(at, answer));
       const run = readRun(answer);
       if (run) {
         cycles += run.cycles;

@@ -16,7 +16,7 @@ import * as say from "../../words/time.js";
 
 /**
  * The callbacks of Travel.
- * @typedef {object} TravelCalls
+ * @typedef {object} TravelCallbacks
  * @property {() => Promise<void>} pause Pauses the session; resolves when the session is paused.
  * @property {() => { board: string, program: string, watched: string[] }} texts Returns the board text and the program text, whose names
  *   conditions can use, and the watch expressions.
@@ -37,11 +37,11 @@ import * as say from "../../words/time.js";
 export class Travel {
   /**
    * @param {Bench} bench
-   * @param {TravelCalls} calls
+   * @param {TravelCallbacks} callbacks
    */
-  constructor(bench, calls) {
+  constructor(bench, callbacks) {
     this.bench = bench;
-    this.calls = calls;
+    this.callbacks = callbacks;
   }
 
   /**
@@ -50,16 +50,16 @@ export class Travel {
    * @param {Goal} goal
    */
   async goOn(goal) {
-    await this.calls.pause();
-    if (goal.kind === "when") await this.bench.call("takeNames", [this.calls.texts()]);
-    this.calls.storeGoal(goal);
-    const result = await this.calls.change(say.SEARCHING_GOAL, (ways) => this.bench.call("goOn", [goal], ways));
-    this.calls.storeGoal(null);
+    await this.callbacks.pause();
+    if (goal.kind === "when") await this.bench.call("takeNames", [this.callbacks.texts()]);
+    this.callbacks.storeGoal(goal);
+    const result = await this.callbacks.change(say.SEARCHING_GOAL, (ways) => this.bench.call("goOn", [goal], ways));
+    this.callbacks.storeGoal(null);
     if (!result) return;
     const { cycles, isReached, end, id, endsAtReturn: returns } = result.searchResult;
-    this.calls.reportTally(result.tally);
-    if (end === "bound") this.calls.runTo(goal);
-    else this.calls.showMessage(this.calls.reasonOf({ reason: isReached ? "goal" : end, cycles, id, endsAtReturn: returns }, goal));
+    this.callbacks.reportTally(result.tally);
+    if (end === "bound") this.callbacks.runTo(goal);
+    else this.callbacks.showMessage(this.callbacks.reasonOf({ reason: isReached ? "goal" : end, cycles, id, endsAtReturn: returns }, goal));
   }
 
   /**
@@ -67,16 +67,18 @@ export class Travel {
    * @param {BackGoal} goal
    */
   async goBack(goal) {
-    await this.calls.pause();
-    if (goal.kind === "when") await this.bench.call("takeNames", [this.calls.texts()]);
-    const result = await this.calls.change(say.REPEATING_PAST, (ways) => this.bench.call("goBack", [goal], ways));
-    if (result) this.calls.showMessage(describeTimeTravel(goal, result, this.calls.describeCounter(), this.calls.breakpoint(result.id)));
+    await this.callbacks.pause();
+    if (goal.kind === "when") await this.bench.call("takeNames", [this.callbacks.texts()]);
+    const result = await this.callbacks.change(say.REPEATING_PAST, (ways) => this.bench.call("goBack", [goal], ways));
+    if (!result) return;
+    const breakpoint = this.callbacks.breakpoint(result.id);
+    this.callbacks.showMessage(describeTimeTravel(goal, result, this.callbacks.describeCounter(), breakpoint));
   }
 
   /** Undoes the last move back in time. */
   async goForward() {
-    await this.calls.pause();
-    const result = await this.calls.change(say.GOING_FORWARD, () => this.bench.call("goForward", []));
-    if (result) this.calls.showMessage(describeTimeTravel({ kind: "forward" }, result, this.calls.describeCounter()));
+    await this.callbacks.pause();
+    const result = await this.callbacks.change(say.GOING_FORWARD, () => this.bench.call("goForward", []));
+    if (result) this.callbacks.showMessage(describeTimeTravel({ kind: "forward" }, result, this.callbacks.describeCounter()));
   }
 }

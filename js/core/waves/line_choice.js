@@ -74,7 +74,7 @@ export function chooseLines(board, text, hasLabels, words) {
       const knownLine = lines.findIndex(({ name }) => name === value.name);
       indices = [knownLine < 0 ? lines.push(value) - 1 : knownLine];
     }
-    if (indices.length === 0) throw new UnknownLineError(word === "label" ? say.LABEL_NEEDS_PROGRAM : say.noSuchLine(word));
+    if (indices.length === 0) throw new UnknownLineError(word === "label" ? say.LABEL_NEEDS_PROGRAM : say.noSuchLineMessage(word));
     for (const number of indices) {
       if (chosenIndexes.has(number)) throw new UnknownLineError(say.lineTwice(lines[number].name));
       chosenIndexes.add(number);

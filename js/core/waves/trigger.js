@@ -62,21 +62,21 @@ export function findLineNameInEdge(text) {
 }
 
 /**
- * Parses a trigger. If the text has an error, `trigger` is null, and `fault` is the error message. For an empty text, `trigger` is null,
- * and `fault` is "".
+ * Parses a trigger. If the text has an error, `trigger` is null, and `error` is the error message. For an empty text, `trigger` is null,
+ * and `error` is "".
  * @param {string} text
  * @param {WaveLine[]} lines
  * @param {Names} names
- * @returns {{ trigger: Trigger | null, fault: string }}
+ * @returns {{ trigger: Trigger | null, error: string }}
  */
 export function readTrigger(text, lines, names) {
-  if (text.trim() === "") return { trigger: null, fault: "" };
+  if (text.trim() === "") return { trigger: null, error: "" };
   const match = EDGE_SYNTAX.exec(text.trim());
   if (match) return makeEdgeTrigger(match[1], /** @type {Edge} */ (match[2]), lines);
-  const { condition, error: fault, column } = compileTracedCondition(text, names);
-  if (!condition) return { trigger: null, fault: errorInColumn(fault, column) };
+  const { condition, error, column } = compileTracedCondition(text, names);
+  if (!condition) return { trigger: null, error: errorInColumn(error, column) };
   const { places, address, holds } = condition;
-  return { trigger: { edge: "", members: [], places, address, holds: (values) => holds(values) }, fault: "" };
+  return { trigger: { edge: "", members: [], places, address, holds: (values) => holds(values) }, error: "" };
 }
 
 /**
@@ -84,16 +84,16 @@ export function readTrigger(text, lines, names) {
  * @param {string} name
  * @param {Edge} edge
  * @param {WaveLine[]} lines
- * @returns {{ trigger: Trigger | null, fault: string }}
+ * @returns {{ trigger: Trigger | null, error: string }}
  */
 function makeEdgeTrigger(name, edge, lines) {
   const line = findLineByName(name, lines);
-  if (line < 0) return { trigger: null, fault: say.noSuchName(name) };
+  if (line < 0) return { trigger: null, error: say.noSuchNameMessage(name) };
   const { kind, members, width } = lines[line];
-  if (kind === "pc" || kind === "label") return { trigger: null, fault: say.LABEL_SYNTAX };
-  if (isDecoder(lines[line])) return { trigger: null, fault: say.isDecodedLine(lines[line].name) };
+  if (kind === "pc" || kind === "label") return { trigger: null, error: say.LABEL_SYNTAX };
+  if (isDecoder(lines[line])) return { trigger: null, error: say.isDecodedLineMessage(lines[line].name) };
   if (edge !== "changes" && width > 1) {
-    return { trigger: null, fault: say.numberConditionSyntax(name) };
+    return { trigger: null, error: say.numberConditionSyntax(name) };
   }
-  return { trigger: { edge, members: kind === "port" ? members : [line], places: [], address: -1, holds: neverTrue }, fault: "" };
+  return { trigger: { edge, members: kind === "port" ? members : [line], places: [], address: -1, holds: neverTrue }, error: "" };
 }

@@ -26,11 +26,11 @@ const EDGE_TESTS = { rises: (value) => value === 1, falls: (value) => value === 
 
 /**
  * Creates an error result.
- * @param {string} fault
- * @returns {{ search: null, fault: string }}
+ * @param {string} error
+ * @returns {{ search: null, error: string }}
  */
-function searchError(fault) {
-  return { search: null, fault };
+function searchError(error) {
+  return { search: null, error };
 }
 
 /**
@@ -44,11 +44,11 @@ function findLabel(waves, name) {
 }
 
 /**
- * Parses a search text. If the text has an error, `fault` is the message.
+ * Parses a search text. If the text has an error, `error` is the message.
  * @param {string} text
  * @param {Waves} waves
  * @param {number} markedLine the index of the marked line; -1 for none
- * @returns {{ search: Search | null, fault: string }}
+ * @returns {{ search: Search | null, error: string }}
  */
 export function readSearch(text, waves, markedLine) {
   const trimmed = text.trim();
@@ -56,8 +56,8 @@ export function readSearch(text, waves, markedLine) {
   if (trimmed.startsWith("@")) {
     const label = findLabel(waves, trimmed.slice(1));
     const counter = waves.lines.findIndex(({ kind }) => kind === "pc");
-    if (!label) return searchError(say.noLabel(trimmed.slice(1)));
-    return { search: { line: counter, matches: (value) => value === label.address, findsEachMatch: false }, fault: "" };
+    if (!label) return searchError(say.noLabelMessage(trimmed.slice(1)));
+    return { search: { line: counter, matches: (value) => value === label.address, findsEachMatch: false }, error: "" };
   }
   const edge = /^(?:(.*\S)\s+)?(rises|falls|changes)$/.exec(trimmed);
   if (edge) return makeEdgeSearch(edge[1], edge[2], waves, markedLine);
@@ -67,7 +67,7 @@ export function readSearch(text, waves, markedLine) {
 }
 
 /**
- * Returns the index of the line with a name, or of the marked line if the name is "". If there is no such line, `fault` is the error
+ * Returns the index of the line with a name, or of the marked line if the name is "". If there is no such line, `error` is the error
  * message.
  * @param {string} name
  * @param {Waves} waves
@@ -75,8 +75,8 @@ export function readSearch(text, waves, markedLine) {
  */
 function findSearchLine(name, waves, markedLine) {
   const line = name ? findLineByName(name, waves.lines) : markedLine;
-  if (line >= 0) return { line, fault: "" };
-  return { line, fault: name ? say.notRecorded(name) : say.NO_LINE_MARKED };
+  if (line >= 0) return { line, error: "" };
+  return { line, error: name ? say.notRecordedMessage(name) : say.NO_LINE_MARKED };
 }
 
 /**
@@ -87,12 +87,12 @@ function findSearchLine(name, waves, markedLine) {
  * @param {number} markedLine
  */
 function makeEdgeSearch(name, edge, waves, markedLine) {
-  const { line, fault } = findSearchLine(name || "", waves, markedLine);
-  if (fault) return searchError(fault);
+  const { line, error } = findSearchLine(name || "", waves, markedLine);
+  if (error) return searchError(error);
   const { width } = waves.lines[line];
-  if (edge !== "changes" && isDecoder(waves.lines[line])) return searchError(say.isDecoded(waves.lines[line].name));
-  if (edge !== "changes" && width > 1) return searchError(say.isNumber(waves.lines[line].name));
-  return { search: { line, matches: EDGE_TESTS[edge], findsEachMatch: true }, fault: "" };
+  if (edge !== "changes" && isDecoder(waves.lines[line])) return searchError(say.isDecodedMessage(waves.lines[line].name));
+  if (edge !== "changes" && width > 1) return searchError(say.isNumberMessage(waves.lines[line].name));
+  return { search: { line, matches: EDGE_TESTS[edge], findsEachMatch: true }, error: "" };
 }
 
 /**
@@ -104,19 +104,19 @@ function makeEdgeSearch(name, edge, waves, markedLine) {
  * @param {number} markedLine
  */
 function parseValue(name, sign, value, waves, markedLine) {
-  const { line, fault } = findSearchLine(name, waves, markedLine);
-  if (fault) return searchError(fault);
+  const { line, error } = findSearchLine(name, waves, markedLine);
+  if (error) return searchError(error);
   const { kind, width, name: lineName } = waves.lines[line];
   if (isDecoder(waves.lines[line])) return parseKeySearch(waves.lines[line], line, sign, value);
   const label = kind === "label" || kind === "pc" ? findLabel(waves, value.replace(/^@/, "")) : null;
   const binary = /^0b([01]+)$/i.exec(value);
   const number = label ? (kind === "pc" ? label.address : label.number) : binary ? parseInt(binary[1], 2) : parseNumber(value);
-  if (kind === "label" && !label) return searchError(say.noLabel(value));
-  if (Number.isNaN(number)) return searchError(say.noNumber(value, say.SEARCH_FORMS));
+  if (kind === "label" && !label) return searchError(say.noLabelMessage(value));
+  if (Number.isNaN(number)) return searchError(say.noNumberMessage(value, say.SEARCH_FORMS));
   const max = 2 ** width - 1;
   if (kind !== "label" && number > max) return searchError(say.valueTooLarge(lineName, width, max));
   const matches = (/** @type {number} */ current) => COMPARISONS[sign](current, number);
-  return { search: { line, matches, findsEachMatch: false }, fault: "" };
+  return { search: { line, matches, findsEachMatch: false }, error: "" };
 }
 
 /**
@@ -125,11 +125,11 @@ function parseValue(name, sign, value, waves, markedLine) {
  * @param {number} line the index of the key scan line
  * @param {string} sign
  * @param {string} key
- * @returns {{ search: Search | null, fault: string }}
+ * @returns {{ search: Search | null, error: string }}
  */
 function parseKeySearch(decoder, line, sign, key) {
-  if (sign !== "=" || !decoder.places.includes(key)) return searchError(say.isDecoded(decoder.name));
-  return { search: { line, matches: (value) => parseScan(decoder, value).keys.includes(key), findsEachMatch: false }, fault: "" };
+  if (sign !== "=" || !decoder.places.includes(key)) return searchError(say.isDecodedMessage(decoder.name));
+  return { search: { line, matches: (value) => parseScan(decoder, value).keys.includes(key), findsEachMatch: false }, error: "" };
 }
 
 /**

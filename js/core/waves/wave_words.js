@@ -91,7 +91,7 @@ export function describeRecording({ length, isStuck }, wantedCycles, isBefore) {
   if (length === 0 && isBefore) return say.NOTHING_BEFORE;
   const recorded = say.recordedSpan(cyclesText(length), formatCycleTime(length));
   if (isStuck) return say.codeFollows(recorded);
-  return length < wantedCycles ? say.noFurtherBack(recorded) : recorded;
+  return length < wantedCycles ? say.noFurtherBackMessage(recorded) : recorded;
 }
 
 /**

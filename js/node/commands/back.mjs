@@ -28,7 +28,7 @@ async function acquireLock(session) {
   ]).catch(() => null);
   if (lockResult === null) throw new CommandError(say.NO_FLOCK);
   if (lockResult === LOCKED_STATUS) throw new CommandError(say.usedByAnother(session));
-  if (lockResult !== true) throw new CommandError(say.cannotWrite(session));
+  if (lockResult !== true) throw new CommandError(say.cannotWriteMessage(session));
   return async () => {
     child.stdin.end();
     await once(child, "close");
@@ -64,7 +64,7 @@ function truncateLog(session, offset) {
       closeSync(file);
     }
   } catch (error) {
-    throw new CommandError(`${say.cannotWrite(session)}: ${errorMessage(error)}`);
+    throw new CommandError(`${say.cannotWriteMessage(session)}: ${errorMessage(error)}`);
   }
 }
 

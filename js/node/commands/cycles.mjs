@@ -1,7 +1,7 @@
 // `mcs4 cycles`: prints the durations of the runs in the bench's answers, in machine cycles.
 import { joinLines } from "../../core/bench/inputs.js";
 import { runTimes } from "../../core/time/run_times.js";
-import { FIRST_AND_LAST, notALineNumber } from "../../words/commands.js";
+import { FIRST_AND_LAST, notALineNumberMessage } from "../../words/commands.js";
 import { checkArguments } from "../arguments.mjs";
 import { InputTexts } from "../input_texts.mjs";
 import { makeAddressDescriber, startEngine } from "../native_program.mjs";
@@ -17,7 +17,7 @@ function parseRange(words) {
   if (words.length === 0) return { first: 1, last: 0 };
   checkArguments(words, ["FIRST", "LAST"]);
   const invalid = words.find((word) => !LINE_NUMBER.test(word));
-  if (invalid !== undefined) throw new UsageError(notALineNumber(invalid));
+  if (invalid !== undefined) throw new UsageError(notALineNumberMessage(invalid));
   const [first, last] = words.map(Number);
   if (first < 1 || last < first) throw new UsageError(FIRST_AND_LAST);
   return { first, last };

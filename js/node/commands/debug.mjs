@@ -16,7 +16,7 @@ import { TerminalPrompt } from "../terminal_prompt.mjs";
 import { checkOutputFile, statInput, writeUserFile } from "../user_files.mjs";
 import { TerminalView } from "../terminal_view.mjs";
 import { SAVED_HEAD } from "../../words/prompt.js";
-import { NOT_A_BREAKPOINTS_FILE, noSessionToDebug } from "../../words/commands.js";
+import { NOT_A_BREAKPOINTS_FILE, noSessionToDebugMessage } from "../../words/commands.js";
 
 /**
  * The file names of board, program and session; undefined for none.
@@ -125,7 +125,7 @@ async function resolveNames(folder, words) {
   if (words.length === 0) checkArguments(words, ["BOARD", "PROGRAM"], 3, true);
   checkArguments(words, [], 3);
   const [session, board, program] = words.length === 1 ? words : [words[2], words[0], words[1]];
-  if (words.length === 1 && !statInput(session)) throw new CommandError(noSessionToDebug(session));
+  if (words.length === 1 && !statInput(session)) throw new CommandError(noSessionToDebugMessage(session));
   return { board, program, session };
 }
 

@@ -18,13 +18,13 @@ const UTF8_MARK = /^\u00ef\u00bb\u00bf/;
  */
 async function checkOnBench(name, source, text) {
   const engine = await startEngine();
-  const textFaults = findTextErrors("program", text);
-  const { refusal } = textFaults.length > 0 ? { refusal: null } : readProgram(engine, sentText(text, ";"));
-  if (!refusal && textFaults.length === 0) return;
+  const textErrors = findTextErrors("program", text);
+  const { refusal } = textErrors.length > 0 ? { refusal: null } : readProgram(engine, sentText(text, ";"));
+  if (!refusal && textErrors.length === 0) return;
   // Use the message of the refusal, because a message about the line would describe the bench's syntax.
   const { describeRefusal } = await import("../rejected_texts.mjs");
-  const faults = refusal ? [{ text: /** @type {const} */ ("program"), ...refusal, words: describeRefusal(refusal.number) }] : textFaults;
-  throw await createRejectedTextsError(engine, { program: { name, text: source, linesBefore: 0 } }, faults);
+  const errors = refusal ? [{ text: /** @type {const} */ ("program"), ...refusal, words: describeRefusal(refusal.number) }] : textErrors;
+  throw await createRejectedTextsError(engine, { program: { name, text: source, linesBefore: 0 } }, errors);
 }
 
 /** @type {import("./table.mjs").CommandModule["run"]} */
@@ -33,8 +33,8 @@ export async function run(values, words) {
   const [name] = words;
   // Latin 1 has one character per byte, so comments in any encoding keep their bytes.
   const source = new InputTexts().read(name, MAX_TEXT_BYTES).toString("latin1").replace(UTF8_MARK, "").replace(/\r\n?/g, "\n");
-  const { text, faults } = importProgram(source);
-  if (faults.length > 0) throw new CommandError(faults.map(({ line, words: message }) => `${name}:${line}: ${message}`).join("\n"));
+  const { text, errors } = importProgram(source);
+  if (errors.length > 0) throw new CommandError(errors.map(({ line, words: message }) => `${name}:${line}: ${message}`).join("\n"));
   await checkOnBench(name, source, text);
   printVerbatim(text, "latin1");
   return 0;

@@ -61,11 +61,11 @@ function readFileIn(folder, name) {
  */
 function readText(folder, name) {
   const bytes = readFileIn(folder, name);
-  if (bytes.includes(0)) throw new CommandError(say.containsNul(name));
+  if (bytes.includes(0)) throw new CommandError(say.containsNulMessage(name));
   try {
     return new TextDecoder("utf-8", { fatal: true }).decode(bytes);
   } catch {
-    throw new CommandError(say.notUtf8(name));
+    throw new CommandError(say.notUtf8Message(name));
   }
 }
 
@@ -81,7 +81,10 @@ async function findTextPaths(folder) {
     return { board: inFolder(PROJECT_FILE_NAMES.board), program: inFolder(PROJECT_FILE_NAMES.program), tests, properties };
   }
   const project = await loadProject(folder);
-  for (const kind of LIST_KINDS) if (project[kind].length > 1) throw new CommandError(say.tooManyTexts(project.file, project[kind].length, kind));
+  for (const kind of LIST_KINDS) {
+    const { length } = project[kind];
+    if (length > 1) throw new CommandError(say.tooManyTextsMessage(project.file, length, kind));
+  }
   return { board: project.board, program: project.program, tests: project.tests[0] || "", properties: project.properties[0] || "" };
 }
 
@@ -97,15 +100,15 @@ async function readSession(folder, names, texts) {
     const bytes = readFileIn(folder, name);
     if (!bytes.equals(readFileIn(folder, name))) throw new CommandError(say.inUse(name));
     if (bytes.length === SESSION_BYTES && bytes.toString("latin1").startsWith(SESSION_HEADER)) return bytes;
-    throw new CommandError(say.noSessionFile(name));
+    throw new CommandError(say.noSessionFileMessage(name));
   }
   const engine = await startEngine();
-  const { file, faults } = newSession(engine, texts);
-  if (faults.length === 0) return engine.bytesOf(file);
+  const { file, errors } = newSession(engine, texts);
+  if (errors.length === 0) return engine.bytesOf(file);
   const makeText = (/** @type {string} */ textName, /** @type {string} */ text) => ({ name: textName, text, linesBefore: 0 });
   const board = makeText(names.board, texts.boardText);
   const program = makeText(names.program, texts.programText);
-  throw await createRejectedTextsError(engine, { board, program }, faults);
+  throw await createRejectedTextsError(engine, { board, program }, errors);
 }
 
 /**
@@ -138,7 +141,7 @@ function readList(folder, fileName, parse) {
  * @param {string} name the name of the project file
  */
 async function joinFiles(folder, name) {
-  if (!statInput(folder)?.isDirectory()) throw new CommandError(say.noFolder(folder));
+  if (!statInput(folder)?.isDirectory()) throw new CommandError(say.noFolderMessage(folder));
   checkOutputFile(name, PROJECT_HEADER, say.NOT_A_PROJECT, []);
   const names = await findTextPaths(folder);
   const [boardText, programText, testText, propertiesText] = [names.board, names.program, names.tests, names.properties]
@@ -158,7 +161,7 @@ async function joinFiles(folder, name) {
 /** @type {import("./table.mjs").CommandModule["run"]} */
 export async function run(values, [action, ...words]) {
   if (action === undefined) throw new UsageError(say.SPLIT_OR_JOIN);
-  if (action !== "split" && action !== "join") throw new UsageError(say.neitherSplitNorJoin(action));
+  if (action !== "split" && action !== "join") throw new UsageError(say.neitherSplitNorJoinMessage(action));
   checkArguments(words, action === "split" ? ["FILE", "FOLDER"] : ["FOLDER", "FILE"]);
   const [source, target] = words;
   // A signal must not leave a partially written file.

@@ -97,10 +97,10 @@ function readAnswerBytes(answers, { first, count }) {
   // A last line without a line feed is truncated, so ignore it.
   const lines = answers.split("\n").slice(0, -1).map((line) => line.replace(/\r$/, ""));
   const refusalIndex = lines.findIndex((line) => parseRefusal(line));
-  if (refusalIndex >= 0) throw new CommandError(say.answerIsRefusal(refusalIndex + 1, lines[refusalIndex]));
+  if (refusalIndex >= 0) throw new CommandError(say.answerIsRefusalMessage(refusalIndex + 1, lines[refusalIndex]));
   const bytes = parseRomBytes(lines);
   const missingOffset = bytes.subarray(first, first + count).indexOf(NO_BYTE);
-  if (missingOffset >= 0) throw new CommandError(say.noAnswerShows(hex(first + missingOffset, 3)));
+  if (missingOffset >= 0) throw new CommandError(say.noAnswerShowsMessage(hex(first + missingOffset, 3)));
   bytes.fill(NO_BYTE, 0, first).fill(NO_BYTE, first + count);
   return bytes;
 }
@@ -125,7 +125,7 @@ function printImage(format, words) {
 /** @type {import("./table.mjs").CommandModule["run"]} */
 export function run(values, [action, ...words]) {
   if (action === undefined) throw new UsageError(say.LOAD_ASK_OR_SAVE);
-  if (!Object.hasOwn(ACTION_FORMATS, action)) throw new UsageError(say.noRomAction(action));
+  if (!Object.hasOwn(ACTION_FORMATS, action)) throw new UsageError(say.noRomActionMessage(action));
   const format = chooseFormat(action, values);
   if (action === "load") printLoadLines(format, words);
   else if (action === "ask") printQueries(words);

@@ -31,8 +31,8 @@ export async function run({ folder }, positionals) {
   const board = texts.readText(boardName, "wire");
   const program = texts.readText(programName, "asm");
   const engine = await startEngine();
-  const { prepared: preparation, faults } = prepareTests(engine, { boardText: board.text, programText: program.text });
-  if (!preparation) throw await createRejectedTextsError(engine, { board, program }, faults);
+  const { prepared: preparation, errors } = prepareTests(engine, { boardText: board.text, programText: program.text });
+  if (!preparation) throw await createRejectedTextsError(engine, { board, program }, errors);
   const keyLines = makeKeyLines(preparation.names.face, boardName, keys, DEFAULT_PACE);
   const lines = joinLines([`run ${CYCLES_BEFORE_KEYS}`, ...keyLines]);
   printVerbatim(`wire\n${prepareForBench(board.text, "#")}.\nasm\n${prepareForBench(program.text, ";")}.\n${lines}`, "utf8");

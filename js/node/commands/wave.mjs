@@ -47,8 +47,8 @@ async function resolveNames({ folder, board, names }) {
  * @param {string[]} wantedAnswers the session's answers to `board`
  */
 async function checkBoard(engine, boardFile, wantedAnswers) {
-  const { faults, answers } = wireBoard(engine, boardFile.text);
-  if (faults.length > 0) throw await createRejectedTextsError(engine, { board: boardFile }, faults);
+  const { errors, answers } = wireBoard(engine, boardFile.text);
+  if (errors.length > 0) throw await createRejectedTextsError(engine, { board: boardFile }, errors);
   if (answers.join() !== wantedAnswers.join()) throw new CommandError(say.boardDiffers(boardFile.name));
   const nameErrors = findNameErrors(new Face(boardFile.text), readBoard(answers));
   if (nameErrors.length > 0) throw await createRejectedTextsError(engine, { board: boardFile }, nameErrors);
@@ -129,9 +129,9 @@ async function printVcd(openedSession, cycles, words) {
  */
 function panelBuzzerLine({ board, boardText, face: { buzzer } }) {
   if (!boardText) throw new CommandError(say.NO_BUZZER_GIVEN);
-  if (!buzzer) throw new CommandError(say.noBuzzer(boardText.name));
+  if (!buzzer) throw new CommandError(say.noBuzzerMessage(boardText.name));
   if (hasOutput(board, buzzer.place)) return buzzer.place;
-  throw new CommandError(say.noOutputAt(boardText.name, buzzer.line + boardText.linesBefore, buzzer.place));
+  throw new CommandError(say.noOutputAtMessage(boardText.name, buzzer.line + boardText.linesBefore, buzzer.place));
 }
 
 /**
@@ -142,7 +142,7 @@ function panelBuzzerLine({ board, boardText, face: { buzzer } }) {
 function buzzerLine(openedSession, word) {
   const name = word ?? panelBuzzerLine(openedSession);
   const isOutput = /^(rom|ram|chain)[\d.]*\.\d+$/.test(name) && hasOutput(openedSession.board, name);
-  if (!isOutput) throw new CommandError(say.noOutputLine(name));
+  if (!isOutput) throw new CommandError(say.noOutputLineMessage(name));
   return name;
 }
 

@@ -11,7 +11,7 @@ import { PictureZoom } from "./picture_zoom.js";
 /**
  * @typedef {import("../board/wiring_view.js").WiringView} WiringView
  * @typedef {import("../session/open_session.js").OpenSession} OpenSession
- * @typedef {import("../../core/drawing/board_drawing.js").DrawingCalls} DrawingCalls
+ * @typedef {import("../../core/drawing/board_drawing.js").DrawingCallbacks} DrawingCallbacks
  * @typedef {import("../../core/drawing/board_drawing.js").DrawingState} DrawingState
  * @typedef {import("../../core/bench/answers.js").Board} Board
  */
@@ -29,10 +29,10 @@ import { PictureZoom } from "./picture_zoom.js";
  * @property {() => OpenSession | null} session Returns the current session, whose record stores the positions of moved parts, or null if
  *   there is none.
  * @property {() => void} saveSession Saves the session after the user has moved parts.
- * @property {(fault: unknown) => void} reportFailure Reports an error that a call threw.
+ * @property {(error: unknown) => void} reportFailure Reports an error that a call threw.
  */
 
-/** @typedef {DrawingCalls & PageCalls} PictureCalls */
+/** @typedef {DrawingCallbacks & PageCalls} PictureCalls */
 
 /** The delay in milliseconds between the last edit and the update of the picture. */
 const DRAW_DELAY = 300;

@@ -121,9 +121,9 @@ export class DrawingView {
   }
 
   /** @param {DrawingState} state */
-  showState({ error: fault, isWired }) {
-    this.state.set(fault || (isWired ? "" : say.NOT_WIRED));
-    button("drawing-wire").classList.toggle("due", fault === "" && !isWired);
+  showState({ error, isWired }) {
+    this.state.set(error || (isWired ? "" : say.NOT_WIRED));
+    button("drawing-wire").classList.toggle("due", error === "" && !isWired);
   }
 
   /** Draws the board if it has changed or if a part has been dragged. */
@@ -141,9 +141,9 @@ export class DrawingView {
   }
 
   /** @param {DrawingState} state */
-  showShelf({ shelf, error: fault }) {
+  showShelf({ shelf, error }) {
     for (const [part, node] of this.shelf) {
-      const reason = fault || shelf.get(part) || "";
+      const reason = error || shelf.get(part) || "";
       node.disabled = reason !== "";
       node.title = reason || say.SHELF[part][1];
     }
@@ -153,9 +153,9 @@ export class DrawingView {
    * Shows the fields of the selection. Fields whose layout is unchanged stay, so that typing is not interrupted.
    * @param {DrawingState} state
    */
-  showFields({ fields: { title, part, fields, buttons }, error: fault }) {
-    const fieldLayout = JSON.stringify([title, part, fields.map(({ label, options }) => [label, options]), buttons, fault !== ""]);
-    if (fieldLayout !== this.fieldLayout) this.drawFields(title, part, fields, buttons, fault !== "");
+  showFields({ fields: { title, part, fields, buttons }, error }) {
+    const fieldLayout = JSON.stringify([title, part, fields.map(({ label, options }) => [label, options]), buttons, error !== ""]);
+    if (fieldLayout !== this.fieldLayout) this.drawFields(title, part, fields, buttons, error !== "");
     this.fieldLayout = fieldLayout;
     fields.forEach(({ value }, index) => this.setValue(this.fields[index], value));
   }

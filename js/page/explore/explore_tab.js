@@ -11,7 +11,7 @@ import { reportTabMark, finalSummary, progressSummary } from "../../words/explor
 import * as say from "../../words/explore.js";
 
 /**
- * @typedef {import("../../core/testing/test_preparation.js").TextFault} TextFault
+ * @typedef {import("../../core/testing/test_preparation.js").ProjectTextError} ProjectTextError
  * @typedef {import("../../core/explore/sliced_search.js").RunOptions} RunOptions
  * @typedef {import("../../core/explore/sliced_search.js").ExploredTexts} ExploredTexts
  * @typedef {import("../../core/explore/sliced_search.js").Progress} Progress
@@ -29,7 +29,7 @@ import * as say from "../../words/explore.js";
  * @typedef {object} ExploreCalls
  * @property {() => Omit<ExploredTexts, "propertiesText">} texts Returns the current texts of the board, the source and the tests.
  * @property {() => string[]} labels Returns the labels of the program in ROM.
- * @property {(texts: ExploredTexts) => Promise<TextFault[]>} faults Resolves to the errors of all texts.
+ * @property {(texts: ExploredTexts) => Promise<ProjectTextError[]>} findErrors Resolves to the errors of all texts.
  * @property {(texts: ExploredTexts, options: RunOptions, signal: AbortSignal, showProgress: (progress: Progress) => void) =>
  *   Promise<TaskResult>} explore Searches until the time is up, every property has a counterexample, or `signal` is aborted. Calls
  *   `showProgress` with each progress report. Resolves to the errors in the texts and whether the search was stopped.
@@ -43,7 +43,7 @@ import * as say from "../../words/explore.js";
  * @property {(label: string, isGood?: boolean) => void} showMark Shows a short text on the tab; "" removes it. If `isGood`, the text
  *   reports a success.
  * @property {() => void} handleEdit Handles an edit of the properties.
- * @property {(fault: unknown) => void} reportFailure Reports an error that a call threw.
+ * @property {(error: unknown) => void} reportFailure Reports an error that a call threw.
  */
 
 const NUMBER_FIELDS = [
@@ -66,7 +66,7 @@ export class ExploreTab {
       describeWord: helpForProperty,
       complete: completeProperty,
     }, calls, {
-      findErrors: () => calls.faults(this.texts),
+      findErrors: () => calls.findErrors(this.texts),
       showErrorCount: (count) => this.showMark(count),
       send: () => this.exploreOrStop(),
       prove: () => this.proofs.proveOrCancel(),
@@ -90,7 +90,7 @@ export class ExploreTab {
     this.exploreButton.set(say.EXPLORE);
     onClick(button("clear-finds"), () => this.clear());
     /** The number of known errors in the text. */
-    this.faultCount = 0;
+    this.errorCount = 0;
     this.proofs = this.makeProofs();
   }
 
@@ -102,7 +102,7 @@ export class ExploreTab {
       prove: calls.prove,
       goTo: (line) => editor.editor.select({ from: line, to: line }),
       showMessage: (message) => editor.showMessage(message),
-      showFaults: (faults) => this.showFaults(faults),
+      showErrors: (errors) => this.showErrors(errors),
       open: calls.openWithLines,
       addTest: calls.addTest,
       handleVerdictChange: () => this.handleVerdictChange(),
@@ -128,7 +128,7 @@ export class ExploreTab {
   /** @param {number} count the number of errors in the text */
   showMark(count) {
     const { currentResults } = this;
-    this.faultCount = count;
+    this.errorCount = count;
     const reportMark = currentResults && currentResults.report ? reportTabMark(currentResults.report) : "";
     if (count > 0) this.calls.showMark(formatErrorCount(count));
     else this.calls.showMark(reportMark || this.proofs.mark, reportMark === "" && this.proofs.isGood);
@@ -158,7 +158,7 @@ export class ExploreTab {
 
   /** Updates the tab's mark and the button that clears results. */
   handleVerdictChange() {
-    this.showMark(this.faultCount);
+    this.showMark(this.errorCount);
     this.updateClearButton();
   }
 
@@ -236,7 +236,7 @@ export class ExploreTab {
     this.resultsBySession.set(sessionId, results);
     this.view.clear();
     this.show();
-    let searchEnd = /** @type {TaskResult} */ ({ faults: [], isStopped: true });
+    let searchEnd = /** @type {TaskResult} */ ({ errors: [], isStopped: true });
     try {
       searchEnd = await this.calls.explore(texts, request, controller.signal, (progress) => this.handleProgress(results, progress));
     } finally {
@@ -245,14 +245,14 @@ export class ExploreTab {
       if (!results.report) this.resultsBySession.delete(sessionId);
       this.show();
     }
-    if (searchEnd.faults.length > 0) this.showFaults(searchEnd.faults);
+    if (searchEnd.errors.length > 0) this.showErrors(searchEnd.errors);
     else if (!results.report) this.editor.showMessage(say.STOPPED_EARLY);
   }
 
-  /** @param {TextFault[]} faults the errors that prevented the search */
-  showFaults(faults) {
-    this.textTab.showErrors(faults);
-    this.editor.showMessage(textErrorsMessage(faults, this.calls.describeRefusal));
+  /** @param {ProjectTextError[]} errors the errors that prevented the search */
+  showErrors(errors) {
+    this.textTab.showErrors(errors);
+    this.editor.showMessage(textErrorsMessage(errors, this.calls.describeRefusal));
   }
 
   /**

@@ -27,7 +27,7 @@ import * as say from "../../words/help.js";
  * @property {(program: string) => void} replaceSource Replaces the source with a program, as one edit.
  * @property {(target: import("../../core/help/tour.js").Target) => void} reveal Scrolls the target of a tour step into view.
  * @property {(program: string, message: string) => void} replace Replaces the source with a program, and shows a message that offers undo.
- * @property {import("../../core/help/story_actions.js").ActionCalls} storyCalls The callbacks for links in stories.
+ * @property {import("../../core/help/story_actions.js").ActionCallbacks} storyCalls The callbacks for links in stories.
  * @property {() => void} handleTourEnd Handles the end of the tour or of a story.
  * @property {(reason: string) => void} showRefusal Shows the reason why a story cannot be opened.
  */
@@ -76,7 +76,7 @@ export class Guide {
     const { story = "" } = examples.find((example) => example.name === name) || {};
     const steps = parseStory(story);
     if (steps.length > 0) this.tour.open(steps);
-    else this.calls.showRefusal(say.noSuchStory(shortName(name)));
+    else this.calls.showRefusal(say.noSuchStoryMessage(shortName(name)));
   }
 
   /** Closes the story when another session is opened. */

@@ -39,7 +39,7 @@ import { stoppedAt } from "../../words/stops.js";
  * @property {() => void} forgetGoal Forgets the goal of the current run. Called after the bench was reset.
  * @property {(stop: Stop) => string} describeStop Returns the message with the reason why a run stopped.
  * @property {(message: string) => void} showMessage Shows a message in the status line.
- * @property {(fault: unknown) => void} reportFailure Reports an error that a call threw.
+ * @property {(error: unknown) => void} reportFailure Reports an error that a call threw.
  */
 
 export class LineServer {
@@ -100,10 +100,10 @@ export class LineServer {
     let result;
     try {
       result = await this.calls.runWithProgress(description, work);
-    } catch (fault) {
+    } catch (error) {
       // After a cancellation, time resumes if time was running before.
-      if (fault instanceof CancelledError) this.notice.show(this.errorMessages.failureMessage(fault));
-      else this.calls.reportFailure(fault);
+      if (error instanceof CancelledError) this.notice.show(this.errorMessages.failureMessage(error));
+      else this.calls.reportFailure(error);
       return null;
     }
     await this.handleResult(result);

@@ -85,10 +85,10 @@ export class BreakpointForm {
   /**
    * Opens the form for a breakpoint, with the caret in one of its fields.
    * @param {Breakpoint} breakpoint
-   * @param {string} fault the error in the breakpoint's texts; "" if there is none
+   * @param {string} error the error in the breakpoint's texts; "" if there is none
    * @param {BreakpointField} fieldName the field that receives the caret
    */
-  open(breakpoint, fault, fieldName) {
+  open(breakpoint, error, fieldName) {
     this.applyFields();
     this.originalBreakpoint = breakpoint;
     const { fields } = this;
@@ -96,7 +96,7 @@ export class BreakpointForm {
     fields.from.value = breakpoint.from > 1 ? String(breakpoint.from) : "";
     fields.note.value = breakpoint.note;
     this.readFields();
-    this.showFault(fault);
+    this.showError(error);
     this.calls.placeForm(breakpoint, this.node);
     const focus = () => {
       fields[fieldName].focus();
@@ -110,9 +110,9 @@ export class BreakpointForm {
   /**
    * Updates the form after the list of breakpoints has changed.
    * @param {(id: number) => Breakpoint | undefined} find returns the breakpoint with an id, or undefined if it was removed
-   * @param {Map<number, string>} faults the error of each breakpoint that has an error, by breakpoint id
+   * @param {Map<number, string>} errors the error of each breakpoint that has an error, by breakpoint id
    */
-  show(find, faults) {
+  show(find, errors) {
     if (!this.originalBreakpoint) return;
     const breakpoint = find(this.originalBreakpoint.id);
     if (!breakpoint) {
@@ -120,13 +120,13 @@ export class BreakpointForm {
       return;
     }
     this.calls.placeForm(breakpoint, this.node);
-    this.showFault(faults.get(breakpoint.id) || "");
+    this.showError(errors.get(breakpoint.id) || "");
   }
 
-  /** @param {string} fault the error in the texts that were applied; "" if there is none */
-  showFault(fault) {
-    this.status.set(fault && say.stopsEachTime(fault));
-    this.fields.condition.setAttribute("aria-invalid", String(fault !== ""));
+  /** @param {string} error the error in the texts that were applied; "" if there is none */
+  showError(error) {
+    this.status.set(error && say.stopsEachTime(error));
+    this.fields.condition.setAttribute("aria-invalid", String(error !== ""));
   }
 
   /**

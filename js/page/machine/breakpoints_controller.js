@@ -47,7 +47,7 @@ import * as say from "../../words/machine.js";
  * @property {() => Promise<void>} checkSource Compares the source with ROM, even if the source was not edited. Resolves when the comparison
  *   is complete.
  * @property {(message: string) => void} showMessage Shows a message near the user's last action.
- * @property {(fault: unknown) => void} reportFailure Reports an error that a call threw.
+ * @property {(error: unknown) => void} reportFailure Reports an error that a call threw.
  */
 
 export class BreakpointsController {
@@ -161,20 +161,20 @@ export class BreakpointsController {
    * @returns {Promise<[number, string][]>}
    */
   async set(placedBreakpoints) {
-    const { errors: faults, ...result } = await this.bench.call("setBreakpoints", [placedBreakpoints, this.texts()]);
+    const { errors, ...result } = await this.bench.call("setBreakpoints", [placedBreakpoints, this.texts()]);
     if (result.entries.length > 0) await this.calls.handleResult(result);
     else this.calls.showSession(result);
-    return faults;
+    return errors;
   }
 
   show() {
     const session = this.calls.session();
-    const { list, errors: faults, savedBreakpoints: storedBreakpoints } = this.manager;
+    const { list, errors, savedBreakpoints: storedBreakpoints } = this.manager;
     if (session) session.record.breakpoints = storedBreakpoints;
-    const { lines, addresses } = breakpointMarks(list.all, faults);
+    const { lines, addresses } = breakpointMarks(list.all, errors);
     this.calls.showMarks(lines, addresses);
     this.view.show(this.manager);
-    this.form.show((id) => list.get(id), faults);
+    this.form.show((id) => list.get(id), errors);
   }
 
   /** @param {SessionRecord} record the record of the session to show */

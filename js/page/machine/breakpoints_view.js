@@ -59,7 +59,7 @@ export class BreakpointsView {
 
   /** @param {ShownManager} manager */
   show(manager) {
-    const { list: { all }, errors: faults, map } = manager;
+    const { list: { all }, errors, map } = manager;
     for (const [id, { root }] of this.rows) {
       if (all.some((breakpoint) => breakpoint.id === id)) continue;
       root.remove();
@@ -68,7 +68,7 @@ export class BreakpointsView {
     all.forEach((breakpoint, index) => {
       const row = this.rows.get(breakpoint.id) || this.makeRow(breakpoint.id, manager);
       if (this.root.children[index] !== row.root) this.root.insertBefore(row.root, this.root.children[index] || null);
-      this.showRow(row, breakpoint, faults.get(breakpoint.id) || "", map);
+      this.showRow(row, breakpoint, errors.get(breakpoint.id) || "", map);
     });
     this.emptyNote.hidden = all.length > 0;
     block("breakpoints-bar").hidden = all.length === 0;

@@ -152,11 +152,11 @@ export class PortsView {
   /**
    * Shows the addresses that SRC instructions have sent last: the address for the ROM chips, for example `10`, and an address for each RAM
    * bank, for example `0.10` for bank 0.
-   * @param {string[]} sources
+   * @param {string[]} srcBytes
    */
-  showSources(sources) {
-    for (const source of sources) {
-      const [bankOrByte, bankByte] = source.split(".");
+  showSrcBytes(srcBytes) {
+    for (const item of srcBytes) {
+      const [bankOrByte, bankByte] = item.split(".");
       const name = bankByte === undefined ? say.SRC_OF_ROMS : `bank ${bankOrByte}`;
       const cell = this.sourceCells.get(name) || this.addSourceCell(name);
       this.changes.set(cell, bankByte === undefined ? bankOrByte : bankByte);
@@ -174,7 +174,7 @@ export class PortsView {
 
   /** @param {Ports} answer */
   show(answer) {
-    this.showSources(answer.sources);
+    this.showSrcBytes(answer.srcBytes);
     answer.roms.forEach((rom, index) => {
       this.changes.set(this.roms[index][0], rom.out);
       this.changes.set(this.roms[index][1], rom.in);

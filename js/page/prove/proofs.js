@@ -12,7 +12,7 @@ import { ProofsView } from "./proofs_view.js";
  * @typedef {import("../../core/bench/task_worker.js").TaskResult} TaskResult
  * @typedef {import("../../core/prove/prover.js").Progress} Progress
  * @typedef {import("../../core/prove/bounded_proof.js").PropertyVerdict} PropertyVerdict
- * @typedef {import("../../core/testing/test_preparation.js").TextFault} TextFault
+ * @typedef {import("../../core/testing/test_preparation.js").ProjectTextError} ProjectTextError
  *
  * The proof of a session's properties: the texts, the maximum number of states that the prover may visit for each property, and the
  * progress.
@@ -26,12 +26,12 @@ import { ProofsView } from "./proofs_view.js";
  *   the errors in the texts and whether `signal` has cancelled the proof.
  * @property {(line: number) => void} goTo Shows a line of the properties text. Lines count from 1.
  * @property {(message: string) => void} showMessage Shows a message next to the buttons.
- * @property {(faults: TextFault[]) => void} showFaults Shows the errors that prevented the proof.
+ * @property {(errors: ProjectTextError[]) => void} showErrors Shows the errors that prevented the proof.
  * @property {(name: string, lines: string, texts: ExploredTexts, message: string) => Promise<void>} open Opens a new session with the
  *   texts, executes lines in it, and shows a message.
  * @property {(test: string) => string} addTest Adds a test to the text in the Tests tab. Returns the message about the result.
  * @property {() => void} handleVerdictChange Called after the verdicts have changed; for example, updates the mark on the tab.
- * @property {(fault: unknown) => void} reportFailure Reports an error that a call threw.
+ * @property {(error: unknown) => void} reportFailure Reports an error that a call threw.
  */
 
 const MAX_STATES = 999999999;
@@ -161,7 +161,7 @@ export class Proofs {
     this.resultsBySession.set(sessionId, results);
     this.view.clear();
     this.show();
-    let proofEnd = /** @type {TaskResult} */ ({ faults: [], isStopped: true });
+    let proofEnd = /** @type {TaskResult} */ ({ errors: [], isStopped: true });
     try {
       proofEnd = await calls.prove(texts, maxStates, controller.signal, (progress) => {
         results.progress = progress;
@@ -178,10 +178,10 @@ export class Proofs {
    * @param {ProofResults} results
    * @param {TaskResult} proofEnd
    */
-  finish({ progress: { verdicts: judged } }, { faults, isStopped }) {
+  finish({ progress: { verdicts: judged } }, { errors, isStopped }) {
     if (judged.length === 0) this.view.clear();
     this.show();
-    if (faults.length > 0) this.calls.showFaults(faults);
+    if (errors.length > 0) this.calls.showErrors(errors);
     else if (judged.length > 0) this.calls.showMessage(finalSummary(judged, isStopped));
     else this.calls.showMessage(isStopped ? say.CANCELLED_EARLY : "");
   }

@@ -124,9 +124,9 @@ export class CurrentSession {
   async open(record) {
     try {
       return await this.requestOpening(record);
-    } catch (fault) {
+    } catch (error) {
       if (this.session) this.calls.showPaused(say.PAUSED);
-      throw fault;
+      throw error;
     }
   }
 
@@ -206,7 +206,7 @@ export class CurrentSession {
     const runs = calls.takeRuns();
     const saveError = await this.session.save();
     calls.logRuns(runs, saveError);
-    calls.showSaveError(saveError && say.notKept(saveError));
+    calls.showSaveError(saveError && say.notKeptMessage(saveError));
     calls.showSaveState(saveError || !this.store.isPersistent ? "failed" : this.session.isUntouched ? "example" : "saved");
     return saveError;
   }

@@ -17,7 +17,7 @@ import * as say from "../../words/session.js";
  * @property {() => string} program Returns the source.
  * @property {() => Promise<string>} hex Resolves to the bytes of all ROM chips in Intel HEX format.
  * @property {() => Promise<Uint8Array>} image Resolves to the concatenated bytes of all ROM chips.
- * @property {(fault: unknown) => void} reportFailure Reports an error that a call threw.
+ * @property {(error: unknown) => void} reportFailure Reports an error that a call threw.
  */
 
 export class ExportView {
@@ -60,7 +60,7 @@ export class ExportView {
   async save({ extension, description, make }) {
     const contents = await make();
     if (contents.length === 0) {
-      this.status.textContent = say.nothingSaved(description);
+      this.status.textContent = say.nothingSavedMessage(description);
       return;
     }
     download(this.calls.name(), extension, new Blob([contents], { type: "application/octet-stream" }));

@@ -36,7 +36,7 @@ async function readText(files, path, kind) {
   if (!file) return "";
   const contents = readOpenedFile(path, await readBytes(file, MAX_PROJECT_BYTES));
   const text = contents.kind === "texts" ? contents.texts[kind] : null;
-  if (text === null) throw new UnusableFile(say.noText(path, kind.endsWith("s") ? kind : `a ${kind}`));
+  if (text === null) throw new UnusableFile(say.noTextMessage(path, kind.endsWith("s") ? kind : `a ${kind}`));
   return text;
 }
 
@@ -59,7 +59,7 @@ export async function readFolderTexts({ name, files }) {
   const projectFile = files.get(PROJECT_FILE);
   if (!projectFile) throw new ProjectError(PROJECT_FILE, say.NO_PROJECT_FILE);
   /** @type {(path: string) => string} */
-  const checkPath = (path) => (files.has(path) ? "" : say.noFile(path));
+  const checkPath = (path) => (files.has(path) ? "" : say.noFileMessage(path));
   const { board, program, tests, properties, speed } = readProject(await readBytes(projectFile, MAX_PROJECT_TOML_BYTES), checkPath);
   const texts = {
     name: name || program.replace(/^.*\//, "").replace(/\.[^.]*$/, ""),

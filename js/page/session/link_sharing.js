@@ -61,7 +61,7 @@ export class LinkSharing {
     if (!texts) return;
     const lengthError = tooLongMessage(texts);
     if (lengthError) {
-      this.notice.show(say.noLink(lengthError), "refusal");
+      this.notice.show(say.noLinkMessage(lengthError), "refusal");
       return;
     }
     const address = location.href.replace(/#.*$/, "") + formatUrlFragment("link", await toLink(texts));
@@ -125,8 +125,8 @@ export class LinkSharing {
         refuseLabel: say.LEAVE_IT,
       });
       if (isWanted) await this.calls.begin(texts, result.file, result.rejectedTexts.length === 0 && texts.programText !== "");
-    } catch (fault) {
-      this.notice.show(say.linkNotOpened(this.errorMessages.errorMessage(fault)), "session");
+    } catch (error) {
+      this.notice.show(say.linkNotOpened(this.errorMessages.errorMessage(error)), "session");
     } finally {
       this.calls.showSessionAddress();
     }

@@ -114,8 +114,8 @@ export class OpenSession {
       await this.store.put(this.record);
       this.unsavedTexts.markStored(writtenRecord);
       return "";
-    } catch (fault) {
-      return describeStoreError(fault);
+    } catch (error) {
+      return describeStoreError(error);
     }
   }
 }

@@ -62,8 +62,8 @@ export class SessionManager {
   async savedSessions() {
     try {
       return (await this.store.all()).sort((a, b) => b.changed - a.changed);
-    } catch (fault) {
-      this.calls.refuse(say.cannotReadKept(describeStoreError(fault)));
+    } catch (error) {
+      this.calls.refuse(say.cannotReadKeptMessage(describeStoreError(error)));
       return [];
     }
   }
@@ -97,9 +97,9 @@ export class SessionManager {
     try {
       await this.calls.useSession(await this.readRecord(id), release, "");
       return true;
-    } catch (fault) {
+    } catch (error) {
       release();
-      return this.rejectAction(say.notOpened(this.errorMessages.errorMessage(fault)));
+      return this.rejectAction(say.notOpenedMessage(this.errorMessages.errorMessage(error)));
     }
   }
 
@@ -115,8 +115,8 @@ export class SessionManager {
       await this.calls.useSession(record, (await this.locks.acquire(record.id)) || (() => {}), example);
       if (previousSession && !previousSession.isUntouched) this.calls.offerReturn(previousSession.record);
       return true;
-    } catch (fault) {
-      return this.rejectAction(say.notMade(this.errorMessages.errorMessage(fault)));
+    } catch (error) {
+      return this.rejectAction(say.notMadeMessage(this.errorMessages.errorMessage(error)));
     }
   }
 
@@ -172,8 +172,8 @@ export class SessionManager {
         return await this.openSession(await (isProject ? this.makeProjectRecord(bytes) : this.makeSessionFileRecord(file.name, bytes)));
       }
       return true;
-    } catch (fault) {
-      return this.rejectAction(say.fileNotOpened(file.name, this.errorMessages.errorMessage(fault)));
+    } catch (error) {
+      return this.rejectAction(say.fileNotOpened(file.name, this.errorMessages.errorMessage(error)));
     }
   }
 
@@ -191,8 +191,8 @@ export class SessionManager {
       if (hasOpened && speed) this.calls.setSpeed(speed);
       if (hasOpened && message) this.calls.refuse(message);
       return hasOpened;
-    } catch (fault) {
-      return this.rejectAction(say.fileNotOpened(name, this.errorMessages.errorMessage(fault)));
+    } catch (error) {
+      return this.rejectAction(say.fileNotOpened(name, this.errorMessages.errorMessage(error)));
     }
   }
 
@@ -228,7 +228,7 @@ export class SessionManager {
     const session = this.calls.session();
     if (!session) return;
     const lengthError = tooLongMessage(session.record);
-    if (lengthError) this.rejectAction(say.noProjectSaved(lengthError));
+    if (lengthError) this.rejectAction(say.noProjectSavedMessage(lengthError));
     else download(session.record.name, ".mcsp", new Blob([projectText(session.record)], { type: "application/octet-stream" }));
   }
 

@@ -144,7 +144,7 @@ export class SessionsController {
   async beginExampleByName(name) {
     const example = [...this.examples, TOUR_EXAMPLE].find((candidate) => candidate.name === name);
     if (example) return this.begin(example);
-    this.notice.show(say.noSuchExample(shortName(name)), "session");
+    this.notice.show(say.noSuchExampleMessage(shortName(name)), "session");
     return false;
   }
 
@@ -217,7 +217,7 @@ export class SessionsController {
     const release = await this.locks.acquire(record.id);
     if (!release) return;
     release();
-    const message = say.notOpenedAutomatically(shortName(record.name));
+    const message = say.notOpenedAutomaticallyMessage(shortName(record.name));
     const openAction = { word: say.OPEN_IT, act: () => this.open(record.id) };
     const deleteAction = { word: say.DELETE_IT, act: () => this.remove([record]) };
     this.notice.show(message, "unended", openAction, deleteAction);

@@ -57,8 +57,8 @@ async function decompress(bytes) {
   }
   try {
     return await readOutput(bytes, stream, MAX_BYTES, new LinkError(say.CONTAINS_OTHER_TEXTS));
-  } catch (fault) {
-    throw fault instanceof LinkError ? fault : new LinkError(say.DAMAGED);
+  } catch (error) {
+    throw error instanceof LinkError ? error : new LinkError(say.DAMAGED);
   }
 }
 
@@ -78,7 +78,7 @@ export async function readLink(link) {
   if (checksumText !== String(checksum(new TextEncoder().encode(body)))) throw new LinkError(say.DAMAGED);
   try {
     return readTexts(new Lines(body));
-  } catch (fault) {
-    throw new LinkError(fault instanceof TextTooLong ? fault.message : say.DAMAGED);
+  } catch (error) {
+    throw new LinkError(error instanceof TextTooLong ? error.message : say.DAMAGED);
   }
 }

@@ -154,7 +154,7 @@ export class Store {
   /**
    * Returns a transaction. Calls `resolve` when the transaction is on the disk, or `reject` if the transaction is aborted.
    * @param {() => void} resolve
-   * @param {(fault: Error) => void} reject
+   * @param {(error: Error) => void} reject
    */
   openTransaction(resolve, reject) {
     const transaction = this.database.transaction("sessions", "readwrite", { durability: "strict" });

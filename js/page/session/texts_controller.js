@@ -24,7 +24,7 @@ import * as say from "../../words/session.js";
  *   text is probably not a program.
  * @property {(shownName: TextName, lines: string) => void} handleLoadedTexts Handles texts that were loaded from a file. Shows the text
  *   `shownName` and puts `lines` into the console's input.
- * @property {(fault: unknown) => void} reportFailure Reports an error that a call threw.
+ * @property {(error: unknown) => void} reportFailure Reports an error that a call threw.
  */
 
 /**
@@ -166,8 +166,8 @@ export class TextsController {
       } else if (oldText.trim() === "" || (await this.confirmReplacing(oldText, disassembly))) {
         if (this.isShown(session)) this.replace("program", disassembly, say.DISASSEMBLED);
       }
-    } catch (fault) {
-      this.calls.reportFailure(fault);
+    } catch (error) {
+      this.calls.reportFailure(error);
     }
   }
 

@@ -57,8 +57,8 @@ export class Trash {
       await this.store.remove(record.id);
       this.unsavedTexts.forget(record.id);
       return true;
-    } catch (fault) {
-      this.refuse(say.notDeleted(record.name, describeStoreError(fault)));
+    } catch (error) {
+      this.refuse(say.notDeletedMessage(record.name, describeStoreError(error)));
       return false;
     } finally {
       release();
@@ -76,8 +76,8 @@ export class Trash {
         record.revision = 0;
         await this.store.put(record);
         this.deleted = this.deleted.filter((candidate) => candidate !== record);
-      } catch (fault) {
-        this.refuse(say.notRestored(record.name, describeStoreError(fault)));
+      } catch (error) {
+        this.refuse(say.notRestoredMessage(record.name, describeStoreError(error)));
       }
     }
   }

@@ -10,7 +10,7 @@ import { TestsView } from "./tests_view.js";
 import * as say from "../../words/testing.js";
 
 /**
- * @typedef {import("../../core/testing/test_preparation.js").TextFault} TextFault
+ * @typedef {import("../../core/testing/test_preparation.js").ProjectTextError} ProjectTextError
  * @typedef {import("../../core/testing/test_preparation.js").Texts} Texts
  * @typedef {import("../../core/testing/test_suite.js").Report} Report
  * @typedef {import("../../core/testing/test_suite.js").TestedTexts} TestedTexts
@@ -22,7 +22,7 @@ import * as say from "../../words/testing.js";
  * @typedef {object} TestsCalls
  * @property {() => { boardText: string, programText: string }} texts Returns the current texts of the board and the source.
  * @property {() => string[]} labels Returns the labels of the program in ROM.
- * @property {(texts: TestedTexts) => Promise<TextFault[]>} faults Resolves to the errors of all texts.
+ * @property {(texts: TestedTexts) => Promise<ProjectTextError[]>} findErrors Resolves to the errors of all texts.
  * @property {(texts: Texts) => Promise<string>} sample Resolves to a sample test for a board and a source.
  * @property {(texts: TestedTexts) => Promise<Report>} run Runs the tests. Resolves to their results. Rejects with `CancelledError` if the
  *   user cancels the run.
@@ -34,7 +34,7 @@ import * as say from "../../words/testing.js";
  * @property {(label: string, isGood?: boolean) => void} showMark Shows a short text on the tab; "" removes it. If `isGood`, the text
  *   reports a success.
  * @property {() => void} handleEdit Handles an edit of the tests.
- * @property {(fault: unknown) => void} reportFailure Reports an error that a call threw.
+ * @property {(error: unknown) => void} reportFailure Reports an error that a call threw.
  */
 
 export class TestsTab {
@@ -52,7 +52,7 @@ export class TestsTab {
       describeWord: helpForTest,
       complete: completeTest,
     }, calls, {
-      findErrors: () => calls.faults(this.texts),
+      findErrors: () => calls.findErrors(this.texts),
       showErrorCount: (count) => this.showMark(count),
       send: () => this.run().catch(calls.reportFailure),
     });
@@ -114,8 +114,8 @@ export class TestsTab {
     try {
       const report = await this.calls.run(texts);
       if (sessionNumber === this.sessionNumber) this.show(report, texts);
-    } catch (fault) {
-      if (!(fault instanceof CancelledError)) throw fault;
+    } catch (error) {
+      if (!(error instanceof CancelledError)) throw error;
       this.editor.showMessage(say.WAS_CANCELLED);
     } finally {
       this.isRunning = false;
@@ -127,10 +127,10 @@ export class TestsTab {
    * @param {TestedTexts} texts
    */
   show(report, texts) {
-    if (report.faults.length > 0) {
+    if (report.errors.length > 0) {
       this.clear();
-      this.textTab.showErrors(report.faults);
-      this.editor.showMessage(textErrorsMessage(report.faults, this.calls.describeRefusal));
+      this.textTab.showErrors(report.errors);
+      this.editor.showMessage(textErrorsMessage(report.errors, this.calls.describeRefusal));
       return;
     }
     this.testedTexts = texts;

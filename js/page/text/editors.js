@@ -25,9 +25,9 @@ import * as say from "../../words/text.js";
  * @typedef {import("../../core/engine/session_requests.js").SessionRequests} SessionRequests
  * @typedef {import("../../core/bench/bench_client.js").Caller<FileRequests & ProgramRequests & SessionRequests>} Bench
  * @typedef {import("../../core/help/manual.js").ManualSection} ManualSection
- * @typedef {import("../../core/text/program_errors.js").AllFaults} AllFaults
+ * @typedef {import("../../core/text/program_errors.js").TextErrors} TextErrors
  * @typedef {import("../../core/debug/breakpoints.js").Edit} Edit
- * @typedef {import("../../core/text/sendable_text.js").Fault} Fault
+ * @typedef {import("../../core/text/sendable_text.js").TextError} TextError
  * @typedef {import("../../core/bench/error_messages.js").ErrorMessages} ErrorMessages
  * @typedef {import("../machine/breakpoint_form.js").BreakpointField} BreakpointField
  */
@@ -54,7 +54,7 @@ import * as say from "../../words/text.js";
  * @property {import("./meaning_view.js").MakeEditable} makeEditable Makes a cell that shows a value editable.
  * @property {(name: "program" | "board", count: number) => void} showErrorCount Shows the number of errors in a text on its tab.
  * @property {(text: string, message: string) => void} replaceBoard Replaces the board's text and shows a message that offers undo.
- * @property {(fault: unknown) => void} reportFailure Reports an error that a call threw.
+ * @property {(error: unknown) => void} reportFailure Reports an error that a call threw.
  */
 
 /** The maximum number of errors in the list below a text. */
@@ -175,13 +175,13 @@ export class Editors {
 
   /**
    * @param {"program" | "board"} name
-   * @param {AllFaults} result
+   * @param {TextErrors} result
    */
-  showFoundErrors(name, { faults, isComplete: isWhole }) {
-    const shownFaults = name === "board" ? [...faults, ...findFrontPanelErrors(this.board.text)] : faults;
-    const moreNote = isWhole || faults.length < 2 ? "" : say.MAY_BE_MORE;
-    this[name].showErrors(shownFaults.slice(0, MAX_LISTED_ERRORS), moreErrors(shownFaults, MAX_LISTED_ERRORS) || moreNote);
-    this.calls.showErrorCount(name, shownFaults.length);
+  showFoundErrors(name, { errors, isComplete: isWhole }) {
+    const shownErrors = name === "board" ? [...errors, ...findFrontPanelErrors(this.board.text)] : errors;
+    const moreNote = isWhole || errors.length < 2 ? "" : say.MAY_BE_MORE;
+    this[name].showErrors(shownErrors.slice(0, MAX_LISTED_ERRORS), moreErrors(shownErrors, MAX_LISTED_ERRORS) || moreNote);
+    this.calls.showErrorCount(name, shownErrors.length);
   }
 
   /** Loads the program into ROM, clears the ROM bytes that other programs have left, resets the processor and starts time. */
@@ -243,8 +243,8 @@ export class Editors {
    */
   async hasNoErrors(name) {
     const result = await (name === "program" ? this.programErrors : this.boardErrors).checkNow();
-    if (result && result.faults.length > 0) this.reportErrors(name, result.faults);
-    return result !== undefined && result.faults.length === 0;
+    if (result && result.errors.length > 0) this.reportErrors(name, result.errors);
+    return result !== undefined && result.errors.length === 0;
   }
 
   /**
@@ -259,11 +259,11 @@ export class Editors {
   /**
    * Reports that a text is not sent because it has errors. Scrolls to the first error.
    * @param {"program" | "board"} name
-   * @param {Fault[]} faults
+   * @param {TextError[]} errors
    */
-  reportErrors(name, faults) {
-    const [{ line, words }] = faults;
-    this[name].showMessage(say.firstFault(line, words, faults.length - 1));
+  reportErrors(name, errors) {
+    const [{ line, words }] = errors;
+    this[name].showMessage(say.firstErrorMessage(line, words, errors.length - 1));
     this[name].reveal(line);
   }
 

@@ -7,7 +7,7 @@ import { lineReference } from "../../words/stops.js";
 /**
  * @typedef {import("./line_editor.js").LineEditor} LineEditor
  * @typedef {import("./line_marks.js").LineMarks} LineMarks
- * @typedef {import("../../core/text/sendable_text.js").Fault} Fault
+ * @typedef {import("../../core/text/sendable_text.js").TextError} TextError
  */
 
 export class ErrorView {
@@ -15,37 +15,37 @@ export class ErrorView {
    * @param {LineEditor} editor
    * @param {LineMarks} marks
    * @param {HTMLElement} list
-   * @param {(fault: Fault) => void} goTo moves the caret to an error
+   * @param {(error: TextError) => void} goTo moves the caret to an error
    */
   constructor(editor, marks, list, goTo) {
     this.editor = editor;
     this.marks = marks;
     this.list = list;
     this.goTo = goTo;
-    /** @type {Fault[]} */
-    this.faults = [];
+    /** @type {TextError[]} */
+    this.errors = [];
     list.hidden = true;
   }
 
   /**
-   * @param {Fault[]} faults
+   * @param {TextError[]} errors
    * @param {string} footnote a text below the last error
    */
-  show(faults, footnote = "") {
-    if (faults.length === 0 && this.faults.length === 0) return;
-    this.faults = faults;
+  show(errors, footnote = "") {
+    if (errors.length === 0 && this.errors.length === 0) return;
+    this.errors = errors;
     /** @type {Map<number, string>} */
     const messages = new Map();
-    for (const fault of faults) messages.set(fault.line, [messages.get(fault.line), fault.words].filter(Boolean).join("; "));
+    for (const error of errors) messages.set(error.line, [messages.get(error.line), error.words].filter(Boolean).join("; "));
     this.marks.showTexts("faults", (line) => (messages.has(line) ? "!" : ""), (line) => messages.get(line) || "");
-    this.editor.showErrors(faults.flatMap((fault) => this.underline(fault)));
-    this.list.replaceChildren(...faults.map((fault) => this.makeEntry(fault)), ...(footnote ? [element("li", {}, footnote)] : []));
-    this.list.hidden = faults.length === 0;
+    this.editor.showErrors(errors.flatMap((error) => this.underline(error)));
+    this.list.replaceChildren(...errors.map((error) => this.makeEntry(error)), ...(footnote ? [element("li", {}, footnote)] : []));
+    this.list.hidden = errors.length === 0;
   }
 
   /**
    * Returns a list with the range to underline for an error. The list is empty if the line is empty.
-   * @param {Fault} fault
+   * @param {TextError} error
    */
   underline({ line, from, to, words }) {
     const length = (this.editor.getLine(line - 1) || "").length;
@@ -56,10 +56,10 @@ export class ErrorView {
     return begin < stop ? [makeUnderlineMark("fault", words).range(begin, stop)] : [];
   }
 
-  /** @param {Fault} fault */
-  makeEntry(fault) {
-    const button = element("button", { type: "button" }, element("b", {}, `${lineReference(fault.line)}: `), fault.words);
-    onClick(button, () => this.goTo(fault));
+  /** @param {TextError} error */
+  makeEntry(error) {
+    const button = element("button", { type: "button" }, element("b", {}, `${lineReference(error.line)}: `), error.words);
+    onClick(button, () => this.goTo(error));
     return element("li", {}, button);
   }
 
@@ -68,7 +68,7 @@ export class ErrorView {
    * @param {import("./line_editor.js").Position} position
    */
   messageAt({ line, ch }) {
-    const match = this.faults.find((fault) => fault.line === line + 1 && ch >= fault.from && ch <= Math.max(fault.to, fault.from + 1));
+    const match = this.errors.find((error) => error.line === line + 1 && ch >= error.from && ch <= Math.max(error.to, error.from + 1));
     return match ? match.words : "";
   }
 }

@@ -12,7 +12,7 @@ export class LiveErrors {
    * @param {(isWanted: () => boolean) => Promise<Result | undefined>} find resolves to the errors; resolves to undefined if `isWanted`
    *   returns false, because a newer check has begun
    * @param {(result: Result) => void} show
-   * @param {(fault: unknown) => void} reportFailure
+   * @param {(error: unknown) => void} reportFailure
    */
   constructor(find, show, reportFailure) {
     this.find = find;

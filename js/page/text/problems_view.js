@@ -5,13 +5,13 @@ import { block, element, onClick } from "../ui/dom.js";
 import * as say from "../../words/text.js";
 
 /**
- * @typedef {import("../../core/text/sendable_text.js").Fault} Fault
+ * @typedef {import("../../core/text/sendable_text.js").TextError} TextError
  */
 
 /**
  * The callbacks of the list of problems.
  * @typedef {object} ProblemCalls
- * @property {(name: string, fault: Fault) => void} goTo Shows an error in a text. `name` is the name of the text's tab.
+ * @property {(name: string, error: TextError) => void} goTo Shows an error in a text. `name` is the name of the text's tab.
  * @property {(count: number) => void} showCount Shows the number of problems.
  */
 
@@ -21,21 +21,21 @@ export class ProblemsView {
     this.calls = calls;
     this.list = block("problem-list");
     this.emptyNote = block("problems-none");
-    /** @type {Map<string, Fault[]>} the errors of each text, by the name of its tab */
-    this.faults = new Map();
+    /** @type {Map<string, TextError[]>} the errors of each text, by the name of its tab */
+    this.errors = new Map();
     /** The number of common mistakes detected while time was running. */
     this.mistakeCount = 0;
   }
 
   /**
    * @param {string} name the name of a text's tab
-   * @param {Fault[]} faults all current errors of that text
+   * @param {TextError[]} errors all current errors of that text
    */
-  setErrors(name, faults) {
-    if (faults.length === 0 && (this.faults.get(name) || []).length === 0) return;
-    this.faults.set(name, faults);
-    this.list.replaceChildren(...[...this.faults].flatMap(([textName, textFaults]) => (
-      textFaults.map((fault) => this.makeEntry(textName, fault)))));
+  setErrors(name, errors) {
+    if (errors.length === 0 && (this.errors.get(name) || []).length === 0) return;
+    this.errors.set(name, errors);
+    this.list.replaceChildren(...[...this.errors].flatMap(([textName, textErrors]) => (
+      textErrors.map((error) => this.makeEntry(textName, error)))));
     this.updateCount();
   }
 
@@ -47,18 +47,18 @@ export class ProblemsView {
   }
 
   updateCount() {
-    const count = [...this.faults.values()].reduce((sum, faults) => sum + faults.length, this.mistakeCount);
+    const count = [...this.errors.values()].reduce((sum, errors) => sum + errors.length, this.mistakeCount);
     this.emptyNote.hidden = count > 0;
     this.calls.showCount(count);
   }
 
   /**
    * @param {string} name
-   * @param {Fault} fault
+   * @param {TextError} error
    */
-  makeEntry(name, fault) {
-    const button = element("button", { type: "button" }, element("b", {}, say.problemAt(name, fault.line)), fault.words);
-    onClick(button, () => this.calls.goTo(name, fault));
+  makeEntry(name, error) {
+    const button = element("button", { type: "button" }, element("b", {}, say.problemAt(name, error.line)), error.words);
+    onClick(button, () => this.calls.goTo(name, error));
     return element("li", {}, button);
   }
 }

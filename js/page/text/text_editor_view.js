@@ -18,7 +18,7 @@ import * as say from "../../words/text.js";
  * @typedef {import("../../core/machine/breakpoint_marks.js").BreakpointMark} BreakpointMark
  * @typedef {import("../../core/text/completion.js").Completion} Completion
  * @typedef {import("../../core/debug/word_values.js").Piece} Piece
- * @typedef {import("../../core/text/sendable_text.js").Fault} Fault
+ * @typedef {import("../../core/text/sendable_text.js").TextError} TextError
  * @typedef {import("../commands/command_table.js").TextAction} TextAction
  * @typedef {import("./line_editor.js").Position} Position
  * @typedef {import("../../core/debug/breakpoints.js").Edit} Edit
@@ -78,12 +78,12 @@ export class EditorView {
     this.editor = new TextEditor({ container, label, colours, gutters, indent, folds, keys, isInFront: () => !root.hidden,
       calls: textCalls });
     const { editor } = this.editor;
-    /** @type {(faults: Fault[]) => void} the listener for changes of the errors */
+    /** @type {(errors: TextError[]) => void} the listener for changes of the errors */
     this.onErrorsChange = () => {};
     this.marks = new LineMarks(editor);
     this.counts = new CountMarks(editor, this.marks);
     this.lineValues = new LineValues(editor);
-    this.errorView = new ErrorView(editor, this.marks, list, (fault) => this.goToError(fault));
+    this.errorView = new ErrorView(editor, this.marks, list, (error) => this.goToError(error));
     this.search = new SearchBar(editor, panel, label);
     this.names = new NameView(this.editor, panel, { isInstruction, showMessage: (message) => this.status.set(message) });
     /** The timer that starts the description of the word at the pointer or the caret. */
@@ -166,7 +166,7 @@ export class EditorView {
       handleGutterClick: (line) => this.calls.toggleBreakpoint(line),
       handleGutterMenu: (line, event) => this.openMarginMenu(line, event),
       handleNameClick: () => this.language.isInstruction && this.names.goToDefinition(),
-      reportTooLong: (size) => this.status.set(say.notInserted(size.toLocaleString("en"), MAX_STORED_LENGTH.toLocaleString("en"))),
+      reportTooLong: (size) => this.status.set(say.notInsertedMessage(size.toLocaleString("en"), MAX_STORED_LENGTH.toLocaleString("en"))),
       complete: ({ line, ch }) => this.language.complete(this.lines, line, ch),
     };
   }
@@ -320,16 +320,16 @@ export class EditorView {
   }
 
   /**
-   * @param {Fault[]} faults
+   * @param {TextError[]} errors
    * @param {string} [footnote]
    */
-  showErrors(faults, footnote = "") {
-    this.errorView.show(faults, footnote);
-    this.onErrorsChange(faults);
+  showErrors(errors, footnote = "") {
+    this.errorView.show(errors, footnote);
+    this.onErrorsChange(errors);
     this.scheduleDescription();
   }
 
-  /** @param {Fault} fault the error to go to */
+  /** @param {TextError} error the error to go to */
   goToError({ line, from }) {
     this.editor.goTo({ line: line - 1, ch: from });
   }

@@ -9,7 +9,7 @@ import { LiveErrors } from "./live_errors.js";
 import { COLOURS } from "../../core/text/test_colours.js";
 
 /**
- * @typedef {import("../../core/testing/test_preparation.js").TextFault} TextFault
+ * @typedef {import("../../core/testing/test_preparation.js").ProjectTextError} ProjectTextError
  * @typedef {import("../../core/text/completion.js").Completion} Completion
  * @typedef {{ keys: string[], lamps: string[], labels: string[] }} Names the names that the board and the program define
  */
@@ -17,7 +17,7 @@ import { COLOURS } from "../../core/text/test_colours.js";
 /**
  * The callbacks to the tab that contains the editor.
  * @typedef {object} TabCalls
- * @property {() => Promise<TextFault[]>} findErrors Resolves to the errors of the board, the program and this text.
+ * @property {() => Promise<ProjectTextError[]>} findErrors Resolves to the errors of the board, the program and this text.
  * @property {(count: number) => void} showErrorCount Shows the number of errors in this text.
  * @property {() => void} send Performs the action of the tab's first button.
  * @property {() => void} [prove] Proves the properties in the text. Missing for tests.
@@ -29,7 +29,7 @@ import { COLOURS } from "../../core/text/test_colours.js";
  * @property {() => { boardText: string }} texts Returns the board's text.
  * @property {() => string[]} labels Returns the labels of the program in ROM.
  * @property {() => void} handleEdit Handles an edit of the text.
- * @property {(fault: unknown) => void} reportFailure Reports an error that a call threw.
+ * @property {(error: unknown) => void} reportFailure Reports an error that a call threw.
  */
 
 /**
@@ -68,7 +68,7 @@ export class TextTab {
       prove: tabCalls.prove,
       toggleBreakpoint: () => {},
     });
-    this.liveErrors = new LiveErrors(() => this.findErrors(), (faults) => this.showErrors(faults), calls.reportFailure);
+    this.liveErrors = new LiveErrors(() => this.findErrors(), (errors) => this.showErrors(errors), calls.reportFailure);
     onClick(button(kind.insertButton), () => this.insertFirstText().catch(calls.reportFailure));
   }
 
@@ -111,10 +111,10 @@ export class TextTab {
     return this.editor.text.trim() === "" ? [] : this.tabCalls.findErrors();
   }
 
-  /** @param {TextFault[]} faults the errors of the board, the program and this text */
-  showErrors(faults) {
+  /** @param {ProjectTextError[]} errors the errors of the board, the program and this text */
+  showErrors(errors) {
     const { lines } = this.editor;
-    const entries = faults.filter(({ text }) => text === this.kind.name).map(({ line, number, words }) => {
+    const entries = errors.filter(({ text }) => text === this.kind.name).map(({ line, number, words }) => {
       const text = lines[line - 1] || "";
       return { number, line, from: text.length - text.trimStart().length, to: text.length, words };
     });

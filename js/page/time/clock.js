@@ -20,7 +20,7 @@ import { REAL_TIME_SPEED, canFollowLine, togglesKeys } from "../../core/time/spe
  * @property {() => Promise<void>} runFull Starts a run at full speed, which the worker continues on its own.
  * @property {(time: number, wasHidden: boolean) => void} reportStandstill Reports that time stood still for `time` milliseconds. The cycles
  *   of that time are skipped. `wasHidden` is true if the page was hidden.
- * @property {(fault: unknown) => void} reportFailure Reports an error that a call threw.
+ * @property {(error: unknown) => void} reportFailure Reports an error that a call threw.
  */
 
 export class Clock {
@@ -151,8 +151,8 @@ export class Clock {
     try {
       if (this.speed.isByInstruction) await this.calls.runInstruction();
       else await this.calls.advance(dueCycles, key);
-    } catch (fault) {
-      this.calls.reportFailure(fault);
+    } catch (error) {
+      this.calls.reportFailure(error);
     } finally {
       this.isBusy = false;
     }

@@ -101,9 +101,9 @@ export class HistoryView {
   /** @param {(goal: NonNullable<ReturnType<typeof parseGoal>["goal"]>) => void} action */
   useTypedGoal(action) {
     const text = this.placeField.value;
-    const { goal, error: fault } = text.trim() === "" ? { goal: null, error: "" } : parseGoal(text, this.calls.names());
+    const { goal, error } = text.trim() === "" ? { goal: null, error: "" } : parseGoal(text, this.calls.names());
     this.placeField.setAttribute("aria-invalid", String(goal === null));
     if (goal) action(goal);
-    else this.calls.showMessage(fault === "" ? say.ENTER_CHANGE : say.cannotSearchFor(fault.slice(0, MAX_MESSAGE_LENGTH)));
+    else this.calls.showMessage(error === "" ? say.ENTER_CHANGE : say.cannotSearchForMessage(error.slice(0, MAX_MESSAGE_LENGTH)));
   }
 }

@@ -42,7 +42,7 @@ import * as say from "../../words/time.js";
  * @property {(number: number) => string} describeRefusal Returns the message for a numbered error of the bench.
  * @property {() => Promise<string | null>} step Sends the command for one step to the bench. Resolves to its answer, or to null if the call
  *   failed.
- * @property {(fault: unknown) => void} reportFailure Reports an error that a call threw.
+ * @property {(error: unknown) => void} reportFailure Reports an error that a call threw.
  */
 
 /** The interval in milliseconds between saves of the session while time is running. */
@@ -237,8 +237,8 @@ export class RunController {
     const { currentSession, calls } = this;
     try {
       await this.stopRun();
-    } catch (fault) {
-      calls.reportFailure(fault);
+    } catch (error) {
+      calls.reportFailure(error);
       return;
     }
     // A breakpoint may already have stopped the run.

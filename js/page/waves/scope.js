@@ -200,9 +200,9 @@ export class Scope {
     const liveSetup = { trigger, cyclesAfterTrigger: cyclesAfter, stopsMachine: stopsTime };
     const result = await this.calls.startLive(liveSetup, this.choice.valueNames);
     if (!result) return;
-    const { recorded, error: fault } = result;
-    field("trigger").setAttribute("aria-invalid", String(fault !== ""));
-    if (fault) this.status.set(say.triggerFault(fault));
+    const { recorded, error } = result;
+    field("trigger").setAttribute("aria-invalid", String(error !== ""));
+    if (error) this.status.set(say.triggerNotUnderstood(error));
     if (!recorded) return;
     this.liveWaves = new LiveWaves(recorded, settings);
     this.show(this.liveWaves.waves);
@@ -290,10 +290,10 @@ export class Scope {
     if (!waves) return;
     this.searchStatus.set("");
     const text = field("wave-search").value;
-    const { search, fault } = readSearch(text, waves, line);
-    field("wave-search").setAttribute("aria-invalid", String(fault !== ""));
+    const { search, error } = readSearch(text, waves, line);
+    field("wave-search").setAttribute("aria-invalid", String(error !== ""));
     if (!search) {
-      this.searchStatus.set(fault);
+      this.searchStatus.set(error);
       return;
     }
     const { name } = waves.lines[search.line];

@@ -106,8 +106,8 @@ class BenchWorker {
       if (pressesKey(call, callArguments)) this.sendEarly({ kind: "early", number, result });
       this.post({ kind: "reply", number, result }, result && result.file instanceof ArrayBuffer ? [result.file] : []);
       if (pressesKey(call, callArguments)) this.calls.bench.checkLastLines();
-    } catch (fault) {
-      this.post({ kind: "reply", number, error: packError(fault) });
+    } catch (error) {
+      this.post({ kind: "reply", number, error: packError(error) });
     }
   }
 
@@ -120,9 +120,9 @@ class BenchWorker {
     try {
       const frame = this.calls.bench.batch();
       if (frame) this.postFrame(frame);
-    } catch (fault) {
+    } catch (error) {
       this.calls.bench.fullSpeed.stop();
-      this.post({ kind: "failed", error: packError(fault) });
+      this.post({ kind: "failed", error: packError(error) });
     }
   }
 
