@@ -83,6 +83,13 @@ test("failures in `repeat` and shared steps have their iteration and the last pa
     + "the last label passed is turn, 2 cycles ago; @first was passed last 10 cycles ago");
 });
 
+test("`until` reads `owed` at the end of an instruction, where it is 0", async () => {
+  const text = "test a\n until owed = 1 within 100\ntest b\n run 1\n until owed = 0 within 1\n";
+  const { outcomes } = await runTests(engine, texts(text), always);
+  assert.match(outcomes[0].failure.words, /^it did not become true within 100 cycles: owed is 0, but must be 1;/);
+  assert.deepEqual([outcomes[1].failure, outcomes[1].cycles], [null, 2]);
+});
+
 test("a test with many repetitions can be cancelled", async () => {
   const text = "test a\n repeat 100000\n  run 100000\n end\n";
   let asked = 0;
