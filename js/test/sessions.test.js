@@ -78,8 +78,8 @@ test("the browser is asked once for persistent storage", async () => {
   let requestCount = 0;
   const persistence = new Persistence({ persist: async () => { requestCount += 1; return true; } });
   assert.equal(persistence.isPromised, false);
-  await persistence.ask();
-  await persistence.ask();
+  await persistence.request();
+  await persistence.request();
   assert.deepEqual([requestCount, persistence.isPromised], [1, true]);
   const blockedPersistence = new Persistence({ persist: async () => { throw new Error("blocked"); } });
   await blockedPersistence.ask();

@@ -38,7 +38,7 @@ export class ErrorView {
     const messages = new Map();
     for (const fault of faults) messages.set(fault.line, [messages.get(fault.line), fault.words].filter(Boolean).join("; "));
     this.marks.showTexts("faults", (line) => (messages.has(line) ? "!" : ""), (line) => messages.get(line) || "");
-    this.editor.showErrors(faults.flatMap((fault) => this.underline(fault)));
+    this.editor.showErrors(faults.flatMap((fault) => this.makeUnderlines(fault)));
     this.list.replaceChildren(...faults.map((fault) => this.makeEntry(fault)), ...(footnote ? [element("li", {}, footnote)] : []));
     this.list.hidden = faults.length === 0;
   }
@@ -47,7 +47,7 @@ export class ErrorView {
    * Returns a list with the range to underline for an error. The list is empty if the line is empty.
    * @param {Fault} fault
    */
-  underline({ line, from, to, words }) {
+  makeUnderlines({ line, from, to, words }) {
     const length = (this.editor.getLine(line - 1) || "").length;
     // A missing word has an empty range, so underline the character before it.
     const start = to > from ? from : Math.max(0, Math.min(from, length) - 1);
