@@ -82,9 +82,9 @@ test("the browser is asked once for persistent storage", async () => {
   await persistence.request();
   assert.deepEqual([requestCount, persistence.isPromised], [1, true]);
   const blockedPersistence = new Persistence({ persist: async () => { throw new Error("blocked"); } });
-  await blockedPersistence.ask();
+  await blockedPersistence.request();
   assert.equal(blockedPersistence.isPromised, false);
-  await new Persistence(null).ask();
+  await new Persistence(null).request();
 });
 
 test("line counts are formatted", () => {

@@ -35,7 +35,7 @@ for (const [name, board] of Object.entries({ "a small board": SMALL, "the larges
   });
 }
 
-/** Returns a generator of pseudo-random numbers that are the same in each run. */
+/** Returns a function that returns a pseudo-random number below its argument. The same seed gives the same numbers. */
 function createRandom(seed) {
   let state = seed;
   return (most) => {
