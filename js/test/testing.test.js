@@ -38,8 +38,8 @@ test("tests pass, and their coverage and profile are counted", async () => {
 });
 
 test("a failing test reports its line and its trace, and provides the session at the failure", async () => {
-  const quick = programText.replace("0x0C", "0x0D");
-  const { outcomes } = await runTests(engine, texts(example("three_lamps.test"), quick), always);
+  const fasterProgram = programText.replace("0x0C", "0x0D");
+  const { outcomes } = await runTests(engine, texts(example("three_lamps.test"), fasterProgram), always);
   const { failure } = outcomes[1];
   assert.deepEqual([failure.line, failure.text, failure.words], [14, "expect cycles 538", "cycles are 536, but must be 538"]);
   assert.deepEqual([failure.cycles, failure.lamps], [536, ".*."]);
@@ -92,9 +92,9 @@ test("`until` reads `owed` at the end of an instruction, where it is 0", async (
 
 test("a test with many repetitions can be cancelled", async () => {
   const text = "test a\n repeat 100000\n  run 100000\n end\n";
-  let asked = 0;
-  await assert.rejects(() => runTests(engine, texts(text), async () => ++asked < 3), CancelledError);
-  assert.equal(asked, 3);
+  let callCount = 0;
+  await assert.rejects(() => runTests(engine, texts(text), async () => ++callCount < 3), CancelledError);
+  assert.equal(callCount, 3);
 });
 
 test("if the texts have errors, they are reported and no test is run", async () => {
@@ -107,20 +107,20 @@ test("if the texts have errors, they are reported and no test is run", async () 
   assert.deepEqual([report.outcomes, report.coverage, report.profile], [[], null, null]);
   assert.deepEqual(parseTestedTexts(engine, texts("", " JUN nowhere\n")).faults, [{ text: "program", line: 1, number: 32, words: "" }]);
   assert.equal(parseTestedTexts(engine, { ...texts(""), boardText: "rom = 3\n" }).faults[0].text, "board");
-  const [named] = parseTestedTexts(engine, { ...texts(""), boardText: `# lamp 7: x\n${boardText}` }).faults;
-  assert.equal(named.words, "the lamp x is number 7, but the board has 3");
+  const [lampError] = parseTestedTexts(engine, { ...texts(""), boardText: `# lamp 7: x\n${boardText}` }).faults;
+  assert.equal(lampError.words, "the lamp x is number 7, but the board has 3");
   assert.equal(parseTestedTexts(engine, texts("")).faults[0].words, "there is no line `test NAME`");
   assert.match(parseTestedTexts(engine, texts("test a\n run 1 \u00fc\n")).faults[0].words, /^a byte that is neither/);
 });
 
 test("long work is cancelled between pieces", async () => {
-  let asked = 0;
+  let callCount = 0;
   const shouldContinue = async () => {
-    asked += 1;
-    return asked < 3;
+    callCount += 1;
+    return callCount < 3;
   };
   await assert.rejects(runTests(engine, texts("test for ever\n until r15 9 within 10000 s\n"), shouldContinue), CancelledError);
-  assert.equal(asked, 3);
+  assert.equal(callCount, 3);
 });
 
 test("ROM bytes that a test sets are counted only in its own run", async () => {
@@ -128,7 +128,7 @@ test("ROM bytes that a test sets are counted only in its own run", async () => {
   const text = "test a\n set rom.0x016 0\n set rom.0x017 0\n run 20\n save s\ntest b\n from s\n run 20\ntest c\n run 20\n";
   const { outcomes, profile } = await runTests(engine, texts(text), always);
   assert.deepEqual(outcomes.map(({ failure }) => failure), [null, null, null]);
-  assert.equal(profile.total, profile.rows.reduce((sum, { ownCycles: own }) => sum + own, 0) + profile.earlierInstructionCycles);
+  assert.equal(profile.total, profile.rows.reduce((sum, { ownCycles }) => sum + ownCycles, 0) + profile.earlierInstructionCycles);
 });
 
 test("tenths are rounded half to even, as by printf", () => {
@@ -137,9 +137,9 @@ test("tenths are rounded half to even, as by printf", () => {
 });
 
 test("the sample test presses the first key and expects what the bench shows then, so it passes", async () => {
-  const sampleOf = async (given) => {
-    const testText = await sampleTest(engine, given);
-    const { faults, outcomes } = await runTests(engine, { ...given, testText }, always);
+  const sampleOf = async (sampleTexts) => {
+    const testText = await sampleTest(engine, sampleTexts);
+    const { faults, outcomes } = await runTests(engine, { ...sampleTexts, testText }, always);
     assert.deepEqual([faults, outcomes.map(({ failure }) => failure)], [[], [null]]);
     return testText.split("\n").slice(2, -1).map((line) => line.trim());
   };
