@@ -189,8 +189,8 @@ export class TestSession {
   }
 
   /**
-   * Like `check`, for a condition that must be true at the end of the instruction, where `owed` is 0. An instruction has all its other effects
-   * in its first cycle.
+   * Like `check`, for a condition that must be true at the end of the instruction, where `owed` is 0. An instruction has all its other
+   * effects in its first cycle.
    * @param {Condition} condition
    */
   checkAtInstructionEnd(condition) {
