@@ -181,12 +181,12 @@ export class Page {
    * until the user applies the text.
    * @param {string} boardText
    */
-  readFace(boardText) {
+  changeFace(boardText) {
     const { session } = this.currentSession;
     const [wiredTexts] = (session && session.record.wired) || [];
     if (!session || !wiredTexts || !describesBoard(boardText, wiredTexts)) return;
     session.record.wired = textsToStore({ ...wiredTexts, text: boardText }, session.record.wired);
-    this.snapshotView.readFace(boardText);
+    this.snapshotView.changeFace(boardText);
     connectSound(this, boardText);
   }
 

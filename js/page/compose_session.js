@@ -142,8 +142,7 @@ export function makeGuide(page, manual) {
     showRefusal: (reason) => page.notice.show(reason, "session"),
   });
   page.sessionsController.onSessionOpened = () => guide.endStory();
-  page.sessionsController.showStory = (example) =>
- guide.showStory(example.name, [example]);
+  page.sessionsController.showStory = (example) => guide.showStory(example.name, [example]);
   page.snapshotView.watcher = guide.tour;
   page.runController.onRunEnd = (endReason) => guide.tour.recordEnd(endReason);
   return guide;

@@ -109,7 +109,7 @@ export function makeTextsController(page) {
     save: () => currentSession.save(),
     handleEdit: () => page.exploreTab.proofs.handleEdit(),
     updateNames: (boardText) => {
-      page.readFace(boardText);
+      page.changeFace(boardText);
       currentSession.adoptTitle(sessionTitle(boardText, page.programEditor.text));
       page.checkSource();
     },

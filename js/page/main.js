@@ -118,7 +118,7 @@ function listenToChoices(page) {
     speedSelect.value = page.runController.clock.speed.id;
     typingField.checked = page.isTyping;
   };
-  speedSelect.replaceChildren(...SPEEDS.map(({ id, label: words }) => element("option", { value: id }, words)));
+  speedSelect.replaceChildren(...SPEEDS.map(({ id, label }) => element("option", { value: id }, label)));
   speedSelect.addEventListener("change", () => {
     preferences.set("speed", speedSelect.value);
     page.runController.setSpeed(findSpeed(speedSelect.value)).catch((error) => page.recovery.reportFailure(error));
@@ -199,10 +199,10 @@ async function start({ unpackingPromise, locksPromise, storePromise }, errorMess
   // A worker that dies before it has loaded the module is not replaced.
   bench.listener = page.listener();
   const story = readRequestedStory(location.search);
-  const isFirst = location.hash === "" && !story && !hasSessions;
+  const isFirstVisit = location.hash === "" && !story && !hasSessions;
   await page.sessionsController.openFirst(story);
   if (story) guide.showStory(story, examples);
-  if (isFirst) commands.showFirstWelcome();
+  if (isFirstVisit) commands.showFirstWelcome();
   // The startup time in milliseconds.
   document.body.dataset.ready = String(Math.round(performance.now()));
   // The editors that no tab has shown yet get their views now.

@@ -124,11 +124,11 @@ export class SnapshotView {
 
   /**
    * Draws a new board in place of the current one.
-   * @param {string[]} answers the lines of the bench's answer to the query `board`
+   * @param {string[]} boardLines the lines of the bench's answer to the query `board`
    * @param {string} boardText the board's text, which declares its front panel
    */
-  draw(answers, boardText) {
-    this.board = readBoard(answers);
+  draw(boardLines, boardText) {
+    this.board = readBoard(boardLines);
     this.reader.forget();
     this.changes.forget();
     this.editor.close(false);
@@ -149,7 +149,7 @@ export class SnapshotView {
   }
 
   /** @param {string} boardText the text of the same board, with another front panel */
-  readFace(boardText) {
+  changeFace(boardText) {
     const face = new Face(boardText);
     this.face = face;
     this.front.changeFace(this.board, face);

@@ -396,7 +396,7 @@ test("a client that draws the board receives the printout, and can clear it", as
   await serveLines("run 20000; press 7; run 4000; release 7; run 16000; press +; run 4000; release +; run 60000");
   const getPrintedLengths = () => messages.filter(({ event, body }) => event === "boardShown" && body.printed)
     .map(({ body }) => body.printed.codes.length);
-  assert.ok(Math.max(...getPrintedLengths()) > 1, `what was printed: ${getPrintedLengths()}`);
+  assert.ok(Math.max(...getPrintedLengths()) > 1, `printed lengths: ${getPrintedLengths()}`);
   await request("clearPrintout");
   await serveLines("run 10");
   assert.equal(getPrintedLengths().pop(), 0);

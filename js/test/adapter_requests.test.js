@@ -8,7 +8,7 @@ import { FILES, FakeFile, LOCK, engine, startAdapter } from "./adapter_client.js
 const SHOW = 0x71;
 
 /** Returns the session file of the example "lock" after the bench has executed some session lines. */
-function sessionOfLock(lines = "") {
+function createLockSession(lines = "") {
   const file = new FakeFile(engine.begin());
   const program = FILES["/lock/lock.asm"].replace(/[ \t]*;.*/g, "");
   engine.serve(file.currentBytes, `wire\n${FILES["/lock/board.toml"].replace(/^#.*$/gm, "")}.\nasm\n${program}.\n${lines}`,
@@ -18,7 +18,7 @@ function sessionOfLock(lines = "") {
 }
 
 test("attach debugs the state in a session file, and leaves the file unchanged", async () => {
-  const file = sessionOfLock("run 100\npress 1 1\n");
+  const file = createLockSession("run 100\npress 1 1\n");
   const bytesBefore = file.currentBytes.slice();
   const { startSession, request, moveAndWait, evaluate, exitStatuses, getResponse } = startAdapter(FILES, { "/s.mcs": file });
   await startSession({ command: "attach", session: "/s.mcs" });
@@ -35,7 +35,7 @@ test("attach debugs the state in a session file, and leaves the file unchanged",
 });
 
 test("attach writes a session file only if the user asks for it", async () => {
-  const file = sessionOfLock("run 100\n");
+  const file = createLockSession("run 100\n");
   const { startSession, request, moveAndWait, evaluate } = startAdapter(FILES, { "/s.mcs": file });
   await startSession({ command: "attach", session: "/s.mcs", write: true, program: "/lock/lock.asm" });
   await moveAndWait("stepIn");
@@ -46,9 +46,9 @@ test("attach writes a session file only if the user asks for it", async () => {
 });
 
 test("a failed attach has an error message", async () => {
-  const fileInUse = Object.assign(sessionOfLock(), { isInUse: true });
+  const fileInUse = Object.assign(createLockSession(), { isInUse: true });
   const invalidFile = new FakeFile(new Uint8Array(5000));
-  const sessions = { "/s.mcs": sessionOfLock(), "/used.mcs": fileInUse, "/none.mcs": invalidFile };
+  const sessions = { "/s.mcs": createLockSession(), "/used.mcs": fileInUse, "/none.mcs": invalidFile };
   const { request, getResponse } = startAdapter({ ...FILES, "/lock/other.asm": "LDM 1\n" }, sessions);
   await request("initialize", {});
   const attachError = async (args) => (await getResponse("attach", args)).message;
@@ -271,7 +271,7 @@ test("after an error in the work that follows a response, later requests are sti
 });
 
 test("a request that arrives while the session file is written is answered", async () => {
-  const file = sessionOfLock();
+  const file = createLockSession();
   const { startSession, request, sendRequest, responseTo } = startAdapter(FILES, { "/s.mcs": file });
   await startSession({ session: "/s.mcs" });
   const serveLines = file.ask.bind(file);

@@ -32,7 +32,7 @@ function createManager(savedBreakpoints, breaks = []) {
   });
   manager.open("one", savedBreakpoints);
   manager.updateFromBench(bench.breaks);
-  return { manager: manager, log, bench };
+  return { manager, log, bench };
 }
 /** Returns the edit that replaces one text with another. */
 function replacementEdit(oldText, newText) {

@@ -166,13 +166,15 @@ test("the edges of a line are reported exactly, and its sound samples have the r
  */
 function createLamp() {
   const brightness = new Brightness(new Face(""), 1);
-  const simulate = (litShare, time, moved = null, marks = litShare > 0 ? "*" : ".") => (
-    brightness.add({ face: 0, cycles: 100, marks, lamps: [litShare * 100], changeSummaries: [moved], displays: [], scanned: [] }, time));
-  return { seen: brightness, pass: simulate };
+  const simulate = (litShare, time, changeSummary = null, marks = litShare > 0 ? "*" : ".") => {
+    const changeSummaries = [changeSummary];
+    brightness.add({ face: 0, cycles: 100, marks, lamps: [litShare * 100], changeSummaries, displays: [], scanned: [] }, time);
+  };
+  return { brightness, simulate };
 }
 
 test("the brightness of a flickering lamp rises, and falls, by 63 % within the persistence time", () => {
-  const { seen: brightness, pass: simulate } = createLamp();
+  const { brightness, simulate } = createLamp();
   for (let part = 0; part < 10; part++) simulate(0.8, EYE_PERSISTENCE_MS / 10, { first: 1, longest: 8, rest: 7 });
   assert.ok(Math.abs(brightness.lamps[0] - 0.8 * (1 - Math.exp(-1))) < 1e-9);
   simulate(1, Infinity);
@@ -185,7 +187,7 @@ test("the brightness of a flickering lamp rises, and falls, by 63 % within the p
 });
 
 test("a steady lamp has full brightness at once, and fades when it goes out; a short flash is visible, but not on", () => {
-  const { seen: brightness, pass: simulate } = createLamp();
+  const { brightness, simulate } = createLamp();
   simulate(0.3, FRAME_MS, { first: 70, longest: 0, rest: 30 });
   assert.deepEqual([brightness.lamps, brightness.isOn], [[1], [true]]);
   simulate(0.4, FRAME_MS, { first: 40, longest: 0, rest: 60 }, ".");
@@ -201,7 +203,7 @@ test("a steady lamp has full brightness at once, and fades when it goes out; a s
 });
 
 test("a lamp that is steady within a frame is steady once it stays unchanged for twice as long", () => {
-  const { seen: brightness, pass: simulate } = createLamp();
+  const { brightness, simulate } = createLamp();
   // In 20 ms, the lamp stays unchanged for 2 ms, then 8 ms, then 10 ms.
   simulate(0.5, 20, { first: 10, longest: 40, rest: 50 });
   assert.ok(Math.abs(brightness.lamps[0] - 0.5 * (1 - Math.exp(-20 / EYE_PERSISTENCE_MS))) < 1e-9, String(brightness.lamps[0]));
@@ -212,7 +214,7 @@ test("a lamp that is steady within a frame is steady once it stays unchanged for
 });
 
 test("a lamp that changes faster than the eye can follow is never steady", () => {
-  const { seen: brightness, pass: simulate } = createLamp();
+  const { brightness, simulate } = createLamp();
   // The lamp is off for 12 ms and on for 8 ms. It is sampled every 4 ms.
   for (let turn = 0; turn < 50; turn++) {
     simulate(0, 4, { first: 0, longest: 0, rest: 100 });

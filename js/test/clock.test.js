@@ -6,7 +6,10 @@ import { matrixKey } from "../core/board/key_place.js";
 import { CYCLES_PER_SECOND } from "../core/time/mcs4_time.js";
 import { SPEEDS, findSpeed } from "../core/time/speeds.js";
 
-/** Returns a clock that starts at time 0, its calls, and two functions. `advanceTo` sets the time and delivers an animation frame. */
+/**
+ * Returns a clock that starts at time 0, its calls (`calls`) and its other reports (`log`). `setTime` sets the time. `advanceTo` also
+ * delivers an animation frame.
+ */
 function startClock(speed = "real") {
   let now = 0;
   let frameCallback = null;
@@ -64,7 +67,7 @@ test("the clock is ahead while cycles have been simulated early", async () => {
   assert.ok(Math.abs(clock.simulatedTime - 10 - 1000 / 60) < 0.01, `${clock.simulatedTime}`);
 });
 
-test("during a call, a key is reported separately, and the cycles follow at the end of the call", async () => {
+test("during a call, the caller must send the key, and the cycles follow at the end of the call", async () => {
   const { clock, log, calls, setTime, advanceTo } = startClock();
   let endCall = () => {};
   log.pendingCall = new Promise((resolve) => { endCall = resolve; });
@@ -80,7 +83,7 @@ test("during a call, a key is reported separately, and the cycles follow at the 
   assert.equal(sumOf(calls), Math.floor(60 * CYCLES_PER_SECOND / 1000));
 });
 
-test("if the clock stops during that call, no cycles follow, and none are due after a restart", async () => {
+test("if the clock stops during a call, no cycles follow, and none are due after a restart", async () => {
   const { clock, log, calls, setTime, advanceTo } = startClock();
   setTime(5);
   clock.simulateKeyPress(matrixKey(0, 1));
@@ -107,10 +110,10 @@ test("no cycles are simulated early while paused, at full speed or in slow motio
     const { clock, calls, setTime } = startClock(id);
     calls.length = 0;
     setTime(500);
-    const isReported = clock.simulateKeyPress(matrixKey(0, 1));
+    const isSent = clock.simulateKeyPress(matrixKey(0, 1));
     const slowCalls = { tenth: [[4629, matrixKey(0, 1)]], hundredth: [[462, matrixKey(0, 1)]], thousandth: [[46, matrixKey(0, 1)]] };
     assert.deepEqual(calls, slowCalls[id] || [], id);
-    assert.equal(isReported, id in slowCalls, id);
+    assert.equal(isSent, id in slowCalls, id);
     await promisesSettled();
     clock.stop();
     setTime(900);

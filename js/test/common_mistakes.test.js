@@ -35,7 +35,7 @@ function openSession(program) {
 /** Returns the mistakes that are reported during some frames of a program, each with its source line. */
 function findMistakes(program, frames = 3, debug = openSession(program)) {
   const mistakes = Array.from({ length: frames }, () => debug.advance(1543).tally.mistakes).flat();
-  return mistakes.map(({ address, message: words }) => `${debug.commonMistakes.map.lineOf(address)}: ${words}`);
+  return mistakes.map(({ address, message }) => `${debug.commonMistakes.map.lineOf(address)}: ${message}`);
 }
 
 test("each mistake is reported once, with its line", () => {
@@ -58,7 +58,7 @@ test("each mistake is reported once, with its line", () => {
 test("an outdated SRC is reported if it was for RAM and the same WRR used another ROM before", () => {
   const board = BOARD.replace("}]", '}, { chip = 2, port = "0000" }]');
   const program = "again: FIM P0, 0\nSRC P0\nFIM P1, 0x20\nturn: WRR\nSRC P1\nWRM\nJUN turn\n";
-  const session = new DebugSession(engine, { board: board, program });
+  const session = new DebugSession(engine, { board, program });
   const mistakes = session.debugger.advance(1543).tally.mistakes;
   assert.deepEqual(mistakes.map(({ kind }) => kind), ["source"]);
   assert.equal(mistakes[0].message,
@@ -68,8 +68,8 @@ test("an outdated SRC is reported if it was for RAM and the same WRR used anothe
 test("an SRC for RDR that a WRR then uses is reported", () => {
   const board = BOARD.replace("iiii", "ii00");
   const program = "again: FIM P0, 0\nSRC P0\nFIM P1, 0x10\nturn: WRR\nSRC P1\nRDR\nJUN turn\n";
-  const mistakes = new DebugSession(engine, { board: board, program }).debugger.advance(1543).tally.mistakes;
-  assert.deepEqual(mistakes.map(({ message: words }) => words),
+  const mistakes = new DebugSession(engine, { board, program }).debugger.advance(1543).tally.mistakes;
+  assert.deepEqual(mistakes.map(({ message }) => message),
     ["this WRR writes to ROM 1, and before it used ROM 0: the last SRC, at 006, was for an RDR; is an SRC missing?"]);
 });
 
@@ -123,7 +123,7 @@ test("during a key press, mistakes are checked after the lamps are reported, and
   const expected = immediate.advance(1543).tally.mistakes;
   assert.equal(expected.length, 1);
   const frame = deferred.advance(1543, true);
-  assert.deepEqual([frame.tally.mistakes, deferred.lateMistakes], [[], []], "nothing is checked before that");
+  assert.deepEqual([frame.tally.mistakes, deferred.lateMistakes], [[], []], "nothing is checked before the report");
   deferred.checkLastLines();
   deferred.checkLastLines();
   assert.deepEqual(deferred.advance(1543, true).tally.mistakes, expected);
@@ -134,7 +134,7 @@ test("during a key press, mistakes are checked after the lamps are reported, and
   assert.deepEqual(deferred.session.ask("state\n"), immediate.session.ask("state\n"), "both sessions have the same state");
 });
 
-test("mistakes are checked at once if that frame has a stop, or if mistakes cause stops", () => {
+test("during a key press, mistakes are checked at once if the frame has a stop, or if mistakes cause stops", () => {
   const program = "FIM P0, 0x10\nSRC P0\nWRR\nJUN on\non: NOP\nend: JUN end\n";
   const withBreakpoint = openSession(program);
   withBreakpoint.session.changeBreaks("break 7\n");

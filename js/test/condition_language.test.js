@@ -245,9 +245,8 @@ function readMachineState() {
   const [regs, lamps, ...ram] = session.debugger.session.ask("regs\nlamps\nram 0\n");
   const [, acc, cy, pc, owed, testPin, registers] = /^acc (.) cy (.) pc (...) owed (.) dcl . test (.) r (\w{16})/.exec(regs);
   return {
-    acc: parseInt(acc, 16), cy: Number(cy), pc: parseInt(pc, 16), r: [...registers].map((digit) => parseInt(digit, 16)), test: testPin,
-      owed,
-    lamps: lamps.slice("lamps ".length), keys: [], digit: parseInt(ram[2].split(" ")[1][2], 16),
+    acc: parseInt(acc, 16), cy: Number(cy), pc: parseInt(pc, 16), r: [...registers].map((digit) => parseInt(digit, 16)),
+    test: testPin, owed, lamps: lamps.slice("lamps ".length), keys: [], digit: parseInt(ram[2].split(" ")[1][2], 16),
   };
 }
 
@@ -259,15 +258,16 @@ test("searches back and forward find the instructions at which a condition becam
   session = searchSession;
   try {
     const bench = searchSession.debugger.session;
-    const history = [{ is: readMachineState(), total: bench.count.total }];
+    const history = [{ state: readMachineState(), total: bench.count.total }];
     for (let step = 0; step < 260; step++) {
       await searchSession.stepInto();
-      history.push({ is: readMachineState(), total: bench.count.total });
+      history.push({ state: readMachineState(), total: bench.count.total });
     }
     const last = history.length - 1;
     let comparedCount = 0;
     for (const [text, compute] of CONDITIONS) {
-      const rises = history.flatMap(({ is }, index) => (index > 0 && compute(is) && !compute(history[index - 1].is) ? [index] : []));
+      const rises = history
+        .flatMap(({ state }, index) => (index > 0 && compute(state) && !compute(history[index - 1].state) ? [index] : []));
       const travel = await searchSession.goBack({ kind: "when", condition: text });
       // The session is now at the instruction that makes the condition true.
       const expected = rises.length === 0 ? history[last] : history[rises[rises.length - 1] - 1];
@@ -285,7 +285,7 @@ test("searches back and forward find the instructions at which a condition becam
       { configurable: true, value: { ...forwardSession.names, watched: collectWatchNames(WATCHED) } });
     for (const [text, compute] of CONDITIONS) {
       const [first] = history
-        .flatMap(({ is, total }, index) => (index > 0 && compute(is) && !compute(history[index - 1].is) ? [total] : []));
+        .flatMap(({ state, total }, index) => (index > 0 && compute(state) && !compute(history[index - 1].state) ? [total] : []));
       if (first === undefined) continue;
       const stop = await forwardSession.runToGoal({ kind: "when", condition: text });
       assert.equal(stop.reason, "goal", `${text}: ${stop.message}`);

@@ -18,7 +18,7 @@ const BOARD_TABLES = [
 const BOARD_TEXT = `# lamp 0: _ _ locked open alarm\n# display 0: 1 digit\n${BOARD_TABLES}\n`;
 const PROGRAM = "limit = 5\nstart: FIM P0, 0\nSRC P0\nLDM 4\nWMP\nWRM\nFIM P1, 0x40\nSRC P1\nLDM 1\nWMP\nend: JUN end\n";
 
-/** Returns a session with the board TEXT and the program PROGRAM after some session lines, and the names that both define. */
+/** Returns a session with the board BOARD_TEXT and the program PROGRAM after some session lines, and the names that both define. */
 async function openBench(lines = "") {
   const calls = await openExample("empty bench", `wire\n${BOARD_TEXT}.\nasm\n${PROGRAM}.\n${lines}`);
   const board = readBoard(calls.ask("board\n"));

@@ -43,7 +43,7 @@ const OTHER_BOARDS = [
 ];
 const BOARDS = [...examples, ...OTHER_BOARDS];
 
-/** Returns the bench's answer to each text: the board, or an error number. */
+/** Returns, for each text, the bench's first answer (`first`) and the lines of the board after it (`board`). */
 function boardAnswers(texts) {
   const { answers } = engine.ask(emptySession, texts.map((text) => `wire\n${sentText(text, "#")}.\nboard\n`).join(""));
   const replies = [];
@@ -154,7 +154,7 @@ testOnBench("a buzzer is added, wired, named and deleted, and is deleted with it
   const board = { ...nameResult.board, buzzer: "rom0.2" };
   assert.deepEqual(possibleTargets(board, "rom0.3"), ["buzzer 0"]);
   const { title, fields, buttons } = selectionForm(board, new Face(nameResult.text), "buzzer 0");
-  assert.deepEqual([title, ...fields.map(({ value }) => value), ...buttons.map(({ label: word }) => word)],
+  assert.deepEqual([title, ...fields.map(({ value }) => value), ...buttons.map(({ label }) => label)],
     ["The buzzer", "the horn", "rom0.2", "Delete"]);
 });
 
@@ -176,8 +176,8 @@ for (const { name, text } of BOARDS) {
       if (applyAction(text, { kind: "add", part }).refusal) continue;
       const result = checkAction(name, text, { kind: "add", part });
       assert.deepEqual(commentsOf(result.text), commentsOf(text), `${name}: ${part}`);
-      const isMore = boardTextOf(board).length < boardTextOf(result.board).length || ["button", "switch", "buzzer", "ram"].includes(part);
-      assert.ok(isMore, part);
+      const hasGrown = boardTextOf(board).length < boardTextOf(result.board).length || ["button", "switch", "buzzer", "ram"].includes(part);
+      assert.ok(hasGrown, part);
       const deletion = checkAction(name, result.text, { kind: "delete", part: result.part });
       if (!result.message.includes(", with ")) {
         assert.deepEqual(deletion.board, board, `${name}: ${part} and back`);
@@ -205,7 +205,7 @@ for (const { name, text } of BOARDS) {
     const board = readCurrentBoard();
     const parts = [...board.roms.map(({ chip }) => `rom ${chip}`), ...board.banks.map(({ bank, chips }) => `ram ${bank}.${chips - 1}`),
       ...board.chains.map((_, index) => `chain ${index}`),
-        ...board.lamps.map((_, index) => `lamp ${index}`).filter((_, index) => index % 5 === 0),
+      ...board.lamps.map((_, index) => `lamp ${index}`).filter((_, index) => index % 5 === 0),
       ...(board.matrix ? ["keys", `row ${board.matrix.rows - 1}`, ...board.matrix.columns.map((_, index) => `column ${index}`)] : [])];
     for (const part of parts) {
       if (part === "row 0") continue;
@@ -305,9 +305,9 @@ function checkOtherParts(oldBoard, oldFace, { board, text }, part) {
     : (first <= lamp && lamp < first + columns) || (by <= lamp && lamp < by + rows));
   const groupOf = (lamp) => oldFace.groups.find((group) => isInGroup(group, lamp));
   const lampsToDelete = oldBoard.lamps.map((line, index) => isLampLineDeleted(line) || part === `lamp ${index}`);
-  const sharesDeletedGroup = (index, other) => lampsToDelete[other] && groupOf(index) && groupOf(index) === groupOf(other);
+  const sharesDeletedGroup = (index, otherIndex) => lampsToDelete[otherIndex] && groupOf(index) && groupOf(index) === groupOf(otherIndex);
   const deletedLamps = oldBoard.lamps
-    .map((_, index) => lampsToDelete[index] || oldBoard.lamps.some((__, other) => sharesDeletedGroup(index, other)));
+    .map((_, index) => lampsToDelete[index] || oldBoard.lamps.some((__, otherIndex) => sharesDeletedGroup(index, otherIndex)));
   const keptLamps = [...deletedLamps.keys()].filter((index) => !deletedLamps[index]);
   assert.deepEqual(board.lamps, keptLamps.map((index) => renumberLine(oldBoard.lamps[index])), part);
   keptLamps.forEach((oldIndex, newIndex) => {
@@ -336,8 +336,8 @@ testOnBench("the offered wires are exactly those that the bench accepts", () => 
   }
 });
 
-/** Returns a generator of pseudo-random numbers that are the same in each run. */
-function createRandom(seed) {
+/** Returns a function that picks an element of a list pseudo-randomly. The same seed gives the same picks. */
+function createPicker(seed) {
   let state = seed;
   return (list) => {
     state = (Math.imul(state, 1103515245) + 12345) >>> 0;
@@ -358,14 +358,14 @@ function randomAction(pick, board, face) {
     { kind: "add", part: pick(SHELF_PARTS), digits: pick([1, 2, 3]) },
     { kind: "wire", line, target: pick([...possibleTargets(board, line), "lamp 0"]) },
     ...(field ? [field.createAction(field.options ? pick(field.options).value : pick(names))] : []),
-    ...buttons.map(({ action: act }) => act).slice(0, 1 + Number(pick([0, 0, 1]))),
+    ...buttons.map(({ action }) => action).slice(0, 1 + Number(pick([0, 0, 1]))),
   ]);
 }
 
 testOnBench("after random actions, the bench accepts the text, comments stay, and all actions can be undone", () => {
   let [doneCount, refusalCount] = [0, 0];
   for (let seed = 1; seed <= 30; seed++) {
-    const pick = createRandom(seed);
+    const pick = createPicker(seed);
     const initialText = pick(["", ...examples.map(({ text }) => text)]);
     let text = initialText;
     const undoEdits = [];

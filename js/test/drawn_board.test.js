@@ -51,7 +51,7 @@ async function createDrawnBoard(text = "") {
 test("on an empty bench, parts are added with the parts that they need, and a wire goes from pin to pin", async () => {
   const fixture = await createDrawnBoard();
   const { drawing } = fixture;
-  assert.deepEqual([fixture.view.error, [...fixture.view.shelf.values()].every((why) => why === "")], ["", true]);
+  assert.deepEqual([fixture.view.error, [...fixture.view.shelf.values()].every((reason) => reason === "")], ["", true]);
   await drawing.performInOrder({ kind: "add", part: "keys" });
   assert.equal(fixture.view.lastMessage, "The keys were added, with ROM 0, chain 0 and ROM 1.");
   assert.deepEqual([fixture.view.selected, fixture.view.shelf.get("keys")],
@@ -122,7 +122,7 @@ test("a text with errors cannot be edited, and the last valid drawing stays", as
 });
 
 test("an action is rejected if the text would be too long for the bench", async () => {
-  const longText = `${'lamp = [] # x\n'}${"rom = []\n".repeat(0)}${" \n".repeat(16370)}`;
+  const longText = `lamp = [] # x\n${" \n".repeat(16370)}`;
   const fixture = await createDrawnBoard(longText);
   assert.equal(fixture.view.error, "");
   await fixture.drawing.performInOrder({ kind: "add", part: "rom" });
@@ -186,14 +186,14 @@ test("each value that a field offers can be set, or is rejected with a reason; e
       const hasPart = board.chains.length > 0 || !/chain|keys|clock|column|row/.test(selection);
       const { title, fields, buttons } = selectionForm(board, face, hasPart ? selection : "");
       assert.ok(title.length > 3);
-      for (const { label, value, options, createAction: act } of fields) {
+      for (const { label, value, options, createAction } of fields) {
         if (options) assert.ok(options.some((option) => option.value === value), `${name}: ${selection}: ${label} is ${value}`);
-        for (const choice of options ? options.map((each) => each.value) : ["Other"]) {
-          const { refusal, message: words } = applyAction(text, act(choice));
-          assert.ok(refusal !== "" || words !== "", `${name}: ${label} ${choice}`);
+        for (const choice of options ? options.map((option) => option.value) : ["Other"]) {
+          const { refusal, message } = applyAction(text, createAction(choice));
+          assert.ok(refusal !== "" || message !== "", `${name}: ${label} ${choice}`);
         }
       }
-      for (const { action: act } of buttons) assert.ok(applyAction(text, act).refusal !== "" || applyAction(text, act).edits.length > 0);
+      for (const { action } of buttons) assert.ok(applyAction(text, action).refusal !== "" || applyAction(text, action).edits.length > 0);
     }
   }
 });

@@ -34,7 +34,7 @@ const example = (name) => readFileSync(join(top, "examples", name), "utf8");
 
 const IMPORT = `import { NativeEngine } from ${JSON.stringify(new URL("../node/native_engine.mjs", import.meta.url).href)};`;
 
-/** Runs a JavaScript module in a separate Node process whose temporary files are in a folder. */
+/** Runs a JavaScript module in a separate Node process whose temporary files are in `folder`. */
 function runNode(text, folder) {
   return spawnSync(process.execPath, ["--input-type=module", "-e", text], { encoding: "utf8", env: { ...process.env, TMPDIR: folder } });
 }

@@ -25,7 +25,7 @@ import { pageModule } from "./page_session.js";
 
 const engine = new Engine(new globalThis.WebAssembly.Module(pageModule));
 
-// If key A is down for 20 cycles, the program switches the lamp named `on` on. Key B makes it switch the lamp off. Key C, at TEST, makes it
+// If key A is down for 20 cycles, the program switches the lamp named `on` on. Key B makes it switch the lamp off. Key C makes it
 // execute a fourth nested call, and key D a BBL without a call.
 const BOARD = `# row 0: A B C D
 # lamp 0: on
@@ -193,16 +193,16 @@ test("a model determines what the display must show, and its errors are reported
   const displaySubject = createSubject(engine, board, PROGRAM);
   const { campaign, errors } = readCampaign("press A B\npace 300 200\nmodel ./says\n", displaySubject);
   assert.deepEqual(errors, []);
-  const askedKeys = [];
+  const modelInputs = [];
   // The lamp stays on until the user presses B. This wrong model ignores B.
   const answerModel = (chains) => {
-    askedKeys.push(...chains);
+    modelInputs.push(...chains);
     return { expectedTexts: chains.map((keys) => (keys.includes("A") ? "1" : "0")), error: "" };
   };
   const run = new CampaignRun(displaySubject, campaign, 1, () => true, MAX_MINIMISING_CYCLES, answerModel);
   while (!run.counterexamples[0]) await run.runFor(20);
   assert.equal(run.counterexamples[0].test, "test model ./says\n  pace 300 200\n  keys A B\n  expect display 1\n");
-  assert.match(askedKeys[0], /^[AB]( [AB])*$/);
+  assert.match(modelInputs[0], /^[AB]( [AB])*$/);
   const failingRun = new CampaignRun(displaySubject, campaign, 1, () => true, MAX_MINIMISING_CYCLES,
     () => ({ expectedTexts: [], error: "it died" }));
   await failingRun.runFor(20);
@@ -230,7 +230,7 @@ test("the same seed gives the same walks", () => {
   const { campaign } = campaignOf("press A B\nwait 20 to 300\nnote r7 lamps\nnever lamp 1 on\n");
   const results = [1, 1, 2].map((seed) => {
     const search = new Search(subject, campaign, seed);
-    for (let walks = 0; walks < 200; walks++) search.walk();
+    for (let walk = 0; walk < 200; walk++) search.walk();
     return [search.steps, search.states.length, search.coverage.text].join(" ");
   });
   assert.equal(results[0], results[1]);
@@ -261,8 +261,8 @@ test("walks respect the limits on the number, duration and distance of key press
 });
 
 test("keys that are down at the start are released in time, one after the other", () => {
-  const { campaign: read } = campaignOf("press A B C\ntogether 3\nwait 10 to 60\nheld at most 20\n");
-  const campaign = { ...read, inputs: read.inputs.map((input) => ({ ...input, isDown: true })) };
+  const { campaign: parsedCampaign } = campaignOf("press A B C\ntogether 3\nwait 10 to 60\nheld at most 20\n");
+  const campaign = { ...parsedCampaign, inputs: parsedCampaign.inputs.map((input) => ({ ...input, isDown: true })) };
   const random = createRandom(3);
   const steps = [];
   let [down, ages] = [initialDownInputs(campaign), createInitialAges(campaign)];

@@ -7,8 +7,8 @@ import { Face, findFaceErrors, moreErrors } from "../core/board/face.js";
 import { missingParts } from "../core/board/face_board.js";
 
 /** Returns the contents of a sample file: the comments of a board (.face), or the expected description of the front panel (.expected). */
-const sample = (name) => readFileSync(new URL(`../../checks/faces/${name}`, import.meta.url), "utf8");
-const board = readBoard(["board", ...sample("board.toml").trim().split("\n")]);
+const readSample = (name) => readFileSync(new URL(`../../checks/faces/${name}`, import.meta.url), "utf8");
+const board = readBoard(["board", ...readSample("board.toml").trim().split("\n")]);
 
 const displayTextOf = (face) => new DisplayText(
   face.groups.filter(({ kind }) => kind === "display"),
@@ -21,7 +21,7 @@ function describeFace(face, errors, patterns) {
   const { title, test: pin } = face;
   return [
     ...(title ? [`title ${title}`] : []), ...listFacts("key", face.keys).filter((line) => !line.endsWith(" ")),
-      ...listFacts("lamp", face.lamps),
+    ...listFacts("lamp", face.lamps),
     ...listFacts("colour", face.colours), ...face.grid.map(({ row, column, lamp }) => `grid ${row} ${column} ${lamp}`),
     ...face.groups.map(({ kind, first, rows, columns, by }) => `${kind} ${first} ${rows} ${columns}${by < 0 ? "" : ` by ${by}`}`),
     ...(face.buzzer ? [`buzzer ${face.buzzer.place} ${face.buzzer.name}`] : []),
@@ -37,8 +37,8 @@ function describeFace(face, errors, patterns) {
 
 for (const name of ["all", "faults", "many", "none", "printer", "scanned", "shows"]) {
   test(`the front panel of a sample: ${name}`, () => {
-    const text = sample(`${name}.face`);
-    const expected = sample(`${name}.expected`).split("\n").filter(Boolean);
+    const text = readSample(`${name}.face`);
+    const expected = readSample(`${name}.expected`).split("\n").filter(Boolean);
     const patterns = expected.filter((line) => line.startsWith("shows ")).map((line) => line.split(" ")[1]);
     const face = new Face(text);
     assert.deepEqual(describeFace(face, [...findFaceErrors(text), ...missingParts(face, board)], patterns), expected);

@@ -1,6 +1,6 @@
 // A stand-in for the bench's module. Its session is one byte, C: the number of commands so far. The answer to `run N` is `ok C ran N end`,
 // or an early stop if C reaches `stopAt`. `trap` makes the module fail. The answer to any other command is `ok C`. After `callLimit`
-// calls, the stand-in answers with refusal 90 (no memory).
+// calls of `serve`, the stand-in throws refusal 90 (out of memory).
 
 import { BenchRefusal, BenchTrap } from "../core/bench/bench_errors.js";
 import { readInputs } from "../core/bench/inputs.js";

@@ -58,7 +58,7 @@ test("Intel HEX is read and written", () => {
 });
 
 test("an invalid record is reported with its line", () => {
-  /** @type {(text: string, words: RegExp) => void} */
+  /** @type {(text: string, message: RegExp) => void} */
   const assertRejected = (text, message) => assert.throws(() => readHex(text), message, text);
   assertRejected(":03000000D1E2F05B\n", /^Error: line 1: the checksum is 5B, and 5A would be right$/);
   assertRejected("\n:0300", /^Error: line 2: a record has `:`, ten hexadecimal digits/);
@@ -94,8 +94,8 @@ test("an image is loaded into the ROMs of the board, and saved to a file", async
   const actions = [];
   const rom = new RomFiles({
     ask: async (query) => (query === "board\n" ? board : lines),
-    act: async (message) => {
-      actions.push(message);
+    act: async (actionLines) => {
+      actions.push(actionLines);
       return "ok 1 bytes 1";
     },
     stop: async () => {

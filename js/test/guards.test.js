@@ -123,7 +123,10 @@ test("invalid guards are reported", () => {
 const RUN_CYCLES = 90;
 const randomBelow = (random, limit) => Math.floor(random() * limit);
 
-function randomRun(random) {
+/**
+ * Returns the values of the conditions C and G in each cycle of a random run (`c`, `g`), and its key presses and power cycles (`events`).
+ */
+function createRandomRun(random) {
   const changeRate = [0, 0.02, 0.12][randomBelow(random, 3)];
   const createSignal = () => {
     let level = random() < 0.5;
@@ -132,18 +135,18 @@ function randomRun(random) {
       return level;
     });
   };
-  const acts = [];
+  const events = [];
   for (let time = randomBelow(random, 12); time < RUN_CYCLES; time += randomBelow(random, 20)) {
-    acts.push({ time, act: ["K", "K", "J", "reset", "none"][randomBelow(random, 5)] });
+    events.push({ time, kind: ["K", "K", "J", "reset", "none"][randomBelow(random, 5)] });
   }
-  return { c: createSignal(), g: createSignal(), acts: acts.filter(({ act }) => act !== "reset" || random() < 0.3) };
+  return { c: createSignal(), g: createSignal(), events: events.filter(({ kind }) => kind !== "reset" || random() < 0.3) };
 }
 
 /**
  * Reports the events of a random run to a property in order. Returns the time at which the property is violated, or -1 if it is not
  * violated.
  */
-function findViolationTime(property, { c, g, acts }) {
+function findViolationTime(property, { c, g, events }) {
   const memory = property.createMemory(0, 0);
   const areGuardsOpenAt = (time) => property.guards.map(({ condition }) => condition !== null && g[time]);
   let violation = -1;
@@ -151,19 +154,19 @@ function findViolationTime(property, { c, g, acts }) {
     const isValuesEvent = event === "values";
     const areOpen = isValuesEvent || event === "down" ? areGuardsOpenAt(time) : [];
     const moment = { time, changeTime: time, address: -1, holds: isValuesEvent && c[time], areOpen, input, downCount: 0 };
-    const violationNow = property.update(memory, event, moment);
-    if (violationNow >= 0 && (violation < 0 || violationNow < violation)) violation = violationNow;
+    const newViolation = property.update(memory, event, moment);
+    if (newViolation >= 0 && (violation < 0 || newViolation < violation)) violation = newViolation;
   };
   let start = 0;
-  for (const { time, act } of [...acts, { time: RUN_CYCLES, act: "none" }]) {
+  for (const { time, kind } of [...events, { time: RUN_CYCLES, kind: "none" }]) {
     notify("values", start);
     for (let cycle = start + 1; cycle <= time && violation < 0; cycle++) {
       if (c[cycle] !== c[cycle - 1] || g[cycle] !== g[cycle - 1]) notify("values", cycle);
     }
     if (violation < 0) notify("end", time);
     if (violation >= 0) return violation;
-    if (act === "K" || act === "J") notify("down", time, act === "K" ? "START" : "PRESS");
-    if (act === "reset") notify("reset", time);
+    if (kind === "K" || kind === "J") notify("down", time, kind === "K" ? "START" : "PRESS");
+    if (kind === "reset") notify("reset", time);
     start = time;
   }
   return violation;
@@ -173,7 +176,7 @@ function findViolationTime(property, { c, g, acts }) {
  * Returns the instants of a run: each cycle, and whether all guards are open in it. A cycle with a key press or a power cycle gives two
  * instants: one before the press or power cycle, and one after it.
  */
-function instantsOf({ c, g, acts }, guards) {
+function instantsOf({ c, g, events }, guards) {
   const instants = [];
   let wasConditionMet = false;
   let lastPress = -1;
@@ -185,20 +188,20 @@ function instantsOf({ c, g, acts }, guards) {
   };
   for (let time = 0; time <= RUN_CYCLES; time++) {
     addInstant(time, false);
-    for (const { act } of acts.filter((event) => event.time === time)) {
-      if (act === "K") lastPress = time;
-      if (act === "reset") {
+    for (const { kind: eventKind } of events.filter((event) => event.time === time)) {
+      if (eventKind === "K") lastPress = time;
+      if (eventKind === "reset") {
         [wasConditionMet, lastPress] = [false, -1];
         instants.push({ time, c: false, isOpen: false, isDown: false, isReset: true });
       }
-      addInstant(time, act === "J");
+      addInstant(time, eventKind === "J");
     }
   }
   return instants;
 }
 
-/** For each form of property, a function that returns the times at which the property is violated, as the manual defines it. */
-const VIOLATION_TIMES = {
+/** For each form of property, a function that returns the first time at which it is violated as the manual defines it, or -1. */
+const VIOLATION_FINDERS = {
   never: (instants) => (instants.find(({ c, isOpen }) => isOpen && c) || { time: -1 }).time,
   always: (instants) => (instants.find(({ c, isOpen, isReset }) => isOpen && !isReset && !c) || { time: -1 }).time,
   "never for": (instants, limit) => {
@@ -245,10 +248,10 @@ while r4 = 1, after press START within 13, after press PRESS within 9 lamp go on
   assert.equal(properties.length, 17);
   const resultsByText = new Map();
   for (let round = 0; round < 1500; round++) {
-    const run = randomRun(random);
+    const run = createRandomRun(random);
     for (const property of properties) {
       const actual = findViolationTime(property, run);
-      const expected = VIOLATION_TIMES[property.form](instantsOf(run, property.guards), property.limit);
+      const expected = VIOLATION_FINDERS[property.form](instantsOf(run, property.guards), property.limit);
       assert.equal(actual, expected, `${property.text}: ${JSON.stringify(run)}`);
       resultsByText.set(property.text, (resultsByText.get(property.text) || new Set()).add(expected >= 0));
     }

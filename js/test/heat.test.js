@@ -1,4 +1,4 @@
-// Tests how often and how recently RAM nibbles changed, on the page's WebAssembly module.
+// Tests the heat map: how often and how recently RAM nibbles changed, on the page's WebAssembly module.
 import assert from "node:assert/strict";
 import { test } from "node:test";
 import { CancelledError } from "../core/bench/bench_errors.js";

@@ -17,7 +17,7 @@ class FakeButton extends EventTarget {
   }
 }
 
-/** Returns a KeyPresser with two keys, and the log of its calls. */
+/** Returns the buttons of two keys of a KeyPresser, the keys that are down, and the bench commands for its presses and releases. */
 function createPresser(isRunning) {
   const down = new Set();
   const lines = [];
@@ -39,7 +39,7 @@ function createPresser(isRunning) {
     presser.listen(button, { key });
     return button;
   });
-  return { done: lines, down, buttons };
+  return { lines, down, buttons };
 }
 
 const wait = (time) => new Promise((resolve) => setTimeout(resolve, time));
@@ -49,22 +49,22 @@ for (const isRunning of [true, false]) {
   const condition = isRunning ? "while running" : "while paused";
 
   test(`a swipe that begins on a key does not press it, ${condition}`, async () => {
-    const { done, buttons } = createPresser(isRunning);
+    const { lines, buttons } = createPresser(isRunning);
     buttons[0].fire("pointerdown");
     buttons[0].fire("pointercancel");
     buttons[0].fire("lostpointercapture");
     await wait(LONG_PRESS_MS);
-    assert.deepEqual(done, []);
+    assert.deepEqual(lines, []);
   });
 
   test(`a slow swipe releases the key that it has pressed, ${condition}`, async () => {
-    const { done, down, buttons } = createPresser(isRunning);
+    const { lines, down, buttons } = createPresser(isRunning);
     buttons[0].fire("pointerdown");
     await wait(LONG_PRESS_MS);
-    assert.deepEqual(done, ["press 0 0"]);
+    assert.deepEqual(lines, ["press 0 0"]);
     buttons[0].fire("pointercancel");
     buttons[0].fire("lostpointercapture");
-    assert.deepEqual([done, down.size], [["press 0 0", "release 0 0"], 0]);
+    assert.deepEqual([lines, down.size], [["press 0 0", "release 0 0"], 0]);
   });
 
   test(`a slow swipe over a held key leaves the key down, ${condition}`, async () => {
@@ -79,36 +79,36 @@ for (const isRunning of [true, false]) {
 }
 
 test("the click event after a tap does not press the key again", () => {
-  const { done, buttons } = createPresser(true);
+  const { lines, buttons } = createPresser(true);
   buttons[0].fire("pointerdown");
   buttons[0].fire("pointerup");
   buttons[0].fire("click", { detail: 0 });
-  assert.deepEqual(done, ["press 0 0", "release 0 0"]);
+  assert.deepEqual(lines, ["press 0 0", "release 0 0"]);
 });
 
 test("a tap presses and releases a key", () => {
-  const { done, buttons } = createPresser(true);
+  const { lines, buttons } = createPresser(true);
   buttons[0].fire("pointerdown");
   buttons[0].fire("pointerup");
   buttons[0].fire("lostpointercapture");
-  assert.deepEqual(done, ["press 0 0", "release 0 0"]);
+  assert.deepEqual(lines, ["press 0 0", "release 0 0"]);
 });
 
 test("two fingers hold two keys", async () => {
-  const { done, down, buttons } = createPresser(true);
+  const { lines, down, buttons } = createPresser(true);
   buttons[0].fire("pointerdown", { pointerId: 1 });
   buttons[1].fire("pointerdown", { pointerId: 2 });
   await wait(LONG_PRESS_MS);
   assert.deepEqual([...down], ["0 0", "0 1"]);
   buttons[0].fire("pointerup", { pointerId: 1 });
   buttons[1].fire("pointerup", { pointerId: 2 });
-  assert.deepEqual(done, ["press 0 0", "press 0 1", "release 0 0", "release 0 1"]);
+  assert.deepEqual(lines, ["press 0 0", "press 0 1", "release 0 0", "release 0 1"]);
 });
 
 test("a mouse presses at once, and with Shift the key stays down", () => {
-  const { done, down, buttons } = createPresser(true);
+  const { lines, down, buttons } = createPresser(true);
   buttons[0].fire("pointerdown", { pointerType: "mouse" });
-  assert.deepEqual(done, ["press 0 0"]);
+  assert.deepEqual(lines, ["press 0 0"]);
   buttons[0].fire("pointerup", { pointerType: "mouse" });
   buttons[1].fire("pointerdown", { pointerType: "mouse", shiftKey: true });
   buttons[1].fire("pointerup", { pointerType: "mouse", shiftKey: true });
@@ -116,10 +116,10 @@ test("a mouse presses at once, and with Shift the key stays down", () => {
 });
 
 test("while paused, a tap toggles a key", () => {
-  const { done, buttons } = createPresser(false);
+  const { lines, buttons } = createPresser(false);
   for (let tap = 0; tap < 2; tap++) {
     buttons[0].fire("pointerdown");
     buttons[0].fire("pointerup");
   }
-  assert.deepEqual(done, ["press 0 0", "release 0 0"]);
+  assert.deepEqual(lines, ["press 0 0", "release 0 0"]);
 });

@@ -17,7 +17,7 @@ const WORDS = [...ANSWER_FORMATS.keys(), ...`acc cy pc dcl r0 r15 r16 rx
   chain0.80 lamps ret src ret0 bogus 0 1 2 7 8 15 16 255 256 4095 4096 100000 100001 4294967295 4294967296 0x0F
   0X0F 0x -1 1.0 00012 0xfff 0x1000 99999999999999999999 r0x1 r01`.split(/\s+/)];
 
-/** Returns a generator of pseudo-random numbers below 2^31 for a seed. */
+/** Returns a function that returns a pseudo-random number below its argument. The same seed gives the same numbers. */
 function createRandom(seed) {
   let state = seed;
   return (count) => {
@@ -66,7 +66,7 @@ test("length and characters", () => {
 });
 
 test("the message names the wrong word", () => {
-  for (const [line, words] of [
+  for (const [line, message] of [
     ["bogus", "bogus is not a command; help shows the commands"],
     ["pres 1 2", "pres is not a command; did you mean press?"],
     ["press 1", "press is written as: press r c"],
@@ -83,7 +83,7 @@ test("the message names the wrong word", () => {
     ["seq é", "a line has ASCII characters and tabs; this one has é"],
     ["seq \x01", "a line has ASCII characters and tabs; this one has the byte 01"],
     ["x".repeat(300), "the line has 300 characters; a line has at most 255"],
-  ]) assert.equal(findLineError(line).message, words, line);
+  ]) assert.equal(findLineError(line).message, message, line);
   assert.equal(findLineError("poke ram.0.0x3F 15"), null);
 });
 

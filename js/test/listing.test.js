@@ -5,7 +5,7 @@ import test from "node:test";
 import { ListingReader } from "../core/machine/listing_reader.js";
 import { isInsideLine, visibleLines } from "../core/machine/listing_range.js";
 
-/** Returns a generator of pseudo-random numbers that are the same in each run. */
+/** Returns a function that returns a pseudo-random number below its argument. The same seed gives the same numbers. */
 function createRandom(seed) {
   let state = seed;
   return (limit) => {
@@ -36,7 +36,7 @@ function createFakeBench(bytes) {
     requested.lines += answers.length;
     return answers;
   };
-  return { ask, asked: requested };
+  return { ask, requested };
 }
 
 function createPrograms() {
@@ -107,10 +107,10 @@ test("at the end of ROM, the last lines fill the rows", async () => {
 test("the bench is asked for only a few more lines than are shown", async () => {
   const random = createRandom(2);
   for (const bytes of createPrograms()) {
-    const { ask, asked } = createFakeBench(bytes);
+    const { ask, requested } = createFakeBench(bytes);
     const reader = new ListingReader(ask);
     for (let round = 0; round < 50; round++) await readLines(reader, random(4096), null, 20);
-    assert.deepEqual([asked.lists, asked.lines <= 50 * 60], [50, true]);
+    assert.deepEqual([requested.lists, requested.lines <= 50 * 60], [50, true]);
   }
 });
 

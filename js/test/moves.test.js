@@ -5,7 +5,7 @@ import { test } from "node:test";
 import { openExample, readCounter } from "./page_session.js";
 import { matrixKey } from "../core/board/key_place.js";
 
-/** Runs until a goal is reached, for at most `most` cycles. Resolves to the cycles, whether the goal was reached, and why the run ended. */
+/** Runs to a goal, for at most `maximum` cycles. Resolves to the cycles, whether the goal was reached, and why the run ended. */
 async function runToGoal(calls, goal, maximum) {
   const { cycles, isReached, end } = (await calls.goOn(goal, maximum)).searchResult;
   return { cycles, isReached, end };
@@ -17,8 +17,8 @@ test("a step over a JMS takes as many cycles as a run to a breakpoint after it, 
   assert.equal(readCounter(calls), "007");
   const result = await calls.goOn({ kind: "over" });
   assert.deepEqual([result.searchResult.isReached, result.searchResult.cycles, readCounter(calls)], [true, result.total - 7, "009"]);
-  const sent = result.entries.map(({ line, answers }) => [line, answers[0].slice(5)]);
-  assert.deepEqual(sent, [[`run ${result.searchResult.cycles}`, `ran ${result.searchResult.cycles} end`]]);
+  const sentLines = result.entries.map(({ line, answers }) => [line, answers[0].slice(5)]);
+  assert.deepEqual(sentLines, [[`run ${result.searchResult.cycles}`, `ran ${result.searchResult.cycles} end`]]);
   assert.deepEqual(calls.ask("breaks\nwatches\n"), ["breaks -", "watches -"]);
   const otherCalls = await openExample("three lamps", "run 7\nbreak 0x009\n");
   const [answer] = (await otherCalls.serve("run 100000\n")).entries[0].answers;
@@ -58,12 +58,12 @@ test("runs to an address, for a number of instructions, and to a change", async 
   assert.equal((await newCalls.goOn({ kind: "change", place: "r4" })).searchResult.cycles, 5);
 });
 
-test("a run to a distant address, also if all breakpoints are in use", async () => {
+test("a run to a distant address, even if all breakpoints are in use", async () => {
   const loops = "far: ISZ R0, far\nISZ R1, far\nISZ R2, far\nISZ R3, far\nend: JUN end\n";
   const setup = `wire\n[[rom]]\nchip = 0\nport = "0000"\n.\nasm\n${loops}.\n`;
   const calls = await openExample("empty bench", setup);
-  const { searchResult: found } = await calls.goOn({ kind: "here", address: 8 }, 1000000);
-  assert.deepEqual([found.isReached, readCounter(calls)], [true, "008"]);
+  const { searchResult } = await calls.goOn({ kind: "here", address: 8 }, 1000000);
+  assert.deepEqual([searchResult.isReached, readCounter(calls)], [true, "008"]);
   const callsWithBreakpoints =
     await openExample("empty bench", `${setup}${Array.from({ length: 32 }, (_, index) => `break ${index + 16}\n`).join("")}`);
   const expected = await runToGoal(callsWithBreakpoints, { kind: "here", address: 4 }, 1000000);
@@ -77,7 +77,7 @@ function createBench(program) {
 }
 
 /** Returns the source of nested delay loops. An ISZ takes two cycles, and each loop has 16 iterations. */
-function delayLoops(loops) {
+function createDelayLoops(loops) {
   const registers = [0, 1, 2, 3, 4].slice(0, loops);
   const lines = `FIM P0, 0\nFIM P1, 0\nFIM P2, 0\nloop: ${registers.map((register) => `ISZ R${register}, loop\n`).join("")}`;
   return { lines, cycles: 6 + registers.reduce((cycles) => 16 * (cycles + 2), 0) };
@@ -92,7 +92,7 @@ function runUntilStop(calls, frame) {
 }
 
 test("a step over a delay of 24 seconds, and out of it, in frames and at full speed", async () => {
-  const { lines, cycles } = delayLoops(5);
+  const { lines, cycles } = createDelayLoops(5);
   const calls = await createBench(`JMS wait\nend: JUN end\nwait: ${lines}BBL 0\n`);
   const fileBefore = Buffer.from(calls.bench.session.file);
   const result = await calls.goOn({ kind: "over" });
@@ -134,7 +134,7 @@ test("runs to a distant change of a register, a port, a lamp and a RAM character
     const calls = await openExample("three lamps", `asm\n${program}.\nreset\n${lines}`);
     return await runToGoal(calls, { kind: "change", place });
   };
-  const { lines: wait, cycles } = delayLoops(4);
+  const { lines: wait, cycles } = createDelayLoops(4);
   const write = `${wait}SRC P0\nLDM 7\nWMP\nWRM\nend: JUN end\n`;
   for (const [place, cyclesAfter] of [["acc", 2], ["ram0.0", 3], ["ram0.0.2", 3], ["lamp 2", 3], ["lamps", 3], ["ram.0.0", 4]]) {
     assert.deepEqual(await runToChange(write, place), { cycles: cycles + cyclesAfter, isReached: true, end: "" }, place);

@@ -5,96 +5,96 @@ import { OpeningGuard } from "../page/session/opening_guard.js";
 
 /** Returns stand-ins for the browser's local storage, clock and timers. The timers fire when the test requests it. */
 function createFakeBrowser() {
-  const words = new Map();
+  const entries = new Map();
   const timers = [];
   const store = {
-    getItem: (key) => (words.has(key) ? words.get(key) : null),
-    setItem: (key, value) => words.set(key, value),
-    removeItem: (key) => words.delete(key),
+    getItem: (key) => (entries.has(key) ? entries.get(key) : null),
+    setItem: (key, value) => entries.set(key, value),
+    removeItem: (key) => entries.delete(key),
   };
   let time = 1e12;
   const createGuard = () => new OpeningGuard(store, (callback) => timers.push(callback), () => time);
   const wait = (milliseconds) => { time += milliseconds; };
-  return { load: createGuard, words, wait, settle: () => timers.splice(0).forEach((act) => act()) };
+  return { createGuard, entries, wait, fireTimers: () => timers.splice(0).forEach((act) => act()) };
 }
 
 test("a finished opening leaves no record, even if it failed", async () => {
-  const { load, words, wait, settle } = createFakeBrowser();
-  const guard = load();
+  const { createGuard, entries, wait, fireTimers } = createFakeBrowser();
+  const guard = createGuard();
   await guard.runOpening("one", async () => {
     wait(3000);
-    assert.equal(load().hasUnfinishedOpening("one"), true);
+    assert.equal(createGuard().hasUnfinishedOpening("one"), true);
   });
-  assert.equal(load().hasUnfinishedOpening("one"), true);
+  assert.equal(createGuard().hasUnfinishedOpening("one"), true);
   await assert.rejects(guard.runOpening("two", async () => { throw new Error("no 51"); }), /no 51/);
-  settle();
-  assert.deepEqual([words.size, load().hasUnfinishedOpening("one"), load().hasUnfinishedOpening("two")], [0, false, false]);
+  fireTimers();
+  assert.deepEqual([entries.size, createGuard().hasUnfinishedOpening("one"), createGuard().hasUnfinishedOpening("two")], [0, false, false]);
 });
 
 test("an unfinished opening is detected at the next start, and forgotten after a successful one", async () => {
-  const { load, words, wait, settle } = createFakeBrowser();
-  load().runOpening("one", () => new Promise(() => {}));
-  await load().runOpening("two", async () => {});
-  settle();
+  const { createGuard, entries, wait, fireTimers } = createFakeBrowser();
+  createGuard().runOpening("one", () => new Promise(() => {}));
+  await createGuard().runOpening("two", async () => {});
+  fireTimers();
   wait(3000);
-  assert.deepEqual([load().hasUnfinishedOpening("one"), load().hasUnfinishedOpening("two")], [true, false]);
-  await load().runOpening("one", async () => {});
-  settle();
-  assert.equal(words.size, 0);
+  assert.deepEqual([createGuard().hasUnfinishedOpening("one"), createGuard().hasUnfinishedOpening("two")], [true, false]);
+  await createGuard().runOpening("one", async () => {});
+  fireTimers();
+  assert.equal(entries.size, 0);
 });
 
 test("leaving the page soon is not a sign of a hang; leaving it later can be", () => {
-  const { load, wait } = createFakeBrowser();
-  const guard = load();
+  const { createGuard, wait } = createFakeBrowser();
+  const guard = createGuard();
   guard.runOpening("one", () => new Promise(() => {}));
   guard.handleLeave();
   wait(3000);
-  assert.equal(load().hasUnfinishedOpening("one"), false);
+  assert.equal(createGuard().hasUnfinishedOpening("one"), false);
   guard.runOpening("two", () => new Promise(() => {}));
   wait(3000);
   guard.handleLeave();
-  assert.equal(load().hasUnfinishedOpening("two"), true);
+  assert.equal(createGuard().hasUnfinishedOpening("two"), true);
 });
 
 test("leaving the page after a finished opening is not a sign of a hang, even after a long opening", async () => {
-  const { load, wait } = createFakeBrowser();
-  const guard = load();
+  const { createGuard, wait } = createFakeBrowser();
+  const guard = createGuard();
   await guard.runOpening("one", async () => wait(3000));
   guard.handleLeave();
-  assert.equal(load().hasUnfinishedOpening("one"), false);
+  assert.equal(createGuard().hasUnfinishedOpening("one"), false);
 });
 
 test("each of two events reports that the page is left, because a browser can omit one", async () => {
   for (const name of ["beforeunload", "pagehide"]) {
-    const { load, wait } = createFakeBrowser();
-    const guard = load();
+    const { createGuard, wait } = createFakeBrowser();
+    const guard = createGuard();
     const target = new EventTarget();
     guard.listen(target);
     assert.equal(guard.pendingOpenings.size, 0);
     await guard.runOpening("one", async () => {});
     target.dispatchEvent(new Event(name));
     wait(3000);
-    assert.equal(load().hasUnfinishedOpening("one"), false, name);
+    assert.equal(createGuard().hasUnfinishedOpening("one"), false, name);
   }
 });
 
 test("a recent opening can be in progress in another tab", () => {
-  const { load, wait } = createFakeBrowser();
-  load().runOpening("one", () => new Promise(() => {}));
+  const { createGuard, wait } = createFakeBrowser();
+  createGuard().runOpening("one", () => new Promise(() => {}));
   wait(1999);
-  assert.equal(load().hasUnfinishedOpening("one"), false);
+  assert.equal(createGuard().hasUnfinishedOpening("one"), false);
   wait(1);
-  assert.equal(load().hasUnfinishedOpening("one"), true);
+  assert.equal(createGuard().hasUnfinishedOpening("one"), true);
 });
 
 test("if a session is opened twice, only its last opening counts", async () => {
-  const { load, wait, settle } = createFakeBrowser();
-  const guard = load();
+  const { createGuard, wait, fireTimers } = createFakeBrowser();
+  const guard = createGuard();
   await guard.runOpening("one", async () => {});
   guard.pendingOpenings.set("one", { time: 0, isEnded: false });
-  settle();
+  fireTimers();
   wait(3000);
-  assert.equal(load().hasUnfinishedOpening("one"), true);
+  assert.equal(createGuard().hasUnfinishedOpening("one"), true);
 });
 
 test("sessions can be opened in a browser without storage", async () => {

@@ -14,12 +14,12 @@ const keyEvent = (key, modifiers = {}) => ({ ...NO_MODIFIERS, key, ...modifiers 
 
 /** Returns a stand-in for the objects that commands call. The stand-in records the calls. */
 function createRecorder() {
-  const seen = [];
+  const recordedCalls = [];
   const calls = new Proxy({}, { get: (_none, name) => (...words) => {
-    seen.push([name, ...words]);
+    recordedCalls.push([name, ...words]);
     return name.startsWith("is") || name.startsWith("has") || name.startsWith("can");
   } });
-  return { seen, calls };
+  return { recordedCalls, calls };
 }
 
 test("each command has a unique id, a unique name, a group and an action", () => {
@@ -27,9 +27,9 @@ test("each command has a unique id, a unique name, a group and an action", () =>
   assert.equal(new Set(COMMANDS.map(({ label }) => label)).size, COMMANDS.length);
   for (const command of COMMANDS) {
     assert.ok(command.label && command.group in say.GROUPS, command.id);
-    const { seen, calls } = createRecorder();
+    const { recordedCalls, calls } = createRecorder();
     command.act(calls);
-    assert.equal(seen.length, 1, command.id);
+    assert.equal(recordedCalls.length, 1, command.id);
     assert.equal(command.unavailableReason(calls), "", command.id);
   }
 });
@@ -42,9 +42,9 @@ test("each command name belongs to a command", () => {
 test("the elements that commands use exist in the page", () => {
   const html = readFileSync(new URL("../../page/bench.html", import.meta.url), "utf8");
   for (const command of COMMANDS) {
-    const { seen, calls } = createRecorder();
+    const { recordedCalls, calls } = createRecorder();
     command.act(calls);
-    const [[name, id]] = seen;
+    const [[name, id]] = recordedCalls;
     if (["press", "enter", "toggle"].includes(name)) assert.ok(html.includes(`id="${id}"`), `${command.id}: ${id}`);
   }
 });
@@ -73,9 +73,9 @@ test("the keys are those of VS Code and DevTools", () => {
 });
 
 test("other keys are left to the browser, and a handled key event is ignored", () => {
-  for (const [key, held] of [["a", {}], ["a", { ctrlKey: true }], ["s", {}], ["s", { ctrlKey: true, altKey: true }],
+  for (const [key, modifiers] of [["a", {}], ["a", { ctrlKey: true }], ["s", {}], ["s", { ctrlKey: true, altKey: true }],
     ["F5", { ctrlKey: true }], ["F9", { defaultPrevented: true }], ["F10", { ctrlKey: true }]]) {
-    assert.equal(commandForKey(keyEvent(key, held)), undefined, `${key} ${JSON.stringify(held)}`);
+    assert.equal(commandForKey(keyEvent(key, modifiers)), undefined, `${key} ${JSON.stringify(modifiers)}`);
   }
 });
 
@@ -92,15 +92,15 @@ test("no key has two commands in the same part of the page", () => {
   }
 });
 
-test("while a dialog is open, command keys have no effect, also not in the browser", () => {
+test("while a dialog is open, command keys have no effect, not even in the browser", () => {
   const [executed, prevented] = [[], []];
   let listener = () => {};
-  let isClosed = false;
-  listenToKeys(({ id }) => executed.push(id), () => isClosed, { addEventListener: (_name, callback) => { listener = callback; } });
-  const press = (key, held) => listener({ ...keyEvent(key, held), preventDefault: () => prevented.push(key) });
+  let isDialogOpen = false;
+  listenToKeys(({ id }) => executed.push(id), () => isDialogOpen, { addEventListener: (_name, callback) => { listener = callback; } });
+  const press = (key, modifiers) => listener({ ...keyEvent(key, modifiers), preventDefault: () => prevented.push(key) });
   press("s", { ctrlKey: true });
   press("x", {});
-  isClosed = true;
+  isDialogOpen = true;
   press("o", { ctrlKey: true });
   assert.deepEqual([executed, prevented], [["project.save"], ["s", "o"]]);
 });

@@ -36,33 +36,33 @@ rom = [{ chip = 0, port = "00ii" }]\nram = [{ bank = 2, chips = 1 }]\nlamp = [{ 
 };
 
 /**
- * Resolves to a panel for a session with these texts. `ask` sends a query to its session, `typed` types characters, and `text` returns the
- * text of the screen's rows.
+ * Resolves to a panel for a session with these texts. `ask` executes lines in its session, `typeKeys` types characters, and `text` returns
+ * the text of the screen's rows.
  */
 async function openPanel({ board, program }, { lines = "", isPaused = false, hasSource = false } = {}) {
   const state = engine.begin();
   const ask = async (sessionLines) => engine.serve(state, sessionLines, state).answers;
   const answers = await ask(`wire\n${sentText(board, "#")}.\nasm\n${program}.\n${lines}`);
   assert.deepEqual(answers.filter((answer) => answer.startsWith("no ")), []);
-  const sourceOf = () => ({ map: sessionProgram(engine, romCodes(engine, state), program).map,
+  const readSource = () => ({ map: sessionProgram(engine, romCodes(engine, state), program).map,
     lines: program.split("\n"), linesBefore: 0 });
   const options = {
     name: "s.mcs", board: readBoard(await ask("board\n")), face: new Face(board), note: "", isPaused,
-    source: hasSource ? sourceOf() : null,
+    source: hasSource ? readSource() : null,
     describeRefusal: (number) => `words of ${number}`,
   };
   const panel = new Panel(ask, options, 0);
   const screen = new Screen(panel);
   await panel.begin();
   let now = 0;
-  const typed = async (keys) => {
+  const typeKeys = async (keys) => {
     for (const key of splitKeys(keys)) {
       await panel.handleKey(key, now);
       await panel.snapshot.refresh(countMiddleRows(TERMINAL_SIZE));
     }
   };
-  /** Lets time pass, frame by frame. */
-  const pass = async (milliseconds) => {
+  /** Lets time passTime, frame by frame. */
+  const passTime = async (milliseconds) => {
     for (const deadline = now + milliseconds; now < deadline;) {
       now += 100;
       await panel.keepRealTime(now);
@@ -70,7 +70,8 @@ async function openPanel({ board, program }, { lines = "", isPaused = false, has
     await panel.snapshot.refresh(countMiddleRows(TERMINAL_SIZE));
   };
   const rows = (size = TERMINAL_SIZE) => screen.buildRows(size).map(({ pieces }) => pieces.map(({ text }) => text).join(""));
-  return { panel, screen, ask, typed, pass, rows, text: (size = TERMINAL_SIZE) => rows(size).map((row) => row.trimEnd()).join("\n") };
+  const text = (size = TERMINAL_SIZE) => rows(size).map((row) => row.trimEnd()).join("\n");
+  return { panel, screen, ask, typeKeys, passTime, rows, text };
 }
 
 const queryKeysDown = async (ask) => stateValue((await ask("state\n"))[0], "keys");
@@ -99,19 +100,19 @@ test("rows of lamps: a die, a matrix, a grid, and others with names", () => {
   assert.deepEqual(lampRows("# bar 0: 14 lamps\n", 14, `*${".".repeat(13)}`), [`*${".".repeat(13)}`, ""]);
 });
 
-test("a calculator: typed keys are pressed one after the other, and the display has large digits", async () => {
-  const { typed, pass, text, panel } = await openPanel(CALCULATOR);
-  await typed("12+30=");
-  await pass(2 * SECOND_MS);
+test("a calculator: typeKeys keys are pressed one after the other, and the display has large digits", async () => {
+  const { typeKeys, passTime, text, panel } = await openPanel(CALCULATOR);
+  await typeKeys("12+30=");
+  await passTime(2 * SECOND_MS);
   assert.match(text(), /^ Desk calculator: s\.mcs {3}\d+ commands {3}running\n {7}###.* display 42\n# {3}# {5}#/);
   assert.match(text(), / 7 {5}8 {5}9 /);
   await panel.end();
   assert.deepEqual([panel.isEnded, panel.snapshot.keysDown.count], [true, 0]);
 });
 
-test("the last typed keys are processed before the panel ends", async () => {
-  const { typed, panel, ask } = await openPanel(CALCULATOR, { lines: "run 2000\n" });
-  await typed("12+30=");
+test("the last typeKeys keys are processed before the panel ends", async () => {
+  const { typeKeys, panel, ask } = await openPanel(CALCULATOR, { lines: "run 2000\n" });
+  await typeKeys("12+30=");
   await panel.end();
   assert.equal(await queryKeysDown(ask), "-");
   await ask("run 20000\n");
@@ -120,65 +121,65 @@ test("the last typed keys are processed before the panel ends", async () => {
 });
 
 test("the panel runs at the speed of the chip, and skips time that a slow host misses", async () => {
-  const { panel, pass } = await openPanel(COUNTER);
-  await pass(SECOND_MS);
+  const { panel, passTime } = await openPanel(COUNTER);
+  await passTime(SECOND_MS);
   assert.ok(Math.abs(panel.cycles - 92593) <= 1, String(panel.cycles));
   await panel.keepRealTime(100 * SECOND_MS);
   assert.equal(panel.cycles - 92593 <= 20000, true);
 });
 
 test("a session at a breakpoint is paused; Enter runs one instruction; Tab toggles a breakpoint", async () => {
-  const { typed, text, panel } = await openPanel(COUNTER, { lines: "poke r3 15\npoke r2 3\nbreak 2\nrun 100\n" });
+  const { typeKeys, text, panel } = await openPanel(COUNTER, { lines: "poke r3 15\npoke r2 3\nbreak 2\nrun 100\n" });
   await panel.snapshot.refresh(countMiddleRows(TERMINAL_SIZE));
   assert.match(text(), /paused at a breakpoint\n/);
   assert.match(text(), />\*002 72 00 ISZ R2, 0x000/);
-  await typed("\r");
+  await typeKeys("\r");
   assert.match(text(), /commands {3}paused\n/);
   assert.match(text(), /> 000 73 00 ISZ R3, 0x000/);
   assert.match(text(), /P1 40 /);
   assert.match(text(), /2\.0\.3 0000000000000000 0000/);
   assert.match(text(), /2\.0 out 0/);
-  await typed("\t");
+  await typeKeys("\t");
   assert.match(text(), />\*000/);
-  await typed("\t");
+  await typeKeys("\t");
   assert.match(text(), /> 000/);
 });
 
 test("while paused, typing a key toggles it; a key that was down before stays down at the end", async () => {
-  const { typed, text, panel, ask } = await openPanel(COUNTER, { lines: "press 0 1\n", isPaused: true });
-  await typed("a");
+  const { typeKeys, text, panel, ask } = await openPanel(COUNTER, { lines: "press 0 1\n", isPaused: true });
+  await typeKeys("a");
   assert.match(text(), /\[a\] {3}\[CE:c\]/);
-  await typed("ac");
+  await typeKeys("ac");
   assert.match(text(), / a {5}CE:c /);
-  await typed("C");
+  await typeKeys("C");
   assert.match(text(), /\[CE:c\]/);
-  await typed("z");
+  await typeKeys("z");
   assert.match(text(), /the board has no key z\n/);
-  await typed("\u001b[21~");
+  await typeKeys("\u001b[21~");
   assert.match(text(), /this key does nothing here; the last line lists the keys\n/);
-  await typed("\u0014");
+  await typeKeys("\u0014");
   assert.match(text(), / test 0 /);
-  await typed("\u0012");
+  await typeKeys("\u0012");
   const [count] = await ask("seq\n");
-  await typed("\u0004");
+  await typeKeys("\u0004");
   const finalSeq = `seq ${Number(count.slice("seq ".length)) + 1}`;
   assert.deepEqual([panel.isEnded, await queryKeysDown(ask), await ask("seq\n")], [true, "-", [finalSeq]]);
   const otherPanel = await openPanel(COUNTER, { lines: "press 0 1\n", isPaused: true });
   const seqBefore = await otherPanel.ask("seq\n");
-  await otherPanel.typed("\u0003");
+  await otherPanel.typeKeys("\u0003");
   assert.deepEqual([await otherPanel.ask("seq\n"), await queryKeysDown(otherPanel.ask)], [seqBefore, "0.1"]);
 });
 
 test("a rejected line is reported", async () => {
   const breaks = Array.from({ length: 32 }, (_, index) => `break ${100 + index}\n`).join("");
-  const { typed, text } = await openPanel(COUNTER, { lines: breaks, isPaused: true });
-  await typed("\t");
+  const { typeKeys, text } = await openPanel(COUNTER, { lines: breaks, isPaused: true });
+  await typeKeys("\t");
   assert.match(text(), /break 0x000 is rejected: no (\d+): words of \1\n/);
 });
 
 test("with a source, the listing has source lines, and the next line is above it", async () => {
-  const { typed, text } = await openPanel(COUNTER, { isPaused: true, hasSource: true });
-  await typed("\r");
+  const { typeKeys, text } = await openPanel(COUNTER, { isPaused: true, hasSource: true });
+  await typeKeys("\r");
   assert.match(text(), /\ncount, line 1: count: ISZ R3, count ; low\n/);
   assert.match(text(), /> 000 count: ISZ R3, count\n/);
   assert.match(text(), / {2}002 {3}ISZ R2, count\n/);
@@ -189,38 +190,38 @@ test("lamps have levels of brightness while running, and the state of an instant
   const board = `# lamp 0: seldom mostly always never\n[[rom]]\nchip = 0\nport = "0000"\n${
     [0, 1, 2, 3].map((line) => `[[lamp]]\nline = "rom0.${line}"\n`).join("")}`;
   const program = "FIM P0, 0\nSRC P0\nloop: LDM 5\nWRR\nNOP\nLDM 6\nWRR\nFIM P1, 0\nwait: ISZ R2, wait\nJUN loop\n";
-  const { pass, typed, text, screen } = await openPanel({ board, program });
-  await pass(200);
+  const { passTime, typeKeys, text, screen } = await openPanel({ board, program });
+  await passTime(200);
   assert.match(text(), /\(:\) seldom[^]*\(\*\) mostly[^]*\(\*\) always[^]*\( \) never/);
   const seldom = screen.buildRows(TERMINAL_SIZE).flatMap(({ pieces }) => pieces).find((piece) => piece.text.includes("seldom"));
   assert.deepEqual([seldom.colour, seldom.level], ["red", 1]);
-  await typed(" ");
+  await typeKeys(" ");
   assert.doesNotMatch(text(), /\(:\)/);
 });
 
 test("the panel shows the last lines of the printout, after running and after steps", async () => {
-  const { typed, pass, rows, panel } = await openPanel(PRINTING);
+  const { typeKeys, passTime, rows, panel } = await openPanel(PRINTING);
   const printout = () => {
     const panelRows = rows().map((row) => row.slice(29, 53).trimEnd());
     return panelRows.slice(panelRows.indexOf("--- printout -----------") + 1, -2).filter(Boolean).join("/");
   };
-  await typed("12+30=5");
-  await pass(3 * SECOND_MS);
+  await typeKeys("12+30=5");
+  await passTime(3 * SECOND_MS);
   assert.equal(printout(), "12+/30=/42");
-  await typed(" *");
+  await typeKeys(" *");
   for (let steps = 0; steps < 20000 && printout() === "12+/30=/42"; steps++) await panel.step();
   assert.equal(printout(), "12+/30=/42/5");
-  await typed("* ");
-  await typed("6=2+2=");
-  await pass(4 * SECOND_MS);
+  await typeKeys("* ");
+  await typeKeys("6=2+2=");
+  await passTime(4 * SECOND_MS);
   assert.equal(printout(), "6=/30/2+/2=/4");
 });
 
 test("rows fit the terminal, and texts from files cannot send control characters to it", async () => {
   const hostileTexts = { ...COUNTER };
   hostileTexts.board = COUNTER.board.replace("# title: Own", `# title: O\u001b[2Jwn ${"x".repeat(200)}\n# lamp 0: go\u009b31m`);
-  const { typed, rows, text } = await openPanel(hostileTexts, { isPaused: true });
-  await typed("\u001b[C");
+  const { typeKeys, rows, text } = await openPanel(hostileTexts, { isPaused: true });
+  await typeKeys("\u001b[C");
   for (const size of [TERMINAL_SIZE, { rows: 31, columns: 97 }]) {
     assert.deepEqual(rows(size).map((row) => [...row].length), Array(size.rows).fill(size.columns));
   }

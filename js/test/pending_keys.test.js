@@ -11,8 +11,8 @@ import { openExample } from "./page_session.js";
 const KEY = { key: matrixKey(0, 0), isSwitch: false };
 
 /**
- * Returns a KeyPresser for a key while the machine is running. `arrive` delivers the requests to the worker, and `look` delivers the
- * worker's report to the page.
+ * Resolves to a KeyPresser for a key while the machine is running. `deliverRequests` delivers the requests to the worker, and
+ * `deliverReport` delivers the worker's report to the page.
  */
 async function createPresser() {
   const calls = await openExample("calculator");
@@ -31,7 +31,7 @@ async function createPresser() {
     change: () => {},
     keyForEvent: () => undefined,
   });
-  const arrive = () => {
+  const deliverRequests = () => {
     for (const [word, confirm] of changesInTransit) {
       pendingKeys.waitingChanges = structuredClone(calls[word](KEY.key));
       confirm();
@@ -39,51 +39,51 @@ async function createPresser() {
     changesInTransit = [];
   };
   /** Runs `cycles` cycles, then delivers the current state to the page. */
-  const look = (cycles) => {
-    arrive();
+  const deliverReport = (cycles) => {
+    deliverRequests();
     const frame = structuredClone(calls.advance(cycles));
     isDown = / keys [^ ]*\b0\.0\b/.test(frame.snapshot.join("\n"));
     pendingKeys.waitingChanges = frame.waiting;
     return isDown;
   };
-  return { pressing: presser, words: sentWords, arrive, look };
+  return { presser, sentWords, deliverRequests, deliverReport };
 }
 
 test("a key can be pressed again while its release is delayed", async () => {
-  const { pressing, words, look } = await createPresser();
-  pressing.pressOrRelease(KEY, false);
-  assert.equal(look(1500), true);
-  pressing.endPress(KEY.key);
-  assert.equal(look(1500), true);
-  pressing.pressOrRelease(KEY, false);
-  pressing.endPress(KEY.key);
-  assert.deepEqual(words, ["press", "release", "press", "release"]);
-  assert.deepEqual([look(1001), look(2000), look(4000)], [false, true, false]);
+  const { presser, sentWords, deliverReport } = await createPresser();
+  presser.pressOrRelease(KEY, false);
+  assert.equal(deliverReport(1500), true);
+  presser.endPress(KEY.key);
+  assert.equal(deliverReport(1500), true);
+  presser.pressOrRelease(KEY, false);
+  presser.endPress(KEY.key);
+  assert.deepEqual(sentWords, ["press", "release", "press", "release"]);
+  assert.deepEqual([deliverReport(1001), deliverReport(2000), deliverReport(4000)], [false, true, false]);
 });
 
 test("a key can be pressed again while its release is in transit", async () => {
-  const { pressing, words, look } = await createPresser();
-  pressing.pressOrRelease(KEY, false);
-  assert.equal(look(6000), true);
-  pressing.endPress(KEY.key);
-  pressing.pressOrRelease(KEY, false);
-  assert.deepEqual(words, ["press", "release", "press"]);
+  const { presser, sentWords, deliverReport } = await createPresser();
+  presser.pressOrRelease(KEY, false);
+  assert.equal(deliverReport(6000), true);
+  presser.endPress(KEY.key);
+  presser.pressOrRelease(KEY, false);
+  assert.deepEqual(sentWords, ["press", "release", "press"]);
 });
 
-test("pressing a held key releases it, even while its first press is pending", async () => {
-  const { pressing, words, look } = await createPresser();
-  pressing.pressOrRelease(KEY, true);
-  pressing.endPress(KEY.key);
-  pressing.pressOrRelease(KEY, false);
-  pressing.endPress(KEY.key);
-  assert.deepEqual(words, ["press", "release"]);
-  assert.equal(look(1), true);
-  assert.equal(look(4000), false);
-  pressing.pressOrRelease(KEY, true);
-  pressing.endPress(KEY.key);
-  assert.equal(look(8000), true);
-  pressing.pressOrRelease(KEY, false);
-  assert.deepEqual(words, ["press", "release", "press", "release"]);
+test("presser a held key releases it, even while its first press is pending", async () => {
+  const { presser, sentWords, deliverReport } = await createPresser();
+  presser.pressOrRelease(KEY, true);
+  presser.endPress(KEY.key);
+  presser.pressOrRelease(KEY, false);
+  presser.endPress(KEY.key);
+  assert.deepEqual(sentWords, ["press", "release"]);
+  assert.equal(deliverReport(1), true);
+  assert.equal(deliverReport(4000), false);
+  presser.pressOrRelease(KEY, true);
+  presser.endPress(KEY.key);
+  assert.equal(deliverReport(8000), true);
+  presser.pressOrRelease(KEY, false);
+  assert.deepEqual(sentWords, ["press", "release", "press", "release"]);
 });
 
 test("after its changes are forgotten, a key has the state that the bench reports", () => {

@@ -18,7 +18,7 @@ const KEY_BY_LEGEND = new Map([...keys.values()].map(({ text, key }) => [text, k
 const DOWN_CYCLES = 2000;
 const UP_CYCLES = 14000;
 
-/** Returns a session with the calculator. `codes` are the printed codes in the last report. */
+/** Resolves to a session with the calculator. `printed` is the last reported printout, and `lastReport` the last report. */
 async function openCalculator(file = null, stored = {}) {
   const calls = new BenchCalls(async () => true);
   await calls.load(pageModule, []);
@@ -30,7 +30,7 @@ async function openCalculator(file = null, stored = {}) {
 
 function recordReport(tape, report) {
   if (report.printed) tape.printed = report.printed;
-  return Object.assign(tape, { shown: report });
+  return Object.assign(tape, { lastReport: report });
 }
 
 /** Presses the keys whose names are separated by blanks, while time is running or with console lines. */
@@ -98,7 +98,7 @@ test("a long series of lines prints, and cancelled lines print nothing", async (
 test("a reload keeps the printout; clearing it and another printer remove it", async () => {
   const tape = await openCalculator();
   await pressKeys(tape, "8 =", true);
-  const { total, reset, file } = tape.shown;
+  const { total, reset, file } = tape.lastReport;
   const reloadedTape = await openCalculator(new Uint8Array(file), { total, reset, printed: tape.printed });
   assert.deepEqual(printedLines(reloadedTape), ["8=", "8"]);
   await pressKeys(reloadedTape, "+", true);

@@ -89,15 +89,15 @@ test("wrong names, values and addresses are explained", () => {
 
 /** Returns a stand-in for a bench that reports these errors and rejects the program with the error number `number`. */
 const createFakeBench = (errors, number = 0) => {
-  const asked = { sent: [], refused: 0 };
+  const requests = { sentTexts: [], refusalCount: 0 };
   return {
-    asked,
+    requests,
     findLineErrors: async (sent) => {
-      asked.sent.push(sent);
+      requests.sentTexts.push(sent);
       return errors;
     },
     findRefusal: async () => {
-      asked.refused += 1;
+      requests.refusalCount += 1;
       return number ? { number, line: 0 } : null;
     },
   };
@@ -109,15 +109,15 @@ test("all errors have a message and a position; lines that cannot be sent are se
   const result = await findProgramErrors(text, instructions, () => "", bench);
   assert.deepEqual(result.errors.map(({ line, from, words }) => [line, from, words.split(";")[0]]),
     [[1, 7, "LDX is not an instruction"], [2, 9, "strat is not defined"], [3, 3, "\u00e9 is not an ASCII character"]]);
-  assert.deepEqual([result.isComplete, result.generalRefusal, bench.asked.refused], [true, null, 0]);
-  assert.deepEqual(bench.asked.sent, ["start: LDX 5\nFIM P0, strat\n\n"]);
+  assert.deepEqual([result.isComplete, result.generalRefusal, bench.requests.refusalCount], [true, null, 0]);
+  assert.deepEqual(bench.requests.sentTexts, ["start: LDX 5\nFIM P0, strat\n\n"]);
 });
 
 test("a program without errors is tried on the board; after 100 errors there can be more", async () => {
   const bench = createFakeBench([], 42);
   const result = await findProgramErrors("NOP\n", instructions, () => "", bench);
   assert.deepEqual(result, { errors: [], isComplete: true, generalRefusal: { number: 42, line: 0 } });
-  const benchWithManyErrors = createFakeBench(Array.from({ length: 100 }, (_, at) => ({ line: at + 1, number: 30 })));
+  const benchWithManyErrors = createFakeBench(Array.from({ length: 100 }, (_, index) => ({ line: index + 1, number: 30 })));
   assert.equal((await findProgramErrors("LDX\n".repeat(101), instructions, () => "", benchWithManyErrors)).isComplete, false);
 });
 
@@ -148,7 +148,7 @@ test("lines that cannot be sent are reported with their positions", () => {
 
 test("words are completed", () => {
   const lines = ["loop: NOP", "      J", "  JUN lo", " FIM P", "; J"];
-  const completionTexts = (line, at) => completeProgram(lines, line, at, instructions).list.map(({ text }) => text);
+  const completionTexts = (line, column) => completeProgram(lines, line, column, instructions).list.map(({ text }) => text);
   assert.deepEqual(completionTexts(1, 7).sort(), ["JCN", "JIN", "JMS", "JUN"]);
   assert.deepEqual(completionTexts(2, 8), ["loop"]);
   assert.deepEqual(completionTexts(3, 6), ["P0", "P1", "P2", "P3", "P4", "P5", "P6", "P7"]);
@@ -157,7 +157,7 @@ test("words are completed", () => {
 
 test("words have help", () => {
   const lines = ["loop: LDM 5 ; LDM", " FIM P3, loop"];
-  const helpAt = (line, at) => helpForProgram(lines, line, at, instructions, () => "");
+  const helpAt = (line, column) => helpForProgram(lines, line, column, instructions, () => "");
   assert.equal(helpAt(0, 7), "LDM d: 1 word, 1 cycle. Load immediate: d into ACC. The carry stays.");
   assert.match(helpAt(1, 5), /^P3: the pair of R6/);
   assert.equal(helpAt(1, 10), "loop: defined in line 1.");
@@ -168,7 +168,7 @@ test("words have help", () => {
 test("a program is loaded into ROM with zeros elsewhere, in one text if possible", () => {
   assert.deepEqual(createProgramTexts("NOP\n", []), ["NOP\n"]);
   assert.deepEqual(createProgramTexts("NOP\n", [5, 6, 9]), ["NOP\nORG 0x005\nDB 0,0\nORG 0x009\nDB 0\n"]);
-  const addresses = [...Array(4095).keys()].map((at) => at + 1);
+  const addresses = [...Array(4095).keys()].map((index) => index + 1);
   const [onlyText] = createProgramTexts("NOP\n", addresses);
   assert.ok(onlyText.length <= MAX_SENT_LENGTH && onlyText.split("\n").every((line) => line.length <= 255));
   assert.equal(onlyText.split("DB").slice(1).join("").split(/[,\n]/).filter((word) => word.trim() === "0").length, 4095);

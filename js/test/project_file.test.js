@@ -71,7 +71,7 @@ test("a project is detected by its first bytes", () => {
 test("a text that is too long for the editors is rejected, and its project is not saved", () => {
   const boardText = `#${" ".repeat(65535)}\n`;
   const message = "the board's text has 65,537 characters; at most 65,536 are accepted";
-  assert.throws(() => parse(projectText(createProject({ boardText }))), { message: message });
+  assert.throws(() => parse(projectText(createProject({ boardText }))), { message });
   assert.equal(tooLongMessage({ boardText, programText: "" }), message);
   assert.equal(tooLongMessage({ boardText: boardText.slice(1), programText: "x".repeat(65536) }), "");
   assert.match(tooLongMessage({ boardText: "", programText: "x".repeat(65537) }), /^the source has 65,537 characters/);

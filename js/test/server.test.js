@@ -178,8 +178,8 @@ test("all errors of a program on the board beside it have messages and quick fix
 test("an invalid name is one error, and hides no other", async () => {
   const { initialize, openText } = startServer();
   await initialize();
-  for (const [at, name] of ["thisnameismuchtoolong", "LDM", "P3", "2x"].entries()) {
-    const diagnostics = await openText(`file:///bad${at}.asm`, `${name} = 3\n JMP 16\nright = 4\n LDM right\n`);
+  for (const [index, name] of ["thisnameismuchtoolong", "LDM", "P3", "2x"].entries()) {
+    const diagnostics = await openText(`file:///bad${index}.asm`, `${name} = 3\n JMP 16\nright = 4\n LDM right\n`);
     const lines = diagnostics.map(({ range, message }) => `${range.start.line} ${/more errors/.test(message)}`);
     assert.deepEqual(lines, ["0 false", "1 false"], `${name}: ${JSON.stringify(diagnostics)}`);
   }

@@ -49,9 +49,9 @@ test("a missing or wrong board or program is reported", async () => {
 });
 
 test("tests are checked again when the board or the program changes", async () => {
-  const { openText, messages: all } = await startServerWith();
+  const { openText, messages } = await startServerWith();
   const isTestDiagnostics = ({ method, params }) => method === "textDocument/publishDiagnostics" && params.uri === tests;
-  const getLastDiagnostics = () => all.filter(isTestDiagnostics).pop().params.diagnostics;
+  const getLastDiagnostics = () => messages.filter(isTestDiagnostics).pop().params.diagnostics;
   assert.deepEqual(await openText(tests, "test a\n  until @enter within 1 s\n"), []);
   await openText(`${FOLDER}lock.asm`, readExample("lock.asm").replaceAll("enter", "entry"));
   for (let turn = 0; turn < 200 && getLastDiagnostics().length === 0; turn++) await new Promise(setImmediate);
@@ -96,18 +96,18 @@ test("properties have links to the tests that they begin with", async () => {
 });
 
 test("a test is run with its code lens, and its failed line is reported", async () => {
-  const { getResponse, request, openText, messages: all } = await startServerWith();
+  const { getResponse, request, openText, messages } = await startServerWith();
   const text = "test opens\n  run 50 ms\n  save ready\ntest fails\n  from ready\n  expect lamp alarm on\ntest other\n  run 60 s\n";
   await openText(tests, text);
   const lenses = await request("textDocument/codeLens", { textDocument: { uri: tests } });
   assert.deepEqual(lenses.map(({ command }) => [command.title, ...command.arguments.slice(1)]), [
     ["Run test", "opens"], ["Run test", "fails"], ["Run test", "other"]]);
-  const getLastMessage = () => all.filter(({ method }) => method === "window/showMessage").pop().params;
+  const getLastMessage = () => messages.filter(({ method }) => method === "window/showMessage").pop().params;
   await request("workspace/executeCommand", lenses[0].command);
   assert.deepEqual(getLastMessage(), { type: 3, message: "The test opens passed." });
   await request("workspace/executeCommand", lenses[1].command);
   assert.match(getLastMessage().message, /^The test fails failed in line 6: /);
-  const { diagnostics } = all.filter(({ method }) => method === "textDocument/publishDiagnostics").pop().params;
+  const { diagnostics } = messages.filter(({ method }) => method === "textDocument/publishDiagnostics").pop().params;
   assert.deepEqual(diagnostics.map(({ range }) => range.start.line), [5]);
   const command = { command: "mcs4.runTest", arguments: [tests, "other"] };
   const answers = await Promise.all([getResponse("workspace/executeCommand", command, 901),
@@ -127,7 +127,7 @@ test("a running test ends when the client cancels it, without a result", async (
     pauseCount += 1;
     return new Promise(setImmediate);
   };
-  const { connection, getResponse, initialize, openText, messages: all } = startServer(FILES, pause);
+  const { connection, getResponse, initialize, openText, messages } = startServer(FILES, pause);
   await initialize();
   await openText(tests, "test long\n  until r15 9 within 10000 s\ntest short\n  run 5 ms\n");
   const waitUntil = async (isDone) => {
@@ -139,7 +139,7 @@ test("a running test ends when the client cancels it, without a result", async (
     params: { command: "mcs4.runTest", arguments: [tests, "long"] } }));
   await waitUntil(() => pauseCount >= countBefore + 3);
   connection.receive(frameMessage({ jsonrpc: "2.0", id: 950, method: "workspace/symbol", params: { query: "" } }));
-  const getResponses = () => all.filter(({ id }) => id === 950);
+  const getResponses = () => messages.filter(({ id }) => id === 950);
   assert.deepEqual(getResponses().map(({ error }) => error.message), ["a request with the id 950 waits for its answer"]);
   connection.receive(frameMessage({ jsonrpc: "2.0", method: "$/cancelRequest", params: { id: 950 } }));
   assert.equal(getResponses()[1].error.code, -32800);
@@ -148,6 +148,6 @@ test("a running test ends when the client cancels it, without a result", async (
   assert.ok(pauseCount <= countAtCancel + 1, "the run has ended");
   const otherResponse = await getResponse("workspace/executeCommand", { command: "mcs4.runTest", arguments: [tests, "short"] }, 951);
   assert.equal(otherResponse.result, null);
-  const shownMessages = all.filter(({ method }) => method === "window/showMessage").map(({ params: { message } }) => message);
+  const shownMessages = messages.filter(({ method }) => method === "window/showMessage").map(({ params: { message } }) => message);
   assert.deepEqual([shownMessages, getResponses().length], [["The test short passed."], 2]);
 });

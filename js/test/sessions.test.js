@@ -47,7 +47,7 @@ test("several sessions can be deleted at once, and restored unchanged", async ()
   const records = [createRecord("one"), createRecord("two"), createRecord("three")];
   for (const storedRecord of records) await store.put(storedRecord);
   const messages = [];
-  const trash = new Trash(store, AVAILABLE_LOCKS, (words) => messages.push(words));
+  const trash = new Trash(store, AVAILABLE_LOCKS, (message) => messages.push(message));
   const [first, second] = await store.all();
   assert.deepEqual(await trash.remove([first, second]), [first, second]);
   assert.deepEqual((await store.all()).map(({ name }) => name), ["three"]);
@@ -65,7 +65,7 @@ test("a session that is open in another tab is not deleted; a failed restoration
   await store.put(first);
   await store.put(second);
   const messages = [];
-  const trash = new Trash(store, { acquire: async (id) => (id === second.id ? null : () => {}) }, (words) => messages.push(words));
+  const trash = new Trash(store, { acquire: async (id) => (id === second.id ? null : () => {}) }, (message) => messages.push(message));
   assert.deepEqual(await trash.remove([first, second]), [first]);
   store.put = async () => { throw new DOMException("", "QuotaExceededError"); };
   await trash.restoreSessions([first]);
@@ -78,13 +78,13 @@ test("the browser is asked once for persistent storage", async () => {
   let requestCount = 0;
   const persistence = new Persistence({ persist: async () => { requestCount += 1; return true; } });
   assert.equal(persistence.isPromised, false);
-  await persistence.ask();
-  await persistence.ask();
+  await persistence.request();
+  await persistence.request();
   assert.deepEqual([requestCount, persistence.isPromised], [1, true]);
   const blockedPersistence = new Persistence({ persist: async () => { throw new Error("blocked"); } });
-  await blockedPersistence.ask();
+  await blockedPersistence.request();
   assert.equal(blockedPersistence.isPromised, false);
-  await new Persistence(null).ask();
+  await new Persistence(null).request();
 });
 
 test("line counts are formatted", () => {
@@ -92,78 +92,79 @@ test("line counts are formatted", () => {
 });
 
 /** Returns a texts controller with stand-ins for its editors. `answers` are the user's answers to its questions. */
-function createController(answers, programText, found) {
-  const seen = { asked: 0, notices: [], kept: 0 };
+function createController(answers, programText, disassembly) {
+  const log = { questionCount: 0, notices: [] };
   const session = { record: { id: "1", name: "one", boardText: "", programText } };
-  const shown = { session };
-  const notice = { show: (words, kind, action) => seen.notices.push({ words, kind, action }) };
-  const ask = { ask: async () => { seen.asked += 1; return answers.shift(); } };
-  const editor = (text) => ({
+  const current = { session };
+  const notice = { show: (message, kind, action) => log.notices.push({ message, kind, action }) };
+  const confirmDialog = { ask: async () => { log.questionCount += 1; return answers.shift(); } };
+  const createEditor = (text) => ({
     text, past: [], future: [], open(_id, shownText) { this.text = shownText; },
-    replaceText(other) { this.past.push(this.text); this.text = other; },
-    undoOrRedo(which) {
-      const [from, to] = which === "undo" ? [this.past, this.future] : [this.future, this.past];
+    replaceText(newText) { this.past.push(this.text); this.text = newText; },
+    undoOrRedo(direction) {
+      const [from, to] = direction === "undo" ? [this.past, this.future] : [this.future, this.past];
       if (from.length === 0) return false;
       to.push(this.text);
       this.text = from.pop();
       return true;
     },
   });
-  const controller = new TextsController(editor("# b"), editor(programText), editor(""), editor(""), ask, notice, {
+  const editors = ["# b", programText, "", ""].map(createEditor);
+  const controller = new TextsController(...editors, confirmDialog, notice, {
     handleEdit: () => {},
-    session: () => shown.session, markChanged: () => {}, save: async () => "", updateNames: () => {}, source: async () => found,
+    session: () => current.session, markChanged: () => {}, save: async () => "", updateNames: () => {}, source: async () => disassembly,
     reportFailure: (error) => { throw error; },
     isProbablyNotProgram: async (text) => text.includes("prose"), handleLoadedTexts: () => {},
   });
-  return { controller, seen, shown, session };
+  return { controller, log, current, session };
 }
 
 test("replacing a source needs a confirmation, and can be undone", async () => {
-  const { controller, seen, session } = createController([false, true], "; mine", "\tNOP\n");
+  const { controller, log, session } = createController([false, true], "; mine", "\tNOP\n");
   await controller.disassembleRom();
-  assert.deepEqual([controller.program.text, seen.notices.length], ["; mine", 0]);
+  assert.deepEqual([controller.program.text, log.notices.length], ["; mine", 0]);
   await controller.disassembleRom();
-  assert.deepEqual([controller.program.text, session.record.programText, seen.asked], ["\tNOP\n", "\tNOP\n", 2]);
-  seen.notices.pop().action.act();
+  assert.deepEqual([controller.program.text, session.record.programText, log.questionCount], ["\tNOP\n", "\tNOP\n", 2]);
+  log.notices.pop().action.act();
   assert.equal(session.record.programText, "; mine");
-  seen.notices.pop().action.act();
+  log.notices.pop().action.act();
   assert.equal(session.record.programText, "\tNOP\n");
   clearTimeout(controller.saveTimer);
 });
 
 test("Undo uses the editor's history if nothing was typed since, and otherwise inserts the old text", async () => {
-  const { controller, seen } = createController([true, true], "; mine", "\tNOP\n");
+  const { controller, log } = createController([true, true], "; mine", "\tNOP\n");
   await controller.disassembleRom();
-  seen.notices.pop().action.act();
+  log.notices.pop().action.act();
   assert.deepEqual([controller.program.text, controller.program.past], ["; mine", []]);
-  seen.notices.pop().action.act();
+  log.notices.pop().action.act();
   assert.deepEqual([controller.program.text, controller.program.past], ["\tNOP\n", ["; mine"]]);
   controller.program.replaceText("\tNOP\n; more");
-  seen.notices.pop().action.act();
+  log.notices.pop().action.act();
   assert.deepEqual([controller.program.text, controller.program.past.length], ["; mine", 3]);
   clearTimeout(controller.saveTimer);
 });
 
 test("an empty source is replaced at once, and an identical source is not replaced", async () => {
-  const { controller, seen } = createController([], " \n", "\tNOP\n");
+  const { controller, log } = createController([], " \n", "\tNOP\n");
   await controller.disassembleRom();
   assert.equal(controller.program.text, "\tNOP\n");
   await controller.disassembleRom();
-  assert.match(seen.notices.pop().words, /already/);
-  assert.equal(seen.asked, 0);
+  assert.match(log.notices.pop().message, /already/);
+  assert.equal(log.questionCount, 0);
   clearTimeout(controller.saveTimer);
 });
 
 test("a source is not restored into another session", async () => {
-  const { controller, seen, shown, session } = createController([true], "; mine", "\tNOP\n");
+  const { controller, log, current, session } = createController([true], "; mine", "\tNOP\n");
   await controller.disassembleRom();
-  shown.session = { record: { id: "2", name: "two", boardText: "", programText: "; two" } };
-  controller.show(shown.session.record);
-  seen.notices.pop().action.act();
+  current.session = { record: { id: "2", name: "two", boardText: "", programText: "; two" } };
+  controller.show(current.session.record);
+  log.notices.pop().action.act();
   assert.equal(controller.program.text, "; two");
-  assert.match(seen.notices.pop().words, /session "one"/);
-  shown.session = session;
-  seen.notices.pop().action.act();
+  assert.match(log.notices.pop().message, /session "one"/);
+  current.session = session;
+  log.notices.pop().action.act();
   assert.equal(controller.program.text, "; mine");
   clearTimeout(controller.saveTimer);
 });
@@ -171,40 +172,40 @@ test("a source is not restored into another session", async () => {
 const FROM_FILE = { board: null, program: "some prose\n", tests: null, properties: null, lines: "" };
 
 test("a file that is perhaps not a program needs a confirmation before it replaces the source", async () => {
-  const { controller, seen, session } = createController([false, true], "; mine", "");
+  const { controller, log, session } = createController([false, true], "; mine", "");
   await controller.open("notes", { ...FROM_FILE, isGuess: true });
-  assert.deepEqual([controller.program.text, seen.asked, seen.notices.length], ["; mine", 1, 0]);
+  assert.deepEqual([controller.program.text, log.questionCount, log.notices.length], ["; mine", 1, 0]);
   await controller.open("notes", { ...FROM_FILE, isGuess: true });
-  assert.deepEqual([controller.program.text, session.record.programText, seen.asked], ["some prose\n", "some prose\n", 2]);
+  assert.deepEqual([controller.program.text, session.record.programText, log.questionCount], ["some prose\n", "some prose\n", 2]);
   clearTimeout(controller.saveTimer);
 });
 
 test("a file with a program's name, or with a valid line, needs no confirmation", async () => {
   for (const [name, texts] of [["notes.asm", FROM_FILE], ["notes", { ...FROM_FILE, program: " NOP\n", isGuess: true }]]) {
-    const { controller, seen } = createController([], "; mine", "");
+    const { controller, log } = createController([], "; mine", "");
     await controller.open(name, texts);
-    assert.deepEqual([controller.program.text, seen.asked], [texts.program, 0]);
+    assert.deepEqual([controller.program.text, log.questionCount], [texts.program, 0]);
     clearTimeout(controller.saveTimer);
   }
 });
 
 test("an opened file has one notice, which can undo all replacements", async () => {
-  const { controller, seen } = createController([], "; mine", "");
+  const { controller, log } = createController([], "; mine", "");
   await controller.open("both.txt", { ...FROM_FILE, board: "# new", program: "\tNOP\n" });
-  assert.deepEqual([controller.board.text, controller.program.text, seen.notices.length], ["# new", "\tNOP\n", 1]);
-  const [{ words, kind, action }] = seen.notices;
-  assert.match(words, /^both\.txt is in Board and Source\./);
+  assert.deepEqual([controller.board.text, controller.program.text, log.notices.length], ["# new", "\tNOP\n", 1]);
+  const [{ message, kind, action }] = log.notices;
+  assert.match(message, /^both\.txt is in Board and Source\./);
   assert.equal(kind, "undo");
   action.act();
-  assert.deepEqual([controller.board.text, controller.program.text, seen.notices.length], ["# b", "; mine", 2]);
-  seen.notices[1].action.act();
+  assert.deepEqual([controller.board.text, controller.program.text, log.notices.length], ["# b", "; mine", 2]);
+  log.notices[1].action.act();
   assert.deepEqual([controller.board.text, controller.program.text], ["# new", "\tNOP\n"]);
   clearTimeout(controller.saveTimer);
 });
 
 test("if a file replaces nothing, its notice has no Undo", async () => {
-  const { controller, seen } = createController([], " \n", "");
+  const { controller, log } = createController([], " \n", "");
   await controller.open("a.asm", { ...FROM_FILE, program: "\tNOP\n" });
-  assert.deepEqual(seen.notices.map(({ kind, action }) => [kind, action]), [["file", undefined]]);
+  assert.deepEqual(log.notices.map(({ kind, action }) => [kind, action]), [["file", undefined]]);
   clearTimeout(controller.saveTimer);
 });

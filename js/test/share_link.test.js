@@ -32,7 +32,7 @@ test("the texts in a link are read back unchanged", async () => {
   }
 });
 
-test("the largest example fits well", async () => {
+test("the largest example fits into a link", async () => {
   const { length } = await toLink(calculator);
   assert.ok(length < 10000 && length > 1000, String(length));
   assert.ok(MAX_SAFE_LINK_LENGTH < MAX_LINK_LENGTH);

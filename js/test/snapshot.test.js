@@ -12,9 +12,9 @@ const EMPTY = "state seq 0 acc 0 cy 0 pc 000 owed 0 dcl 0 test 1 r 0000000000000
 const RAM = ["ram 0 chips 1", "0.0.0 2000000000000000 0000", "0.0 out 1"];
 
 test("the queries for a board, and the changes in each snapshot", () => {
-  const questions = snapshotQueries({ banks: [{ bank: 0, chips: 1 }] });
-  assert.deepEqual(questions, ["state", "ram 0"]);
-  const inputs = readInputs(joinLines(questions));
+  const queries = snapshotQueries({ banks: [{ bank: 0, chips: 1 }] });
+  assert.deepEqual(queries, ["state", "ram 0"]);
+  const inputs = readInputs(joinLines(queries));
   const snapshot = buildSnapshot(inputs, [STATE, ...RAM]);
   const reader = new SnapshotReader();
   assert.deepEqual(reader.take(snapshot), { lamps: "**.", keys: ["0.1", "1.2"], test: "1" });

@@ -5,39 +5,39 @@ import { OpenSession, newRecord } from "../page/session/open_session.js";
 import { MemoryStore, StoreError, Store, describeStoreError } from "../page/session/store.js";
 
 /** A stand-in for the part of IndexedDB that the store uses. The stand-in executes transactions in order, each in its own task. */
-class FakeBase {
+class FakeDatabase {
   constructor() {
     this.records = new Map();
     this.log = [];
-    this.error = null;
+    this.putError = null;
   }
 
   transaction(_name, mode, options) {
     if (mode === "readwrite") assert.equal(options.durability, "strict");
-    const change = {
-      error: null, isAborted: false, wanted: [],
+    const transaction = {
+      error: null, isAborted: false, pendingWrites: [],
       objectStore: () => ({
         put: (record) => {
-          if (this.error) throw this.error;
+          if (this.putError) throw this.putError;
           const copy = structuredClone(record);
-          change.wanted.push(() => this.records.set(copy.id, copy));
+          transaction.pendingWrites.push(() => this.records.set(copy.id, copy));
         },
-        delete: (id) => change.wanted.push(() => this.records.delete(id)),
+        delete: (id) => transaction.pendingWrites.push(() => this.records.delete(id)),
         get: (id) => this.answer(() => this.records.get(id)),
         getAll: () => this.answer(() => [...this.records.values()]),
       }),
       commit: () => this.log.push("commit"),
-      abort: () => { change.isAborted = true; },
+      abort: () => { transaction.isAborted = true; },
     };
     setTimeout(() => setTimeout(() => {
-      if (change.isAborted) {
-        change.onabort();
+      if (transaction.isAborted) {
+        transaction.onabort();
         return;
       }
-      change.wanted.forEach((apply) => apply());
-      if (change.oncomplete) change.oncomplete();
+      transaction.pendingWrites.forEach((apply) => apply());
+      if (transaction.oncomplete) transaction.oncomplete();
     }));
-    return change;
+    return transaction;
   }
 
   answer(find) {
@@ -53,11 +53,11 @@ class FakeBase {
 const createRecord = () => newRecord("calculator", Uint8Array.of(1, 2), { boardText: "# b", programText: "; p" });
 
 test("a record is stored as it is at the call, before the promise resolves", async () => {
-  const base = new FakeBase();
-  const store = new Store(base, true);
+  const database = new FakeDatabase();
+  const store = new Store(database, true);
   const record = createRecord();
   const promise = store.put(record);
-  assert.deepEqual(base.log, ["commit"]);
+  assert.deepEqual(database.log, ["commit"]);
   record.file = Uint8Array.of(9, 9);
   await promise;
   assert.deepEqual([...(await store.get(record.id)).file], [1, 2]);
@@ -67,46 +67,46 @@ test("a record is stored as it is at the call, before the promise resolves", asy
 });
 
 test("without locks, a record with an outdated revision is rejected", async () => {
-  const store = new Store(new FakeBase(), false);
-  const ownRecord = createRecord();
-  await store.put(ownRecord);
-  const otherRecord = structuredClone(ownRecord);
-  await store.put(otherRecord);
-  await assert.rejects(store.put(ownRecord), new StoreError("another tab has changed or deleted this session"));
-  assert.equal(ownRecord.revision, 1);
-  await store.put(otherRecord);
-  await store.remove(otherRecord.id);
-  await assert.rejects(store.put(otherRecord), StoreError);
+  const store = new Store(new FakeDatabase(), false);
+  const firstRecord = createRecord();
+  await store.put(firstRecord);
+  const secondRecord = structuredClone(firstRecord);
+  await store.put(secondRecord);
+  await assert.rejects(store.put(firstRecord), new StoreError("another tab has changed or deleted this session"));
+  assert.equal(firstRecord.revision, 1);
+  await store.put(secondRecord);
+  await store.remove(secondRecord.id);
+  await assert.rejects(store.put(secondRecord), StoreError);
 });
 
 test("save calls during a write share the next write", async () => {
-  const base = new FakeBase();
-  const session = new OpenSession(new Store(base, true), createRecord(), () => {});
+  const database = new FakeDatabase();
+  const session = new OpenSession(new Store(database, true), createRecord(), () => {});
   const firstSave = session.save();
   await Promise.resolve();
   await Promise.resolve();
   const saves = [firstSave, session.save(), session.save(), session.save()];
   assert.deepEqual(await Promise.all(saves), ["", "", "", ""]);
-  assert.equal(base.log.length, 2);
+  assert.equal(database.log.length, 2);
 });
 
 test("a failure of the store is reported, and the session stays unchanged", async () => {
-  const base = new FakeBase();
-  const session = new OpenSession(new Store(base, true), createRecord(), () => {});
-  base.error = new DOMException("", "QuotaExceededError");
+  const database = new FakeDatabase();
+  const session = new OpenSession(new Store(database, true), createRecord(), () => {});
+  database.putError = new DOMException("", "QuotaExceededError");
   assert.equal(await session.save(), "the browser has no more space for this page");
-  base.error = new DOMException("", "UnknownError");
+  database.putError = new DOMException("", "UnknownError");
   assert.equal(await session.save(), "the browser's store failed (UnknownError)");
-  base.error = null;
+  database.putError = null;
   assert.equal(await session.save(), "");
-  assert.deepEqual([...base.records.get(session.record.id).file], [1, 2]);
+  assert.deepEqual([...database.records.get(session.record.id).file], [1, 2]);
 });
 
 test("a store that does not answer is reported after a time limit", async (context) => {
   context.mock.timers.enable({ apis: ["setTimeout"] });
-  const base = new FakeBase();
-  base.transaction = () => ({ objectStore: () => ({ put: () => {}, getAll: () => ({}), get: () => ({}) }), commit: () => {} });
-  const store = new Store(base, true);
+  const database = new FakeDatabase();
+  database.transaction = () => ({ objectStore: () => ({ put: () => {}, getAll: () => ({}), get: () => ({}) }), commit: () => {} });
+  const store = new Store(database, true);
   const session = new OpenSession(store, newRecord("one", Uint8Array.of(1), { boardText: "", programText: "" }), () => {});
   const results = [session.save(), session.save(), store.all().catch(describeStoreError), store.get("one").catch(describeStoreError)];
   for (let turn = 0; turn < 5; turn++) await Promise.resolve();
@@ -114,18 +114,18 @@ test("a store that does not answer is reported after a time limit", async (conte
   assert.deepEqual(new Set(await Promise.all(results)), new Set(["the browser's store does not answer"]));
 });
 
-test("a page that is left writes at once, unless the write needs an answer first", async () => {
-  const base = new FakeBase();
-  const session = new OpenSession(new Store(base, true), createRecord(), () => {});
+test("when the user leaves the page, the session is written at once, unless the write needs an answer first", async () => {
+  const database = new FakeDatabase();
+  const session = new OpenSession(new Store(database, true), createRecord(), () => {});
   session.save();
   session.saveNow();
-  assert.equal(base.log.length, 1);
-  const baseWithoutLocks = new FakeBase();
-  const sessionWithoutLocks = new OpenSession(new Store(baseWithoutLocks, false), createRecord(), () => {});
+  assert.equal(database.log.length, 1);
+  const databaseWithoutLocks = new FakeDatabase();
+  const sessionWithoutLocks = new OpenSession(new Store(databaseWithoutLocks, false), createRecord(), () => {});
   assert.equal(await sessionWithoutLocks.save(), "");
-  const commitCount = baseWithoutLocks.log.length;
+  const commitCount = databaseWithoutLocks.log.length;
   assert.equal(await sessionWithoutLocks.saveNow(), "");
-  assert.equal(baseWithoutLocks.log.length, commitCount);
+  assert.equal(databaseWithoutLocks.log.length, commitCount);
 });
 
 test("replacing the file of a session returns the old buffer", () => {

@@ -6,11 +6,11 @@ import { openExample } from "./page_session.js";
 
 const ALL_QUERIES = "state\nram 0\nlist 0 256\n";
 
-/** Returns a stand-in for the browser's session storage that holds at most `room` characters. */
+/** Returns a stand-in for the browser's session storage that holds at most `maximum` characters. */
 function createStore(maximum = 5000000) {
   const items = new Map();
   return {
-    kept: items,
+    items,
     getItem: (key) => (items.has(key) ? items.get(key) : null),
     setItem: (key, value) => {
       if (value.length > maximum) throw new Error("no room");
@@ -21,32 +21,32 @@ function createStore(maximum = 5000000) {
 }
 
 /** Adds the report of a call to the history, as the page does. */
-function addReport(past, calls, report = calls.bench.snapshotReport([], false)) {
-  past.addReport(report.past, { file: calls.bench.session.file.slice(), total: report.total, reset: report.reset });
+function addReport(history, calls, report = calls.bench.snapshotReport([], false)) {
+  history.addReport(report.past, { file: calls.bench.session.file.slice(), total: report.total, reset: report.reset });
 }
 
 /** Executes lines on a page, which the user then leaves. Resolves to the page's calls, with the state after each line. */
 async function leavePage(store, lines) {
   const calls = await openExample("three lamps");
-  const past = new StoredHistory(store);
-  past.begin("one");
-  addReport(past, calls);
+  const history = new StoredHistory(store);
+  history.begin("one");
+  addReport(history, calls);
   const states = [calls.ask(ALL_QUERIES)];
   for (const sessionLines of lines) {
-    addReport(past, calls, await calls.serve(sessionLines));
+    addReport(history, calls, await calls.serve(sessionLines));
     states.push(calls.ask(ALL_QUERIES));
   }
-  past.saveOnLeave();
+  history.saveOnLeave();
   return { calls, states };
 }
 
 /** Resolves to the calls of another page that has reopened the session. */
 async function reopenPage(store, { bench: { session: { file, count } } }, name = "one") {
   const calls = await openExample("three lamps");
-  const past = new StoredHistory(store);
-  past.begin(name);
-  addReport(past, calls, calls.open(file.slice(), count.total, count.reset));
-  return { calls, past, storedSegments: past.takeStoredSegments() };
+  const history = new StoredHistory(store);
+  history.begin(name);
+  addReport(history, calls, calls.open(file.slice(), count.total, count.reset));
+  return { calls, history, storedSegments: history.takeStoredSegments() };
 }
 
 /** Sends a copy of the history to the worker, as postMessage does. */
@@ -59,11 +59,11 @@ const LINES = ["run 1000\n", "poke r5 9\npoke r6 3\n", "break 0x010\nrun 50000\n
 test("going back reaches each stop from before a reload", async () => {
   const store = createStore();
   const { calls: callsBefore, states } = await leavePage(store, LINES);
-  const { calls, past, storedSegments } = await reopenPage(store, callsBefore);
+  const { calls, history, storedSegments } = await reopenPage(store, callsBefore);
   assert.equal(storedSegments.length, 1);
   assert.ok(recall(calls, storedSegments) >= 0);
-  past.continueFrom(storedSegments, storedSegments[0].entries.length);
-  addReport(past, calls, await calls.serve("run 20\n"));
+  history.continueFrom(storedSegments, storedSegments[0].entries.length);
+  addReport(history, calls, await calls.serve("run 20\n"));
   for (const state of states.slice().reverse()) {
     assert.equal((await calls.goBack({ kind: "stop" })).isDone, true);
     assert.deepEqual(calls.ask(ALL_QUERIES), state);
@@ -77,9 +77,9 @@ test("going back works across two reloads, also by instructions and to changes",
   const { calls: callsBefore, states } = await leavePage(store, LINES);
   const secondPage = await reopenPage(store, callsBefore);
   recall(secondPage.calls, secondPage.storedSegments);
-  secondPage.past.continueFrom(secondPage.storedSegments, secondPage.storedSegments[0].entries.length);
-  addReport(secondPage.past, secondPage.calls, await secondPage.calls.serve("run 3\n"));
-  secondPage.past.saveOnLeave();
+  secondPage.history.continueFrom(secondPage.storedSegments, secondPage.storedSegments[0].entries.length);
+  addReport(secondPage.history, secondPage.calls, await secondPage.calls.serve("run 3\n"));
+  secondPage.history.saveOnLeave();
   const thirdPage = await reopenPage(store, secondPage.calls);
   assert.ok(recall(thirdPage.calls, thirdPage.storedSegments) >= 0);
   assert.equal((await thirdPage.calls.lastChange("r5")).isFound, true);
@@ -91,11 +91,11 @@ test("going back works across two reloads, also by instructions and to changes",
 test("after going back, only the remaining past is stored", async () => {
   const store = createStore();
   const { calls } = await leavePage(store, LINES);
-  const past = new StoredHistory(store);
-  past.begin("one");
-  addReport(past, calls, await calls.goBack({ kind: "stop" }));
-  addReport(past, calls, await calls.serve("run 5\n"));
-  past.saveOnLeave();
+  const history = new StoredHistory(store);
+  history.begin("one");
+  addReport(history, calls, await calls.goBack({ kind: "stop" }));
+  addReport(history, calls, await calls.serve("run 5\n"));
+  history.saveOnLeave();
   const { calls: callsAfter, storedSegments } = await reopenPage(store, calls);
   assert.deepEqual(storedSegments.map(({ entries }) => entries.map(({ line }) => line)), [["run 5"]]);
   assert.ok(recall(callsAfter, storedSegments) >= 0);
@@ -104,11 +104,11 @@ test("after going back, only the remaining past is stored", async () => {
 test("a history of another session or moment, a damaged one, or one that is too large is not used", async () => {
   const store = createStore();
   const { calls: callsBefore } = await leavePage(store, LINES);
-  const text = store.kept.get("fethsaim.past");
+  const text = store.items.get("fethsaim.past");
   assert.deepEqual((await reopenPage(store, callsBefore, "two")).storedSegments, []);
   store.setItem("fethsaim.past", text);
   const { storedSegments, calls } = await reopenPage(store, callsBefore);
-  assert.equal(store.kept.size, 0);
+  assert.equal(store.items.size, 0);
   await callsBefore.serve("poke r1 7\n");
   const laterPage = await reopenPage(createStore(), callsBefore);
   assert.equal(recall(laterPage.calls, storedSegments), -1);
@@ -121,7 +121,7 @@ test("a history of another session or moment, a damaged one, or one that is too 
   }
   const smallStore = createStore(1000);
   await leavePage(smallStore, LINES);
-  assert.equal(smallStore.kept.size, 0);
+  assert.equal(smallStore.items.size, 0);
   new StoredHistory(null).saveOnLeave();
 });
 
@@ -140,17 +140,17 @@ test("if the saved session is older than the history, the later entries are igno
   }
 });
 
-test("the last two files of a long past are stored", async () => {
+test("the last two files of a long history are stored", async () => {
   const calls = await openExample("three lamps");
-  const past = new StoredHistory(createStore());
-  past.begin("one");
-  addReport(past, calls);
-  for (let round = 0; round < 25; round++) addReport(past, calls, await calls.serve("run 100000\n".repeat(5)));
-  assert.equal(past.segments.length, 2);
-  const cycles = past.segments.map(({ entries }) => entries.reduce((sum, entry) => sum + entry.cycles, 0));
-  assert.deepEqual([past.segments[0].total, cycles], [8000000, [4000000, 500000]]);
+  const history = new StoredHistory(createStore());
+  history.begin("one");
+  addReport(history, calls);
+  for (let round = 0; round < 25; round++) addReport(history, calls, await calls.serve("run 100000\n".repeat(5)));
+  assert.equal(history.segments.length, 2);
+  const cycles = history.segments.map(({ entries }) => entries.reduce((sum, entry) => sum + entry.cycles, 0));
+  assert.deepEqual([history.segments[0].total, cycles], [8000000, [4000000, 500000]]);
   const nextCalls = await openExample("three lamps");
   nextCalls.open(calls.bench.session.file.slice(), calls.bench.session.count.total, 0);
-  assert.ok(recall(nextCalls, past.segments) >= 0);
+  assert.ok(recall(nextCalls, history.segments) >= 0);
   assert.equal((await nextCalls.goBack({ kind: "stop" })).cycles, 500000);
 });

@@ -40,10 +40,10 @@ for (const name of stories) {
     const actions = actionsOf(parseStory(text));
     // Each `](` belongs to a valid link.
     assert.equal(actions.length, text.split("](").length - 1);
-    for (const { name: act, argument } of actions) {
-      if (act === "go to" || act === "run to") assert.match(program, new RegExp(`^${argument}:`, "m"));
-      if (act === "press" || act === "release") assert.ok(keys.includes(argument), argument);
-      if (act === "back to") assert.ok(parsePlace(argument), argument);
+    for (const { name: actionName, argument } of actions) {
+      if (actionName === "go to" || actionName === "run to") assert.match(program, new RegExp(`^${argument}:`, "m"));
+      if (actionName === "press" || actionName === "release") assert.ok(keys.includes(argument), argument);
+      if (actionName === "back to") assert.ok(parsePlace(argument), argument);
     }
   });
 }

@@ -38,8 +38,8 @@ test("tests pass, and their coverage and profile are counted", async () => {
 });
 
 test("a failing test reports its line and its trace, and provides the session at the failure", async () => {
-  const quick = programText.replace("0x0C", "0x0D");
-  const { outcomes } = await runTests(engine, texts(example("three_lamps.test"), quick), always);
+  const fasterProgram = programText.replace("0x0C", "0x0D");
+  const { outcomes } = await runTests(engine, texts(example("three_lamps.test"), fasterProgram), always);
   const { failure } = outcomes[1];
   assert.deepEqual([failure.line, failure.text, failure.words], [14, "expect cycles 538", "cycles are 536, but must be 538"]);
   assert.deepEqual([failure.cycles, failure.lamps], [536, ".*."]);
@@ -83,11 +83,18 @@ test("failures in `repeat` and shared steps have their iteration and the last pa
     + "the last label passed is turn, 2 cycles ago; @first was passed last 10 cycles ago");
 });
 
+test("`until` reads `owed` at the end of an instruction, where it is 0", async () => {
+  const text = "test a\n until owed = 1 within 100\ntest b\n run 1\n until owed = 0 within 1\n";
+  const { outcomes } = await runTests(engine, texts(text), always);
+  assert.match(outcomes[0].failure.words, /^it did not become true within 100 cycles: owed is 0, but must be 1;/);
+  assert.deepEqual([outcomes[1].failure, outcomes[1].cycles], [null, 2]);
+});
+
 test("a test with many repetitions can be cancelled", async () => {
   const text = "test a\n repeat 100000\n  run 100000\n end\n";
-  let asked = 0;
-  await assert.rejects(() => runTests(engine, texts(text), async () => ++asked < 3), CancelledError);
-  assert.equal(asked, 3);
+  let callCount = 0;
+  await assert.rejects(() => runTests(engine, texts(text), async () => ++callCount < 3), CancelledError);
+  assert.equal(callCount, 3);
 });
 
 test("if the texts have errors, they are reported and no test is run", async () => {
@@ -100,20 +107,20 @@ test("if the texts have errors, they are reported and no test is run", async () 
   assert.deepEqual([report.outcomes, report.coverage, report.profile], [[], null, null]);
   assert.deepEqual(parseTestedTexts(engine, texts("", " JUN nowhere\n")).errors, [{ text: "program", line: 1, number: 32, words: "" }]);
   assert.equal(parseTestedTexts(engine, { ...texts(""), boardText: "rom = 3\n" }).errors[0].text, "board");
-  const [named] = parseTestedTexts(engine, { ...texts(""), boardText: `# lamp 7: x\n${boardText}` }).errors;
-  assert.equal(named.words, "the lamp x is number 7, but the board has 3");
+  const [lampError] = parseTestedTexts(engine, { ...texts(""), boardText: `# lamp 7: x\n${boardText}` }).errors;
+  assert.equal(lampError.words, "the lamp x is number 7, but the board has 3");
   assert.equal(parseTestedTexts(engine, texts("")).errors[0].words, "there is no line `test NAME`");
   assert.match(parseTestedTexts(engine, texts("test a\n run 1 \u00fc\n")).errors[0].words, /^a byte that is neither/);
 });
 
 test("long work is cancelled between pieces", async () => {
-  let asked = 0;
+  let callCount = 0;
   const shouldContinue = async () => {
-    asked += 1;
-    return asked < 3;
+    callCount += 1;
+    return callCount < 3;
   };
   await assert.rejects(runTests(engine, texts("test for ever\n until r15 9 within 10000 s\n"), shouldContinue), CancelledError);
-  assert.equal(asked, 3);
+  assert.equal(callCount, 3);
 });
 
 test("ROM bytes that a test sets are counted only in its own run", async () => {
@@ -121,7 +128,7 @@ test("ROM bytes that a test sets are counted only in its own run", async () => {
   const text = "test a\n set rom.0x016 0\n set rom.0x017 0\n run 20\n save s\ntest b\n from s\n run 20\ntest c\n run 20\n";
   const { outcomes, profile } = await runTests(engine, texts(text), always);
   assert.deepEqual(outcomes.map(({ failure }) => failure), [null, null, null]);
-  assert.equal(profile.total, profile.rows.reduce((sum, { ownCycles: own }) => sum + own, 0) + profile.earlierInstructionCycles);
+  assert.equal(profile.total, profile.rows.reduce((sum, { ownCycles }) => sum + ownCycles, 0) + profile.earlierInstructionCycles);
 });
 
 test("tenths are rounded half to even, as by printf", () => {
@@ -130,9 +137,9 @@ test("tenths are rounded half to even, as by printf", () => {
 });
 
 test("the sample test presses the first key and expects what the bench shows then, so it passes", async () => {
-  const sampleOf = async (given) => {
-    const testText = await sampleTest(engine, given);
-    const { errors, outcomes } = await runTests(engine, { ...given, testText }, always);
+  const sampleOf = async (sampleTexts) => {
+    const testText = await sampleTest(engine, sampleTexts);
+    const { errors, outcomes } = await runTests(engine, { ...sampleTexts, testText }, always);
     assert.deepEqual([errors, outcomes.map(({ failure }) => failure)], [[], [null]]);
     return testText.split("\n").slice(2, -1).map((line) => line.trim());
   };

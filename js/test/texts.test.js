@@ -12,33 +12,33 @@ test("numbers are parsed and formatted", () => {
 });
 
 test("errors keep their class on the way from the worker to the page", () => {
-  const there = (error) => unpackError(JSON.parse(JSON.stringify(packError(error))));
-  assert.equal(there(new BenchRefusal(90)).number, 90);
-  assert.ok(there(new BenchTrap("unreachable")) instanceof BenchTrap);
-  assert.ok(there(new CancelledError()) instanceof CancelledError);
-  assert.equal(there(new TypeError("x is not y")).message, "x is not y");
-  assert.equal(there("a word").message, "a word");
+  const sendToPage = (error) => unpackError(JSON.parse(JSON.stringify(packError(error))));
+  assert.equal(sendToPage(new BenchRefusal(90)).number, 90);
+  assert.ok(sendToPage(new BenchTrap("unreachable")) instanceof BenchTrap);
+  assert.ok(sendToPage(new CancelledError()) instanceof CancelledError);
+  assert.equal(sendToPage(new TypeError("x is not y")).message, "x is not y");
+  assert.equal(sendToPage("a word").message, "a word");
 });
 
 test("errors have messages", () => {
-  const words = new ErrorMessages({ 90: "there was no memory" });
-  const noMemory = words.failureMessage(new BenchRefusal(90));
+  const errorMessages = new ErrorMessages({ 90: "there was no memory" });
+  const noMemory = errorMessages.failureMessage(new BenchRefusal(90));
   assert.equal(noMemory, "It was not done: no 90: there was no memory. The session is as it was before.");
-  const trap = words.failureMessage(new BenchTrap("unreachable"));
+  const trap = errorMessages.failureMessage(new BenchTrap("unreachable"));
   assert.match(trap, /the module stopped inside a call \(unreachable\) and was started again/);
-  assert.match(words.failureMessage(new WorkerDiedError()), /The session is as it was before/);
-  assert.equal(words.failureMessage(new CancelledError()), "It was cancelled. The session is as it was before.");
-  assert.equal(words.failureMessage(new Error("odd")), "The page failed: odd. What was answered ok is kept.");
-  assert.match(words.refusalMeaning(99), /the manual lists them/);
+  assert.match(errorMessages.failureMessage(new WorkerDiedError()), /The session is as it was before/);
+  assert.equal(errorMessages.failureMessage(new CancelledError()), "It was cancelled. The session is as it was before.");
+  assert.equal(errorMessages.failureMessage(new Error("odd")), "The page failed: odd. What was answered ok is kept.");
+  assert.match(errorMessages.refusalMeaning(99), /the manual lists them/);
 });
 
 test("the run log joins consecutive runs, but not keys", () => {
-  const ran = new RunLog();
+  const runLog = new RunLog();
   const run = (cycles) => ({ line: `run ${cycles}`, answer: `ok ran ${cycles}`, runs: 1, cycles });
-  ran.add([run(1543), run(1544)]);
-  ran.add([run(1000), { line: "press 0 1", answer: "ok 4", runs: 0, cycles: 0 }, run(5)]);
-  const entries = ran.take();
+  runLog.add([run(1543), run(1544)]);
+  runLog.add([run(1000), { line: "press 0 1", answer: "ok 4", runs: 0, cycles: 0 }, run(5)]);
+  const entries = runLog.take();
   assert.deepEqual(entries.map(formatRuns), ["run .. (3 lines, 4,087 cycles); the last one was answered", "press 0 1", "run 5"]);
   assert.equal(entries[0].answer, "ok ran 1000");
-  assert.deepEqual(ran.take(), []);
+  assert.deepEqual(runLog.take(), []);
 });

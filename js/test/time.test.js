@@ -8,11 +8,11 @@ import { PLACES_ARE } from "../words/conditions.js";
 import { cannotSearchForMessage } from "../words/time.js";
 
 test("cycles of the 4004: eight periods of a clock of 740,740.7 Hz", () => {
-  const cycles = (seconds) => (seconds * (5185185.185 / 7)) / 8;
-  assert.ok(Math.abs(CYCLE_US * cycles(1) - 1e6) < 0.001);
-  const rounded = [1, 0.03, 0.001, 0.02].map((time) => Math.round(cycles(time)));
+  const countCycles = (seconds) => (seconds * (5185185.185 / 7)) / 8;
+  assert.ok(Math.abs(CYCLE_US * countCycles(1) - 1e6) < 0.001);
+  const rounded = [1, 0.03, 0.001, 0.02].map((time) => Math.round(countCycles(time)));
   assert.deepEqual([CYCLES_PER_SECOND, EYE_CYCLES, cyclesFromMilliseconds(1), cyclesFromMilliseconds(20)], rounded);
-  assert.equal(FRAME_CYCLES, Math.floor(cycles(FRAME_MS / 1000)));
+  assert.equal(FRAME_CYCLES, Math.floor(countCycles(FRAME_MS / 1000)));
 });
 
 test("a second of frames is 92,593 cycles, whatever their length", () => {
@@ -53,14 +53,14 @@ test("a gap is also detected if only the wall clock has advanced", () => {
  * Returns the number of cycles that run in one second of frames, with key presses at some times. At each key press, some cycles are
  * simulated early.
  */
-function cyclesOf(frame, keys) {
+function countSimulatedCycles(frame, keys) {
   const time = new RealTime(0, 0);
-  const events = keys.map((now) => ({ now, ahead: MAX_EARLY_MS }));
-  for (let now = 0; now <= 1000; now += frame) events.push({ now, ahead: 0 });
-  events.push({ now: 1000.5, ahead: 0 });
+  const events = keys.map((now) => ({ now, earlyMs: MAX_EARLY_MS }));
+  for (let now = 0; now <= 1000; now += frame) events.push({ now, earlyMs: 0 });
+  events.push({ now: 1000.5, earlyMs: 0 });
   let sum = 0;
-  for (const { now, ahead } of events.sort((one, other) => one.now - other.now)) {
-    const due = time.takeDueCycles(now, ahead);
+  for (const { now, earlyMs } of events.sort((a, b) => a.now - b.now)) {
+    const due = time.takeDueCycles(now, earlyMs);
     assert.ok(due >= 0, `${due} at ${now}`);
     sum += due;
     assert.ok(sum <= ((now + MAX_EARLY_MS) / 1000) * CYCLES_PER_SECOND, `ahead of its time at ${now}`);
@@ -71,9 +71,9 @@ function cyclesOf(frame, keys) {
 
 test("key presses do not change the number of cycles in a second, and time is at most a frame ahead", () => {
   for (const frame of [1000 / 60, 1000 / 144, 7, 100]) {
-    const sum = cyclesOf(frame, []);
-    for (const keys of [[3], [3, 4, 5], [100, 130, 160.5, 700], Array.from({ length: 500 }, (_, at) => 1.7 * at)]) {
-      assert.equal(cyclesOf(frame, keys), sum);
+    const sum = countSimulatedCycles(frame, []);
+    for (const keys of [[3], [3, 4, 5], [100, 130, 160.5, 700], Array.from({ length: 500 }, (_, index) => 1.7 * index)]) {
+      assert.equal(countSimulatedCycles(frame, keys), sum);
     }
   }
 });

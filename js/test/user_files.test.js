@@ -16,10 +16,10 @@ after(() => rmSync(top, { recursive: true }));
 const MODULE = new URL("../node/user_files.mjs", import.meta.url).pathname;
 const MCS4 = new URL("../../mcs4", import.meta.url).pathname;
 
-function folder(name) {
-  const made = join(top, name);
-  mkdirSync(made);
-  return made;
+function createFolder(name) {
+  const folder = join(top, name);
+  mkdirSync(folder);
+  return folder;
 }
 
 const modeOf = (name) => (statSync(name).mode & 0o7777).toString(8);
@@ -35,39 +35,39 @@ function runWithSizeLimit(line, file, blocks = "unlimited") {
 }
 
 test("regular files are read, up to a size", () => {
-  const place = folder("read");
-  writeFileSync(join(place, "text"), "seven \u00e9");
-  assert.equal(readUserText(join(place, "text")), "seven \u00e9");
-  assert.equal(readUserText(join(place, "text"), 8), "seven \u00e9");
-  assert.throws(() => readUserText(join(place, "text"), 7), /^Error: cannot read .*text: it has more than 7 bytes$/);
-  assert.throws(() => readUserText(join(place, "none")), /: there is no such file$/);
-  assert.throws(() => readUserText(place), /: it is a folder$/);
+  const folder = createFolder("read");
+  writeFileSync(join(folder, "text"), "seven \u00e9");
+  assert.equal(readUserText(join(folder, "text")), "seven \u00e9");
+  assert.equal(readUserText(join(folder, "text"), 8), "seven \u00e9");
+  assert.throws(() => readUserText(join(folder, "text"), 7), /^Error: cannot read .*text: it has more than 7 bytes$/);
+  assert.throws(() => readUserText(join(folder, "none")), /: there is no such file$/);
+  assert.throws(() => readUserText(folder), /: it is a folder$/);
   // A file without a size can also be read, but not beyond the limit.
   assert.match(readUserText("/proc/self/status"), /^Name:/);
 });
 
 test("devices and FIFOs are rejected without a wait", () => {
-  const place = folder("devices");
-  execFileSync("mkfifo", [join(place, "fifo")]);
-  symlinkSync("/dev/zero", join(place, "zero"));
+  const folder = createFolder("devices");
+  execFileSync("mkfifo", [join(folder, "fifo")]);
+  symlinkSync("/dev/zero", join(folder, "zero"));
   for (const name of ["fifo", "zero"]) {
-    assert.throws(() => readUserText(join(place, name)), /: it is not a regular file$/);
+    assert.throws(() => readUserText(join(folder, name)), /: it is not a regular file$/);
   }
 });
 
 test("links that lead out of a folder are detected", () => {
-  const place = folder("links");
-  mkdirSync(join(place, "in"));
-  writeFileSync(join(place, "out"), "");
-  writeFileSync(join(place, "in", "own"), "");
-  symlinkSync("../out", join(place, "in", "away"));
-  symlinkSync("own", join(place, "in", "link"));
-  assert.deepEqual(["own", "link", "away"].map((name) => isInside(join(place, "in", name), join(place, "in"))), [true, true, false]);
+  const folder = createFolder("links");
+  mkdirSync(join(folder, "in"));
+  writeFileSync(join(folder, "out"), "");
+  writeFileSync(join(folder, "in", "own"), "");
+  symlinkSync("../out", join(folder, "in", "away"));
+  symlinkSync("own", join(folder, "in", "link"));
+  assert.deepEqual(["own", "link", "away"].map((name) => isInside(join(folder, "in", name), join(folder, "in"))), [true, true, false]);
 });
 
 test("a replaced file keeps its mode, and links are followed", () => {
-  const place = folder("write");
-  const [file, link, dangling] = ["file", "link", "dangling"].map((name) => join(place, name));
+  const folder = createFolder("write");
+  const [file, link, dangling] = ["file", "link", "dangling"].map((name) => join(folder, name));
   writeUserFile(file, "new");
   assert.equal(modeOf(file), (0o666 & ~process.umask()).toString(8));
   chmodSync(file, 0o640);
@@ -76,12 +76,12 @@ test("a replaced file keeps its mode, and links are followed", () => {
   writeUserFile(link, "by a link");
   writeUserFile(dangling, "where it leads");
   assert.deepEqual([lstatSync(link).isSymbolicLink(), readFileSync(file, "utf8"), modeOf(file)], [true, "by a link", "640"]);
-  assert.equal(readFileSync(join(place, "there"), "utf8"), "where it leads");
-  assert.deepEqual(readdirSync(place).sort(), ["dangling", "file", "link", "there"]);
+  assert.equal(readFileSync(join(folder, "there"), "utf8"), "where it leads");
+  assert.deepEqual(readdirSync(folder).sort(), ["dangling", "file", "link", "there"]);
 });
 
 test("a file of another user keeps its owner", { skip: process.getuid() !== 0 }, () => {
-  const file = join(folder("owner"), "file");
+  const file = join(createFolder("owner"), "file");
   writeFileSync(file, "old");
   execFileSync("chown", ["12345:23456", file]);
   writeUserFile(file, "new");
@@ -89,88 +89,88 @@ test("a file of another user keeps its owner", { skip: process.getuid() !== 0 },
 });
 
 test("a file that cannot be written stays unchanged", () => {
-  const place = folder("refused");
-  const file = join(place, "file");
+  const folder = createFolder("refused");
+  const file = join(folder, "file");
   writeFileSync(file, "old");
   chmodSync(file, 0o444);
   assert.throws(() => writeUserFile(file, "new"), /^Error: cannot write .*file: it is read-only$/);
-  assert.deepEqual([readFileSync(file, "utf8"), readdirSync(place)], ["old", ["file"]]);
-  assert.throws(() => writeUserFile(join(place, "none", "file"), "new"), /: there is no such file$/);
+  assert.deepEqual([readFileSync(file, "utf8"), readdirSync(folder)], ["old", ["file"]]);
+  assert.throws(() => writeUserFile(join(folder, "none", "file"), "new"), /: there is no such file$/);
   assert.throws(() => writeUserFile("/dev/full", "new"), /: no space left on the device$/);
-  symlinkSync("round", join(place, "round"));
-  assert.throws(() => writeUserFile(join(place, "round"), "new"), /: too many symbolic links$/);
+  symlinkSync("round", join(folder, "round"));
+  assert.throws(() => writeUserFile(join(folder, "round"), "new"), /: too many symbolic links$/);
 });
 
 test("a file that exceeds the size limit leaves no partial file", () => {
-  const place = folder("full");
-  const file = join(place, "file");
+  const folder = createFolder("full");
+  const file = join(folder, "file");
   writeFileSync(file, "old");
   const line = "try { files.writeUserFile(process.argv[1], 'x'.repeat(100000)); } catch ({ message }) { console.log(message); }";
   assert.match(runWithSizeLimit(line, file, "8"), /: it would exceed the size limit for files\n$/);
-  assert.deepEqual([readFileSync(file, "utf8"), readdirSync(place)], ["old", ["file"]]);
+  assert.deepEqual([readFileSync(file, "utf8"), readdirSync(folder)], ["old", ["file"]]);
 });
 
 test("a prepared replacement is a new file, and is removed with its process", () => {
-  const place = folder("pending");
-  const file = join(place, "file");
+  const folder = createFolder("pending");
+  const file = join(folder, "file");
   writeFileSync(file, "old");
   const line = "console.log(files.prepareReplacement(process.argv[1], 'new').name); process.exit(1);";
   const names = [1, 2].map(() => runWithSizeLimit(line, file));
   assert.notEqual(names[0], names[1]);
-  assert.deepEqual(readdirSync(place), ["file"]);
-  const own = prepareReplacement(file, "new");
-  assert.equal(statSync(own.name).isFile(), true);
-  own.drop();
-  assert.deepEqual([readFileSync(file, "utf8"), readdirSync(place)], ["old", ["file"]]);
+  assert.deepEqual(readdirSync(folder), ["file"]);
+  const replacement = prepareReplacement(file, "new");
+  assert.equal(statSync(replacement.name).isFile(), true);
+  replacement.drop();
+  assert.deepEqual([readFileSync(file, "utf8"), readdirSync(folder)], ["old", ["file"]]);
 });
 
-/** Returns a folder with a program and the file `name`, which is a FIFO, a device or a link to a file outside the folder. */
-function folderWithSpecialFile(name, kind) {
-  const place = mkdtempSync(join(top, `${kind}.`));
-  writeFileSync(join(place, "p.asm"), "start:  LDM 1\n        JUN start\n");
-  if (kind === "fifo") execFileSync("mkfifo", [join(place, name)]);
-  if (kind === "zero") symlinkSync("/dev/zero", join(place, name));
-  return place;
+/** Returns a new folder with a program and, for the kinds `fifo` and `zero`, a special file `name`: a FIFO, or a link to /dev/zero. */
+function createFolderWithSpecialFile(name, kind) {
+  const folder = mkdtempSync(join(top, `${kind}.`));
+  writeFileSync(join(folder, "p.asm"), "start:  LDM 1\n        JUN start\n");
+  if (kind === "fifo") execFileSync("mkfifo", [join(folder, name)]);
+  if (kind === "zero") symlinkSync("/dev/zero", join(folder, name));
+  return folder;
 }
 
 test("the language server answers beside a device or a FIFO", async () => {
   for (const [name, kind] of [["mcs4.toml", "zero"], ["mcs4.toml", "fifo"], ["board.toml", "zero"], ["board.toml", "fifo"]]) {
-    const place = folderWithSpecialFile(name, kind);
+    const folder = createFolderWithSpecialFile(name, kind);
     const client = new ServerClient(MCS4);
     await client.begin();
-    const uri = `file://${join(place, "p.asm")}`;
-    assert.deepEqual(await client.open(uri, readFileSync(join(place, "p.asm"), "utf8")), []);
+    const uri = `file://${join(folder, "p.asm")}`;
+    assert.deepEqual(await client.open(uri, readFileSync(join(folder, "p.asm"), "utf8")), []);
     assert.equal(await client.end(), 0);
   }
 });
 
 test("the debug adapter rejects a device, a FIFO and a link out of the project", async () => {
   for (const kind of ["zero", "fifo"]) {
-    const place = folderWithSpecialFile("board.toml", kind);
+    const folder = createFolderWithSpecialFile("board.toml", kind);
     const client = new AdapterClient(MCS4);
     await client.ask("initialize", {});
-    assert.match((await client.answer("launch", { program: join(place, "p.asm") })).message, /^cannot read .*board.toml/);
+    assert.match((await client.answer("launch", { program: join(folder, "p.asm") })).message, /^cannot read .*board.toml/);
     assert.equal(await client.end(), 0);
   }
-  const place = folderWithSpecialFile("", "link");
-  mkdirSync(join(place, "in"));
-  writeFileSync(join(place, "board.toml"), "[[rom]]\nchip = 0\nport = \"0000\"\n");
-  symlinkSync("../board.toml", join(place, "in", "board.toml"));
-  writeFileSync(join(place, "in", "p.asm"), "NOP\n");
-  writeFileSync(join(place, "in", "mcs4.toml"), "board = \"board.toml\"\nprogram = \"p.asm\"\n");
+  const folder = createFolderWithSpecialFile("", "link");
+  mkdirSync(join(folder, "in"));
+  writeFileSync(join(folder, "board.toml"), "[[rom]]\nchip = 0\nport = \"0000\"\n");
+  symlinkSync("../board.toml", join(folder, "in", "board.toml"));
+  writeFileSync(join(folder, "in", "p.asm"), "NOP\n");
+  writeFileSync(join(folder, "in", "mcs4.toml"), "board = \"board.toml\"\nprogram = \"p.asm\"\n");
   const client = new AdapterClient(MCS4);
   await client.ask("initialize", {});
-  const words = /board.toml is a link that leads out of the project's folder$/;
-  for (const given of [{ project: join(place, "in") }, { program: join(place, "in", "p.asm") }]) {
-    assert.match((await client.answer("launch", given)).message, words);
+  const message = /board.toml is a link that leads out of the project's folder$/;
+  for (const launchArguments of [{ project: join(folder, "in") }, { program: join(folder, "in", "p.asm") }]) {
+    assert.match((await client.answer("launch", launchArguments)).message, message);
   }
   assert.equal(await client.end(), 0);
 });
 
 test("the prompt rejects a device and a FIFO", () => {
   for (const kind of ["zero", "fifo"]) {
-    const place = folderWithSpecialFile("b.toml", kind);
-    const { status, stderr } = spawnSync(MCS4, ["debug", join(place, "b.toml"), join(place, "p.asm")], { encoding: "utf8", input: "" });
+    const folder = createFolderWithSpecialFile("b.toml", kind);
+    const { status, stderr } = spawnSync(MCS4, ["debug", join(folder, "b.toml"), join(folder, "p.asm")], { encoding: "utf8", input: "" });
     assert.deepEqual([status, /^debug: cannot read /.test(stderr)], [1, true]);
   }
 });

@@ -20,7 +20,7 @@ ram = [{ bank = 0, chips = 1 }, { bank = 2, chips = 2 }]
 const POKES = "poke r4 6\npoke r5 0\npoke ram.0.0x12 7\npoke st.0.1.2 9\npoke acc 5\npoke cy 1\n";
 // FIM and SRC select RAM chip 0, register 1, nibble 2, and ROM 1. WRR and WMP write 5 to the ports.
 const PROGRAM = "k = 0x12\n        FIM P0, k\n        SRC P0\n        WRR\n        WMP\nend:    JUN end\n";
-const DOES = new Map([["SRC", "sends"], ["WRM", "writes ACC"], ["RDM", "ACC"], ["WMP", "ACC"], ["RDR", "ACC"],
+const EFFECTS = new Map([["SRC", "sends"], ["WRM", "writes ACC"], ["RDM", "ACC"], ["WMP", "ACC"], ["RDR", "ACC"],
   ["RD2", "ACC"], ["FIM", "puts"], ["JUN", "goes"], ["ADD", "ACC and CY"]]);
 
 /** @type {Engine} */
@@ -30,21 +30,21 @@ before(async () => {
 });
 
 /** Resolves to a session after the program's first four instructions and the lines in POKES. */
-async function open(lines = POKES) {
-  const opened = new DebugSession(engine, { board: BOARD, program: PROGRAM });
-  assert.deepEqual(opened.rejectedTexts, []);
-  const { session } = opened.debugger;
-  for (let step = 0; step < 4; step++) await opened.stepInto();
+async function openSession(lines = POKES) {
+  const debugSession = new DebugSession(engine, { board: BOARD, program: PROGRAM });
+  assert.deepEqual(debugSession.rejectedTexts, []);
+  const { session } = debugSession.debugger;
+  for (let step = 0; step < 4; step++) await debugSession.stepInto();
   await session.serve(lines, async () => true);
-  return { session, map: opened.map };
+  return { session, map: debugSession.map };
 }
 
-function standingOf(session, banks = [0, 2]) {
+function readMachineState(session, banks = [0, 2]) {
   return new MachineState(["state", ...banks.map((bank) => `ram ${bank}`)].map((line) => session.ask(`${line}\n`).join("\n")));
 }
 
 /** Returns the names that expressions can use. */
-function namesIn(session, map) {
+function collectNames(session, map) {
   const watched = collectWatchNames(["count = R4", "digit = ram 0 0x12", "total = count + digit", "loop = loop + 1"]);
   return { face: new Face(BOARD), board: readBoard(session.ask("board\n")), map, watched };
 }
@@ -52,14 +52,15 @@ function namesIn(session, map) {
 /** Returns the displayed values of a word in a line. */
 function piecesOf(line, word, { session, map }) {
   const nameOf = (name) => {
-    const found = map.names.get(name);
-    return found && { ...found, description: `${name} ${found.value}` };
+    const entry = map.names.get(name);
+    return entry && { ...entry, description: `${name} ${entry.value}` };
   };
-  return valuesAt(line, line.indexOf(word), standingOf(session), { nameOf, describeInstruction: (each) => DOES.get(each) || "" });
+  const describeInstruction = (mnemonic) => EFFECTS.get(mnemonic) || "";
+  return valuesAt(line, line.indexOf(word), readMachineState(session), { nameOf, describeInstruction });
 }
 
 test("values of a register and a pair, with what SRC would select", async () => {
-  const opened = await open();
+  const opened = await openSession();
   assert.deepEqual(piecesOf("  LD R4", "R4", opened), ["R4 = ", { place: "r4", name: "R4", value: "6" }]);
   assert.equal(joinPieces(piecesOf("  INC r5 ; R4", "r5", opened)), "R5 = 0");
   assert.equal(joinPieces(piecesOf("  FIN P2", "P2", opened)), "P2 = 60: R4 6, R5 0");
@@ -73,22 +74,22 @@ test("values of a register and a pair, with what SRC would select", async () => 
 });
 
 test("values that an instruction reads or writes through SRC", async () => {
-  const opened = await open();
-  const here = "bank 0, chip 0, register 1";
-  assert.equal(joinPieces(piecesOf("  WRM", "WRM", opened)), `${here}, character 2 = 7; acc 5, cy 1`);
-  assert.equal(joinPieces(piecesOf("  rd2", "rd2", opened)), `${here}, status character 2 = 9; acc 5, cy 1`);
+  const opened = await openSession();
+  const location = "bank 0, chip 0, register 1";
+  assert.equal(joinPieces(piecesOf("  WRM", "WRM", opened)), `${location}, character 2 = 7; acc 5, cy 1`);
+  assert.equal(joinPieces(piecesOf("  rd2", "rd2", opened)), `${location}, status character 2 = 9; acc 5, cy 1`);
   assert.equal(joinPieces(piecesOf("  WMP", "WMP", opened)), "bank 0, chip 0: its port puts out 0; acc 5, cy 1");
   assert.match(joinPieces(piecesOf("  RDR", "RDR", opened)), /^ROM 1: puts out \d, RDR reads [\dA-F]; acc 5, cy 1$/);
   assert.equal(joinPieces(piecesOf("  ADD R4", "ADD", opened)), "acc 5, cy 1");
   assert.deepEqual(piecesOf("  JUN end", "JUN", opened), []);
-  const other = await open("poke dcl 2\npoke ram.2.0x00 3\n");
-  assert.equal(joinPieces(piecesOf("  RDM", "RDM", other)), "bank 2, chip 0, register 0, character 0 = 3; acc 0, cy 0");
-  const none = await open("poke dcl 1\n");
-  assert.equal(joinPieces(piecesOf("  RDM", "RDM", none)), "bank 1, where the board has no RAM; acc 0, cy 0");
+  const bank2Session = await openSession("poke dcl 2\npoke ram.2.0x00 3\n");
+  assert.equal(joinPieces(piecesOf("  RDM", "RDM", bank2Session)), "bank 2, chip 0, register 0, character 0 = 3; acc 0, cy 0");
+  const bank1Session = await openSession("poke dcl 1\n");
+  assert.equal(joinPieces(piecesOf("  RDM", "RDM", bank1Session)), "bank 1, where the board has no RAM; acc 0, cy 0");
 });
 
 test("values of numbers and names", async () => {
-  const opened = await open();
+  const opened = await openSession();
   assert.equal(joinPieces(piecesOf("  LDM 6", "6", opened)), "6 = 0x6, 0110");
   assert.equal(joinPieces(piecesOf("  FIM P0, k", "k", opened)),
     "k 18, 0001 0010; sent by SRC, it selects ROM 1; bank 0, chip 0, register 1, character 2 = 7");
@@ -96,9 +97,9 @@ test("values of numbers and names", async () => {
   assert.deepEqual(piecesOf("  JUN other", "other", opened), []);
 });
 
-test("values are read from the right bank, also if it is not the first", async () => {
-  const { session } = await open("poke ram.2.0x41 4\npoke st.2.4.3 6\n");
-  const machineState = standingOf(session);
+test("values are read from the right bank, even if it is not the first", async () => {
+  const { session } = await openSession("poke ram.2.0x41 4\npoke st.2.4.3 6\n");
+  const machineState = readMachineState(session);
   assert.deepEqual([machineState.character(2, 0x41), machineState.status(2, 4, 3), machineState.ramPort(2, 1)], ["4", "6", "0"]);
   assert.equal(machineState.character(0, 0x41), "");
 });
@@ -106,37 +107,37 @@ test("values are read from the right bank, also if it is not the first", async (
 test("the changes by a line are known after a step and a step over, but not after other runs", async () => {
   const program = "        LDM 9\n        IAC\n        JMS put\nend:    JUN end\nput:    FIM P1, 0x34\n        SRC P1\n"
     + "        WRM\n        BBL 2\n";
-  const opened = new DebugSession(engine, { board: BOARD, program });
-  const { session } = opened.debugger;
+  const debugSession = new DebugSession(engine, { board: BOARD, program });
+  const { session } = debugSession.debugger;
   const changes = new LineChanges();
-  const stand = () => changes.addPause(standingOf(session), session.count.total, opened.map);
-  stand();
+  const recordPause = () => changes.addPause(readMachineState(session), session.count.total, debugSession.map);
+  recordPause();
   assert.deepEqual([...changes.lines], []);
-  await opened.stepInto();
-  stand();
+  await debugSession.stepInto();
+  recordPause();
   assert.deepEqual([...changes.lines], [[1, "acc 9"]]);
-  stand();
-  await opened.stepInto();
+  recordPause();
+  await debugSession.stepInto();
   await session.serve("poke r9 4\n", async () => true);
-  stand();
+  recordPause();
   assert.deepEqual([...changes.lines], [[1, "acc 9"], [2, "acc A R9 4"]]);
-  await opened.runToGoal({ kind: "over" });
-  stand();
+  await debugSession.runToGoal({ kind: "over" });
+  recordPause();
   assert.equal(changes.lines.get(3), "acc 2 R2 3 R3 4 SRC 34 SRC of bank 0 34 ram.0.0x34 A");
-  await opened.goBack({ kind: "instruction" });
-  stand();
+  await debugSession.goBack({ kind: "instruction" });
+  recordPause();
   assert.deepEqual([...changes.lines], []);
-  await opened.stepInto();
-  stand();
+  await debugSession.stepInto();
+  recordPause();
   assert.deepEqual([...changes.lines], [[8, "acc 2"]]);
   await session.serve("run 3\n", async () => true);
-  stand();
+  recordPause();
   assert.deepEqual([...changes.lines], []);
 });
 
 test("values from a snapshot are those in the answers of `trace`", async () => {
   const random = createRandom(4);
-  const upTo = (most) => Math.floor(random() * most);
+  const randomBelow = (limit) => Math.floor(random() * limit);
   const text = `rom = [{ chip = 0, port = "0000" }, { chip = 1, port = "1i0i" }, { chip = 3, port = "i100" }]
 ram = [{ bank = 0, chips = 2 }, { bank = 5, chips = 1 }]
 lamp = [{ line = "ram0.1.2" }, { line = "chain0.3" }, { line = "rom3.1" }]
@@ -150,25 +151,26 @@ keys = { chain = 0, first = 0, rows = 2, columns = ["rom1.0", "rom1.2"] }
   const board = readBoard(session.ask("board\n"));
   for (let round = 0; round < 60; round++) {
     const heads = [" FIM P0, ", " SRC P0", " LDM ", " WRR", " WMP", " WRM", " WR2", " DCL", " JMS x"];
-    const rows = Array.from({ length: 12 }, () => heads[upTo(heads.length)]);
-    const code = rows.map((row) => (/ $/.test(row) ? row + upTo(row.includes("FIM") ? 256 : 16) : row)).join("\n");
-    const moves = [0, 1].map((row) => `${upTo(2) ? "press" : "release"} ${row} ${upTo(2)}\n`).join("");
-    await session.serve(`${moves}asm\n${code}\nx: NOP\n.\npoke pc 0\npoke acc ${upTo(16)}\nrun ${1 + upTo(30)}\n`, async () => true);
-    const machineState = standingOf(session, [0, 5]);
+    const rows = Array.from({ length: 12 }, () => heads[randomBelow(heads.length)]);
+    const code = rows.map((row) => (/ $/.test(row) ? row + randomBelow(row.includes("FIM") ? 256 : 16) : row)).join("\n");
+    const moves = [0, 1].map((row) => `${randomBelow(2) ? "press" : "release"} ${row} ${randomBelow(2)}\n`).join("");
+    const lines = `${moves}asm\n${code}\nx: NOP\n.\npoke pc 0\npoke acc ${randomBelow(16)}\nrun ${1 + randomBelow(30)}\n`;
+    await session.serve(lines, async () => true);
+    const machineState = readMachineState(session, [0, 5]);
     for (let from = 0; from < places.length; from += 16) {
-      const some = places.slice(from, from + 16);
-      const values = rowValues(new ForecastAnswers(session.ask(`trace 1 ${some.join(" ")}\n`)).takeTrace().row);
-      const answers = some.map((place) => `${place} ${readPlaceValue(place, machineState, board)}`);
-      assert.deepEqual(answers, some.map((place, at) => `${place} ${values[at]}`));
+      const queriedPlaces = places.slice(from, from + 16);
+      const values = rowValues(new ForecastAnswers(session.ask(`trace 1 ${queriedPlaces.join(" ")}\n`)).takeTrace().row);
+      const answers = queriedPlaces.map((place) => `${place} ${readPlaceValue(place, machineState, board)}`);
+      assert.deepEqual(answers, queriedPlaces.map((place, index) => `${place} ${values[index]}`));
     }
   }
 });
 
 test("watched expressions can have names, and invalid expressions are reported", async () => {
-  const { session, map } = await open();
-  const machineState = standingOf(session);
-  const names = namesIn(session, map);
-  for (const [text, name, wanted] of [
+  const { session, map } = await openSession();
+  const machineState = readMachineState(session);
+  const names = collectNames(session, map);
+  for (const [text, name, expected] of [
     ["count = R4", "count", "6"], ["digit= ram 0 0x12", "digit", "7"], ["st.0.1.2", "st.0.1.2", "9"], ["P2", "P2", "60"],
     ["x = acc", "x", "5"],
     ["far = ram 1 0", "far", "the board lacks it"], ["ram0.0", "ram0.0", "out 0"], ["keys = rom7", "keys", "the board lacks it"],
@@ -178,7 +180,7 @@ test("watched expressions can have names, and invalid expressions are reported",
     ["count > 5 and digit = 7", "count > 5 and digit = 7", "true"], ["count + digit", "count + digit", "13 (0xD)"],
     ["total + 1", "total + 1", "14 (0xE)"], ["0b101", "0b101", "5"], ["acc - P2", "acc - P2", "-91"], ["test = 1", "test = 1", "true"]]) {
     const { watch: watched, error } = parseWatch(text, names);
-    assert.deepEqual([error, watched?.name, joinPieces(watched?.pieces(machineState, names) || [])], ["", name, wanted], text);
+    assert.deepEqual([error, watched?.name, joinPieces(watched?.pieces(machineState, names) || [])], ["", name, expected], text);
     assert.equal(parseWatch(watched.text, names).watch.name, name);
   }
   assert.deepEqual(parseWatch("a = P2").watch.pieces(machineState, names).map(({ place }) => place), ["r4", "r5"]);
@@ -191,8 +193,8 @@ test("watched expressions can have names, and invalid expressions are reported",
     ["x = st 0 1 4", "st 0 1 4: no such place; "], ["p8", "p8: no such place; "], ["ram0.4", "ram0.4: no such place; ports are "],
     ["coumt + 1", "coumt: no such place; perhaps count (column 1)"], ["R4 + (1", "this parenthesis is not closed (column 6)"],
   ]) {
-    const read = parseWatch(text, names);
-    assert.ok(read.error.startsWith(error), `${text}: ${read.error}`);
+    const parsed = parseWatch(text, names);
+    assert.ok(parsed.error.startsWith(error), `${text}: ${parsed.error}`);
   }
   // An expression with names is checked only when the names are known.
   assert.equal(parseWatch("r16").error, "");

@@ -9,13 +9,13 @@ import { toSvg } from "../page/waves/wave_pictures.js";
 
 const NAMES = ["a", "b", "c", "d", "e"];
 const LINES = NAMES.map((name) => ({ name, title: "", group: "", kind: "level", places: [], members: [], width: 1 }));
-const ALL = NAMES.map((_, line) => line);
+const ALL_LINES = NAMES.map((_, line) => line);
 /** Returns the names of the rows in one text. A group heading is written as `[NAME`, the heading of a folded group as `]NAME`. */
-const rowsOf = (rows, chosen = ALL) => rows.arrange(LINES, chosen).map(({ line, name, group, isFolded }) => (
+const rowsOf = (rows, chosen = ALL_LINES) => rows.arrange(LINES, chosen).map(({ line, name, group, isFolded }) => (
   line < 0 ? `${isFolded ? "]" : "["}${group}` : name)).join(" ");
 /** Moves a row to the position of another row. */
-function move(rows, at, to, chosen = ALL) {
-  rows.move(rows.arrange(LINES, chosen), rows.sortNames(chosen.map((line) => NAMES[line])), at, to);
+function move(rows, from, to, chosen = ALL_LINES) {
+  rows.move(rows.arrange(LINES, chosen), rows.sortNames(chosen.map((line) => NAMES[line])), from, to);
   return rowsOf(rows, chosen);
 }
 
@@ -63,36 +63,36 @@ test("names and colours are stored by line name", () => {
   rows.change("b", { title: "clock" });
   rows.change("b", { colour: "red" });
   rows.fold("x");
-  const kept = JSON.parse(JSON.stringify(rows.storedRows));
-  assert.deepEqual(kept, { order: [], looks: { b: { title: "clock", colour: "red" } }, folded: ["x"] });
-  assert.deepEqual(new WaveRows(kept).arrange(LINES, [1]), [
+  const stored = JSON.parse(JSON.stringify(rows.storedRows));
+  assert.deepEqual(stored, { order: [], looks: { b: { title: "clock", colour: "red" } }, folded: ["x"] });
+  assert.deepEqual(new WaveRows(stored).arrange(LINES, [1]), [
     { line: 1, name: "b", title: "clock", colour: "red", group: "", isFolded: false }]);
 });
 
 /** Returns a recording of lines that change at the given moments. */
-function wavesWith(changes, kind = "test", width = 1) {
+function createWaves(changes, kind = "test", width = 1) {
   return new Waves({
     from: 0, cycles: 1000, isStuck: false, lines: [{ ...LINES[0], name: "<a & b>", kind, width }],
-    tracks: [{ first: 1, moments: Uint32Array.from(changes), values: width > 1 ? Uint16Array.from(changes, (_, at) => at) : null }],
+    tracks: [{ first: 1, moments: Uint32Array.from(changes), values: width > 1 ? Uint16Array.from(changes, (_, index) => index) : null }],
     moments: Uint32Array.of(0, 1), counters: Uint16Array.of(0, 1), isOwed: false, listing: [], program: null,
   });
 }
 
 test("a bit has a pulse width and a period", () => {
-  const waves = wavesWith([100, 400, 700]);
+  const waves = createWaves([100, 400, 700]);
   assert.deepEqual(measureAt(waves, 0, 100), { from: 100, to: 400, isComplete: true, period: 600 });
   assert.deepEqual(measureAt(waves, 0, 399), measureAt(waves, 0, 100));
   assert.deepEqual(measureAt(waves, 0, 50), { from: 0, to: 100, isComplete: false, period: 0 });
   assert.deepEqual(measureAt(waves, 0, 500), { from: 400, to: 700, isComplete: true, period: 0 });
   assert.deepEqual(measureAt(waves, 0, 900), { from: 700, to: 1000, isComplete: false, period: 0 });
-  assert.deepEqual(measureAt(wavesWith([]), 0, 5), { from: 0, to: 1000, isComplete: false, period: 0 });
+  assert.deepEqual(measureAt(createWaves([]), 0, 5), { from: 0, to: 1000, isComplete: false, period: 0 });
   assert.equal(describeMeasurement("0", measureAt(waves, 0, 100)), "0 for 300 cycles, 3.240 ms; period 600 cycles, 6.480 ms, 154.3 Hz");
   assert.equal(describeMeasurement("1", measureAt(waves, 0, 0)), "1 for at least 100 cycles, 1.080 ms");
   assert.match(describeMeasurement("1", { from: 0, to: 1, isComplete: true, period: 2 }), /, 46\.30 kHz$/);
 });
 
 test("a number has no period", () => {
-  assert.deepEqual(measureAt(wavesWith([100, 400, 700], "value", 4), 0, 100), { from: 100, to: 400, isComplete: true, period: 0 });
+  assert.deepEqual(measureAt(createWaves([100, 400, 700], "value", 4), 0, 100), { from: 100, to: 400, isComplete: true, period: 0 });
 });
 
 test("a saved picture has all rows with their names, and escapes markup", () => {
@@ -100,9 +100,10 @@ test("a saved picture has all rows with their names, and escapes markup", () => 
   view.width = 400;
   const names = ["ink", "faint", "grid", "sheet", "chosen", "first", "second", "measured", "red"];
   const colours = Object.fromEntries(names.map((name) => [name, name]));
-  const waves = wavesWith([100, 400, 700]);
+  const waves = createWaves([100, 400, 700]);
   const rows = new WaveRows({ looks: { "<a & b>": { colour: "red", group: "lamps" } } }).arrange(waves.lines, [0]);
-  const text = toSvg({ waves, rows, selected: 1, view, top: 0, gutter: 150, height: 78, trigger: 400, measured: null, colours, font: "" });
+  const text = toSvg(
+    { waves, rows, selectedIndex: 1, view, top: 0, gutter: 150, height: 78, trigger: 400, measured: null, colours, font: "" });
   assert.match(text, /^<svg xmlns="http:\/\/www\.w3\.org\/2000\/svg" width="550" height="78" [^]*<\/svg>\n$/);
   assert.match(text, />&#60;a &#38; b&#62;|>▸&#60;a &#38; b&#62;</);
   assert.match(text, /<path d="M150,57\.5L190,57\.5[^"]*" fill="none" stroke="red" stroke-width="1\.5"\/>/);

@@ -13,33 +13,33 @@ const LINES = [
   line("rom0[1:0]", "port", { members: [0, 1], width: 2, title: "to the chain" }), line("r5", "value", { width: 4 }),
   line("pc", "pc", { width: 12 }), line("label", "label", { width: 16 }),
 ];
-const bits = (...moments) => ({ first: 0, moments: Uint32Array.from(moments), values: null });
-const none = { first: 0, moments: new Uint32Array(0), values: new Uint16Array(0) };
+const createBitTrack = (moments) => ({ first: 0, moments: Uint32Array.from(moments), values: null });
+const EMPTY_TRACK = { first: 0, moments: new Uint32Array(0), values: new Uint16Array(0) };
 
-function wavesOf() {
+function createWaves() {
   const r5 = { first: 9, moments: Uint32Array.of(10, 20, 30), values: Uint16Array.of(3, 9, 12) };
   return new Waves({
     from: 0, cycles: 50, isStuck: false, isOwed: false, lines: LINES,
-    tracks: [bits(5, 25), bits(15), bits(7), bits(), bits(8), none, r5, none, none],
+    tracks: [...[[5, 25], [15], [7], [], [8]].map(createBitTrack), EMPTY_TRACK, r5, EMPTY_TRACK, EMPTY_TRACK],
     moments: Uint32Array.of(0, 20, 40), counters: Uint16Array.of(0, 0x10, 0x12), listing: [],
     program: { text: "", lines: new Uint16Array(4096), labels: [{ address: 0, name: "begin" }, { address: 0x10, name: "next" }] },
   });
 }
 
 test("lines are found by their common names", () => {
-  const named = (text) => LINES[findLineByName(text, LINES)]?.name;
-  assert.deepEqual(["rom0.1", "ROM0 1", "rom0", "to the chain"].map(named), ["rom0.1", "rom0.1", "rom0[1:0]", "rom0[1:0]"]);
-  assert.deepEqual(["lamp 0", "minus", "lamp minus"].map(named), Array(3).fill("lamp.minus"));
-  assert.deepEqual(["lamp 1", "over.flow"].map(named), ["lamp1", "lamp1"]);
-  assert.deepEqual(["7", "key 7", "r5"].map(named), ["key.7", "key.7", "r5"]);
-  assert.deepEqual(["lamp 2", "rom1", "", "r"].map(named), [undefined, undefined, undefined, undefined]);
+  const findName = (text) => LINES[findLineByName(text, LINES)]?.name;
+  assert.deepEqual(["rom0.1", "ROM0 1", "rom0", "to the chain"].map(findName), ["rom0.1", "rom0.1", "rom0[1:0]", "rom0[1:0]"]);
+  assert.deepEqual(["lamp 0", "minus", "lamp minus"].map(findName), Array(3).fill("lamp.minus"));
+  assert.deepEqual(["lamp 1", "over.flow"].map(findName), ["lamp1", "lamp1"]);
+  assert.deepEqual(["7", "key 7", "r5"].map(findName), ["key.7", "key.7", "r5"]);
+  assert.deepEqual(["lamp 2", "rom1", "", "r"].map(findName), [undefined, undefined, undefined, undefined]);
 });
 
 test("values and edges are found in both directions", () => {
-  const waves = wavesOf();
-  const marked = 6;
-  const all = (text, isForward = true) => {
-    const { search, error } = readSearch(text, waves, marked);
+  const waves = createWaves();
+  const markedLine = 6;
+  const findAll = (text, isForward = true) => {
+    const { search, error } = readSearch(text, waves, markedLine);
     assert.equal(error, "", text);
     const moments = [];
     for (let moment = find(waves, search, isForward ? 0 : 50, isForward); moment >= 0; moment = find(waves, search, moment, isForward)) {
@@ -47,18 +47,19 @@ test("values and edges are found in both directions", () => {
     }
     return moments;
   };
-  assert.deepEqual([all("9"), all("9", false), all("0x9"), all("0b1001")], [[20], [20, 0], [20], [20]]);
-  assert.deepEqual([all("r5 = 3"), all("r5=3"), all("r5 != 3"), all("r5 > 8"), all("r5 > 8", false)], [[10], [10], [20], [20], [20, 0]]);
-  assert.deepEqual([all("changes"), all("r5 changes", false)], [[10, 20, 30], [30, 20, 10]]);
-  assert.deepEqual([all("rom0.0 rises"), all("rom0.0 falls"), all("minus rises"), all("rom0.0 = 1")], [[5], [25], [7], [5]]);
-  assert.deepEqual([all("rom0 = 3"), all("rom0 changes"), all("rom0 = 1")], [[15], [5, 15, 25], [5]]);
-  assert.deepEqual([all("@next"), all("pc = next"), all("pc = 0x12"), all("label = next")], [[20], [20], [40], [20]]);
-  assert.deepEqual(all("@begin", false), [0]);
+  assert.deepEqual([findAll("9"), findAll("9", false), findAll("0x9"), findAll("0b1001")], [[20], [20, 0], [20], [20]]);
+  assert.deepEqual(["r5 = 3", "r5=3", "r5 != 3", "r5 > 8"].map((text) => findAll(text)), [[10], [10], [20], [20]]);
+  assert.deepEqual(findAll("r5 > 8", false), [20, 0]);
+  assert.deepEqual([findAll("changes"), findAll("r5 changes", false)], [[10, 20, 30], [30, 20, 10]]);
+  assert.deepEqual(["rom0.0 rises", "rom0.0 falls", "minus rises", "rom0.0 = 1"].map((text) => findAll(text)), [[5], [25], [7], [5]]);
+  assert.deepEqual([findAll("rom0 = 3"), findAll("rom0 changes"), findAll("rom0 = 1")], [[15], [5, 15, 25], [5]]);
+  assert.deepEqual([findAll("@next"), findAll("pc = next"), findAll("pc = 0x12"), findAll("label = next")], [[20], [20], [40], [20]]);
+  assert.deepEqual(findAll("@begin", false), [0]);
 });
 
 test("invalid searches are rejected with a reason", () => {
-  const waves = wavesOf();
-  const error = (text, marked = 6) => readSearch(text, waves, marked).error;
+  const waves = createWaves();
+  const error = (text, markedLine = 6) => readSearch(text, waves, markedLine).error;
   assert.match(error(""), /^Enter a search: a value of the marked line/);
   assert.match(error("A"), /^A is not a number such as 10, 0x0A or 0b1010/);
   assert.equal(error("16"), "r5 has 4 bits: its value is at most 15.");
@@ -70,13 +71,13 @@ test("invalid searches are rejected with a reason", () => {
 });
 
 test("an edge found in two million cycles is the one that the bench reports", async () => {
-  const { board, program } = examplesOfPage.find((each) => each.name === "stopwatch");
+  const { board, program } = examplesOfPage.find((example) => example.name === "stopwatch");
   const calls = await openExample("stopwatch", "test 0\n");
   const waves = new Waves(await calls.record(2000000, false, { board, program, values: ["r4"] }));
-  const found = (text, moment, isForward) => find(waves, readSearch(text, waves, -1).search, moment, isForward);
-  const first = found("lamp15 rises", 0, true);
-  assert.ok(found("lamp15 rises", 2000000, false) > 1990000);
-  assert.equal(found("pc = 0xFFF", 0, true), -1);
+  const findMoment = (text, moment, isForward) => find(waves, readSearch(text, waves, -1).search, moment, isForward);
+  const first = findMoment("lamp15 rises", 0, true);
+  assert.ok(findMoment("lamp15 rises", 2000000, false) > 1990000);
+  assert.equal(findMoment("pc = 0xFFF", 0, true), -1);
   const [answer] = calls.ask(`trace ${first} lamps\n`).slice(-1);
   assert.equal(Number(answer.split(" ")[0]) + 1, first);
 });

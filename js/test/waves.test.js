@@ -31,7 +31,7 @@ function linesWith(hasLabels = false, values = []) {
   return createBoardLines(BOARD, TEXT, hasLabels, values);
 }
 
-function numberOf(lines, name) {
+function lineIndexOf(lines, name) {
   return lines.findIndex((line) => line.name === name);
 }
 
@@ -48,36 +48,37 @@ test("the lines of a board have names from the manual and from the board's text"
 });
 
 test("each line has a place: a lamp's is its output line, and a key's its row and column", () => {
-  const places = (wanted) => linesWith().filter(({ kind }) => kind === wanted).map(({ places: [place] }) => place);
-  assert.deepEqual(places("level").slice(-3), ["chain0.0", "chain0.1", "ram0.0.3"]);
-  assert.deepEqual(places("key").slice(0, 9), ["0.0", "0.1", "0.2", "0.3", "0.4", "0.5", "0.6", "0.7", "1.0"]);
-  const other = readBoard(["board", "[[rom]]", "chip = 12", 'port = "i0i1"', "[[rom]]", "chip = 3", 'port = "0000"']);
-  assert.deepEqual(createBoardLines(other, "", false).map(({ name }) => name),
+  const firstPlaces = (lineKind) => linesWith().filter(({ kind }) => kind === lineKind).map(({ places: [place] }) => place);
+  assert.deepEqual(firstPlaces("level").slice(-3), ["chain0.0", "chain0.1", "ram0.0.3"]);
+  assert.deepEqual(firstPlaces("key").slice(0, 9), ["0.0", "0.1", "0.2", "0.3", "0.4", "0.5", "0.6", "0.7", "1.0"]);
+  const otherBoard = readBoard(["board", "[[rom]]", "chip = 12", 'port = "i0i1"', "[[rom]]", "chip = 3", 'port = "0000"']);
+  assert.deepEqual(createBoardLines(otherBoard, "", false).map(({ name }) => name),
     [...["rom3", "rom12"].flatMap((rom) => [0, 1, 2, 3].map((line) => `${rom}.${line}`)), "test", "rom3[3:0]", "rom12[3:0]", "pc"]);
 });
 
 test("ports and chains are requested as a whole, once each, at most sixteen places in a query", () => {
-  const asked = new WaveBuilder(linesWith()).queries(100).split("\n");
-  assert.deepEqual(asked, ["trace 100", "trace 100 rom0 rom1 rom2 ram0.0 ram1.0 chain0", ""]);
-  const more = new WaveBuilder(linesWith(false, ["p2", "r4", ...[..."0123456789"].map((at) => `ram.0.0x0${at}`)])).queries(7).split("\n");
-  assert.deepEqual(more.map((line) => line.split(" ").length), [2, 8, 14, 1]);
-  const characters = [..."0123456789"].map((at) => `ram.0.0x0${at}`).join(" ");
-  assert.equal(more[2], `trace 7 r4 r5 ${characters}`);
+  const queries = new WaveBuilder(linesWith()).queries(100).split("\n");
+  assert.deepEqual(queries, ["trace 100", "trace 100 rom0 rom1 rom2 ram0.0 ram1.0 chain0", ""]);
+  const names = ["p2", "r4", ...[..."0123456789"].map((digit) => `ram.0.0x0${digit}`)];
+  const queriesWithValues = new WaveBuilder(linesWith(false, names)).queries(7).split("\n");
+  assert.deepEqual(queriesWithValues.map((line) => line.split(" ").length), [2, 8, 14, 1]);
+  const characters = [..."0123456789"].map((digit) => `ram.0.0x0${digit}`).join(" ");
+  assert.equal(queriesWithValues[2], `trace 7 r4 r5 ${characters}`);
 });
 
 test("value lines are created by name, unless the board lacks the place", () => {
-  const read = (text) => {
+  const describeValueLine = (text) => {
     const line = createValueLine(text, BOARD);
     return line && [line.name, line.places.join(" "), line.width, line.group];
   };
-  assert.deepEqual(read("R5"), ["r5", "r5", 4, "registers"]);
-  assert.deepEqual(read("P2"), ["p2", "r4 r5", 8, "registers"]);
-  assert.deepEqual([read("cy")[2], read("dcl")[2], read("src")[2]], [1, 3, 8]);
-  assert.deepEqual(read("ram 0 0x12"), ["ram.0.0x12", "ram.0.0x12", 4, "RAM, bank 0"]);
-  assert.deepEqual(read("ram.1.18"), ["ram.1.0x12", "ram.1.0x12", 4, "RAM, bank 1"]);
-  assert.deepEqual(read("st 0 1 2"), ["st.0.1.2", "st.0.1.2", 4, "RAM, bank 0"]);
+  assert.deepEqual(describeValueLine("R5"), ["r5", "r5", 4, "registers"]);
+  assert.deepEqual(describeValueLine("P2"), ["p2", "r4 r5", 8, "registers"]);
+  assert.deepEqual([describeValueLine("cy")[2], describeValueLine("dcl")[2], describeValueLine("src")[2]], [1, 3, 8]);
+  assert.deepEqual(describeValueLine("ram 0 0x12"), ["ram.0.0x12", "ram.0.0x12", 4, "RAM, bank 0"]);
+  assert.deepEqual(describeValueLine("ram.1.18"), ["ram.1.0x12", "ram.1.0x12", 4, "RAM, bank 1"]);
+  assert.deepEqual(describeValueLine("st 0 1 2"), ["st.0.1.2", "st.0.1.2", 4, "RAM, bank 0"]);
   for (const text of ["r16", "p8", "ram 0 0x40", "ram 2 0", "st 0 4 0", "rom0", "ram0.0", "lamps", "lamp 0", "chain0.1", "pc", ""]) {
-    assert.equal(read(text), null, text);
+    assert.equal(describeValueLine(text), null, text);
   }
   assert.deepEqual(linesWith(false, ["r5", "r16", "p2"]).slice(-3).map(({ name }) => name), ["r5", "p2", "pc"]);
 });
@@ -90,17 +91,17 @@ test("titles come from the board's text for ports, and for names that a file can
 });
 
 test("recordable lines are found by words", () => {
-  const offered = listRecordableLines(BOARD, TEXT);
-  const named = (text, chosen = []) => searchLines(offered, text, new Set(chosen)).lines.map(({ name }) => name);
-  assert.ok(named("").includes("r5") && named("").includes("rom0[3:0]") && !named("").includes("ram.0.0x12"));
-  assert.ok(named("", ["ram.0.0x12"]).includes("ram.0.0x12"));
-  assert.deepEqual(named("ram 0 0x12"), ["ram.0.0x12"]);
-  assert.deepEqual(named("minus"), ["lamp.minus"]);
-  assert.deepEqual(named("over.fl"), ["lamp2"]);
-  assert.deepEqual(named("p2"), ["p2"]);
-  assert.match(searchLines(offered, "", new Set()).note, /^160 nibbles of RAM are not listed: find one, as in: ram 0 0x12/);
-  assert.equal(searchLines(offered, " rubbish ", new Set()).note, "Nothing here is called rubbish.");
-  assert.deepEqual(chosenValueNames(offered, new Set(["r5", "lamp2", "st.1.3.0", "gone"])), ["r5", "st.1.3.0"]);
+  const recordableLines = listRecordableLines(BOARD, TEXT);
+  const findNames = (text, chosen = []) => searchLines(recordableLines, text, new Set(chosen)).lines.map(({ name }) => name);
+  assert.ok(findNames("").includes("r5") && findNames("").includes("rom0[3:0]") && !findNames("").includes("ram.0.0x12"));
+  assert.ok(findNames("", ["ram.0.0x12"]).includes("ram.0.0x12"));
+  assert.deepEqual(findNames("ram 0 0x12"), ["ram.0.0x12"]);
+  assert.deepEqual(findNames("minus"), ["lamp.minus"]);
+  assert.deepEqual(findNames("over.fl"), ["lamp2"]);
+  assert.deepEqual(findNames("p2"), ["p2"]);
+  assert.match(searchLines(recordableLines, "", new Set()).note, /^160 nibbles of RAM are not listed: find one, as in: ram 0 0x12/);
+  assert.equal(searchLines(recordableLines, " rubbish ", new Set()).note, "Nothing here is called rubbish.");
+  assert.deepEqual(chosenValueNames(recordableLines, new Set(["r5", "lamp2", "st.1.3.0", "gone"])), ["r5", "st.1.3.0"]);
 });
 
 /** The initial values of places. All other places are 0. */
@@ -133,16 +134,16 @@ function answersOf({ groups }, levels, instructions = []) {
 
 /** Returns a recording that begins with a state. */
 function begin(state = STATE, values = []) {
-  const taking = new WaveBuilder(linesWith(false, values));
-  taking.begin(new ForecastAnswers([state, ...answersOf(taking, LEVELS)]));
-  return taking;
+  const builder = new WaveBuilder(linesWith(false, values));
+  builder.begin(new ForecastAnswers([state, ...answersOf(builder, LEVELS)]));
+  return builder;
 }
 
 /** Adds a run and the state after it to a recording. */
-function run(taking, levels, instructions, answer, changes) {
-  taking.takeRun(new ForecastAnswers([...answersOf(taking, levels, instructions), answer]));
-  taking.takeState(stateWith(changes));
-  return taking;
+function run(builder, levels, instructions, answer, changes) {
+  builder.takeRun(new ForecastAnswers([...answersOf(builder, levels, instructions), answer]));
+  builder.takeState(stateWith(changes));
+  return builder;
 }
 
 const textOf = (waves, chosen) => [...vcdParts(waves, chosen)].join("");
@@ -159,22 +160,22 @@ function record(cycles) {
 
 const LISTING = [[0x00a, "00A E2    WRR"], [0x00b, "00B E1    WMP"], [0x00c, "00C 40 0A JUN 0x00A"]];
 
-function wavesOf(taking, program = null) {
-  return new Waves({ ...taking.take(), lines: taking.lines, listing: LISTING, program });
+function wavesOf(builder, program = null) {
+  return new Waves({ ...builder.take(), lines: builder.lines, listing: LISTING, program });
 }
 
 test("changes are at the moment after their instruction", () => {
   const waves = wavesOf(record(100));
-  const of = (name) => [...waves.changesOf(numberOf(waves.lines, name))];
-  assert.deepEqual([of("rom0.1"), of("lamp2"), of("ram0.0.3"), of("test"), of("rom0.0")], [[1, 5], [2], [2], [], []]);
-  assert.deepEqual(of("pc"), [1, 2, 4, 5]);
+  const changesOf = (name) => [...waves.changesOf(lineIndexOf(waves.lines, name))];
+  assert.deepEqual(["rom0.1", "lamp2", "ram0.0.3", "test", "rom0.0"].map(changesOf), [[1, 5], [2], [2], [], []]);
+  assert.deepEqual(changesOf("pc"), [1, 2, 4, 5]);
   assert.deepEqual([waves.cycles, waves.isStuck], [5, true]);
 });
 
 test("a recording ends at its last cycle, even inside an instruction", () => {
   const waves = wavesOf(record(3));
   assert.deepEqual([waves.cycles, waves.isStuck], [3, false]);
-  assert.deepEqual([...waves.changesOf(numberOf(waves.lines, "pc"))], [1, 2]);
+  assert.deepEqual([...waves.changesOf(lineIndexOf(waves.lines, "pc"))], [1, 2]);
   assert.equal(wavesOf(record(4)).counterAt(4), 0x00a);
 });
 
@@ -184,36 +185,36 @@ test("a refusal by the bench is an error", () => {
 });
 
 test("a two-cycle instruction is recorded once, and commands between cycles take no time", () => {
-  const taking = begin();
-  run(taking, LEVELS, [[0, "00A", {}]], "ok 9 ran 1 end", { pc: "020", owed: "1" });
-  taking.takeState(stateWith({ pc: "020", owed: "1", keys: "0.1" }));
-  run(taking, { ...LEVELS, "rom1.1": 0 }, [], "ok 11 ran 1 break", { pc: "020", keys: "0.1" });
-  taking.takeState(stateWith({ pc: "020", keys: "0.1", test: "0" }));
-  taking.takeState(stateWith({ pc: "020", keys: "0.1" }));
-  taking.takeState(stateWith({ pc: "030", keys: "0.1" }));
-  run(taking, { ...LEVELS, "rom1.1": 0 }, [[0, "030", { "rom0.0": 0 }]], "ok 15 ran 1 watch", { pc: "031", keys: "0.1" });
-  taking.takeState(stateWith({ pc: "031", keys: "0.1", test: "0" }));
-  const waves = wavesOf(taking);
-  const of = (name) => [...waves.changesOf(numberOf(waves.lines, name))];
-  assert.deepEqual([of("key1.2"), of("rom1.1"), of("rom0.0"), of("test"), of("pc")], [[1], [1], [3], [3], [2, 3]]);
+  const builder = begin();
+  run(builder, LEVELS, [[0, "00A", {}]], "ok 9 ran 1 end", { pc: "020", owed: "1" });
+  builder.takeState(stateWith({ pc: "020", owed: "1", keys: "0.1" }));
+  run(builder, { ...LEVELS, "rom1.1": 0 }, [], "ok 11 ran 1 break", { pc: "020", keys: "0.1" });
+  builder.takeState(stateWith({ pc: "020", keys: "0.1", test: "0" }));
+  builder.takeState(stateWith({ pc: "020", keys: "0.1" }));
+  builder.takeState(stateWith({ pc: "030", keys: "0.1" }));
+  run(builder, { ...LEVELS, "rom1.1": 0 }, [[0, "030", { "rom0.0": 0 }]], "ok 15 ran 1 watch", { pc: "031", keys: "0.1" });
+  builder.takeState(stateWith({ pc: "031", keys: "0.1", test: "0" }));
+  const waves = wavesOf(builder);
+  const changesOf = (name) => [...waves.changesOf(lineIndexOf(waves.lines, name))];
+  assert.deepEqual(["key1.2", "rom1.1", "rom0.0", "test", "pc"].map(changesOf), [[1], [1], [3], [3], [2, 3]]);
   assert.deepEqual([0, 1, 2, 3].map((moment) => waves.counterAt(moment)), [0x00a, 0x00a, 0x030, 0x031]);
 });
 
 test("the value at a moment and the edges around it", () => {
   const waves = wavesOf(record(100));
-  const data = numberOf(waves.lines, "rom0.1");
+  const data = lineIndexOf(waves.lines, "rom0.1");
   assert.deepEqual([0, 1, 4, 5].map((moment) => waves.valueAt(data, moment)), ["1", "0", "0", "1"]);
   assert.equal(waves.changeAfter(data, 0), 1);
   assert.equal(waves.changeAfter(data, 1), 5);
   assert.equal(waves.changeAfter(data, 5), undefined);
   assert.equal(waves.changeBefore(data, 5), 1);
   assert.equal(waves.changeBefore(data, 1), undefined);
-  assert.deepEqual([0, 2, 3, 4].map((moment) => waves.valueAt(numberOf(waves.lines, "pc"), moment)), ["00A", "00C", "00C", "00A"]);
+  assert.deepEqual([0, 2, 3, 4].map((moment) => waves.valueAt(lineIndexOf(waves.lines, "pc"), moment)), ["00A", "00C", "00C", "00A"]);
 });
 
 test("a port is shown as a number in three bases", () => {
   const waves = wavesOf(record(100));
-  const [port, chain] = ["rom0[3:0]", "chain0[9:0]"].map((name) => numberOf(waves.lines, name));
+  const [port, chain] = ["rom0[3:0]", "chain0[9:0]"].map((name) => lineIndexOf(waves.lines, name));
   assert.deepEqual([...waves.changesOf(port)], [1, 5]);
   assert.deepEqual([0, 1, 5].map((moment) => waves.valueAt(port, moment)), ["3", "1", "3"]);
   assert.equal(waves.valueAt(chain, 0), "003");
@@ -225,35 +226,36 @@ test("a port is shown as a number in three bases", () => {
 });
 
 test("registers, pairs and RAM characters are recorded", () => {
-  const taking = begin(STATE, ["r5", "p2", "ram.0.0x12"]);
+  const builder = begin(STATE, ["r5", "p2", "ram.0.0x12"]);
   const values = { r4: "0", r5: "7", "ram.0.0x12": "9" };
-  run(taking, LEVELS, [[0, "00A", values], [1, "00B", { r4: "A", r5: "0" }], [2, "00C", { r5: "F" }]], "ok 9 ran 4 end", { pc: "00A" });
-  const waves = wavesOf(taking);
-  const of = (name) => {
-    const line = numberOf(waves.lines, name);
+  run(builder, LEVELS, [[0, "00A", values], [1, "00B", { r4: "A", r5: "0" }], [2, "00C", { r5: "F" }]], "ok 9 ran 4 end", { pc: "00A" });
+  const waves = wavesOf(builder);
+  const changesOf = (name) => {
+    const line = lineIndexOf(waves.lines, name);
     return [...waves.changesOf(line)].map((moment) => `${moment} ${waves.valueAt(line, moment)}`);
   };
-  assert.deepEqual([of("r5"), of("p2"), of("ram.0.0x12")], [["1 7", "2 0", "3 F"], ["1 07", "2 A0", "3 AF"], ["1 9"]]);
+  assert.deepEqual([changesOf("r5"), changesOf("p2"), changesOf("ram.0.0x12")], [["1 7", "2 0", "3 F"], ["1 07", "2 A0", "3 AF"], ["1 9"]]);
 });
 
 test("a recording can be extended, and cut at both ends", () => {
   const whole = wavesOf(record(4));
-  const taking = begin();
-  run(taking, LEVELS, PROGRAM.slice(0, 1), "ok 9 ran 1 end", { pc: "00B" });
-  const parts = wavesOf(taking);
+  const builder = begin();
+  run(builder, LEVELS, PROGRAM.slice(0, 1), "ok 9 ran 1 end", { pc: "00B" });
+  const recording = wavesOf(builder);
   const after = { ...LEVELS, "rom0.1": 0 };
   const shifted = PROGRAM.slice(1, 3).map(([cycles, ...rest]) => [cycles - 1, ...rest]);
-  const pc = numberOf(parts.lines, "pc");
-  assert.deepEqual([...parts.changesOf(pc)], [1]);
-  run(taking, after, shifted, "ok 10 ran 3 end", { pc: "00A" });
-  parts.append({ ...taking.take(), listing: [] });
-  assert.equal(textOf(parts, parts.lines.map((_, line) => line)), textOf(whole, whole.lines.map((_, line) => line)));
-  parts.beginAt(2);
-  const data = numberOf(parts.lines, "rom0.1");
-  assert.deepEqual([parts.from, parts.length, parts.valueAt(data, 2), [...parts.changesOf(pc)]], [2, 2, "0", [4]]);
-  assert.deepEqual([parts.counterAt(2), parts.counterAt(3), parts.valueAt(numberOf(parts.lines, "lamp2"), 2)], [0x00c, 0x00c, "1"]);
-  parts.endAt(3);
-  assert.deepEqual([parts.cycles, [...parts.changesOf(pc)], parts.counterAt(3)], [3, [], 0x00c]);
+  const pc = lineIndexOf(recording.lines, "pc");
+  assert.deepEqual([...recording.changesOf(pc)], [1]);
+  run(builder, after, shifted, "ok 10 ran 3 end", { pc: "00A" });
+  recording.append({ ...builder.take(), listing: [] });
+  assert.equal(textOf(recording, recording.lines.map((_, line) => line)), textOf(whole, whole.lines.map((_, line) => line)));
+  recording.beginAt(2);
+  const data = lineIndexOf(recording.lines, "rom0.1");
+  assert.deepEqual([recording.from, recording.length, recording.valueAt(data, 2), [...recording.changesOf(pc)]], [2, 2, "0", [4]]);
+  assert.deepEqual([recording.counterAt(2), recording.counterAt(3)], [0x00c, 0x00c]);
+  assert.equal(recording.valueAt(lineIndexOf(recording.lines, "lamp2"), 2), "1");
+  recording.endAt(3);
+  assert.deepEqual([recording.cycles, [...recording.changesOf(pc)], recording.counterAt(3)], [3, [], 0x00c]);
 });
 
 test("the instruction at a moment is found in both of its cycles", () => {
@@ -261,22 +263,22 @@ test("the instruction at a moment is found in both of its cycles", () => {
     text: "stop: NOP\n  JUN go ; on", lines: new Uint16Array(4096).fill(2, 0x00c, 0x00e), labels: [{ address: 0x00b, name: "stop" }],
   });
   for (const moment of [2, 3]) {
-    const { address, listingLine: listed, line, source, isEnd } = waves.instructionAt(moment);
-    assert.deepEqual([address, listed, line, source, isEnd], [0x00c, "00C 40 0A JUN 0x00A", 2, "JUN go ; on", false]);
+    const { address, listingLine, line, source, isEnd } = waves.instructionAt(moment);
+    assert.deepEqual([address, listingLine, line, source, isEnd], [0x00c, "00C 40 0A JUN 0x00A", 2, "JUN go ; on", false]);
   }
   assert.deepEqual([waves.instructionAt(0).line, waves.instructionAt(5).isEnd], [0, true]);
   assert.deepEqual([waves.labelAt(0), waves.labelAt(1), waves.labelAt(3)], ["", "stop", "stop"]);
 });
 
 test("the first sample can be the second cycle of an instruction", () => {
-  const taking = run(begin(stateWith({ owed: "1" })), LEVELS, [], "ok 9 ran 1 end", {});
-  assert.deepEqual([wavesOf(taking).instructionAt(0).isSecond, wavesOf(taking).instructionAt(1).isSecond], [true, false]);
+  const builder = run(begin(stateWith({ owed: "1" })), LEVELS, [], "ok 9 ran 1 end", {});
+  assert.deepEqual([wavesOf(builder).instructionAt(0).isSecond, wavesOf(builder).instructionAt(1).isSecond], [true, false]);
 });
 
 test("a VCD file: a cycle is 108 units of 100 ns, lines in the order of the choice", () => {
   const waves = wavesOf(record(100));
-  const text = textOf(waves, ["lamp2", "rom0.1", "pc"].map((name) => numberOf(waves.lines, name)));
-  const port = textOf(waves, [numberOf(waves.lines, "rom0[3:0]")]);
+  const text = textOf(waves, ["lamp2", "rom0.1", "pc"].map((name) => lineIndexOf(waves.lines, name)));
+  const port = textOf(waves, [lineIndexOf(waves.lines, "rom0[3:0]")]);
   assert.match(port, /\$var wire 4 A rom0\[3:0\] \$end\n[^]*\nb0011 A\n\$end\n#108\nb0001 A\n#540/);
   assert.equal(text, `$version Fethsaim $end
 $comment 108 units of time are a cycle of the 4004, 10.8 microseconds $end
@@ -309,7 +311,7 @@ b000000001011 D
 
 test("a VCD file ends with the end of the recording", () => {
   const waves = wavesOf(record(3));
-  const text = textOf(waves, [numberOf(waves.lines, "test")]);
+  const text = textOf(waves, [lineIndexOf(waves.lines, "test")]);
   assert.match(text, /#0\n\$dumpvars\n1A\n\$end\n#324\n$/);
 });
 
@@ -322,5 +324,5 @@ test("the short names of lines in the file differ", () => {
 });
 
 test("counts how many sorted numbers are at most a limit", () => {
-  assert.deepEqual([0, 1, 2, 5, 9].map((most) => countUpTo([1, 2, 5], most)), [0, 1, 2, 3, 3]);
+  assert.deepEqual([0, 1, 2, 5, 9].map((limit) => countUpTo([1, 2, 5], limit)), [0, 1, 2, 3, 3]);
 });

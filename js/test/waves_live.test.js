@@ -7,47 +7,47 @@ import { vcdParts } from "../core/waves/vcd.js";
 import { Waves } from "../core/waves/wave_recording.js";
 import { openExample, examplesOfPage } from "./page_session.js";
 
-async function beginWith(name, lines = "") {
-  const { board, program } = examplesOfPage.find((each) => each.name === name);
+async function openSession(name, lines = "") {
+  const { board, program } = examplesOfPage.find((example) => example.name === name);
   return { calls: await openExample(name, lines), texts: { board, program, values: [] } };
 }
 
-const numberOf = (waves, name) => waves.lines.findIndex((line) => line.name === name);
+const lineIndexOf = (waves, name) => waves.lines.findIndex((line) => line.name === name);
 const wholeText = (waves) => [...vcdParts(waves, waves.lines.map((_, line) => line))].join("");
 
-/** Starts a recording, and returns it. Its function `did` takes the answers of calls, which contain parts of the recording. */
-function record(calls, texts, { most = 1000000, behind = 0, trigger = "", stopsTime = false } = {}) {
-  const { recorded, error } = calls.recordLive(texts, { trigger, cyclesAfterTrigger: behind, stopsMachine: stopsTime });
+/** Starts a recording, and returns it. Its function `addPart` takes the answer to a call, which contains a part of the recording. */
+function record(calls, texts, { maxCycles = 1000000, cyclesAfterTrigger = 0, trigger = "", stopsTime = false } = {}) {
+  const { recorded, error } = calls.recordLive(texts, { trigger, cyclesAfterTrigger, stopsMachine: stopsTime });
   assert.equal(error, "");
-  const live = new LiveWaves(recorded, { maxCycles: most, cyclesAfterTrigger: behind, trigger, stopsTime });
-  return { live, did: (shown) => live.append(shown.waves) };
+  const live = new LiveWaves(recorded, { maxCycles, cyclesAfterTrigger, trigger, stopsTime });
+  return { live, addPart: (answer) => live.append(answer.waves) };
 }
 
 test("a live recording of frames, keys, lines and steps equals a recording of the past", async () => {
-  const { calls, texts } = await beginWith("calculator", "run 30000\n");
+  const { calls, texts } = await openSession("calculator", "run 30000\n");
   texts.values = ["r5", "p2", "ram.0.0x12"];
-  const { live, did } = record(calls, texts);
-  for (let frame = 0; frame < 4; frame++) did(calls.advance(1543));
-  did(calls.advance(1543, matrixKey(2, 0)));
-  did(calls.advance(3000));
+  const { live, addPart } = record(calls, texts);
+  for (let frame = 0; frame < 4; frame++) addPart(calls.advance(1543));
+  addPart(calls.advance(1543, matrixKey(2, 0)));
+  addPart(calls.advance(3000));
   calls.release(matrixKey(2, 0));
-  did(calls.advance(4000));
-  did(await calls.serve("step\nrun 777\npress 0 0\nrun 50\nrelease 0 0\npoke r5 3\nstep\nreset\nstep\nrun 100\n"));
-  did(await calls.goOn({ kind: "over" }));
-  did(calls.advance(500));
+  addPart(calls.advance(4000));
+  addPart(await calls.serve("step\nrun 777\npress 0 0\nrun 50\nrelease 0 0\npoke r5 3\nstep\nreset\nstep\nrun 100\n"));
+  addPart(await calls.goOn({ kind: "over" }));
+  addPart(calls.advance(500));
   const whole = new Waves(await calls.record(live.waves.cycles, true, texts));
   assert.equal(live.waves.cycles, whole.cycles);
   assert.equal(wholeText(live.waves), wholeText(whole));
   assert.deepEqual([...live.waves.listing].sort(), [...whole.listing].sort());
-  assert.ok(live.waves.changesOf(numberOf(live.waves, "key.1")).length === 2);
+  assert.ok(live.waves.changesOf(lineIndexOf(live.waves, "key.1")).length === 2);
   live.append(calls.endRecording());
   assert.match(live.statusText, /^Recorded .* Stopped by you\.$/);
   assert.equal(calls.advance(100).waves, null);
 });
 
 test("the session is the same with and without a recording", async () => {
-  const [plain, recording] = [await beginWith("stopwatch", "test 0\n"), await beginWith("stopwatch", "test 0\n")];
-  record(recording.calls, recording.texts, { trigger: "lamp 15 on", behind: 100 });
+  const [plain, recording] = [await openSession("stopwatch", "test 0\n"), await openSession("stopwatch", "test 0\n")];
+  record(recording.calls, recording.texts, { trigger: "lamp 15 on", cyclesAfterTrigger: 100 });
   for (const { calls } of [plain, recording]) {
     for (let frame = 0; frame < 20; frame++) calls.advance(1543);
     await calls.serve("break 0x00C\n");
@@ -58,63 +58,64 @@ test("the session is the same with and without a recording", async () => {
 });
 
 test("only the last cycles are kept, without changes", async () => {
-  const { calls, texts } = await beginWith("stopwatch", "test 0\n");
-  const { live, did } = record(calls, texts, { most: 5000 });
-  live.waves.changesOf(numberOf(live.waves, "rom0[3:0]"));
-  for (let frame = 0; frame < 30; frame++) did(calls.advance(1543));
+  const { calls, texts } = await openSession("stopwatch", "test 0\n");
+  const { live, addPart } = record(calls, texts, { maxCycles: 5000 });
+  live.waves.changesOf(lineIndexOf(live.waves, "rom0[3:0]"));
+  for (let frame = 0; frame < 30; frame++) addPart(calls.advance(1543));
   assert.deepEqual([live.waves.length, live.waves.cycles], [5000, 30 * 1543]);
   const whole = new Waves(await calls.record(5000, true, texts));
   assert.equal(wholeText(live.waves), wholeText(whole));
 });
 
 test("a breakpoint stops the machine and the recording", async () => {
-  const { calls, texts } = await beginWith("three lamps", "break 0x00C\n");
-  const { live, did } = record(calls, texts);
+  const { calls, texts } = await openSession("three lamps", "break 0x00C\n");
+  const { live, addPart } = record(calls, texts);
   const frame = calls.advance(100000);
-  did(frame);
+  addPart(frame);
   assert.equal(frame.stop.reason, "break");
   assert.equal(live.waves.cycles, frame.cycles);
   assert.equal(live.waves.counterAt(live.waves.cycles), 0x00c);
 });
 
 /** Returns the values of a line before a moment and at it. */
-const around = (waves, name, at) => [at - 1, at].map((moment) => waves.valueAt(numberOf(waves, name), moment));
+const valuesAround = (waves, name, moment) => [moment - 1, moment].map((time) => waves.valueAt(lineIndexOf(waves, name), time));
 
+/** Triggers, each with a function that reads the recording around the trigger moment, and its expected result. */
 const TRIGGERS = [
-  ["lamp15 rises", (waves, at) => around(waves, "lamp15", at), ["0", "1"]],
-  ["lamp 15 falls", (waves, at) => around(waves, "lamp15", at), ["1", "0"]],
-  ["r3 = 9", (waves, at) => around(waves, "r3", at).map((value) => value === "9"), [false, true]],
-  ["@wait", (waves, at) => [waves.labelAt(at), waves.counterAt(at) === waves.counterAt(at - 1)], ["wait", false]],
+  ["lamp15 rises", (waves, moment) => valuesAround(waves, "lamp15", moment), ["0", "1"]],
+  ["lamp 15 falls", (waves, moment) => valuesAround(waves, "lamp15", moment), ["1", "0"]],
+  ["r3 = 9", (waves, moment) => valuesAround(waves, "r3", moment).map((value) => value === "9"), [false, true]],
+  ["@wait", (waves, moment) => [waves.labelAt(moment), waves.counterAt(moment) === waves.counterAt(moment - 1)], ["wait", false]],
 ];
 
-for (const [trigger, recorded, wanted] of TRIGGERS) {
+for (const [trigger, readAround, expected] of TRIGGERS) {
   test(`a trigger, ${trigger}, with cycles before and after it`, async () => {
-    const { calls, texts } = await beginWith("stopwatch", "test 0\nrun 20000\n");
+    const { calls, texts } = await openSession("stopwatch", "test 0\nrun 20000\n");
     texts.values = ["r3"];
-    const { live, did } = record(calls, texts, { most: 3000, behind: 1000, trigger });
+    const { live, addPart } = record(calls, texts, { maxCycles: 3000, cyclesAfterTrigger: 1000, trigger });
     for (let frame = 0; frame < 200 && live.isOn; frame++) {
-      const shown = calls.advance(1543);
-      assert.equal(shown.stop, null);
-      did(shown);
+      const answer = calls.advance(1543);
+      assert.equal(answer.stop, null);
+      addPart(answer);
     }
     assert.equal(live.endReason, "trigger");
-    const { waves, triggerMoment: triggered } = live;
-    assert.deepEqual(recorded(waves, triggered), wanted);
-    assert.equal(waves.cycles, triggered + 1000);
-    assert.equal(waves.from, Math.max(0, triggered - 2000));
+    const { waves, triggerMoment } = live;
+    assert.deepEqual(readAround(waves, triggerMoment), expected);
+    assert.equal(waves.cycles, triggerMoment + 1000);
+    assert.equal(waves.from, Math.max(0, triggerMoment - 2000));
     assert.match(live.statusText, /The trigger was at cycle/);
   });
 }
 
 test("the machine stops at an instruction once the cycles after a trigger are recorded", async () => {
-  const { calls, texts } = await beginWith("stopwatch", "test 0\nrun 20000\n");
-  const { live, did } = record(calls, texts, { most: 3000, behind: 10, trigger: "lamp15 changes", stopsTime: true });
+  const { calls, texts } = await openSession("stopwatch", "test 0\nrun 20000\n");
+  const { live, addPart } = record(calls, texts, { maxCycles: 3000, cyclesAfterTrigger: 10, trigger: "lamp15 changes", stopsTime: true });
   let frame = calls.advance(1);
   for (let count = 0; count < 50 && !frame.stop; count++) {
-    did(frame);
+    addPart(frame);
     frame = calls.advance(1543);
   }
-  did(frame);
+  addPart(frame);
   assert.equal(frame.stop.reason, "recorded");
   assert.deepEqual([live.endReason, live.waves.cycles], ["trigger", live.triggerMoment + 10]);
   assert.match(calls.ask("regs\n")[0], / owed 0 /);
@@ -123,33 +124,33 @@ test("the machine stops at an instruction once the cycles after a trigger are re
 });
 
 test("a key press can be a trigger", async () => {
-  const { calls, texts } = await beginWith("calculator", "run 30000\n");
-  const { live, did } = record(calls, texts, { most: 9000, behind: 3000, trigger: "key 1 rises" });
-  did(calls.advance(1543));
-  did(calls.advance(1543, matrixKey(2, 0)));
-  did(calls.advance(4000));
-  assert.equal(live.waves.valueAt(numberOf(live.waves, "key.1"), live.triggerMoment), "1");
+  const { calls, texts } = await openSession("calculator", "run 30000\n");
+  const { live, addPart } = record(calls, texts, { maxCycles: 9000, cyclesAfterTrigger: 3000, trigger: "key 1 rises" });
+  addPart(calls.advance(1543));
+  addPart(calls.advance(1543, matrixKey(2, 0)));
+  addPart(calls.advance(4000));
+  assert.equal(live.waves.valueAt(lineIndexOf(live.waves, "key.1"), live.triggerMoment), "1");
   assert.deepEqual([live.triggerMoment, live.endReason], [1543, "trigger"]);
 });
 
 test("the reason for the end of a recording is reported", async () => {
-  const ends = async (act) => {
-    const { calls, texts } = await beginWith("three lamps", "run 500\n");
-    const { live, did } = record(calls, texts);
-    did(calls.advance(100));
-    did(await act(calls));
+  const statusAfter = async (action) => {
+    const { calls, texts } = await openSession("three lamps", "run 500\n");
+    const { live, addPart } = record(calls, texts);
+    addPart(calls.advance(100));
+    addPart(await action(calls));
     assert.equal((await calls.serve("step\n")).waves, null);
     return live.statusText.replace(/^Recorded [^.]*\.\d+ m?s\. /, "");
   };
-  assert.equal(await ends((calls) => calls.goBack({ kind: "instruction" })), "It ended when the session went back or forward.");
+  assert.equal(await statusAfter((calls) => calls.goBack({ kind: "instruction" })), "It ended when the session went back or forward.");
   const board = "wire\n[[rom]]\nchip = 0\nport = \"0000\"\n.\n";
-  assert.equal(await ends((calls) => calls.serve(board)), "It ended when the board was wired again.");
-  assert.equal(await ends((calls) => calls.serve("asm\nNOP\n.\n")), "It ended when other bytes were put into ROM.");
-  assert.equal(await ends((calls) => calls.serve("run 100000\n".repeat(30))), "It ended at lines that did more than it can follow.");
+  assert.equal(await statusAfter((calls) => calls.serve(board)), "It ended when the board was wired again.");
+  assert.equal(await statusAfter((calls) => calls.serve("asm\nNOP\n.\n")), "It ended when other bytes were put into ROM.");
+  assert.equal(await statusAfter((calls) => calls.serve("run 100000\n".repeat(30))), "It ended at lines that did more than it can follow.");
 });
 
 test("an invalid trigger is reported, and nothing is recorded", async () => {
-  const { calls, texts } = await beginWith("calculator");
+  const { calls, texts } = await openSession("calculator");
   const recordWith = (trigger) => calls.recordLive(texts, { trigger, cyclesAfterTrigger: 0, stopsMachine: false });
   const errors = {
     "r99 rises": 'nothing here is called r99; the menu Rows lists the names',
@@ -159,11 +160,11 @@ test("an invalid trigger is reported, and nothing is recorded", async () => {
     "@nowhere": /nowhere/,
     rubbish: /./,
   };
-  for (const [trigger, words] of Object.entries(errors)) {
+  for (const [trigger, message] of Object.entries(errors)) {
     const { recorded, error } = recordWith(trigger);
     assert.equal(recorded, null, trigger);
-    if (typeof words === "string") assert.equal(error, words);
-    else assert.match(error, words);
+    if (typeof message === "string") assert.equal(error, message);
+    else assert.match(error, message);
   }
   assert.equal(calls.advance(100).waves, null);
 });

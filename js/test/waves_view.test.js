@@ -9,7 +9,7 @@ import {
 import { Waves } from "../core/waves/wave_recording.js";
 
 /** Returns a recording of one line that changes at the given moments. */
-function wavesWith(changes, cycles) {
+function createWaves(changes, cycles) {
   return new Waves({
     from: 0, cycles, isStuck: false,
     lines: [{ name: "test", title: "", group: "test", kind: "test", places: [], members: [], width: 1 }],
@@ -19,19 +19,19 @@ function wavesWith(changes, cycles) {
   });
 }
 
-function windowOf(cycles, width) {
+function createWindow(cycles, width) {
   const view = new WaveWindow(cycles);
   view.width = width;
   return view;
 }
 
 test("the whole recording is visible at first, and positions correspond to moments", () => {
-  const view = windowOf(1000, 500);
+  const view = createWindow(1000, 500);
   assert.deepEqual([view.xAt(0), view.xAt(1000), view.cyclesAt(250)], [0, 500, 500]);
 });
 
 test("the moment at the zoom position stays there", () => {
-  const view = windowOf(1000, 500);
+  const view = createWindow(1000, 500);
   view.zoom(4, 600);
   assert.deepEqual([view.span, view.xAt(600)], [250, 300]);
   view.zoom(1 / 16, 600);
@@ -39,7 +39,7 @@ test("the moment at the zoom position stays there", () => {
 });
 
 test("at least ten cycles are visible, and at most the whole recording", () => {
-  const view = windowOf(1000, 500);
+  const view = createWindow(1000, 500);
   view.zoom(1e9, 995);
   assert.equal(view.span, 10);
   assert.ok(view.from >= 0 && view.to <= 1000);
@@ -52,7 +52,7 @@ test("at least ten cycles are visible, and at most the whole recording", () => {
 });
 
 test("a cursor stays within the recording, and is scrolled into view", () => {
-  const view = windowOf(1000, 500);
+  const view = createWindow(1000, 500);
   view.zoom(10, 0);
   view.move(700);
   assert.ok(view.from <= 700 && view.to >= 700);
@@ -63,8 +63,8 @@ test("a cursor stays within the recording, and is scrolled into view", () => {
 });
 
 test("a click selects a near edge, or else the cycle at its position", () => {
-  const waves = wavesWith([100, 400], 1000);
-  const view = windowOf(1000, 500);
+  const waves = createWaves([100, 400], 1000);
+  const view = createWindow(1000, 500);
   assert.deepEqual([47, 53, 60, 197, 204, 300].map((x) => view.momentAt(x, waves, 0)), [100, 100, 120, 400, 400, 600]);
   assert.deepEqual([view.momentAt(53, waves, -1), view.momentAt(-9, waves, 0), view.momentAt(900, waves, 0)], [106, 0, 1000]);
   view.zoom(100, 0);
@@ -72,7 +72,7 @@ test("a click selects a near edge, or else the cycle at its position", () => {
 });
 
 test("a window follows the end of a recording if the end was visible", () => {
-  const view = windowOf(1000, 500);
+  const view = createWindow(1000, 500);
   view.zoom(4, 1000);
   view.extendRange(500, 2000);
   assert.deepEqual([view.from, view.to, view.cursors], [1750, 2000, [500, 500]]);
@@ -82,7 +82,7 @@ test("a window follows the end of a recording if the end was visible", () => {
 });
 
 test("a growing recording is visible as a whole while it is short, and then its last part", () => {
-  const view = windowOf(0, 500);
+  const view = createWindow(0, 500);
   view.extendRange(0, 3000);
   assert.deepEqual([view.from, view.to, view.cursors], [0, 3000, [3000, 3000]]);
   view.move(100);
@@ -96,15 +96,15 @@ test("a growing recording is visible as a whole while it is short, and then its 
 });
 
 test("an empty recording also has a window", () => {
-  const view = windowOf(0, 500);
+  const view = createWindow(0, 500);
   view.zoom(2, 0);
   view.move(3);
   assert.deepEqual([view.from, view.moment, tickMoments(view, 90)], [0, 0, [0, 1]]);
 });
 
 test("the tick labels do not overlap", () => {
-  assert.deepEqual(tickMoments(windowOf(1000, 500), 90), [0, 200, 400, 600, 800, 1000]);
-  const view = windowOf(100000, 500);
+  assert.deepEqual(tickMoments(createWindow(1000, 500), 90), [0, 200, 400, 600, 800, 1000]);
+  const view = createWindow(100000, 500);
   view.zoom(10000, 50000);
   const ticks = tickMoments(view, 90);
   assert.ok(ticks.length >= 4 && ticks.every((tick) => Number.isInteger(tick)));
@@ -116,7 +116,7 @@ test("cycles and times are formatted; a cycle takes 10.8 microseconds", () => {
 });
 
 test("the instruction and value at a cursor are described", () => {
-  const waves = wavesWith([2], 3);
+  const waves = createWaves([2], 3);
   assert.equal(describeCursor("A", 0, waves), "A: cycle 0, 0.000 ms: 000 D5 LDM 5");
   assert.equal(describeCursor("B", 3, waves), "B: cycle 3, 0.032 ms: next: 002 00 NOP");
   assert.equal(screenReaderText(2, waves, 0), "test is 0, cycle 2, 001 40 00 JUN 0x000");
@@ -127,12 +127,12 @@ test("the instruction and value at a cursor are described", () => {
 });
 
 test("a recording is described", () => {
-  const waves = wavesWith([2], 3);
+  const waves = createWaves([2], 3);
   assert.equal(describeRecording(waves, 3, false), "3 cycles recorded, 0.032 ms.");
   assert.equal(describeRecording(waves, 9, true), "3 cycles recorded, 0.032 ms. The remembered past reaches no further back.");
   waves.isStuck = true;
   assert.match(describeRecording(waves, 9, false), /A code that is not an instruction follows\.$/);
-  assert.match(describeRecording(wavesWith([], 0), 9, true), /^Nothing was recorded/);
+  assert.match(describeRecording(createWaves([], 0), 9, true), /^Nothing was recorded/);
 });
 
 test("values are formatted in three bases", () => {
@@ -147,7 +147,7 @@ test("the typed number of cycles is parsed", () => {
 });
 
 test("a finished recording is shown as a whole unless the user has zoomed", () => {
-  const view = windowOf(0, 500);
+  const view = createWindow(0, 500);
   view.extendRange(0, 154363);
   assert.equal(view.from > 0, true);
   view.showAllIfUnzoomed();
@@ -166,7 +166,7 @@ test("the flag of a cursor stays within the picture", () => {
 });
 
 test("cursors that the user has not moved are placed at edges when a recording ends", () => {
-  const view = windowOf(0, 500);
+  const view = createWindow(0, 500);
   view.extendRange(0, 1000);
   assert.deepEqual(view.cursors, [1000, 1000]);
   view.placeCursors(100, 400);

@@ -6,7 +6,7 @@ import { isCurveCovered, pathText, routeWire } from "../core/board/wire_routes.j
 import { layOutBoard } from "../core/board/wiring.js";
 
 /** Returns a board with the maximum number of chips, chains, keys and lamps. */
-function largestBoard() {
+function createLargestBoard() {
   const lines = ["board"];
   for (let chip = 0; chip < 16; chip++) lines.push("[[rom]]", `chip = ${chip}`, `port = "${chip % 2 ? "iiii" : "0000"}"`);
   for (let bank = 0; bank < 8; bank++) lines.push("[[ram]]", `bank = ${bank}`, "chips = 4");
@@ -22,12 +22,12 @@ function largestBoard() {
 const SMALL = readBoard(["board", "[[rom]]", "chip = 1", 'port = "iiii"', "[[chain]]", 'clock = "rom0.0"', 'data = "rom0.1"', "chips = 4",
   "[keys]", "chain = 0", "first = 0", "rows = 4", 'columns = ["rom1.0", "rom1.1"]']);
 
-for (const [name, board] of Object.entries({ "a small board": SMALL, "the largest board": largestBoard() })) {
+for (const [name, board] of Object.entries({ "a small board": SMALL, "the largest board": createLargestBoard() })) {
   test(`${name}: no wire is hidden by a part, and each wire ends at its pin`, () => {
     const { parts, wires } = layOutBoard(board);
     assert.ok(wires.length > 0);
-    wires.forEach((wire, at) => {
-      const route = routeWire(wire, parts, at);
+    wires.forEach((wire, index) => {
+      const route = routeWire(wire, parts, index);
       for (const curve of route) for (const part of parts) assert.ok(!isCurveCovered(curve, part), `${wire.line} below ${part.id}`);
       assert.deepEqual([route[0][0], route[route.length - 1][3]], [wire.from, wire.to]);
       for (let next = 1; next < route.length; next++) assert.deepEqual(route[next][0], route[next - 1][3]);
@@ -35,36 +35,36 @@ for (const [name, board] of Object.entries({ "a small board": SMALL, "the larges
   });
 }
 
-/** Returns a generator of pseudo-random numbers that are the same in each run. */
+/** Returns a function that returns a pseudo-random number below its argument. The same seed gives the same numbers. */
 function createRandom(seed) {
   let state = seed;
-  return (most) => {
+  return (limit) => {
     state = (Math.imul(state, 1103515245) + 12345) >>> 0;
-    return (state >>> 8) % most;
+    return (state >>> 8) % limit;
   };
 }
 
 test("after parts were moved at random, almost no wire is hidden by a part", () => {
-  let [below, wouldBe] = [0, 0];
+  let [hiddenCount, directHiddenCount] = [0, 0];
   for (let seed = 1; seed <= 40; seed++) {
-    const chance = createRandom(seed);
-    const order = layOutBoard(SMALL).parts.map(({ id, height }) => ({ id, height, rank: chance(1000) }))
-      .sort((one, other) => one.rank - other.rank);
-    const moved = new Map();
+    const randomBelow = createRandom(seed);
+    const shuffledParts = layOutBoard(SMALL).parts.map(({ id, height }) => ({ id, height, rank: randomBelow(1000) }))
+      .sort((a, b) => a.rank - b.rank);
+    const positions = new Map();
     let y = 20;
-    order.forEach(({ id, height }) => {
-      moved.set(id, { x: 20 + 220 * chance(4) + chance(30), y });
+    shuffledParts.forEach(({ id, height }) => {
+      positions.set(id, { x: 20 + 220 * randomBelow(4) + randomBelow(30), y });
       y += height + 24;
     });
-    const { parts, wires } = layOutBoard(SMALL, undefined, moved);
+    const { parts, wires } = layOutBoard(SMALL, undefined, positions);
     const isHidden = (route) => route.some((curve) => parts.some((part) => isCurveCovered(curve, part)));
-    wires.forEach((wire, at) => {
-      below += Number(isHidden(routeWire(wire, parts, at)));
-      wouldBe += Number(isHidden(routeWire(wire, [], at)));
+    wires.forEach((wire, index) => {
+      hiddenCount += Number(isHidden(routeWire(wire, parts, index)));
+      directHiddenCount += Number(isHidden(routeWire(wire, [], index)));
     });
   }
   // A wire may cross a part if a route around the part would need two more bends.
-  assert.ok(below <= 3 && wouldBe > 150, `${below} of ${wouldBe}`);
+  assert.ok(hiddenCount <= 3 && directHiddenCount > 150, `${hiddenCount} of ${directHiddenCount}`);
 });
 
 test("a wire is one curve if nothing is in between, or if there is no space for bends", () => {

@@ -10,26 +10,26 @@ const BOARD = ["board", "[[rom]]", "chip = 0", 'port = "0000"', "[[rom]]", "chip
   "[[chain]]", 'clock = "rom0.0"', 'data = "rom0.1"', "chips = 1", "[keys]", "chain = 0", "first = 0", "rows = 2",
   'columns = ["rom1.0", "rom1.1"]', "[[lamp]]", 'line = "ram0.0.0"', "[[lamp]]", 'line = "chain0.9"'];
 
-test("each part of a board is drawn once, and no two lie over one another", () => {
+test("each part of a board is drawn once, and no two parts overlap", () => {
   const { parts, width, height } = layOutBoard(readBoard(BOARD));
   assert.deepEqual(parts.map(({ id }) => id), ["processor", "rom 0", "rom 1", "ram 0.0", "chain 0", "keys", "lamps"]);
-  for (const one of parts) {
-    assert.ok(one.x >= 0 && one.x + one.width <= width && one.y + one.height <= height);
-    for (const other of parts.filter((each) => each !== one)) {
-      const apart = one.x + one.width <= other.x || other.x + other.width <= one.x || one.y + one.height <= other.y
-        || other.y + other.height <= one.y;
-      assert.ok(apart, `${one.id} and ${other.id}`);
+  for (const part of parts) {
+    assert.ok(part.x >= 0 && part.x + part.width <= width && part.y + part.height <= height);
+    for (const other of parts.filter((otherPart) => otherPart !== part)) {
+      const isApart = part.x + part.width <= other.x || other.x + other.width <= part.x || part.y + part.height <= other.y
+        || other.y + other.height <= part.y;
+      assert.ok(isApart, `${part.id} and ${other.id}`);
     }
   }
 });
 
-test("a wire goes from what drives a line, or is read at it, to what uses it", () => {
+test("a wire goes from the pin that drives a line, or that the line reads, to the pin that uses the line", () => {
   const { wires } = layOutBoard(readBoard(BOARD));
   assert.deepEqual(wires.map(({ line, to }) => `${line} ${to.label}`), ["rom0.0 clock", "rom0.1 data", "chain0.0 row 0", "chain0.1 row 1",
     "rom1.0 column 0", "rom1.1 column 1", "ram0.0.0 lamp 0", "chain0.9 lamp 1"]);
 });
 
-test("the words of a part say what its lines do", () => {
+test("the description of a part states the uses of its lines", () => {
   const { parts } = layOutBoard(readBoard(BOARD), { names: ["red"], colours: ["green"], test: null, buzzer: null });
   const descriptions = (id) => parts.find((part) => part.id === id).descriptions;
   const outputs = ["line rom0.0, an output, clocks chain 0", "line rom0.1, an output, is the data of chain 0"];
@@ -39,9 +39,9 @@ test("the words of a part say what its lines do", () => {
   assert.deepEqual(descriptions("lamps"), ["red is at ram0.0.0", "lamp 1 is at chain0.9"]);
 });
 
-test("what is at TEST is a part with a wire to the processor, and has its words", () => {
-  const at = { names: [], colours: [], test: { kind: "button", name: "CROSS_THE_ROAD", level: 0, line: 1 } };
-  const { parts, wires } = layOutBoard(readBoard(["board"]), at);
+test("the component at TEST is a part with a wire to the processor, and has a description", () => {
+  const appearance = { names: [], colours: [], test: { kind: "button", name: "CROSS_THE_ROAD", level: 0, line: 1 } };
+  const { parts, wires } = layOutBoard(readBoard(["board"]), appearance);
   assert.deepEqual(parts.map(({ id, title }) => `${id} ${title}`), ["processor 4004", "test CROSS THE …"]);
   assert.deepEqual(wires.map(({ from, to }) => `${from.label} ${to.label}`), ["button TEST"]);
   assert.equal(parts[0].descriptions[1], "its input TEST is connected to the button CROSS THE ROAD");
@@ -61,7 +61,7 @@ test("an empty board has a processor", () => {
   assert.deepEqual(layOutBoard(readBoard(["board"])).parts.map(({ id }) => id), ["processor"]);
 });
 
-test("levels: an input line has what is read at it, an output line what its latch holds", () => {
+test("the level of an input line is its read value, and the level of an output line is its latch value", () => {
   const levels = (mask, portLevels) => [0, 1, 2, 3].map((line) => isHighAtRom(mask, portLevels, line));
   assert.deepEqual(levels("0000", { out: "5", in: "0" }), [true, false, true, false]);
   assert.deepEqual(levels("iiii", { out: "F", in: "2" }), [false, true, false, false]);
@@ -69,20 +69,20 @@ test("levels: an input line has what is read at it, an output line what its latc
   assert.deepEqual([0, 1, 2, 3].map((line) => isHigh("8", line)), [false, false, false, true]);
 });
 
-test("parts are found in a text, whatever way it is written", () => {
+test("parts are found in a text in any TOML notation", () => {
   const text = '# a board\nlamp = [\n  { line = "ram0.0.0" }, { line = "ram0.0.1" },\n  { line = "chain0.3" },\n]\n\n[[rom]] # first\n'
     + 'chip = 0x0A\nport = "0000"\n\n[keys]\nchain = 0\nfirst = 0\nrows = 1\ncolumns = ["rom0.0"]\n\n'
     + '[[chain]]\nclock = "rom0.0"\ndata = "rom0.1"\n';
-  const places = partLines(text);
-  assert.deepEqual(Object.fromEntries(places), {
+  const lines = partLines(text);
+  assert.deepEqual(Object.fromEntries(lines), {
     "lamp 0": { from: 3, to: 3 }, "lamp 1": { from: 3, to: 3 }, "lamp 2": { from: 4, to: 4 }, "rom 10": { from: 7, to: 9 },
     keys: { from: 11, to: 15 }, "chain 0": { from: 17, to: 19 },
   });
-  assert.deepEqual([1, 3, 8, 18, 99].map((line) => partAtLine(places, line)), ["", "lamp 0", "rom 10", "chain 0", ""]);
+  assert.deepEqual([1, 3, 8, 18, 99].map((line) => partAtLine(lines, line)), ["", "lamp 0", "rom 10", "chain 0", ""]);
   assert.equal(partLines("").size, 0);
 });
 
-test("what is at TEST stands in a comment", () => {
+test("the component at TEST is found in a comment", () => {
   const rom = '[[rom]]\nchip = 0\nport = "0000"\n';
   assert.deepEqual(Object.fromEntries(drawnPartLines(`${rom}# test: button Start\n`)),
     { "rom 0": { from: 1, to: 3 }, test: { from: 4, to: 4 } });

@@ -270,10 +270,10 @@ export class TestRun {
   async runUntil(session, condition, maxCycles) {
     const startCycles = session.elapsed;
     const isLabel = condition.address >= 0;
-    if (!isLabel && session.check(condition).holds) return "";
+    if (!isLabel && session.checkAtInstructionEnd(condition).holds) return "";
     const end = startCycles + maxCycles;
     const stop = isLabel ? await this.runToLabel(session, condition, end) : await this.runToChange(session, condition, end);
-    const { holds, message } = session.check(condition);
+    const { holds, message } = isLabel ? session.check(condition) : session.checkAtInstructionEnd(condition);
     if (holds) return "";
     if (stop === "code") return say.runStoppedAt(session.elapsed - startCycles, this.describeStop(session), message);
     return say.notReachedMessage(maxCycles, message, describeLastLabel(session, this.prepared.names.map, condition));
@@ -315,7 +315,7 @@ export class TestRun {
       piece = Math.min(piece, maxCycles);
       const cycles = condition.places.length > 0 ? this.countCyclesToChange(session, condition, extraValues, piece, maxCycles) : 0;
       stop = await session.run(cycles || piece);
-      if (cycles > 0 || (piece === 1 && session.check(condition).holds)) break;
+      if (cycles > 0 || (piece === 1 && session.checkAtInstructionEnd(condition).holds)) break;
     }
     return stop;
   }
@@ -331,7 +331,7 @@ export class TestRun {
     let stop = "end";
     while (session.elapsed < end && stop === "end") {
       stop = await session.run(Math.min(CHECK_INTERVAL, end - session.elapsed));
-      if (session.check(condition).holds) break;
+      if (session.checkAtInstructionEnd(condition).holds) break;
     }
     return stop;
   }

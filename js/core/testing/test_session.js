@@ -188,6 +188,18 @@ export class TestSession {
     return { holds: condition.holds(values, extraValues), message: condition.explain(values, extraValues) };
   }
 
+  /**
+   * Like `check`, for a condition that must be true at the end of the instruction, where `owed` is 0. An instruction has all its other
+   * effects in its first cycle.
+   * @param {Condition} condition
+   */
+  checkAtInstructionEnd(condition) {
+    const { values, extraValues } = this.readCondition(condition);
+    const endValues = { ...extraValues, owed: "0" };
+    const message = condition.explain(values, extraValues) || condition.explain(values, endValues);
+    return { holds: condition.holds(values, extraValues) && condition.holds(values, endValues), message };
+  }
+
   /** Ends the test. */
   end() {
     if (this.owed === "1") this.subtractLastCycle();

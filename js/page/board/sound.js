@@ -85,11 +85,11 @@ export class Sound {
   /** Switches the sound on or off. */
   toggle() {
     if (this.player) this.switchOff();
-    else if (typeof AudioContext === "function") this.begin();
+    else if (typeof AudioContext === "function") this.switchOn();
     else this.status.set(say.NO_SOUND);
   }
 
-  begin() {
+  switchOn() {
     this.player = new Player();
     this.player.context.resume().catch(() => this.status.set(say.NO_SOUND));
     this.update();

@@ -259,7 +259,7 @@ export class WiringView {
    * @param {string} startPin
    * @param {Set<string>} endPins
    */
-  showChoice(selection, startPin, endPins) {
+  showSelection(selection, startPin, endPins) {
     for (const [name, node] of this.items) {
       node.classList.toggle("chosen", name === selection);
       node.classList.toggle("begun", startPin !== "" && name === startPin);

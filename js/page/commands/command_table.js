@@ -305,7 +305,7 @@ const LAYOUT_COMMANDS = [
 
 /** @type {Command[]} */
 const SETTING_COMMANDS = [
-  ...SPEEDS.map(({ id, label: words }) => labelledCommand(`speed.${id}`, say.atSpeed(words), "settings", (calls) => calls.setSpeed(id))),
+  ...SPEEDS.map(({ id, label }) => labelledCommand(`speed.${id}`, say.atSpeed(label), "settings", (calls) => calls.setSpeed(id))),
   ...Object.entries(say.THEMES).map(([name, label]) => (
     labelledCommand(`theme.${name}`, label, "settings", (calls) => calls.setTheme(/** @type {Theme} */ (name)), "theme"))),
 ];

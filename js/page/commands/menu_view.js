@@ -6,9 +6,9 @@ import { putBelow } from "../ui/popup_message.js";
 
 /**
  * A menu item: its id, label, icon, key binding and action. For an item in a set of alternatives, `isChosen` returns true if the item is
- * the current alternative. An item with `isNarrow` appears only in a narrow window; a wide window has a toolbar button instead.
+ * the current alternative. An item with `isNarrowOnly` appears only in a narrow window; a wide window has a toolbar button instead.
  * @typedef {{ id?: string, label: string, icon?: import("../ui/icons.js").IconName, key?: string, act: () => void,
- *   isChosen?: () => boolean, isNarrow?: boolean }} MenuItem
+ *   isChosen?: () => boolean, isNarrowOnly?: boolean }} MenuItem
  */
 
 /** The items of a menu. */
@@ -32,7 +32,7 @@ class MenuList {
     this.items = items;
     this.buttons = items.map((item) => this.makeItem(item));
     this.node.replaceChildren(...this.buttons.map((button, index) => (
-      element("li", { role: "none", className: items[index].isNarrow ? "narrow" : "" }, button))));
+      element("li", { role: "none", className: items[index].isNarrowOnly ? "narrow" : "" }, button))));
   }
 
   /** @param {MenuItem} item */

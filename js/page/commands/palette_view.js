@@ -8,8 +8,9 @@ import * as say from "../../words/page_commands.js";
 
 /**
  * @typedef {import("./palette_search.js").Entry} Entry
- * @typedef {{ commands: () => Entry[], places: (query: string) => Entry[] }} Sources `commands` returns an entry for each command, `places`
- *   an entry for each destination, including a destination made for the query
+ *
+ * `commands` returns an entry for each command, `places` an entry for each destination, including a destination made for the query.
+ * @typedef {{ commands: () => Entry[], places: (query: string) => Entry[] }} EntryProviders
  */
 
 /** The first character of a query that searches commands. A query without this character searches destinations. */
@@ -20,9 +21,9 @@ const MAX_DRAWN_ENTRIES = 500;
 const PAGE_STEP = 8;
 
 export class PaletteView {
-  /** @param {Sources} sources */
-  constructor(sources) {
-    this.sources = sources;
+  /** @param {EntryProviders} providers */
+  constructor(providers) {
+    this.providers = providers;
     /** @type {Entry[]} */
     this.entries = [];
     this.selectedIndex = 0;
@@ -65,7 +66,7 @@ export class PaletteView {
     this.list.setAttribute("aria-label", title);
     field.setAttribute("aria-label", searchesCommands ? say.TYPE_COMMAND : say.TYPE_PLACE);
     field.placeholder = searchesCommands ? say.TYPE_COMMAND : say.TYPE_PLACE;
-    const allEntries = searchesCommands ? this.sources.commands() : this.sources.places(query.trim());
+    const allEntries = searchesCommands ? this.providers.commands() : this.providers.places(query.trim());
     this.entries = searchEntries(allEntries, query).slice(0, MAX_DRAWN_ENTRIES);
     this.list.replaceChildren(...this.entries.map((entry, index) => this.makeOption(entry, index)));
     const { length } = this.entries;

@@ -110,12 +110,12 @@ export class ToolbarView {
 
   /** Returns the file menu. In a narrow window, this menu also has the commands that do not fit into the toolbar. */
   makeFileMenu() {
-    /** @type {(command: Command, id: string, isNarrow: boolean) => import("./menu_view.js").MenuItem} */
-    const item = (command, id, isNarrow) => ({ id, label: command.label, icon: command.icon, key: command.keys[0], isNarrow,
+    /** @type {(command: Command, id: string, isNarrowOnly: boolean) => import("./menu_view.js").MenuItem} */
+    const makeItem = (command, id, isNarrowOnly) => ({ id, label: command.label, icon: command.icon, key: command.keys[0], isNarrowOnly,
       act: () => this.executeCommand(command) });
     return new MenuView(this.makeMenuButton("menu-button", say.FILE, "file"), "menu", say.FILE, [
-      ...Object.entries(FILE_MENU_IDS).map(([command, id]) => item(commandById(command), id, false)),
-      ...Object.entries(NARROW_MENU_IDS).map(([command, id]) => item(commandById(command), id, true)),
+      ...Object.entries(FILE_MENU_IDS).map(([command, id]) => makeItem(commandById(command), id, false)),
+      ...Object.entries(NARROW_MENU_IDS).map(([command, id]) => makeItem(commandById(command), id, true)),
     ]);
   }
 

@@ -130,10 +130,10 @@ export class DrawingController {
 
   /**
    * Updates the drawing after a board was applied.
-   * @param {string[]} answers the lines of the bench's answer to the query `board`
+   * @param {string[]} boardLines the lines of the bench's answer to the query `board`
    */
-  handleBoard(answers) {
-    this.drawing.setSessionBoard(answers);
+  handleBoard(boardLines) {
+    this.drawing.setSessionBoard(boardLines);
     this.updateFromText();
   }
 

@@ -137,7 +137,7 @@ export class DrawingView {
     const drawnInput = JSON.stringify([board, appearance, isWired, [...movedParts]]);
     if (drawnInput !== this.lastDrawn) this.picture.draw(board, appearance, { moved: movedParts, isWired });
     this.lastDrawn = drawnInput;
-    this.picture.showChoice(selected, wireStart, ends);
+    this.picture.showSelection(selected, wireStart, ends);
   }
 
   /** @param {DrawingState} state */
@@ -186,8 +186,8 @@ export class DrawingView {
     const head = element("b", {}, title);
     this.fields = fields.map((description, index) => this.makeFieldNode(description, index, isDisabled));
     const rows = this.fields.map((node, index) => element("label", {}, `${fields[index].label} `, node));
-    const endButtons = buttons.map(({ label: word, action }) => (
-      this.makeButtonNode(word, () => this.calls.performAction(action), isDisabled)));
+    const endButtons = buttons.map(({ label, action }) => (
+      this.makeButtonNode(label, () => this.calls.performAction(action), isDisabled)));
     if (part === "keys") endButtons.push(this.makeButtonNode(say.INSERT_SCAN, () => this.calls.insertKeyScan(), isDisabled));
     if (part) endButtons.push(this.makeButtonNode(say.SHOW_IN_BOARD, () => this.calls.showPartLines(part), false));
     root.replaceChildren(head, ...endButtons, ...(endButtons.length > 0 ? [element("hr")] : []), ...rows);
@@ -197,12 +197,12 @@ export class DrawingView {
   }
 
   /**
-   * @param {string} word
+   * @param {string} label
    * @param {() => void} action
    * @param {boolean} isDisabled
    */
-  makeButtonNode(word, action, isDisabled) {
-    const node = element("button", { "type": "button", disabled: isDisabled, "aria-label": word }, word);
+  makeButtonNode(label, action, isDisabled) {
+    const node = element("button", { "type": "button", disabled: isDisabled, "aria-label": label }, label);
     onClick(node, action);
     return node;
   }

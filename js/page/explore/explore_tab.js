@@ -226,8 +226,8 @@ export class ExploreTab {
   }
 
   async explore() {
-    const request = this.readRunOptions();
-    if (!request) return;
+    const options = this.readRunOptions();
+    if (!options) return;
     const { texts, sessionId } = this;
     /** @type {SearchResults} */
     const results = { texts, report: null, files: new Map(), isStopped: false };
@@ -238,7 +238,7 @@ export class ExploreTab {
     this.show();
     let searchEnd = /** @type {TaskResult} */ ({ errors: [], isStopped: true });
     try {
-      searchEnd = await this.calls.explore(texts, request, controller.signal, (progress) => this.handleProgress(results, progress));
+      searchEnd = await this.calls.explore(texts, options, controller.signal, (progress) => this.handleProgress(results, progress));
     } finally {
       this.controller = null;
       results.isStopped = searchEnd.isStopped;

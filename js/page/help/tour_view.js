@@ -89,9 +89,10 @@ export class TourView {
   /** @param {number} index the index of the step */
   show(index) {
     this.progress.begin(index);
-    const { title, paragraphs: words, program } = this.progress.step;
+    const { title, paragraphs, program } = this.progress.step;
     this.title.set(say.stepOf(index + 1, this.progress.steps.length, title));
-    this.textBlock.replaceChildren(...words.map((paragraph) => element("p", {}, ...[paragraph].flat().map((part) => this.makeNode(part)))));
+    this.textBlock.replaceChildren(...paragraphs.map((paragraph) => (
+      element("p", {}, ...[paragraph].flat().map((part) => this.makeNode(part))))));
     this.program.set(program);
     this.program.node.hidden = program === "";
     this.putButton.hidden = program === "";

@@ -68,7 +68,7 @@ export class BreakpointsController {
   makeManager() {
     const { calls } = this;
     return new BreakpointManager({
-      set: (placedBreakpoints) => this.set(placedBreakpoints),
+      set: (locatedBreakpoints) => this.sendBreakpoints(locatedBreakpoints),
       changed: () => this.show(),
       counted: () => this.view.showHits(this.manager),
       listEdited: calls.saveSession,
@@ -157,11 +157,11 @@ export class BreakpointsController {
 
   /**
    * Sends breakpoints to the bench. Resolves to the id and the error of each breakpoint whose condition or message has an error.
-   * @param {LocatedBreakpoint[]} placedBreakpoints
+   * @param {LocatedBreakpoint[]} locatedBreakpoints
    * @returns {Promise<[number, string][]>}
    */
-  async set(placedBreakpoints) {
-    const { errors, ...result } = await this.bench.call("setBreakpoints", [placedBreakpoints, this.texts()]);
+  async sendBreakpoints(locatedBreakpoints) {
+    const { errors, ...result } = await this.bench.call("setBreakpoints", [locatedBreakpoints, this.texts()]);
     if (result.entries.length > 0) await this.calls.handleResult(result);
     else this.calls.showSession(result);
     return errors;
@@ -169,8 +169,8 @@ export class BreakpointsController {
 
   show() {
     const session = this.calls.session();
-    const { list, errors, savedBreakpoints: storedBreakpoints } = this.manager;
-    if (session) session.record.breakpoints = storedBreakpoints;
+    const { list, errors, savedBreakpoints } = this.manager;
+    if (session) session.record.breakpoints = savedBreakpoints;
     const { lines, addresses } = breakpointMarks(list.all, errors);
     this.calls.showMarks(lines, addresses);
     this.view.show(this.manager);

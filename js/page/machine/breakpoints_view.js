@@ -82,10 +82,10 @@ export class BreakpointsView {
    */
   showRow(row, breakpoint, error, map) {
     const { isOn, hits } = breakpoint;
-    const { mark, description: words } = breakpointMark(breakpoint, error);
+    const { mark, description } = breakpointMark(breakpoint, error);
     row.enableBox.checked = isOn;
     row.mark.set(mark);
-    row.mark.node.title = words;
+    row.mark.node.title = description;
     const location = formatLocation(breakpoint, map);
     row.location.set(location);
     row.edit.setAttribute("aria-label", say.editBreakpoint(location));
@@ -113,9 +113,9 @@ export class BreakpointsView {
     const hitsNode = element("span", { className: "hits" });
     const [mark, location, hits, details, error] = [element("i", { "aria-hidden": "true" }), locationButton, hitsNode,
       element("p", { className: "words" }), element("p", { className: "fault" })].map((node) => new Cell(node));
-    const withBreakpoint = (/** @type {(breakpoint: Breakpoint) => void} */ call) => () => {
+    const withBreakpoint = (/** @type {(breakpoint: Breakpoint) => void} */ action) => () => {
       const breakpoint = manager.list.get(id);
-      if (breakpoint) call(breakpoint);
+      if (breakpoint) action(breakpoint);
     };
     const edit = makeButton(say.EDIT, withBreakpoint((breakpoint) => this.calls.edit(breakpoint)), { className: "edit" });
     const remove = makeButton("\u00D7", () => this.calls.remove(id), { "aria-label": say.REMOVE_BREAKPOINT, "title": say.REMOVES_IT });
@@ -133,15 +133,15 @@ export class BreakpointsView {
    * @param {Tally} tally
    * @param {ShownManager} manager
    */
-  log({ notes, noteCount: noted }, manager) {
+  log({ notes, noteCount }, manager) {
     if (notes.length === 0) return;
-    const lines = notes.slice(-MAX_NOTES).map(({ id, cycles, text: words }) => {
+    const lines = notes.slice(-MAX_NOTES).map(({ id, cycles, text }) => {
       const breakpoint = manager.list.get(id);
       const location = breakpoint ? formatLocation(breakpoint, manager.map) : "";
-      return element("p", { title: say.loggedAt(formatCycles(cycles)) }, element("b", {}, location), ` ${words}`);
+      return element("p", { title: say.loggedAt(formatCycles(cycles)) }, element("b", {}, location), ` ${text}`);
     });
-    const omittedCount = (noted - notes.length).toLocaleString("en");
-    if (noted > notes.length) lines.unshift(element("p", { className: "hint" }, say.moreNotes(omittedCount)));
+    const omittedCount = (noteCount - notes.length).toLocaleString("en");
+    if (noteCount > notes.length) lines.unshift(element("p", { className: "hint" }, say.moreNotes(omittedCount)));
     this.notes.hidden = false;
     this.notes.append(...lines);
     while (this.notes.children.length > MAX_NOTES) this.notes.children[0].remove();

@@ -41,10 +41,10 @@ export class GoToView {
 
   /** Shows the typed address in the disassembly. Returns the address, or null if the typed text is not an address. */
   goToTypedAddress() {
-    const { address, message: words } = parseGoal(this.field.value, this.map);
-    this.status.set(words);
-    this.field.setAttribute("aria-invalid", String(words !== ""));
-    if (words !== "") return null;
+    const { address, message } = parseGoal(this.field.value, this.map);
+    this.status.set(message);
+    this.field.setAttribute("aria-invalid", String(message !== ""));
+    if (message !== "") return null;
     this.show(address);
     return address;
   }

@@ -20,8 +20,8 @@ const DEFAULT_ROWS = 18;
 /** The number of bytes that are shown before the program counter if they fit. */
 const PRECEDING_BYTES = 10;
 /**
- * The interval in milliseconds between moves of the disassembly to the program counter while time is running. Between two moves, the user
- * can read the lines.
+ * The interval in milliseconds between moves of the disassembly to the program counter while time is running fast. Between two moves, the
+ * user can read the lines.
  */
 const FOLLOW_INTERVAL = 300;
 
@@ -54,8 +54,8 @@ export class ListingView {
     this.map = null;
     /** The number of requests so far. Lines are discarded if they arrive after a later request. */
     this.requestCount = 0;
-    /** True if time was running when the disassembly was last shown. */
-    this.isRunning = false;
+    /** True if time was running fast when the disassembly was last shown. */
+    this.isFast = false;
     /** The time in milliseconds when the disassembly last followed the program counter. */
     this.lastFollowTime = 0;
     this.scroll = new ListingScroll(this.block, {
@@ -103,12 +103,12 @@ export class ListingView {
   }
 
   /**
-   * Shows the disassembly from an address. If the disassembly followed the counter while time was paused, it will follow again when the
-   * counter changes.
+   * Shows the disassembly from an address. If the disassembly followed the counter, it will follow again when the counter changes, unless
+   * time is running fast.
    * @param {number} address
    */
   goTo(address) {
-    if (this.followsCounter && !this.isRunning) this.counterAtLeave = this.counter;
+    if (this.followsCounter && !this.isFast) this.counterAtLeave = this.counter;
     this.fixFirstAddress(address);
     this.forget();
   }
@@ -138,16 +138,16 @@ export class ListingView {
 
   /**
    * Shows the line of the program counter. Reads other lines if needed.
-   * @param {boolean} isRunning
+   * @param {boolean} isFast true if time is running too fast for the disassembly to follow each instruction
    */
-  async show(isRunning) {
+  async show(isFast) {
     const { counter, firstAddress } = this;
-    this.isRunning = isRunning;
+    this.isFast = isFast;
     if (this.counterAtLeave >= 0 && counter !== this.counterAtLeave) {
       this.counterAtLeave = -1;
       this.followsCounter = field("follow").checked = true;
     }
-    if (this.lines.length > 0 && !this.mustReadLines(isRunning)) {
+    if (this.lines.length > 0 && !this.mustReadLines(isFast)) {
       this.showRows();
     } else if (this.followsCounter) {
       this.lastFollowTime = performance.now();
@@ -159,14 +159,14 @@ export class ListingView {
   }
 
   /**
-   * Returns true if other lines must be read. A disassembly that does not follow the counter is read again only while time is paused, if
-   * the counter points to the second byte of a line.
-   * @param {boolean} isRunning
+   * Returns true if other lines must be read. A disassembly that does not follow the counter is read again only if the counter points
+   * to the second byte of a line, and not while time is running fast.
+   * @param {boolean} isFast
    */
-  mustReadLines(isRunning) {
-    if (!this.followsCounter) return !isRunning && isInsideLine(this.lines, this.counter);
+  mustReadLines(isFast) {
+    if (!this.followsCounter) return !isFast && isInsideLine(this.lines, this.counter);
     if (this.isCounterVisible(this.counter)) return false;
-    return !isRunning || performance.now() - this.lastFollowTime > FOLLOW_INTERVAL;
+    return !isFast || performance.now() - this.lastFollowTime > FOLLOW_INTERVAL;
   }
 
   /**
@@ -198,7 +198,7 @@ export class ListingView {
     return true;
   }
 
-  // --- moving through the listing ---
+  // --- moving through the disassembly ---
 
   /** @param {number} address */
   handleScroll(address) {

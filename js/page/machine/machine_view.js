@@ -19,7 +19,7 @@ import * as say from "../../words/machine.js";
  * @param {Explain} explain
  */
 function makeTableHead(headings, explain) {
-  const headCells = headings.map((word) => element("th", { scope: "col", title: explain(word) }, word));
+  const headCells = headings.map((heading) => element("th", { scope: "col", title: explain(heading) }, heading));
   return element("thead", {}, element("tr", {}, ...headCells));
 }
 
@@ -96,9 +96,9 @@ export class PortsView {
     this.editor = editor;
     this.explain = explain;
     this.block = block("ports-status");
-    this.sources = element("dl", { className: "cells" });
+    this.srcList = element("dl", { className: "cells" });
     /** @type {Map<string, Cell>} */
-    this.sourceCells = new Map();
+    this.srcCells = new Map();
     /** @type {Cell[][]} */
     this.roms = [];
     /** @type {{ bits: Cell[], oneSwitches: Switch[], shownBits: string }[]} */
@@ -112,8 +112,8 @@ export class PortsView {
   draw(board, face) {
     /** @type {(place: string) => string} */
     const placeName = (place) => (face.ports.get(place) || { text: "" }).text;
-    this.sources = element("dl", { className: "cells" });
-    this.sourceCells.clear();
+    this.srcList = element("dl", { className: "cells" });
+    this.srcCells.clear();
     this.roms = board.roms.map(() => makeCells(2));
     for (const cell of this.roms.flat()) this.editor.makeReadOnly(cell.node, say.PORTS_ARE_READ_ONLY);
     this.chains = board.chains.map((chain) => {
@@ -122,7 +122,7 @@ export class PortsView {
       return { bits, oneSwitches, shownBits: "" };
     });
     const lines = this.chains.map(({ bits }, index) => this.makeChainLine(`chain ${index}`, placeName(`chain${index}`), nodesOf(bits)));
-    this.block.replaceChildren(this.sources, ...(board.roms.length > 0 ? [this.makeRomTable(board.roms, placeName)] : []), ...lines);
+    this.block.replaceChildren(this.srcList, ...(board.roms.length > 0 ? [this.makeRomTable(board.roms, placeName)] : []), ...lines);
   }
 
   /**
@@ -150,25 +150,23 @@ export class PortsView {
   }
 
   /**
-   * Shows the addresses that SRC instructions have sent last: the address for the ROM chips, for example `10`, and an address for each RAM
-   * bank, for example `0.10` for bank 0.
+   * Shows the last SRC byte of the ROM chips, for example `10`, and of each RAM bank, for example `0.10` for bank 0.
    * @param {string[]} srcBytes
    */
   showSrcBytes(srcBytes) {
-    for (const item of srcBytes) {
-      const [bankOrByte, bankByte] = item.split(".");
+    for (const srcByte of srcBytes) {
+      const [bankOrByte, bankByte] = srcByte.split(".");
       const name = bankByte === undefined ? say.SRC_OF_ROMS : `bank ${bankOrByte}`;
-      const cell = this.sourceCells.get(name) || this.addSourceCell(name);
+      const cell = this.srcCells.get(name) || this.addSrcCell(name);
       this.changes.set(cell, bankByte === undefined ? bankOrByte : bankByte);
-
     }
   }
 
   /** @param {string} name */
-  addSourceCell(name) {
+  addSrcCell(name) {
     const cell = new Cell(element("dd"));
-    this.sourceCells.set(name, cell);
-    this.sources.append(element("div", {}, element("dt", { title: this.explain(name) }, name), cell.node));
+    this.srcCells.set(name, cell);
+    this.srcList.append(element("div", {}, element("dt", { title: this.explain(name) }, name), cell.node));
     return cell;
   }
 

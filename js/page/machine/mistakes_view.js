@@ -52,13 +52,13 @@ export class MistakesView {
   }
 
   /** @param {CommonMistake} mistake */
-  makeRow({ kind, address, message: words }) {
+  makeRow({ kind, address, message }) {
     const button = element("button", { type: "button", className: "place" }, this.calls.describeAddress(address));
     onClick(button, () => this.calls.goTo(address));
     const stopBox = element("input", { type: "checkbox", checked: this.stopKinds.has(kind), autocomplete: "off" });
     stopBox.addEventListener("change", () => this.setStop(kind, stopBox.checked));
     const label = element("label", { className: "check", title: say.stopsBefore(KINDS[kind]) }, stopBox, say.STOP_AT_THIS);
-    return element("li", {}, element("span", { className: "words" }, button, ` ${words}`), label);
+    return element("li", {}, element("span", { className: "words" }, button, ` ${message}`), label);
   }
 
   /**

@@ -123,9 +123,9 @@ export class StackView {
 
   /** @param {AddressNote[]} notes */
   showNotes(notes) {
-    notes.forEach(({ isLive, description: words, title }, index) => {
+    notes.forEach(({ isLive, description, title }, index) => {
       const row = this.rows[index];
-      row.note.set(words);
+      row.note.set(description);
       row.liveSwitch.set(isLive);
       if (row.button.title !== title) row.button.title = title;
     });

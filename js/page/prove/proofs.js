@@ -45,10 +45,10 @@ export class Proofs {
         const line = findPropertyLine(text, calls.texts().propertiesText);
         if (line > 0) calls.goTo(line);
       },
-      openCounterexample: ({ text, isGoal }, { linesBefore: before }) => {
+      openCounterexample: ({ text, isGoal }, { linesBefore }) => {
         const { currentResults } = this;
         const description = isGoal ? say.nextStepReaches(text) : say.nextStepBreaks(text);
-        if (currentResults) calls.open(text, before, currentResults.texts, description).catch(calls.reportFailure);
+        if (currentResults) calls.open(text, linesBefore, currentResults.texts, description).catch(calls.reportFailure);
       },
       addTest: (counterexample) => calls.showMessage(calls.addTest(counterexample.text)),
     });
@@ -178,11 +178,11 @@ export class Proofs {
    * @param {ProofResults} results
    * @param {TaskResult} proofEnd
    */
-  finish({ progress: { verdicts: judged } }, { errors, isStopped }) {
-    if (judged.length === 0) this.view.clear();
+  finish({ progress: { verdicts } }, { errors, isStopped }) {
+    if (verdicts.length === 0) this.view.clear();
     this.show();
     if (errors.length > 0) this.calls.showErrors(errors);
-    else if (judged.length > 0) this.calls.showMessage(finalSummary(judged, isStopped));
+    else if (verdicts.length > 0) this.calls.showMessage(finalSummary(verdicts, isStopped));
     else this.calls.showMessage(isStopped ? say.CANCELLED_EARLY : "");
   }
 }

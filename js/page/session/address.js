@@ -33,7 +33,7 @@ export function forgetStory() {
 }
 
 /**
- * Returns what the fragment of a URL names. Ignores trailing spaces, which users sometimes copy together with a URL.
+ * Parses the fragment of a URL. Ignores trailing spaces, which users sometimes copy together with a URL.
  * @param {string} hash
  * @returns {{ kind: AddressKind | "", value: string }}
  */

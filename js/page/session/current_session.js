@@ -96,8 +96,8 @@ export class CurrentSession {
    * change the layout.
    */
   async showElements() {
-    const isFirst = block("bench").hidden;
-    document.body.classList.toggle("settling", isFirst);
+    const isFirstSession = block("bench").hidden;
+    document.body.classList.toggle("settling", isFirstSession);
     for (const id of SESSION_ELEMENT_IDS) block(id).hidden = false;
     await this.calls.checkSource();
     document.body.classList.remove("settling");

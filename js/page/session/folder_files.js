@@ -37,12 +37,13 @@ async function readEntries(folder) {
 }
 
 /**
+ * Adds the files of a folder and of its subfolders to `files`. The keys are the paths.
  * @param {FileSystemDirectoryEntry} folder
  * @param {string} pathPrefix the folder's path in the dropped folder, with a trailing slash
  * @param {Map<string, File>} files
  * @param {number} depth
  */
-async function readInto(folder, pathPrefix, files, depth) {
+async function collectFiles(folder, pathPrefix, files, depth) {
   for (const entry of await readEntries(folder)) {
     if (files.size >= MAX_FILES) return;
     const path = pathPrefix + entry.name;
@@ -50,7 +51,7 @@ async function readInto(folder, pathPrefix, files, depth) {
       const fileEntry = /** @type {FileSystemFileEntry} */ (entry);
       files.set(path, await new Promise((resolve, reject) => { fileEntry.file(resolve, reject); }));
     } else if (depth < MAX_DEPTH && !entry.name.startsWith(".")) {
-      await readInto(/** @type {FileSystemDirectoryEntry} */ (entry), `${path}/`, files, depth + 1);
+      await collectFiles(/** @type {FileSystemDirectoryEntry} */ (entry), `${path}/`, files, depth + 1);
     }
   }
 }
@@ -62,7 +63,7 @@ async function readInto(folder, pathPrefix, files, depth) {
 export async function readFolder(entry) {
   /** @type {Map<string, File>} */
   const files = new Map();
-  await readInto(entry, "", files, 0);
+  await collectFiles(entry, "", files, 0);
   return { name: entry.name, files };
 }
 

@@ -86,7 +86,7 @@ export class LinkSharing {
       title: say.TOO_LONG_LINK,
       paragraphs: [say.longLink(size, MAX_LINK_LENGTH.toLocaleString("en"))],
       acceptLabel: say.SAVE_PROJECT,
-      refuseLabel: say.LEAVE_IT,
+      declineLabel: say.LEAVE_IT,
     });
     if (isSaved) this.calls.save();
   }
@@ -103,7 +103,7 @@ export class LinkSharing {
       title: say.COPY_LINK,
       paragraphs: [say.COPY_MANUALLY, textArea, ...messages],
       acceptLabel: "",
-      refuseLabel: say.CLOSE,
+      declineLabel: say.CLOSE,
     });
     textArea.focus();
     textArea.select();
@@ -122,7 +122,7 @@ export class LinkSharing {
         title: say.openFromLink(texts.name),
         paragraphs: this.describeLink(texts, result),
         acceptLabel: say.OPEN_AS_NEW,
-        refuseLabel: say.LEAVE_IT,
+        declineLabel: say.LEAVE_IT,
       });
       if (isWanted) await this.calls.begin(texts, result.file, result.rejectedTexts.length === 0 && texts.programText !== "");
     } catch (error) {
@@ -136,9 +136,9 @@ export class LinkSharing {
    * @param {Texts} texts
    * @param {import("../../core/engine/dry_run.js").DryRunResult} result
    */
-  describeLink({ boardText, programText, testText = "", propertiesText = "" }, { board, rejectedTexts: refused }) {
+  describeLink({ boardText, programText, testText = "", propertiesText = "" }, { board, rejectedTexts }) {
     const title = shortName(sessionTitle(boardText, programText));
-    const lines = refused.map(({ word, answer }) => {
+    const lines = rejectedTexts.map(({ word, answer }) => {
       const refusal = parseRefusal(answer);
       const reason = refusal ? `${answer}: ${this.errorMessages.refusalMeaning(refusal.number)}` : answer;
       return say.benchRefusesText(word === "wire", reason);

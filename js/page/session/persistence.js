@@ -16,14 +16,14 @@ export class Persistence {
   /** @param {StorageManagerLike | null} storageManager */
   constructor(storageManager = browserStorageManager()) {
     this.storageManager = storageManager;
-    this.hasAsked = false;
+    this.hasRequested = false;
     /** True if the browser has promised not to delete the page's data. */
     this.isPromised = false;
   }
 
-  async ask() {
-    if (this.hasAsked || !this.storageManager) return;
-    this.hasAsked = true;
+  async request() {
+    if (this.hasRequested || !this.storageManager) return;
+    this.hasRequested = true;
     try {
       this.isPromised = await this.storageManager.persist();
     } catch {

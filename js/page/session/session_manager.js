@@ -28,8 +28,7 @@ import * as say from "../../words/session.js";
  * @typedef {object} ManagerCalls
  * @property {() => OpenSession | null} session Returns the current session, or null if there is none.
  * @property {() => Promise<string>} save Saves the session. Resolves to the reason why it could not be saved, or to "".
- * @property {(message: string, ...actions: NoticeAction[]) => void} refuse Shows a message that says why an action was not executed, with
- *   buttons for alternative actions.
+ * @property {(message: string, ...actions: NoticeAction[]) => void} showNotice Shows a message, with buttons for actions.
  * @property {(id: string) => void} setSpeed Sets the speed that a project requests. `id` is the speed's id.
  * @property {(record: SessionRecord) => void} offerReturn Reports a session that the user has left for a new session, and offers to
  *   reopen it.
@@ -63,7 +62,7 @@ export class SessionManager {
     try {
       return (await this.store.all()).sort((a, b) => b.changed - a.changed);
     } catch (error) {
-      this.calls.refuse(say.cannotReadKeptMessage(describeStoreError(error)));
+      this.calls.showNotice(say.cannotReadKeptMessage(describeStoreError(error)));
       return [];
     }
   }
@@ -83,7 +82,7 @@ export class SessionManager {
    * @returns {false}
    */
   rejectAction(message, ...actions) {
-    this.calls.refuse(message, ...actions);
+    this.calls.showNotice(message, ...actions);
     return false;
   }
 
@@ -189,7 +188,7 @@ export class SessionManager {
       const { texts, speed, message } = await readFolderTexts(folder);
       const hasOpened = await this.openSession(await this.makeExampleRecord(texts));
       if (hasOpened && speed) this.calls.setSpeed(speed);
-      if (hasOpened && message) this.calls.refuse(message);
+      if (hasOpened && message) this.calls.showNotice(message);
       return hasOpened;
     } catch (error) {
       return this.rejectAction(say.fileNotOpened(name, this.errorMessages.errorMessage(error)));

@@ -57,10 +57,10 @@ export class SessionsController {
     this.openingGuard.listen(window);
     this.offeredLines = new OfferedLines(notice);
     /** @type {(message: string, ...actions: import("../ui/notice.js").NoticeAction[]) => void} */
-    const refuse = (message, ...actions) => notice.show(message, "session", ...actions);
+    const showNotice = (message, ...actions) => notice.show(message, "session", ...actions);
     this.manager = new SessionManager(bench, store, locks, errorMessages, {
       ...calls,
-      refuse,
+      showNotice,
       offerReturn: (record) => this.offerReturn(record),
       useSession: async (record, release, example) => {
         await this.openingGuard.runOpening(record.id, () => calls.useSession(record, release, example));
@@ -69,7 +69,7 @@ export class SessionsController {
         this.offeredLines.offer("");
       },
     });
-    this.trash = new Trash(store, locks, refuse);
+    this.trash = new Trash(store, locks, showNotice);
     this.view = this.makeView();
   }
 
@@ -120,7 +120,7 @@ export class SessionsController {
    */
   handleSessionChange() {
     this.notice.hide("left");
-    if (this.store.isPersistent) this.persistence.ask();
+    if (this.store.isPersistent) this.persistence.request();
   }
 
   /** @param {string} id */
@@ -223,7 +223,7 @@ export class SessionsController {
     this.notice.show(message, "unended", openAction, deleteAction);
   }
 
-  /** Opens what the fragment of a changed URL names, unless it is already open. */
+  /** Opens the session, example or link that the changed URL names, unless it is already open. */
   async openUrlTarget() {
     const { kind, value } = readUrlFragment(location.hash);
     const session = this.calls.session();

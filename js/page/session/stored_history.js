@@ -6,7 +6,7 @@ import { fromBase64, toBase64 } from "../../core/session/base64.js";
 import * as say from "../../words/session.js";
 
 /**
- * @typedef {import("../../core/engine/timeline.js").PastChanges} News
+ * @typedef {import("../../core/engine/timeline.js").PastChanges} PastChanges
  * @typedef {import("../../core/engine/timeline.js").Entry} Entry
  * @typedef {import("../../core/engine/timeline.js").StoredSegment} StoredSegment
  * @typedef {Pick<Storage, "getItem" | "setItem" | "removeItem">} TabStore
@@ -76,7 +76,7 @@ export class StoredHistory {
 
   /**
    * Adds a report's entries to the history.
-   * @param {News} news
+   * @param {PastChanges} report
    * @param {{ file: Uint8Array, total: number, reset: number }} currentState the session after the report's entries
    */
   addReport({ isNewPast, entries }, currentState) {

@@ -109,7 +109,7 @@ export class TextsController {
     const { program, isGuess } = texts;
     const isSuspicious = isGuess === true && program !== null && (await this.calls.isProbablyNotProgram(program));
     const title = say.replaceByProbableNonProgram(name);
-    const question = { title, paragraphs: [say.eachLineWrong(name)], acceptLabel: say.REPLACE_IT, refuseLabel: say.LEAVE_AS_IS };
+    const question = { title, paragraphs: [say.eachLineWrong(name)], acceptLabel: say.REPLACE_IT, declineLabel: say.LEAVE_AS_IS };
     if (isSuspicious && !(await this.confirmDialog.ask(question))) return;
     if (session && this.isShown(session)) this.loadTexts(name, texts);
   }
@@ -180,7 +180,7 @@ export class TextsController {
       title: say.REPLACE_SOURCE,
       paragraphs: [say.sizesOfSources(formatLineCount(oldText), formatLineCount(disassembly))],
       acceptLabel: say.REPLACE_IT,
-      refuseLabel: say.LEAVE_AS_IS,
+      declineLabel: say.LEAVE_AS_IS,
     });
   }
 

@@ -19,12 +19,12 @@ export class Trash {
   /**
    * @param {SessionStore} store
    * @param {Locks} locks
-   * @param {(message: string) => void} refuse shows the reason why a session was not deleted or restored
+   * @param {(message: string) => void} showNotice shows the reason why a session was not deleted or restored
    */
-  constructor(store, locks, refuse) {
+  constructor(store, locks, showNotice) {
     this.store = store;
     this.locks = locks;
-    this.refuse = refuse;
+    this.showNotice = showNotice;
     this.unsavedTexts = new UnsavedTexts();
     /** @type {SessionRecord[]} the sessions deleted since the page was opened, most recent first */
     this.deleted = [];
@@ -46,7 +46,7 @@ export class Trash {
   async removeSession(record) {
     const release = await this.locks.acquire(record.id);
     if (!release) {
-      this.refuse(say.openElsewhere(record.name));
+      this.showNotice(say.openElsewhere(record.name));
       return false;
     }
     try {
@@ -58,7 +58,7 @@ export class Trash {
       this.unsavedTexts.forget(record.id);
       return true;
     } catch (error) {
-      this.refuse(say.notDeletedMessage(record.name, describeStoreError(error)));
+      this.showNotice(say.notDeletedMessage(record.name, describeStoreError(error)));
       return false;
     } finally {
       release();
@@ -77,7 +77,7 @@ export class Trash {
         await this.store.put(record);
         this.deleted = this.deleted.filter((candidate) => candidate !== record);
       } catch (error) {
-        this.refuse(say.notRestoredMessage(record.name, describeStoreError(error)));
+        this.showNotice(say.notRestoredMessage(record.name, describeStoreError(error)));
       }
     }
   }

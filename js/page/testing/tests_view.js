@@ -81,10 +81,10 @@ export class TestsView {
   showProfile({ rows, total, earlierInstructionCycles, keys }) {
     const makeTableRow = (/** @type {(string | Node)[]} */ ...texts) => element("tr", {}, ...texts.map((text) => element("td", {}, text)));
     const formatPercent = (/** @type {number} */ part) => ((100 * part) / total).toFixed(1);
-    const tableRows = rows.map(({ label, address, ownCycles: own, calls }) => {
+    const tableRows = rows.map(({ label, address, ownCycles, calls }) => {
       const name = address < 0 ? say.NO_LABEL : makeButton(label, () => this.calls.goToAddress(address), { className: "name" });
       const callCells = calls ? [calls.times, calls.withCalls, calls.longest].map((count) => count.toLocaleString("en")) : ["", "", ""];
-      return makeTableRow(name, address < 0 ? "" : hex(address, 3), own.toLocaleString("en"), formatPercent(own), ...callCells);
+      return makeTableRow(name, address < 0 ? "" : hex(address, 3), ownCycles.toLocaleString("en"), formatPercent(ownCycles), ...callCells);
     });
     if (earlierInstructionCycles > 0) {
       const count = earlierInstructionCycles.toLocaleString("en");

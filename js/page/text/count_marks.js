@@ -10,11 +10,11 @@ import * as say from "../../words/text.js";
 
 /**
  * Returns the text in the margin of a line: its execution count and, for a jump, how often the jump was taken and not taken.
- * @param {LineCoverage} covered
+ * @param {LineCoverage} lineCoverage
  */
-export function formatCount({ count, isJump, jumpCount: taken }) {
+export function formatCount({ count, isJump, jumpCount }) {
   if (count === 0) return "never";
-  return isJump ? `${count} ${taken}/${count - taken}` : String(count);
+  return isJump ? `${count} ${jumpCount}/${count - jumpCount}` : String(count);
 }
 
 /** @param {number} number */
@@ -24,11 +24,11 @@ function formatTimes(number) {
 
 /**
  * Returns a sentence about a line's execution count.
- * @param {LineCoverage} covered
+ * @param {LineCoverage} lineCoverage
  */
-export function describeCount({ count, isJump, jumpCount: taken }) {
+export function describeCount({ count, isJump, jumpCount }) {
   if (count === 0) return say.NO_TEST_RUNS;
-  return say.runCount(formatTimes(count)) + (isJump ? say.jumpCounts(formatTimes(taken), formatTimes(count - taken)) : "");
+  return say.runCount(formatTimes(count)) + (isJump ? say.jumpCounts(formatTimes(jumpCount), formatTimes(count - jumpCount)) : "");
 }
 
 export class CountMarks {
@@ -73,9 +73,9 @@ export class CountMarks {
 }
 
 /**
- * @param {LineCoverage | undefined} covered
- * @param {(covered: LineCoverage) => string} format
+ * @param {LineCoverage | undefined} lineCoverage
+ * @param {(lineCoverage: LineCoverage) => string} format
  */
-function formatEntry(covered, format) {
-  return covered ? format(covered) : "";
+function formatEntry(lineCoverage, format) {
+  return lineCoverage ? format(lineCoverage) : "";
 }

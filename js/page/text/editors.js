@@ -89,10 +89,10 @@ export class Editors {
   /** @param {ErrorMessages} errorMessages */
   makeErrorFinder(errorMessages) {
     return new TextErrorFinder({
-      findBoardError: (sent) => this.bench.call("wiring", [sent]),
-      findLineErrors: (sent) => this.bench.call("errors", [sent]),
-      findRefusal: (sent) => this.findRefusal("asm", sent),
-      readMap: async (sent) => (await this.bench.call("checkProgram", [sent])).map,
+      findBoardError: (benchText) => this.bench.call("wiring", [benchText]),
+      findLineErrors: (benchText) => this.bench.call("errors", [benchText]),
+      findRefusal: (benchText) => this.findRefusal("asm", benchText),
+      readMap: async (benchText) => (await this.bench.call("checkProgram", [benchText])).map,
       readRomNumbers: () => this.readRomNumbers(),
     }, { instructions: this.instructions, tables: this.tables }, (number) => errorMessages.refusalMeaning(number));
   }
@@ -177,9 +177,9 @@ export class Editors {
    * @param {"program" | "board"} name
    * @param {TextErrors} result
    */
-  showFoundErrors(name, { errors, isComplete: isWhole }) {
+  showFoundErrors(name, { errors, isComplete }) {
     const shownErrors = name === "board" ? [...errors, ...findFrontPanelErrors(this.board.text)] : errors;
-    const moreNote = isWhole || errors.length < 2 ? "" : say.MAY_BE_MORE;
+    const moreNote = isComplete || errors.length < 2 ? "" : say.MAY_BE_MORE;
     this[name].showErrors(shownErrors.slice(0, MAX_LISTED_ERRORS), moreErrors(shownErrors, MAX_LISTED_ERRORS) || moreNote);
     this.calls.showErrorCount(name, shownErrors.length);
   }
@@ -189,8 +189,8 @@ export class Editors {
     if (!(await this.hasNoErrors("program"))) return;
     await this.calls.pauseTime();
     const { benchText } = this.program;
-    const { size, remainingAddresses: left } = await this.bench.call("leftovers", [benchText]);
-    const lines = createProgramTexts(benchText, left).map((text) => `asm\n${text}.\n`).join("");
+    const { size, remainingAddresses } = await this.bench.call("leftovers", [benchText]);
+    const lines = createProgramTexts(benchText, remainingAddresses).map((text) => `asm\n${text}.\n`).join("");
     const answer = await this.calls.serveLines(`${lines}reset\n`);
     if (answer === null) return;
     const refusal = parseRefusal(answer);

@@ -38,7 +38,7 @@ export class ErrorView {
     const messages = new Map();
     for (const error of errors) messages.set(error.line, [messages.get(error.line), error.words].filter(Boolean).join("; "));
     this.marks.showTexts("faults", (line) => (messages.has(line) ? "!" : ""), (line) => messages.get(line) || "");
-    this.editor.showErrors(errors.flatMap((error) => this.underline(error)));
+    this.editor.showErrors(errors.flatMap((error) => this.makeUnderlines(error)));
     this.list.replaceChildren(...errors.map((error) => this.makeEntry(error)), ...(footnote ? [element("li", {}, footnote)] : []));
     this.list.hidden = errors.length === 0;
   }
@@ -47,7 +47,7 @@ export class ErrorView {
    * Returns a list with the range to underline for an error. The list is empty if the line is empty.
    * @param {TextError} error
    */
-  underline({ line, from, to, words }) {
+  makeUnderlines({ line, from, to, words }) {
     const length = (this.editor.getLine(line - 1) || "").length;
     // A missing word has an empty range, so underline the character before it.
     const start = to > from ? from : Math.max(0, Math.min(from, length) - 1);

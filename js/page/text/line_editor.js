@@ -83,15 +83,15 @@ function toCodeMirrorKey(name) {
 }
 
 export class LineEditor {
-  /** @param {EditorOptions} parts */
-  constructor(parts) {
-    this.calls = parts.calls;
-    this.container = parts.container;
-    this.isInFront = parts.isInFront;
+  /** @param {EditorOptions} options */
+  constructor(options) {
+    this.calls = options.calls;
+    this.container = options.container;
+    this.isInFront = options.isInFront;
     this.lineWrapping = new Compartment();
     this.wraps = false;
     /** @type {Map<string, Layer>} the layers of marks, by gutter */
-    this.marks = new Map(parts.gutters.filter((name) => name !== "numbers").map((name) => [name, makeMarkLayer()]));
+    this.marks = new Map(options.gutters.filter((name) => name !== "numbers").map((name) => [name, makeMarkLayer()]));
     this.layers = { next: makeTextLayer(), nextNumber: makeGutterLayer(), lacking: makeGutterLayer(), errors: makeTextLayer(),
       values: makeTextLayer(), below: makeBelowLayer() };
     /** @type {HTMLElement | null} the element below a line, if there is one */
@@ -100,18 +100,18 @@ export class LineEditor {
     this.editListeners = [];
     /** @type {(() => void)[]} listeners that are called when the text scrolls */
     this.scrollListeners = [];
-    this.extensions = this.makeExtensions(parts);
+    this.extensions = this.makeExtensions(options);
     /** @type {EditorView | null} CodeMirror's view. It is created late, because a view costs much more time than a state. */
-    this.madeView = null;
+    this.createdView = null;
     /** The state while there is no view. */
     this.stateWithoutView = this.makeState("");
   }
 
   /** CodeMirror's view. The first use creates it. */
   get view() {
-    if (this.madeView) return this.madeView;
+    if (this.createdView) return this.createdView;
     const view = new EditorView({ parent: this.container, state: this.stateWithoutView });
-    this.madeView = view;
+    this.createdView = view;
     for (const action of this.scrollListeners) view.scrollDOM.addEventListener("scroll", action);
     // Scripts outside the page, such as tests, find the editor through its element.
     Object.assign(view.dom, { lineEditor: this });
@@ -128,8 +128,8 @@ export class LineEditor {
    * @param {import("@codemirror/state").TransactionSpec} spec
    */
   dispatch(spec) {
-    if (this.madeView) {
-      this.madeView.dispatch(spec);
+    if (this.createdView) {
+      this.createdView.dispatch(spec);
       return;
     }
     const transaction = this.stateWithoutView.update(spec);
@@ -139,7 +139,7 @@ export class LineEditor {
   }
 
   /**
-   * @param {EditorOptions} parts
+   * @param {EditorOptions} options
    * @returns {Extension[]}
    */
   makeExtensions({ label, description, colours, gutters, indent, keys, extensions }) {
@@ -195,7 +195,7 @@ export class LineEditor {
   }
 
   get state() {
-    return this.madeView ? this.madeView.state : this.stateWithoutView;
+    return this.createdView ? this.createdView.state : this.stateWithoutView;
   }
 
   get doc() {
@@ -466,7 +466,7 @@ export class LineEditor {
   /** @param {() => void} action */
   onScroll(action) {
     this.scrollListeners.push(action);
-    if (this.madeView) this.madeView.scrollDOM.addEventListener("scroll", action);
+    if (this.createdView) this.createdView.scrollDOM.addEventListener("scroll", action);
   }
 
   /** @param {() => void} action a listener that is called after each edit */
@@ -500,9 +500,9 @@ export class LineEditor {
 
   /** Measures the layout again after elements around the text have changed their sizes. */
   refresh() {
-    if (!this.madeView) return;
+    if (!this.createdView) return;
     this.fitElementBelow();
-    this.madeView.requestMeasure();
+    this.createdView.requestMeasure();
   }
 
   /** @param {() => void} action called after CodeMirror's next layout measurement, which can change the scroll position */
@@ -526,14 +526,14 @@ export class LineEditor {
    */
   swapState(state) {
     const previousState = this.state;
-    if (!this.madeView) {
+    if (!this.createdView) {
       this.stateWithoutView = this.withWrapping(state);
       if (this.isInFront()) this.prepare();
       return previousState;
     }
     // CodeMirror measures line heights, and would otherwise change the scroll position to keep the same line in place.
     this.scrollTo(0);
-    this.madeView.setState(this.withWrapping(state));
+    this.createdView.setState(this.withWrapping(state));
     return previousState;
   }
 }

@@ -13,7 +13,7 @@ import * as say from "../../words/text.js";
  */
 
 /** The distance in pixels between the pointer and the tooltip. */
-const BELOW_POINTER = 16;
+const POINTER_DISTANCE = 16;
 
 /**
  * Returns a text that identifies the layout of a description without its values. Descriptions with the same layout reuse the same cells.
@@ -76,7 +76,7 @@ export class MeaningView {
   showTooltip(pieces, { left, top }) {
     this.tooltip.textContent = joinPieces(pieces);
     this.tooltip.hidden = pieces.length === 0;
-    if (pieces.length > 0) putBelow(this.tooltip, { left, bottom: top }, BELOW_POINTER);
+    if (pieces.length > 0) putBelow(this.tooltip, { left, bottom: top }, POINTER_DISTANCE);
   }
 
   hideTooltip() {

@@ -42,9 +42,9 @@ const MAX_STORED_TEXTS = 30;
 const MODIFIER_KEYS = ["Shift", "Control", "Alt", "Meta"];
 
 export class TextEditor {
-  /** @param {TextOptions} parts */
-  constructor(parts) {
-    this.calls = parts.calls;
+  /** @param {TextOptions} options */
+  constructor(options) {
+    this.calls = options.calls;
     /** @type {(line: number) => void} the listener for caret moves, which receives the line from 1 */
     this.onCaretMove = () => {};
     /** The scroll position in pixels. */
@@ -65,7 +65,7 @@ export class TextEditor {
     this.sessionId = "";
     /** @type {string | null} the editor's text; null after an edit, until the text is read again */
     this.cachedText = null;
-    const { container, label, colours, gutters, indent, folds, keys, isInFront } = parts;
+    const { container, label, colours, gutters, indent, folds, keys, isInFront } = options;
     /** @type {LineEditor} */
     this.editor = new LineEditor({ container, label, description: say.TAB_INDENTS, colours, indent, keys, isInFront,
       gutters: ["faults", ...gutters],

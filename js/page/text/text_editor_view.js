@@ -183,14 +183,14 @@ export class EditorView {
     openMenu(line, { left: event.clientX, bottom: event.clientY });
   }
 
-  /** @param {HTMLElement} wrapper */
-  listenToPointer(wrapper) {
-    wrapper.addEventListener("pointermove", (event) => {
+  /** @param {HTMLElement} container */
+  listenToPointer(container) {
+    container.addEventListener("pointermove", (event) => {
       this.meaning.hideTooltip();
       clearTimeout(this.descriptionTimer);
       this.descriptionTimer = window.setTimeout(() => this.describeAtPointer(event.clientX, event.clientY), REST_DELAY_MS);
     });
-    wrapper.addEventListener("pointerleave", () => {
+    container.addEventListener("pointerleave", () => {
       this.meaning.hideTooltip();
       this.scheduleDescription();
     });

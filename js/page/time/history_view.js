@@ -34,8 +34,8 @@ const MAX_MESSAGE_LENGTH = 200;
 export function suggestPlaces({ banks, roms, lamps, chains }, lampNames) {
   const rams = banks.flatMap(({ bank, chips }) => indices(chips).map((chip) => `ram${bank}.${chip}`));
   const ports = [...roms.map(({ chip }) => `rom${chip}`), ...rams];
-  const lampPlaces = lamps.length > 0 ? ["lamps", ...lamps.slice(0, 16).map((_, at) => lampNames[at] || `lamp ${at}`)] : [];
-  const chainPlaces = chains.map((_, at) => `chain${at}.0`);
+  const lampPlaces = lamps.length > 0 ? ["lamps", ...lamps.slice(0, 16).map((_, index) => lampNames[index] || `lamp ${index}`)] : [];
+  const chainPlaces = chains.map((_, index) => `chain${index}.0`);
   return [...lampPlaces, ...ports, ...chainPlaces, "acc", "cy", "dcl", ...indices(16).map((number) => `r${number}`)];
 }
 

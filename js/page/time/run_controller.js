@@ -60,7 +60,7 @@ export class RunController {
     this.bench = bench;
     this.currentSession = currentSession;
     this.calls = calls;
-    /** @type {(why: string) => void} called with the reason when a run has ended without a request by the user */
+    /** @type {(reason: string) => void} called with the reason when a run has ended without a request by the user */
     this.onRunEnd = () => {};
     /** @type {(isRunning: boolean) => void} called when time starts or pauses */
     this.showRunning = () => {};
@@ -207,7 +207,7 @@ export class RunController {
 
   /**
    * Ends the run and shows why time is paused.
-   * @param {string} reason the reason
+   * @param {string} reason
    */
   endRun(reason) {
     const { bench, currentSession, calls } = this;

@@ -4,7 +4,7 @@ import { element } from "./dom.js";
 import * as say from "../../words/page.js";
 
 /**
- * @typedef {{ title: string, paragraphs: (string | HTMLElement)[], acceptLabel: string, refuseLabel: string }} Question a question to the
+ * @typedef {{ title: string, paragraphs: (string | HTMLElement)[], acceptLabel: string, declineLabel: string }} Question a question to the
  *   user; if `acceptLabel` is "", the dialog has no accept button
  */
 
@@ -15,9 +15,9 @@ export class ConfirmDialog {
     this.title = element("h2", { id: "ask-title" });
     this.body = element("div");
     this.acceptButton = this.makeButton(say.YES, ACCEPTED);
-    this.refuseButton = this.makeButton(say.NO, "");
+    this.declineButton = this.makeButton(say.NO, "");
     this.dialog = element("dialog", { id: "ask", "aria-labelledby": "ask-title" }, this.title, this.body,
-      element("div", { className: "bar" }, this.acceptButton, this.refuseButton));
+      element("div", { className: "bar" }, this.acceptButton, this.declineButton));
     /** @type {(isAccepted: boolean) => void} */
     this.resolveQuestion = () => {};
     // If the dialog has been opened again, this event belongs to an earlier question, so ignore it.
@@ -42,14 +42,14 @@ export class ConfirmDialog {
    * @param {Question} question
    * @returns {Promise<boolean>}
    */
-  ask({ title, paragraphs, acceptLabel, refuseLabel }) {
+  ask({ title, paragraphs, acceptLabel, declineLabel }) {
     this.resolveQuestion(false);
     if (this.dialog.open) this.dialog.close("");
     this.title.textContent = title;
     this.body.replaceChildren(...paragraphs.map((part) => (typeof part === "string" ? element("p", {}, part) : part)));
     this.acceptButton.textContent = acceptLabel;
     this.acceptButton.hidden = acceptLabel === "";
-    this.refuseButton.textContent = refuseLabel;
+    this.declineButton.textContent = declineLabel;
     this.dialog.returnValue = "";
     return new Promise((resolve) => {
       this.resolveQuestion = resolve;
