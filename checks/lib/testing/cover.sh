@@ -73,13 +73,13 @@ verdict "$(sed -n '/^BR/p' "$folder/always.info" | tr '\n' ' ')" "BRDA:2,0,0,8 B
 {
     cat "$folder/script"
     echo 'press 1 2'
-} | begins calc
+} | new_session calc
 cp "$folder/calc.mcs" "$folder/copy.mcs"
 outcome ./mcs4 cover --lcov "$folder/calc.info" --session "$folder/calc.mcs" 6000 $calculator/calculator.asm > "$folder/report"
 verdict "$(tail -n 1 "$folder/report"; cmp "$folder/calc.mcs" "$folder/copy.mcs" && echo same)" "status 0
 same" "the coverage of a session"
 ./mcs4 listing $calculator/calculator.asm > "$folder/listing"
-awk 'BEGIN { for (i = 0; i < 6000; i++) print "regs\nstep" }' | goes_on calc
+awk 'BEGIN { for (i = 0; i < 6000; i++) print "regs\nstep" }' | continue_session calc
 verdict "$(sed -n 's/^DA://p' "$folder/calc.info")" "$(awk '
     FNR == 1 { file++ }
     file == 1 && $1 == "acc" { pc = $6; second = $8 }
@@ -92,11 +92,11 @@ verdict "$(sed -n 's/^DA://p' "$folder/calc.info")" "$(awk '
         if (text ~ /^[ \t]*[A-Za-z]/ && text !~ /=|ORG|DB/) print FNR "," runs[at[++k]] + 0
     }
 ' "$folder/answers" "$folder/listing" $calculator/calculator.asm)" "counts by \`count\` and by steps"
-refuses 1 "cover: the session has another program than $lock/lock.asm: 001 has 24, and line 16 makes 2C" \
+check_rejected 1 "cover: the session has another program than $lock/lock.asm: 001 has 24, and line 16 makes 2C" \
     ./mcs4 cover --session "$folder/calc.mcs" 100 $lock/lock.asm
-refuses 1 "cover: cannot write $folder/none/x.info: its folder does not exist or cannot be written" ./mcs4 cover --lcov "$folder/none/x.info" --session "$folder/calc.mcs" 10 $calculator/calculator.asm
-misuses "CYCLES: '0' is not a decimal number from 1 to 100000000" ./mcs4 cover --session "$folder/calc.mcs" 0 $calculator/calculator.asm
-refuses 2 "cover: PROGRAM is missing
+check_rejected 1 "cover: cannot write $folder/none/x.info: its folder does not exist or cannot be written" ./mcs4 cover --lcov "$folder/none/x.info" --session "$folder/calc.mcs" 10 $calculator/calculator.asm
+check_usage_error "CYCLES: '0' is not a decimal number from 1 to 100000000" ./mcs4 cover --session "$folder/calc.mcs" 0 $calculator/calculator.asm
+check_rejected 2 "cover: PROGRAM is missing
 usage: mcs4 cover [-C FOLDER] [--lcov FILE] [BOARD PROGRAM] [TEST ..]
        mcs4 cover [--lcov FILE] --session SESSION CYCLES PROGRAM" \
     ./mcs4 cover --session "$folder/calc.mcs" 100
@@ -116,7 +116,7 @@ stays() {
     cp "$1" "$folder/stayed"
     file=$1
     shift
-    refuses "$@"
+    check_rejected "$@"
     verdict "$(cmp "$file" "$folder/stayed" 2>&1; ls "$folder" | grep -F "${file##*/}.")" "" "$file, which is not written"
 }
 cp $three/board.toml "$folder/mine.toml"

@@ -70,7 +70,7 @@ status 3" "a key that is held for too long"
     printf '[[rom]]\nchip = 0\nport = "0000"\n' > "$folder/board.toml"
     printf '; nothing\n' > "$folder/empty.asm"
     printf 'never acc > 0\nalways pc < 0x800\nat @no r1 = 0\n' > "$folder/empty.props"
-    refuses 1 "prove: $folder/empty.props:3: the program has no label no" \
+    check_rejected 1 "prove: $folder/empty.props:3: the program has no label no" \
         ./mcs4 prove "$folder/board.toml" "$folder/empty.asm" "$folder/empty.props"
     sed -i 3d "$folder/empty.props"
     verdict "$(outcome ./mcs4 prove "$folder/board.toml" "$folder/empty.asm" "$folder/empty.props" | remarks)" \
@@ -143,9 +143,9 @@ status 3" "a way that is none"
         "TODO not decided: memory is full
 status 3" "no memory"
     prover_that 'echo no 25; exit 3'
-    refuses 1 "prove: the prover ended without an answer: no 25" \
+    check_rejected 1 "prove: the prover ended without an answer: no 25" \
         env MCS4_PROVE="$folder/prover" ./mcs4 prove examples/die.txt examples/die.txt "$folder/faces.props"
-    refuses 1 "prove: MCS4_PROVE names $folder/none, which is not there; unset it, or name another program" \
+    check_rejected 1 "prove: MCS4_PROVE names $folder/none, which is not there; unset it, or name another program" \
         env MCS4_PROVE="$folder/none" ./mcs4 prove examples/die.txt examples/die.txt "$folder/faces.props"
     prover_that "exec sleep 61.$$"
     MCS4_PROVE="$folder/prover" timeout -s INT 30 node js/node/mcs4.cjs prove examples/die.txt examples/die.txt "$folder/faces.props" &
@@ -161,5 +161,5 @@ status 3" "no memory"
     done
     verdict "$status $(pgrep -f "^sleep 61.$$\$" || echo ended)" "130 ended" "Ctrl-C"
 fi
-misuses "N: '0' is not a decimal number from 1 to 999999999" ./mcs4 prove a b c --most 0
-misuses "MB: '0' is not a decimal number from 1 to 1000000" ./mcs4 prove a b c --memory 0
+check_usage_error "N: '0' is not a decimal number from 1 to 999999999" ./mcs4 prove a b c --most 0
+check_usage_error "MB: '0' is not a decimal number from 1 to 1000000" ./mcs4 prove a b c --memory 0

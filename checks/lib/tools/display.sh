@@ -8,14 +8,14 @@ board_of() {
 }
 
 board=$calculator/board.toml
-refuses 2 "display: BOARD is missing, and there is no mcs4.toml here
+check_rejected 2 "display: BOARD is missing, and there is no mcs4.toml here
 usage: mcs4 display [-C FOLDER] [BOARD] < ANSWERS" ./mcs4 display
 echo "session 0" > "$folder/answers"
-refuses 1 "display: no answer shows the lamps" ./mcs4 display "$board" < "$folder/answers"
+check_rejected 1 "display: no answer shows the lamps" ./mcs4 display "$board" < "$folder/answers"
 echo "lamps ..*" > "$folder/answers"
-refuses 1 "display: line 1 of the answers has 3 lamps, and the display of $board needs 43" ./mcs4 display "$board" < "$folder/answers"
+check_rejected 1 "display: line 1 of the answers has 3 lamps, and the display of $board needs 43" ./mcs4 display "$board" < "$folder/answers"
 echo "no 34 line 2" > "$folder/answers"
-refuses 1 "display: line 1 of the answers is a refusal: no 34 line 2; mcs4 explain says why" ./mcs4 display "$board" < "$folder/answers"
+check_rejected 1 "display: line 1 of the answers is a refusal: no 34 line 2; mcs4 explain says why" ./mcs4 display "$board" < "$folder/answers"
 board_of 8 '# display 0: 2 digits\n' > "$folder/board.toml"
 printf 'session 3\nlamps ...**..*\nlamps **......\n' > "$folder/answers"
 verdict "$(outcome ./mcs4 display "$folder/board.toml" < "$folder/answers")" "19
@@ -28,7 +28,7 @@ status 0" "a display with points"
 
 # Checks multiplexed digits: the display over 30 ms, which differs from the lamps at one instant.
 ./mcs4 script examples/clock/board.toml examples/clock/clock.asm | sed '/^run /d' > "$folder/clock.txt"
-begins clock < "$folder/clock.txt"
+new_session clock < "$folder/clock.txt"
 verdict "$(outcome ./mcs4 keys examples/clock/board.toml SET | tail -n 3)" "run 16000
 trace 2778 lamps
 status 0" "keys for a display that is scanned"
@@ -68,12 +68,12 @@ verdict "$(outcome ./mcs4 display "$folder/board.toml" < "$folder/answers")" "-1
 55
 status 0" "a display with signs"
 printf 'lamps *.\n' > "$folder/answers"
-refuses 1 "display: line 1 of the answers has 2 lamps, and the display of $folder/board.toml needs 10" ./mcs4 display "$folder/board.toml" < "$folder/answers"
+check_rejected 1 "display: line 1 of the answers has 2 lamps, and the display of $folder/board.toml needs 10" ./mcs4 display "$folder/board.toml" < "$folder/answers"
 printf 'lamps ..........\nno 44\n' > "$folder/answers"
-refuses 1 "display: line 2 of the answers is a refusal: no 44; mcs4 explain says why" ./mcs4 display "$folder/board.toml" < "$folder/answers"
-refuses 1 "display: $lock/board.toml has no display: a comment \`# display 0: 4 digits\` makes one" ./mcs4 display $lock/board.toml < "$folder/answers"
+check_rejected 1 "display: line 2 of the answers is a refusal: no 44; mcs4 explain says why" ./mcs4 display "$folder/board.toml" < "$folder/answers"
+check_rejected 1 "display: $lock/board.toml has no display: a comment \`# display 0: 4 digits\` makes one" ./mcs4 display $lock/board.toml < "$folder/answers"
 printf '# display 0: four digits\n' > "$folder/board.toml"
-refuses 1 "display: $folder/board.toml: line 1: no display: write \`# display 3: 8 digits\`, and then \`of 7 segments\`, \`with points\`, \`scanned by 7\`" \
+check_rejected 1 "display: $folder/board.toml: line 1: no display: write \`# display 3: 8 digits\`, and then \`of 7 segments\`, \`with points\`, \`scanned by 7\`" \
     ./mcs4 display "$folder/board.toml" < "$folder/answers"
 # Checks that comments that name parts that the board lacks are rejected, as `test` rejects them.
 board_of 8 '# display 0: 2 digits\n# printer rom0.1: ram0.0 0 1 feed\n' > "$folder/board.toml"
@@ -81,12 +81,12 @@ echo "start: JUN start" > "$folder/idle.asm"
 printf 'test: dark\nexpect display 00\n' > "$folder/idle.test"
 echo "lamps ........" > "$folder/answers"
 lacks="$folder/board.toml: line 2: the board has no output line ram0.0.0"
-refuses 1 "display: $lacks" ./mcs4 display "$folder/board.toml" < "$folder/answers"
-refuses 1 "test: $lacks" ./mcs4 test "$folder/board.toml" "$folder/idle.asm" "$folder/idle.test"
+check_rejected 1 "display: $lacks" ./mcs4 display "$folder/board.toml" < "$folder/answers"
+check_rejected 1 "test: $lacks" ./mcs4 test "$folder/board.toml" "$folder/idle.asm" "$folder/idle.test"
 board_of 7 '# display 0: 2 digits\n' > "$folder/board.toml"
 lacks="$folder/board.toml: line 1: the display needs lamps up to number 7, but the board has 7"
-refuses 1 "display: $lacks" ./mcs4 display "$folder/board.toml" < "$folder/answers"
-refuses 1 "test: $lacks" ./mcs4 test "$folder/board.toml" "$folder/idle.asm" "$folder/idle.test"
+check_rejected 1 "display: $lacks" ./mcs4 display "$folder/board.toml" < "$folder/answers"
+check_rejected 1 "test: $lacks" ./mcs4 test "$folder/board.toml" "$folder/idle.asm" "$folder/idle.test"
 printf '# display 0: 2 digits\n[[rom]]\nchip = 16\nport = "0000"\n' > "$folder/board.toml"
-refuses 1 "$(outcome ./mcs4 test "$folder/board.toml" "$folder/idle.asm" "$folder/idle.test" | sed 's/^test: /display: /; /^status/d')" \
+check_rejected 1 "$(outcome ./mcs4 test "$folder/board.toml" "$folder/idle.asm" "$folder/idle.test" | sed 's/^test: /display: /; /^status/d')" \
     ./mcs4 display "$folder/board.toml" < "$folder/answers"

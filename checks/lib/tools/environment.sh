@@ -2,7 +2,7 @@
 # because of them.
 # shellcheck shell=sh
 
-begins session < $calculator/quotient.txt
+new_session session < $calculator/quotient.txt
 cp "$folder/answers" "$folder/lamps"
 cp $lock/lock.asm $lock/board.toml "$folder"
 house=$folder/house

@@ -30,7 +30,7 @@ printf 'test bad\nrun 100 ms # %s\nexpect lamps ... # %s\n' "$odd" "$odd" > "$fo
 printf '# %s\ntest good\nrun 100 # %s\n' "$odd" "$odd" > "$folder/good.test"
 { printf '# title: %s\n# lamp 0: go%s\n' "$odd" "$odd" && grep -v '^# lamp ' $calculator/board.toml; } > "$folder/display.toml"
 cp "$folder/lock.asm" "$folder/$odd/p.asm"
-./mcs4 script "$folder/board.toml" "$folder/lock.asm" | sed '/^run /,$d' | begins odd
+./mcs4 script "$folder/board.toml" "$folder/lock.asm" | sed '/^run /,$d' | new_session odd
 printf 'session 0\nno 10\n' > "$folder/no.answers"
 printf 'bogus %s\n' "$odd" > "$folder/bogus"
 sed "s/^name .*/name $odd/" examples/a_fault_to_find.mcsp > "$folder/odd.mcsp"

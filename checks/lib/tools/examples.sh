@@ -43,11 +43,11 @@ calculates "1/0=C7" 7
 # Checks the division that takes longest, and a key press after it.
 calculates "99/9.9099100=+1=" 10.989999
 calculates "" 0
-begins session < $calculator/quotient.txt
+new_session session < $calculator/quotient.txt
 verdict "$(./mcs4 keys "$board" '*7=' | "$mcs4" open "$folder/session.mcs" | ./mcs4 display "$board")" 21.999999 "keys of a session that is taken up"
 
-refuses 1 "script: $top/$board has no key x" examples/calculator/run "12x"
-refuses 2 "usage: run KEYS" examples/calculator/run
+check_rejected 1 "script: $top/$board has no key x" examples/calculator/run "12x"
+check_rejected 2 "usage: run KEYS" examples/calculator/run
 
 # Checks the calculator's script `run` on a copy with an error in its program: the error is reported, and nothing is run.
 mkdir "$folder/copy" "$folder/copy/examples"

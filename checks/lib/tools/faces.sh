@@ -5,5 +5,5 @@
     echo wire
     cat checks/faces/board.toml
     printf '.\nboard\n'
-} | begins faces
+} | new_session faces
 verdict "$(sed 1,3d "$folder/answers")" "$(cat checks/faces/board.toml)" "the board of the faces, as the bench writes it"

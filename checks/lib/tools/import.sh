@@ -129,7 +129,7 @@ done
 # Checks that the other tools print a hint if a line has Intel's or AS's spelling.
 while IFS='|' read -r line words; do
     echo "$line" > "$folder/spelled.asm"
-    refuses 1 "listing: $folder/spelled.asm: line 1: no 30: $words
+    check_rejected 1 "listing: $folder/spelled.asm: line 1: no 30: $words
 listing:     $line" ./mcs4 listing "$folder/spelled.asm" < /dev/null
 done <<'lines'
 zero EQU 4 ; none|define a name with =: zero = 4
@@ -163,8 +163,8 @@ START, NOP
        DB
 source
 sed '12s/START, //' "$folder/bad.src" > "$folder/bad2.src"
-refuses 1 "import: $folder/bad.src:12: the name START is also defined in line 11" ./mcs4 import "$folder/bad.src"
-refuses 1 "import: $folder/bad2.src:1: \`JMP\` is neither an instruction nor a directive that is supported
+check_rejected 1 "import: $folder/bad.src:12: the name START is also defined in line 11" ./mcs4 import "$folder/bad.src"
+check_rejected 1 "import: $folder/bad2.src:1: \`JMP\` is neither an instruction nor a directive that is supported
 import: $folder/bad2.src:2: the value of \`Y\` depends on itself
 import: $folder/bad2.src:3: the value of \`X\` depends on itself
 import: $folder/bad2.src:4: \`16\` is 16; it must be 0 to 15
@@ -182,9 +182,9 @@ import: $folder/bad2.src:17: NOP has no operand
 import: $folder/bad2.src:18: ISZ is written with two operands
 import: $folder/bad2.src:19: DB has no values" ./mcs4 import "$folder/bad2.src"
 printf ' NOP\n JCN AZ, FAR / too far\n ORG 300H\nFAR, NOP\n' > "$folder/far.src"
-refuses 1 "import: $folder/far.src: line 2: no 34: an address on another page; JCN and ISZ reach the page of the address after their two words
+check_rejected 1 "import: $folder/far.src: line 2: no 34: an address on another page; JCN and ISZ reach the page of the address after their two words
 import:      JCN AZ, FAR / too far" ./mcs4 import "$folder/far.src"
-refuses 1 "import: cannot read none.src: there is no such file" ./mcs4 import none.src
+check_rejected 1 "import: cannot read none.src: there is no such file" ./mcs4 import none.src
 # Checks that a line that is too long for any assembler, and brackets that are nested too deeply, are rejected at once.
 awk 'BEGIN { printf " LDM 1"; for (i = 0; i < 300000; i++) printf "+1"; print "" }' > "$folder/long.src"
 awk 'BEGIN { printf " LDM 1 ; "; for (i = 0; i < 300000; i++) printf "+1"; print "" }' > "$folder/remark.src"
@@ -221,6 +221,6 @@ for many in names lines; do
 done
 # Checks that a non-ASCII character never becomes a byte of the program, and that comments keep their bytes.
 printf " DB 'a\\344b' ; a\\344b\n" > "$folder/byte.src"
-refuses 1 "import: $folder/byte.src:1: 'a$(printf '\303\244')b' has a character that is not ASCII" ./mcs4 import "$folder/byte.src"
+check_rejected 1 "import: $folder/byte.src:1: 'a$(printf '\303\244')b' has a character that is not ASCII" ./mcs4 import "$folder/byte.src"
 printf " NOP ; a\\344b\n" > "$folder/byte.src"
 verdict "$(./mcs4 import "$folder/byte.src" | od -An -tx1 | tr -d ' \n')" "$(printf '        NOP             ; a\344b\n' | od -An -tx1 | tr -d ' \n')" "bytes of a comment"

@@ -2,9 +2,9 @@
 # shellcheck shell=sh
 
 . "$top/checks/lib/manual.sh"
-as_shown "Lines" 3
+check_chapter "Lines" 3
 rm -rf "$folder/manual"
-as_shown "The workbench" 12
+check_chapter "The workbench" 12
 
 # Checks that the descriptions of lines are the same in the tools' table and in the manual.
 verdict "$(awk -F ' [|] ' '

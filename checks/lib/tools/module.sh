@@ -47,7 +47,7 @@ for toml in examples/*/mcs4.toml; do
     for command in test cover profile; do same_on_module /dev/null $command -C "$example"; done
     ./mcs4 script -C "$example" > "$folder/$name.txt"
     same_on_module /dev/null script -C "$example"
-    begins "$name" < "$folder/$name.txt"
+    new_session "$name" < "$folder/$name.txt"
     same_on_module "$folder/answers" explain "$folder/$name.txt"
     same_on_module /dev/null trace -C "$example" "$folder/$name.mcs" 600
     same_on_module /dev/null trace --last 50 "$folder/$name.mcs" 9000
@@ -58,7 +58,7 @@ for text in examples/*.txt; do
     name=${text#examples/}
     name=${name%.txt}
     count=$((count + 1))
-    begins "$name" < "$text"
+    new_session "$name" < "$text"
     same_on_module /dev/null trace "$folder/$name.mcs" 600
     same_on_module /dev/null wave "$folder/$name.mcs" 3000
     same_on_module "$folder/answers" explain "$text"
@@ -73,7 +73,7 @@ verdict "$count" "$(find examples -name '*.txt' -path 'examples/*' ! -path 'exam
 
 # --- the other commands, and errors
 
-begins session < $calculator/quotient.txt
+new_session session < $calculator/quotient.txt
 cp "$folder/answers" "$folder/printed"
 same_on_module "$folder/printed" cycles --source $calculator/calculator.asm "$folder/session.mcs" 1 3
 same_on_module $calculator/quotient.txt names $calculator/calculator.asm
@@ -115,13 +115,13 @@ same_on_module /dev/null prove $lock/board.toml $lock/lock.asm "$folder/found.pr
 keeps="a session file needs the native program, which is not started: $why. Commands without a session file run here"
 for words in "new $folder/new.mcs" "open $folder/session.mcs"; do
     # shellcheck disable=SC2086
-    refuses 1 "mcs4: $keeps" elsewhere $words
+    check_rejected 1 "mcs4: $keeps" elsewhere $words
 done
 cp "$folder/session.mcs" "$folder/before.mcs"
 for words in "back $folder/session.mcs 1" "resume $calculator/quotient.txt $folder/session.mcs" "panel $calculator/board.toml $folder/session.mcs" \
     "keys --until-stop $folder/session.mcs $calculator/board.toml 1" "debug $folder/session.mcs"; do
     # shellcheck disable=SC2086
-    refuses 1 "${words%% *}: $keeps" elsewhere $words
+    check_rejected 1 "${words%% *}: $keeps" elsewhere $words
 done
 verdict_of_files "$folder/session.mcs" "$folder/before.mcs" "a session that no command keeps there"
 verdict "$(ls "$folder/new.mcs" 2> /dev/null || echo none)" none "no session file is made there"

@@ -10,7 +10,7 @@ make_board_with_buzzer() {
 again: IAC
  WRR
  JUN again' > "$folder/buzzer.asm"
-    ./mcs4 script "$folder/buzzer.toml" "$folder/buzzer.asm" | begins buzzer
+    ./mcs4 script "$folder/buzzer.toml" "$folder/buzzer.asm" | new_session buzzer
 }
 make_board_with_buzzer
 ./mcs4 project split examples/a_fault_to_find.mcsp "$folder/taken_apart"
@@ -61,7 +61,7 @@ done
 ln -s nothing "$folder/taken_apart.link"
 mkdir "$folder/has_link"
 ln -s "$folder/victim" "$folder/has_link/board.toml"
-refuses 1 "project: $folder/has_link/board.toml already exists; name another folder, or move it away" ./mcs4 project split examples/a_fault_to_find.mcsp "$folder/has_link"
+check_rejected 1 "project: $folder/has_link/board.toml already exists; name another folder, or move it away" ./mcs4 project split examples/a_fault_to_find.mcsp "$folder/has_link"
 
 # Checks that a file of another user stays unchanged, because a new file could not belong to that user.
 if [ "$(id -u)" -eq 0 ] && command -v setpriv > /dev/null; then
@@ -77,7 +77,7 @@ if [ "$(id -u)" -eq 0 ] && command -v setpriv > /dev/null; then
             "project: cannot write $folder/shared/theirs: it belongs to another user or group, which a new file cannot have
 status 1; 100; theirs" "a file of another user"
         chmod 644 "$folder/shared/theirs"
-        refuses 1 "project: cannot write $folder/shared/theirs: no permission" as_another ./mcs4 project join "$folder/taken_apart" "$folder/shared/theirs"
+        check_rejected 1 "project: cannot write $folder/shared/theirs: no permission" as_another ./mcs4 project join "$folder/taken_apart" "$folder/shared/theirs"
     else
         echo "not run: files of another user in checks/tools (the folder $top cannot be read by others)"
     fi
