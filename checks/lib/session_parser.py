@@ -118,7 +118,7 @@ def read_state(snapshot):
     state.counter, *state.returns = [reader.number(4095) for _n in range(4)]
     state.bank, state.rom_source, state.bank_sources, state.owed = reader.number(7), reader.number(255), reader.take(8), reader.number(1)
     state.chains = [reader.numbers(10 * chips, 1) for _clock, _data, chips in board.chains]
-    state.keys, state.test = reader.numbers(board.count_of_keys(), 1), reader.number(1)
+    state.keys, state.test = reader.numbers(board.key_count(), 1), reader.number(1)
     state.breakpoints = [reader.number(4095) for _n in range(reader.number(32))]
     if version == 2:
         state.watches = [(reader.number(7), reader.number(255)) for _n in range(reader.number(8))]

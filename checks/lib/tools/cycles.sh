@@ -15,12 +15,12 @@ verdict "$(outcome ./mcs4 cycles --source "$folder/source.asm" "$folder/ran.mcs"
 5 cycles, 54.0 microseconds
 100 cycles, 1080.0 microseconds, to 164, which the source does not fill
 111 cycles, 1198.8 microseconds
-status 0" "where runs stopped, by the source"
+status 0" "addresses of stops, by the source"
 verdict "$(outcome ./mcs4 cycles --source "$folder/source.asm" "$folder/ran.mcs" 4 7 < "$folder/answers")" \
     "2 cycles, 21.6 microseconds, to 003 (on), line 5: on: XCH R2
 1 cycle, 10.8 microseconds
 3 cycles, 32.4 microseconds
-status 0" "where some runs stopped"
+status 0" "addresses of some stops"
 check_rejected_sources "cycles --source PROGRAM $folder/ran.mcs"
 check_rejected 1 "cycles: the session $folder/source.txt was rejected: no 50: not a session file: its size or the name inside it is wrong" \
     ./mcs4 cycles --source "$folder/source.asm" "$folder/source.txt" < "$folder/answers"

@@ -1,7 +1,7 @@
 # mcs4 display: digits, signs, points, named lamps, and multiplexed digits.
 # shellcheck shell=sh
 
-# Makes a board with a number of lamps, whose text has these comments.
+# Prints a board. Arguments: the number of its lamps, and its comments.
 board_of() {
     printf %b "$2"
     awk -v count="$1" 'BEGIN { print "[[rom]]\nchip = 0\nport = \"0000\""; while (count-- > 0) print "[[lamp]]\nline = \"rom0.0\"" }'
@@ -31,7 +31,7 @@ status 0" "a display with points"
 new_session clock < "$folder/clock.txt"
 verdict "$(outcome ./mcs4 keys examples/clock/board.toml SET | tail -n 3)" "run 16000
 trace 2778 lamps
-status 0" "keys for a display that is scanned"
+status 0" "keys for a multiplexed display"
 for cycles in 1 100 411 926 20000 50000; do printf 'run %s\ntrace 2778 lamps\n' "$cycles"; done | "$mcs4" open "$folder/clock.mcs" > "$folder/answers"
 verdict "$(outcome ./mcs4 display examples/clock/board.toml < "$folder/answers")" "1200
 1200
@@ -39,21 +39,21 @@ verdict "$(outcome ./mcs4 display examples/clock/board.toml < "$folder/answers")
 1200
 1200
 12.00
-status 0" "a display that is scanned"
+status 0" "a multiplexed display"
 printf 'session 0\nlamps .**.....*...\n' > "$folder/answers"
 verdict "$(outcome ./mcs4 display examples/clock/board.toml < "$folder/answers")" "display: line 2 of the answers has the lamps at an instant, and the digits of examples/clock/board.toml are multiplexed; \`trace 2778 lamps\` reports what is perceived in 30 ms
-status 1" "an instant of a display that is scanned"
+status 1" "the lamps at one instant of a multiplexed display"
 printf 'trace ran 2778 end lines 2 .**.....*...\n5 000 .**.........\n' > "$folder/answers"
 verdict "$(outcome ./mcs4 display examples/clock/board.toml < "$folder/answers")" "display: the answers end within one to \`trace\`
-status 1" "an answer that is cut"
+status 1" "an answer that is cut off"
 printf 'trace ran 2778 end lines 0 .**.\n' > "$folder/answers"
 verdict "$(outcome ./mcs4 display examples/clock/board.toml < "$folder/answers")" "display: line 1 of the answers has 4 lamps, and the display of examples/clock/board.toml needs 12
-status 1" "fewer lamps than a display that is scanned has"
+status 1" "too few lamps for a multiplexed display"
 # Checks that errors in a board's comments are not reported if the displayed number does not depend on these comments.
 board_of 8 '# display 0: 2 digits\n# colour 0: pink\n# die 0: 9 lamps\n# title:\n' > "$folder/board.toml"
 printf 'lamps .*....*.\n' > "$folder/answers"
 verdict "$(outcome ./mcs4 display "$folder/board.toml" < "$folder/answers")" "42
-status 0" "a display beside a colour that is none"
+status 0" "a display, with an unknown colour"
 
 board_of 17 '# display 0: 2 digits of 7 segments\n# lamp 14: ready go fault\n' > "$folder/board.toml"
 

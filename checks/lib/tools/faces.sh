@@ -1,4 +1,4 @@
-# The board of the front panels in checks/faces, which js/test/face.test.js tests: the bench must print it as it is written there.
+# The board in checks/faces, whose front panels js/test/face.test.js tests: the bench must print it unchanged.
 # shellcheck shell=sh
 
 {
@@ -6,4 +6,4 @@
     cat checks/faces/board.toml
     printf '.\nboard\n'
 } | new_session faces
-verdict "$(sed 1,3d "$folder/answers")" "$(cat checks/faces/board.toml)" "the board of the faces, as the bench writes it"
+verdict "$(sed 1,3d "$folder/answers")" "$(cat checks/faces/board.toml)" "the board in checks/faces, as the bench prints it"

@@ -67,10 +67,10 @@ ADD_:   NOP
 ;anything
 source
 verdict "$(outcome ./mcs4 import "$folder/intel.src")" "$(cat "$folder/imported")
-status 0" "a program that is imported"
-verdict "$(./mcs4 import - < "$folder/intel.src")" "$(cat "$folder/imported")" "a program that is imported from standard input"
+status 0" "an imported program"
+verdict "$(./mcs4 import - < "$folder/intel.src")" "$(cat "$folder/imported")" "a program imported from standard input"
 verdict "$(outcome ./mcs4 import "$folder/imported" | sed 's/ *;.*//' | tr -d ' ' | sed '/^$/d')" "$(sed 's/ *;.*//' "$folder/imported" | tr -d ' ' | sed '/^$/d; s/,12,/,12,/')
-status0" "what was imported, imported once more"
+status0" "an imported program, imported again"
 # Compares the output with bytes that were assembled manually. The programs have the style of Intel's first manuals: a loop that clears a RAM
 # register, a loop that adds two numbers of sixteen decimal digits, and the AND of two registers.
 cat > "$folder/clear.src" <<'source'
@@ -113,7 +113,7 @@ cat > "$folder/clear.bytes" <<'bytes'
 24 C0 B0 F5 B0 12 21 D0 40 22 A1 B6 75 19 40 15
 bytes
 ./mcs4 import "$folder/clear.src" > "$folder/clear.asm"
-verdict "$(rom_of "$folder/clear.asm" | awk '{ print $2; if (substr($0, 8, 1) != " ") print $3 }' | head -n 39 | tr '\n' ' ')" "$(tr '\n' ' ' < "$folder/clear.bytes")" "programs as Intel writes them, by hand"
+verdict "$(rom_of "$folder/clear.asm" | awk '{ print $2; if (substr($0, 8, 1) != " ") print $3 }' | head -n 39 | tr '\n' ' ')" "$(tr '\n' ' ' < "$folder/clear.bytes")" "the bytes of programs in Intel's style, assembled manually"
 verdict "$(sed -n 's/.*; //p' "$folder/clear.asm" | grep -v '^AND-2')" "$(sed -n 's/.*\/ //p' "$folder/clear.src")" "their comments are kept"
 # Checks that the examples have the same bytes in Intel's spelling as in the bench's spelling.
 for example in examples/*/*.asm; do
@@ -124,7 +124,7 @@ for example in examples/*/*.asm; do
     verdict "$(outcome ./mcs4 import "$folder/example.src" > "$folder/example.asm"; tail -n 1 "$folder/example.asm")" "status 0" "$example in Intel's spelling"
     sed -i '$d' "$folder/example.asm"
     verdict "$(rom_of "$folder/example.asm" | cksum)" "$(rom_of "$example" | cksum)" "the bytes of $example in Intel's spelling"
-    verdict "$(grep -c , "$folder/example.src" | awk '{ print ($1 > 3) }')" 1 "$example is spelled otherwise there"
+    verdict "$(grep -c , "$folder/example.src" | awk '{ print ($1 > 3) }')" 1 "$example has another spelling"
 done
 # Checks that the other tools print a hint if a line has Intel's or AS's spelling.
 while IFS='|' read -r line words; do
@@ -211,7 +211,7 @@ status 0
 import: $folder/blank.src:1: the line has more than 1024 bytes before its comment
 status 1
  ; so far
-status 0" "long lines, and deep brackets"
+status 0" "long lines, and deeply nested brackets"
 # Checks that the time grows only linearly with the numbers of names and lines: tries many names whose first 16 letters are the same, and 1 MiB of
 # short lines.
 awk 'BEGIN { for (i = 0; i < 400; i++) printf "SAME_FIRST_LETTERS_%d EQU %d\n", i, i % 16 }' > "$folder/names.src"

@@ -16,7 +16,7 @@ run 10
 release 0 1
 run 5
 lamps
-status 0" "keys of a comment in another spelling"
+status 0" "keys in a comment with another spelling"
 sed 's/# row 0: 1 2 3/# row 0: 1 2 3 A/' < $lock/board.toml > "$folder/board.toml"
 check_rejected 1 "keys: $folder/board.toml: line 8: the key A is in row 0, column 3, but the board has 4 rows and 3 columns" ./mcs4 keys "$folder/board.toml" 1
 sed 's/# row 1: 4 5 6/# row 1: 4 1 6/' < $lock/board.toml > "$folder/board.toml"

@@ -1,4 +1,4 @@
-# The manual's chapters about lines and about the workbench show the output of the program and the tools.
+# The manual's chapters about lines and about the workbench: they show the output of the program and the commands.
 # shellcheck shell=sh
 
 . "$top/checks/lib/manual.sh"
@@ -6,7 +6,7 @@ check_chapter "Lines" 3
 rm -rf "$folder/manual"
 check_chapter "The workbench" 12
 
-# Checks that the descriptions of lines are the same in the tools' table and in the manual.
+# Checks that the descriptions of lines are the same in tools/lib/answers.txt and in the manual.
 verdict "$(awk -F ' [|] ' '
     /^### / { inside = /^### (Commands|Queries)$/ }
     inside && /^[|] `/ {

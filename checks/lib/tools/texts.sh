@@ -19,7 +19,7 @@ asm
 .
 run 2000
 lamps
-status 0" "texts as they are sent"
+status 0" "the texts that are sent"
 verdict "$(outcome ./mcs4 test "$folder/marked.toml" "$folder/marked.asm" "$folder/marked.test")" "TAP version 13
 1..1
 ok 1 - t

@@ -54,7 +54,7 @@ cp "$folder/trace.mcs" "$folder/copy.mcs"
 verdict "$(./mcs4 trace "$folder/trace.mcs" 100)" "$(cat "$folder/trace")" "a trace"
 verdict "$(./mcs4 trace "$folder/trace.mcs" 4)" "$(sed 3q "$folder/trace")" "a trace of four cycles"
 verdict "$(./mcs4 trace --last 2 "$folder/trace.mcs" 1000000)" "$(tail -n 3 "$folder/trace")" "the last two instructions before the stop"
-verdict_of_files "$folder/trace.mcs" "$folder/copy.mcs" "a traced session"
+verdict_of_files "$folder/trace.mcs" "$folder/copy.mcs" "a session is unchanged after a trace"
 echo 'break 0x004' | continue_session trace
 verdict "$(./mcs4 trace --last 1 "$folder/trace.mcs" 1000)" "       1  002 20 65 FIM P0, 0x65     acc 1 cy 0  r0 6 r1 5
        3  004 21    SRC P0           stops before it: break" "the last instruction before a breakpoint"
@@ -82,7 +82,7 @@ status 0" "a trace with the lines of a script"
 sed 's/$/\r/' < "$folder/source.asm" > "$folder/source_crlf.asm"
 verdict "$(outcome ./mcs4 trace --source "$folder/source_crlf.asm" "$folder/source.mcs" 7)" \
     "$(outcome ./mcs4 trace --source "$folder/source.asm" "$folder/source.mcs" 7)" "a trace with the lines of a source with CRLF"
-verdict_of_files "$folder/source.mcs" "$folder/copy.mcs" "a session that was traced with its source"
+verdict_of_files "$folder/source.mcs" "$folder/copy.mcs" "a session is unchanged after a trace with its source"
 check_rejected_sources "trace --source PROGRAM $folder/source.mcs 1"
 
 # The error in the arguments is printed before the usage.
@@ -97,7 +97,7 @@ check_rejected 2 "trace: CYCLES is missing
 $usage" ./mcs4 trace "$folder/trace.mcs"
 check_rejected 2 "trace: SESSION and CYCLES are missing
 $usage" ./mcs4 trace
-verdict "$(./mcs4 trace "$folder/source.mcs" 40 --source "$folder/source.asm")" "$(./mcs4 trace --source "$folder/source.asm" "$folder/source.mcs" 40)" "an option behind the arguments"
+verdict "$(./mcs4 trace "$folder/source.mcs" 40 --source "$folder/source.asm")" "$(./mcs4 trace --source "$folder/source.asm" "$folder/source.mcs" 40)" "an option after the arguments"
 check_rejected 2 "trace: CYCLES is missing
 $usage" ./mcs4 trace --last 3 "$folder/trace.mcs"
 check_rejected 2 "trace: --last is given twice
@@ -167,7 +167,7 @@ new_session steps < $calculator/quotient.txt
 printf 'press 4 3\nrun 899\n' | continue_session steps
 ./mcs4 trace "$folder/steps.mcs" 3000 > "$folder/traced"
 awk 'BEGIN { for (i = 0; i < 3000; i++) print "state\nstep"; print "state" }' | continue_session steps
-cat > "$folder/beside.awk" <<'program'
+cat > "$folder/compare.awk" <<'program'
 function row() {
     return now["acc"] " " now["cy"] " " now["r"] " " now["ret"] " " now["chain0"] " " now["chain1"] " " now["lamps"]
 }
@@ -199,5 +199,5 @@ FNR < NR && $2 ~ /^([0-9A-F][0-9A-F][0-9A-F]|\(the)$/ {
 }
 END { printf "%s", (traced == stepped ? "same\n" : "TRACED\n" traced "STEPPED\n" stepped) }
 program
-verdict "$(awk -f "$folder/beside.awk" "$folder/answers" "$folder/traced")" same "a trace beside steps"
+verdict "$(awk -f "$folder/compare.awk" "$folder/answers" "$folder/traced")" same "a trace, compared with steps"
 verdict "$(wc -l < "$folder/traced" | awk '{ print ($1 > 1500) }')" 1 "many instructions in a trace"
