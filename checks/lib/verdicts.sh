@@ -49,15 +49,15 @@ verdict_of_files() {
     fi
 }
 
-# Runs a client that prints lines `ok ..` and `fault: ..`, and counts them as verdicts. Arguments: a file for the client's output, and the command.
+# Runs a client that prints lines `ok ..` and `failed: ..`, and counts them as verdicts. Arguments: a file for the client's output, and the command.
 run_client() {
     report=$1
     shift
     status=0
     "$@" > "$report" || status=$?
-    sed -n '/^fault: /p' "$report" >&2
+    sed -n '/^failed: /p' "$report" >&2
     passed=$((passed + $(grep -c '^ok ' "$report" || :)))
-    failed=$((failed + $(grep -c '^fault: ' "$report" || :)))
+    failed=$((failed + $(grep -c '^failed: ' "$report" || :)))
     if [ "$status" -ne 0 ]; then failed=$((failed + 1)); fi
 }
 

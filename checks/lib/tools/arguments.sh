@@ -51,7 +51,7 @@ for words in "trace::10" "wave::10" "back:" "import:" "listing:" "explain:" "res
         # shellcheck disable=SC2086
         set -- ${words#*:}
         if [ $# -eq 0 ]; then set -- ''; fi
-        outcome ./mcs4 "$tool" "$@" | short_use
+        outcome ./mcs4 "$tool" "$@" | shorten_usage
     ) > "$folder/printed"
     verdict "$(cat "$folder/printed")" "$tool: an argument is empty; it names a file
 usage: mcs4 $tool
