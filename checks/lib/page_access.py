@@ -31,9 +31,9 @@ def check_answers_announced(browser):
     stop_time(browser)
     get_status = "return document.getElementById('answer-status').textContent"
     send_lines(browser, "poke acc 5")
-    eventually(browser, "an answer is said", get_status, re.compile(r"^ok \d+$"))
+    eventually(browser, "an answer is announced", get_status, re.compile(r"^ok \d+$"))
     send_lines(browser, "poke acc 77")
-    eventually(browser, "and a refusal in words", get_status, re.compile(r"^no \d+.*: [a-z]"))
+    eventually(browser, "and the message about a rejected line", get_status, re.compile(r"^no \d+.*: [a-z]"))
 
 
 # The panels in the order in which the Tab key reaches them, starting at the session's name. Escape and then Tab leave an editor.
@@ -63,12 +63,12 @@ def check_tab_key(browser):
         browser.keys([ESCAPE, TAB] if browser.script(IS_FOCUS_IN_EDITOR) else [TAB], 1, 1)
         tab_count += 1
     verdict("Tab goes through the panels in their order", visited, TAB_ORDER)
-    verdict("in few stops", tab_count < 80, True)
+    verdict("the number of stops of the Tab key", tab_count < 80, True)
     browser.script("document.querySelector('#program-editor .cm-editor').lineEditor.focus()")
     text_before = browser.script(GET_TEXT_OF_EDITOR, "#program-editor")
     browser.keys([ESCAPE, TAB])
     verdict("Escape and then Tab leaves a text", browser.script(IS_FOCUS_IN_EDITOR), False)
-    verdict("which is as it was", browser.script(GET_TEXT_OF_EDITOR, "#program-editor"), text_before)
+    verdict("the text after Escape and Tab is unchanged", browser.script(GET_TEXT_OF_EDITOR, "#program-editor"), text_before)
 
 
 # --- the accessibility tree and colours, through Chromium's driver ---
@@ -90,9 +90,9 @@ def check_names(browser, view):
     """Checks that each control, region and group has a name that consists of words."""
     nodes = list(nodes_of(browser))
     unnamed = [role for role, name, _ in nodes if role in CONTROL_ROLES and not name]
-    verdict(f"{view}: all that can be used has a name", unnamed, [])
+    verdict(f"{view}: each control has a name", unnamed, [])
     unnamed = [role for role, name, properties in nodes if role in NAMED_ROLES and not name and role != "group"]
-    verdict(f"{view}: so has each place", unnamed, [])
+    verdict(f"{view}: each region has a name", unnamed, [])
     unspoken_names = [name for role, name, _ in nodes if role in CONTROL_ROLES | NAMED_ROLES | {"heading"} and UNSPOKEN_SYMBOLS.search(name)]
     verdict(f"{view}: names are words", unspoken_names, [])
     return nodes
@@ -130,8 +130,8 @@ def check_board(browser):
     step_with_marks(browser)
     eventually(browser, "the listing is at the counter", IS_AT_COUNTER, True)
     browser.click_at_rest("#lines-of-program button.next")
-    eventually(browser, "a breakpoint is said as pressed", "return document.querySelector('#lines-of-program .next').getAttribute('aria-pressed')", "true")
-    verdict("the line that comes next is said as the current one",
+    eventually(browser, "a breakpoint is announced as pressed", "return document.querySelector('#lines-of-program .next').getAttribute('aria-pressed')", "true")
+    verdict("the next line is announced as the current one",
             browser.script("return document.querySelector('#lines-of-program [aria-current]').classList.contains('next')"), True)
     nodes = check_view(browser, "the board and the source")
     roles = [role for role, *_ in nodes]
@@ -139,10 +139,10 @@ def check_board(browser):
     levels = [properties.get("level") for role, _, properties in nodes if role == "heading"]
     verdict("one heading is the page's, all others are of its parts", (levels[0], set(levels[1:])), (1, {2}))
     folds = [properties for role, name, properties in nodes if role == "button" and name in ("Registers", "RAM")]
-    verdict("what folds says so", [properties.get("expanded") for properties in folds], [True, True])
-    verdict("tabs of texts and dock say which one is in front", [properties.get("selected") for role, _, properties in nodes if role == "tab"].count(True), 2)
+    verdict("each panel that folds announces its state", [properties.get("expanded") for properties in folds], [True, True])
+    verdict("the tabs of texts and dock announce the selected one", [properties.get("selected") for role, _, properties in nodes if role == "tab"].count(True), 2)
     lamps = [name for role, name, _ in nodes if role == "image" and re.search(", (lit|dark)$", name)]
-    verdict("each lamp says whether it is lit", len(lamps), browser.script("return document.querySelectorAll('.bulb').length"))
+    verdict("each lamp announces whether it is on", len(lamps), browser.script("return document.querySelectorAll('.bulb').length"))
 
 
 def check_other_views(browser):
@@ -156,10 +156,10 @@ def check_other_views(browser):
     show_text(browser, "program")
     browser.type_into("#step-count", "x\ue007")
     invalid_fields = [name for role, name, properties in nodes_of(browser) if properties.get("invalid") == "true"]
-    verdict("a field with a wrong value says so", invalid_fields, ["How many instructions to step"])
+    verdict("a field with a wrong value is announced as invalid", invalid_fields, ["How many instructions to step"])
     show_text(browser, "waves")
     browser.click("#record")
-    eventually(browser, "waves are there", "return document.getElementById('waves').hidden", False)
+    eventually(browser, "the waves are shown", "return document.getElementById('waves').hidden", False)
     browser.script(EXPAND_ALL, "#scope")
     check_view(browser, "the waves")
     show_text(browser, "program")
@@ -176,7 +176,7 @@ def check_tests(browser):
     check_properties(browser)
     show_text(browser, "program")
     browser.script("document.querySelector('#program-editor .cm-editor').lineEditor.scrollIntoView({ line: 480, ch: 0 }, 0)")
-    eventually(browser, "counts stand beside the source", "return document.querySelectorAll('.at-lacking .mark-counts').length > 0", True)
+    eventually(browser, "counts are next to the source", "return document.querySelectorAll('.at-lacking .mark-counts').length > 0", True)
     check_view(browser, "the source with its counts")
 
 
@@ -200,15 +200,15 @@ def check_dialogs(browser):
     check_view(browser, "the help")
     browser.click("#help-close")
     browser.click("#sessions-button")
-    eventually(browser, "the dialog of sessions is there", "return document.getElementById('sessions').open", True)
+    eventually(browser, "the dialog of sessions opens", "return document.getElementById('sessions').open", True)
     nodes = check_view(browser, "the dialog of sessions")
-    verdict("it is modal", [properties.get("modal") for role, _, properties in nodes if role == "dialog"], [True])
+    verdict("the dialog is modal", [properties.get("modal") for role, _, properties in nodes if role == "dialog"], [True])
     browser.click("#close-sessions")
     browser.click("#from-rom")
     eventually(browser, "a question is asked", "return document.querySelectorAll('#ask[open]').length", 1)
     check_view(browser, "a question")
     browser.keys([ESCAPE])
-    eventually(browser, "Escape leaves it", "return document.querySelectorAll('#ask[open]').length", 0)
+    eventually(browser, "Escape closes the question", "return document.querySelectorAll('#ask[open]').length", 0)
 
 
 # Computes the contrast of two colours as WCAG defines it. A transparent colour is blended with its background.

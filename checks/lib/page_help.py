@@ -61,7 +61,7 @@ def check_wiring(browser):
     choose_example(browser, "traffic light")
     browser.click("#wiring-tab")
     eventually(browser, "the wiring is drawn", "return document.querySelectorAll('#wiring-picture .part').length >= 4", True)
-    eventually(browser, "lines at 1 are marked while time runs", COUNT_HIGH, re.compile("[1-9]"))
+    eventually(browser, "lines at 1 are marked while time is running", COUNT_HIGH, re.compile("[1-9]"))
     verdict("and described in words", browser.text("#wiring-words"), re.compile("ROM 0 · 4001: line rom0.0, an (in|out)put, "))
     browser.script("document.querySelector('#wiring-picture .part.of-rom').focus()")
     browser.keys([ENTER])
