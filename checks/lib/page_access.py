@@ -38,15 +38,15 @@ def check_answers_announced(browser):
 
 # The panels in the order in which the Tab key reaches them, starting at the session's name. Escape and then Tab leave an editor.
 DESCRIBE_FOCUS = """
-const at = document.activeElement;
-const place = at.closest("#session-bar, #clock, #tools, #front, #texts, #dock, #side > section, #statusbar, #notice, .splitter");
-return place ? place.id : at.id"""
+const focused = document.activeElement;
+const region = focused.closest("#session-bar, #clock, #tools, #front, #texts, #dock, #side > section, #statusbar, #notice, .splitter");
+return region ? region.id : focused.id"""
 IS_FOCUS_IN_EDITOR = "return document.activeElement.closest('.cm-editor') !== null"
 # The column that is a tab stop in Firefox, because the arrow keys scroll it.
 SCROLLABLE_COLUMN = "side"
 SIDE_PANELS = ["processor", "calls", "watched", "breakpoints", "memory", "ports"]
 TAB_ORDER = ["session-bar", "clock", "tools", "front", "front-splitter", "texts", "dock-splitter", "dock", "side-splitter",
-         *[place for name in SIDE_PANELS for place in (name, f"{name}-splitter")], "history", "statusbar"]
+         *[region for name in SIDE_PANELS for region in (name, f"{name}-splitter")], "history", "statusbar"]
 
 
 def check_tab_key(browser):
@@ -214,53 +214,54 @@ def check_dialogs(browser):
 # Computes the contrast of two colours as WCAG defines it. A transparent colour is blended with its background.
 FIND_LOW_CONTRAST = """
 const parts = (text) => (text.match(/[\\d.]+/g) || []).map(Number);
-const over = (text, ground) => {
+const blend = (text, ground) => {
   const [red, green, blue, alpha = 1] = parts(text);
-  return [red, green, blue].map((each, at) => each * alpha + ground[at] * (1 - alpha));
+  return [red, green, blue].map((channel, index) => channel * alpha + ground[index] * (1 - alpha));
 };
-const light = (colour) => colour.map((each) => each / 255).map((each) => (each <= 0.04045 ? each / 12.92 : ((each + 0.055) / 1.055) ** 2.4))
-  .reduce((sum, each, at) => sum + each * [0.2126, 0.7152, 0.0722][at], 0);
-const contrast = (one, other) => {
-  const [low, high] = [light(one), light(other)].sort((a, b) => a - b);
+const luminance = (colour) => colour.map((channel) => channel / 255)
+  .map((channel) => (channel <= 0.04045 ? channel / 12.92 : ((channel + 0.055) / 1.055) ** 2.4))
+  .reduce((sum, channel, index) => sum + channel * [0.2126, 0.7152, 0.0722][index], 0);
+const contrast = (first, second) => {
+  const [low, high] = [luminance(first), luminance(second)].sort((a, b) => a - b);
   return (high + 0.05) / (low + 0.05);
 };
-const PAPER = parts(getComputedStyle(document.body).backgroundColor);
-const groundOf = (node) => (node ? over(getComputedStyle(node).backgroundColor, groundOf(node.parentElement)) : PAPER);
-const isSeen = (each) => isShown(each) && !each.closest(":disabled, .unseen, [aria-hidden=true]:not(#wiring-picture *), option");
+const PAGE_COLOUR = parts(getComputedStyle(document.body).backgroundColor);
+const groundOf = (node) => (node ? blend(getComputedStyle(node).backgroundColor, groundOf(node.parentElement)) : PAGE_COLOUR);
+const isVisible = (node) => isShown(node) && !node.closest(":disabled, .unseen, [aria-hidden=true]:not(#wiring-picture *), option");
 const root = document.querySelector("dialog[open]") || document.body;
-const shown = (selector) => [...root.querySelectorAll(selector)].filter(isSeen);
-const faults = [];
-const look = (what, node, colour, ground, least) => {
-  const found = contrast(over(colour, ground), ground);
-  if (found < least) faults.push(`${what} ${node.id || node.className.baseVal || node.className || node.textContent.slice(0, 20)} ${found.toFixed(2)}`);
+const shown = (selector) => [...root.querySelectorAll(selector)].filter(isVisible);
+const errors = [];
+const check = (kind, node, colour, ground, minimum) => {
+  const actual = contrast(blend(colour, ground), ground);
+  if (actual < minimum) errors.push(`${kind} ${node.id || node.className.baseVal || node.className || node.textContent.slice(0, 20)} ${actual.toFixed(2)}`);
 };
-for (const each of shown("button, input:not([type=checkbox]), select, textarea, [role=tab]")) {
-  const style = getComputedStyle(each);
+for (const node of shown("button, input:not([type=checkbox]), select, textarea, [role=tab]")) {
+  const style = getComputedStyle(node);
   if (style.borderTopStyle === "none" || parts(style.borderTopColor)[3] === 0 || !parseFloat(style.borderTopWidth)) continue;
-  look("border", each, style.borderTopColor, groundOf(each.parentElement), 3);
+  check("border", node, style.borderTopColor, groundOf(node.parentElement), 3);
 }
-for (const each of shown(".changed")) {
-  look("mark", each, getComputedStyle(each).boxShadow.match(/rgba?\\([^)]*\\)/)[0], groundOf(each.parentElement), 3);
+for (const node of shown(".changed")) {
+  check("mark", node, getComputedStyle(node).boxShadow.match(/rgba?\\([^)]*\\)/)[0], groundOf(node.parentElement), 3);
 }
-for (const each of shown(".bulb")) {
-  if (getComputedStyle(each).opacity !== "1") faults.push("a lamp that is seen through");
-  look("lamp", each, getComputedStyle(each).borderTopColor, groundOf(each.parentElement), 3);
+for (const node of shown(".bulb")) {
+  if (getComputedStyle(node).opacity !== "1") errors.push("a transparent lamp");
+  check("lamp", node, getComputedStyle(node).borderTopColor, groundOf(node.parentElement), 3);
 }
-const [lit, dark] = [".bulb.lit", ".bulb:not(.lit)"].map((each) => shown(each)[0]);
+const [lit, dark] = [".bulb.lit", ".bulb:not(.lit)"].map((node) => shown(node)[0]);
 if (lit && dark) {
-  const [one, other] = [lit, dark].map((each) => over(getComputedStyle(each).borderTopColor, groundOf(each.parentElement)));
+  const [litBorder, darkBorder] = [lit, dark].map((node) => blend(getComputedStyle(node).borderTopColor, groundOf(node.parentElement)));
   const fill = contrast(groundOf(lit), groundOf(dark));
-  if (contrast(one, other) < 3 && fill < 3) faults.push(`lit beside dark ${contrast(one, other).toFixed(2)}, ${fill.toFixed(2)}`);
+  if (contrast(litBorder, darkBorder) < 3 && fill < 3) errors.push(`lit and dark lamps ${contrast(litBorder, darkBorder).toFixed(2)}, ${fill.toFixed(2)}`);
 }
-for (const each of shown("svg :is(rect, circle, path):not(.picture *, .number *, .cap, .glass)")) {
-  const { stroke } = getComputedStyle(each);
-  if (stroke !== "none") look("line", each, stroke, groundOf(each.closest("svg").parentElement), 3);
+for (const node of shown("svg :is(rect, circle, path):not(.picture *, .number *, .cap, .glass)")) {
+  const { stroke } = getComputedStyle(node);
+  if (stroke !== "none") check("line", node, stroke, groundOf(node.closest("svg").parentElement), 3);
 }
 const walker = document.createTreeWalker(root, NodeFilter.SHOW_TEXT);
-for (let node = walker.nextNode(); node; node = walker.nextNode()) {
-  const each = node.parentElement;
-  if (!node.textContent.trim() || !isSeen(each) || each.closest("script, style, noscript")) continue;
-  const style = getComputedStyle(each);
-  look("text", each, each.closest("svg") ? style.fill : style.color, groundOf(each.closest("svg") ? each.closest("svg").parentElement : each), 4.5);
+for (let textNode = walker.nextNode(); textNode; textNode = walker.nextNode()) {
+  const node = textNode.parentElement;
+  if (!textNode.textContent.trim() || !isVisible(node) || node.closest("script, style, noscript")) continue;
+  const style = getComputedStyle(node);
+  check("text", node, node.closest("svg") ? style.fill : style.color, groundOf(node.closest("svg") ? node.closest("svg").parentElement : node), 4.5);
 }
-return [...new Set(faults)].slice(0, 12)"""
+return [...new Set(errors)].slice(0, 12)"""

@@ -15,7 +15,7 @@ F1, F5, F8, F9, F10, F11 = "\ue031", "\ue035", "\ue038", "\ue039", "\ue03a", "\u
 STEPPED_OVER = re.compile(f"{STEPPED.pattern}|^Returned to [0-9A-F]{{3}}, after ")
 STEPPED_OUT = re.compile("^Returned to |no call is open here")
 IS_PALETTE_OPEN = "const palette = document.getElementById('palette'); return palette !== null && palette.open"
-GET_PALETTE_ITEMS = "return [...document.querySelectorAll('#palette-list li .grow')].map((each) => each.textContent)"
+GET_PALETTE_ITEMS = "return [...document.querySelectorAll('#palette-list li .grow')].map((node) => node.textContent)"
 GET_FIRST_COMMAND = "return document.querySelector('#palette-list li').textContent"
 GET_ACTIVE_OPTION = """
 const field = document.querySelector('#palette input');
@@ -85,9 +85,9 @@ def check_listbox(browser):
     browser.script("document.getElementById('name').focus()")
     press_chord(browser, CONTROL, SHIFT, "p")
     eventually(browser, "Control, Shift and P open the palette", IS_PALETTE_OPEN, True)
-    get_roles = "return ['input', 'ul', 'li'].map((each) => document.querySelector(`#palette ${each}`).getAttribute('role'))"
+    get_roles = "return ['input', 'ul', 'li'].map((node) => document.querySelector(`#palette ${node}`).getAttribute('role'))"
     verdict("the roles of the palette's parts", browser.script(get_roles), ["combobox", "listbox", "option"])
-    get_labels = "return ['', ' input', ' ul'].map((each) => document.querySelector(`#palette${each}`).getAttribute('aria-label'))"
+    get_labels = "return ['', ' input', ' ul'].map((node) => document.querySelector(`#palette${node}`).getAttribute('aria-label'))"
     verdict("the names of the palette's parts", browser.script(get_labels), ["Commands", "Type a command", "Commands"])
     verdict("the first command is selected", browser.script(GET_ACTIVE_OPTION), 0)
     browser.keys([DOWN, DOWN, UP])
@@ -174,7 +174,7 @@ def check_places(browser):
 
 
 IS_WATCH_SHOWN = "return isShown(document.getElementById('watched'))"
-GET_KEY_ROWS = "return [...document.querySelectorAll('#help-sections tr')].map((each) => each.textContent).join('|')"
+GET_KEY_ROWS = "return [...document.querySelectorAll('#help-sections tr')].map((node) => node.textContent).join('|')"
 
 
 def check_command_effects(browser):
@@ -253,12 +253,12 @@ def check_tooltips(browser):
 
 
 GET_PRIMARY_BUTTONS = """
-return [...document.querySelectorAll("#toolbar button")].filter((each) => isShown(each)
-  && getComputedStyle(each).backgroundColor === getComputedStyle(document.getElementById("run")).backgroundColor).length"""
+return [...document.querySelectorAll("#toolbar button")].filter((node) => isShown(node)
+  && getComputedStyle(node).backgroundColor === getComputedStyle(document.getElementById("run")).backgroundColor).length"""
 MEASURE_TOOLS = """
-return [...document.querySelectorAll("#toolbar button")].filter((each) => isShown(each)).map((each) => {
-  const { width, height } = each.getBoundingClientRect();
-  return { id: each.id, name: each.getAttribute("aria-label") || each.textContent, icons: each.querySelectorAll("svg.icon").length,
+return [...document.querySelectorAll("#toolbar button")].filter((node) => isShown(node)).map((node) => {
+  const { width, height } = node.getBoundingClientRect();
+  return { id: node.id, name: node.getAttribute("aria-label") || node.textContent, icons: node.querySelectorAll("svg.icon").length,
     size: Math.min(width, height) };
 })"""
 IS_MENU_EXPANDED = "return document.getElementById('menu-button').getAttribute('aria-expanded')"
@@ -277,7 +277,7 @@ def check_toolbar(browser):
     browser.keys([ENTER])
     eventually(browser, "Enter opens the menu of files", IS_MENU_EXPANDED, "true")
     verdict("the focus is at the first item of the menu", browser.script(GET_FOCUSED_ID), "open-button")
-    get_roles = "return [...document.querySelectorAll('#menu button')].map((each) => each.getAttribute('role')).join(' ')"
+    get_roles = "return [...document.querySelectorAll('#menu button')].map((node) => node.getAttribute('role')).join(' ')"
     verdict("the roles of the menu's items", set(browser.script(get_roles).split()), {"menuitem"})
     browser.keys([UP])
     verdict("the arrow wraps around in the menu", browser.script(GET_FOCUSED_ID), "projects-button")
@@ -286,7 +286,7 @@ def check_toolbar(browser):
     verdict("the focus after the menu is closed", browser.script(GET_FOCUSED_ID), "menu-button")
     browser.script("document.activeElement.blur()")
     browser.click("#theme-button")
-    get_checked = "return [...document.querySelectorAll('#theme-menu button')].map((each) => each.getAttribute('aria-checked'))"
+    get_checked = "return [...document.querySelectorAll('#theme-menu button')].map((node) => node.getAttribute('aria-checked'))"
     eventually(browser, "the menu of themes marks the selected theme", get_checked, ["true", "false", "false"])
     browser.click("#front h2")
     verdict("a click beside a menu closes it", browser.script("return document.getElementById('theme-menu').hidden"), True)
@@ -308,7 +308,7 @@ def check_accessibility(browser):
     browser.command("Accessibility.disable")
 
 
-GET_WELCOME_CARDS = "return [...document.querySelectorAll('#welcome b')].map((each) => each.textContent)"
+GET_WELCOME_CARDS = "return [...document.querySelectorAll('#welcome b')].map((node) => node.textContent)"
 COUNT_LAMPS_ON = "return document.querySelectorAll('.bulb.lit').length"
 
 
@@ -360,7 +360,7 @@ MEASURE_RAM_IN_RING = """
 const ring = document.getElementById('tour-ring').getBoundingClientRect();
 const cell = document.querySelector('#banks .ram button').getBoundingClientRect();
 return Math.abs(ring.left + 4 - cell.left) < 2 && Math.abs(ring.top + 4 - cell.top) < 2 && cell.bottom <= innerHeight && cell.top >= 0"""
-COUNT_EXAMPLES_WITHOUT_NOTE = "return [...document.querySelectorAll('#examples li .grow')].filter((each) => each.textContent.split('. ').length < 2).length"
+COUNT_EXAMPLES_WITHOUT_NOTE = "return [...document.querySelectorAll('#examples li .grow')].filter((node) => node.textContent.split('. ').length < 2).length"
 
 
 IS_EMPTY_NOTE_SHOWN = "return isShown(document.querySelector('#watched-list + .empty'))"
@@ -374,7 +374,7 @@ def check_empty(browser):
     eventually(browser, "the button of an empty watch moves the focus to the field", GET_FOCUSED_ID, "watched-field")
     browser.type_into("#watched-field", "R5" + ENTER)
     eventually(browser, "the button's text in the field", IS_EMPTY_NOTE_SHOWN, False)
-    count_other_panels = "return [...document.querySelectorAll('.empty')].filter((each) => each.querySelectorAll('button').length !== 1).length"
+    count_other_panels = "return [...document.querySelectorAll('.empty')].filter((node) => node.querySelectorAll('button').length !== 1).length"
     verdict("each empty panel offers one action", browser.script(count_other_panels), 0)
 
 

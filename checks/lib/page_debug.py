@@ -40,17 +40,17 @@ editor.replaceRange(`        ${arguments[1]}\\n`, { line: arguments[0] - 1, ch: 
 GET_BREAKPOINTS = """
 return [...document.querySelectorAll("#breakpoint-list li")].map((row) =>
   `${row.querySelector("i").textContent} ${row.querySelector(".place").textContent}`).join("; ")"""
-GET_HITS = "return [...document.querySelectorAll('#breakpoint-list .hits')].map((each) => each.textContent).join('; ')"
-GET_BREAKPOINT_ERRORS = "return [...document.querySelectorAll('#breakpoint-list .fault')].map((each) => each.textContent).join('')"
-GET_NOTES = "return [...document.querySelectorAll('#breakpoint-notes p')].map((each) => each.textContent).slice(0, 3).join('; ')"
-GET_BREAKPOINT_DETAILS = 'return [...document.querySelectorAll("#breakpoint-list .words")].map((each) => each.textContent).join("; ")'
+GET_HITS = "return [...document.querySelectorAll('#breakpoint-list .hits')].map((node) => node.textContent).join('; ')"
+GET_BREAKPOINT_ERRORS = "return [...document.querySelectorAll('#breakpoint-list .fault')].map((node) => node.textContent).join('')"
+GET_NOTES = "return [...document.querySelectorAll('#breakpoint-notes p')].map((node) => node.textContent).slice(0, 3).join('; ')"
+GET_BREAKPOINT_DETAILS = 'return [...document.querySelectorAll("#breakpoint-list .words")].map((node) => node.textContent).join("; ")'
 # The source lines that have a breakpoint in the margin, including lines that are out of view.
 GET_LINES_IN_MARGIN = """
 return document.querySelector("#program-editor .cm-editor").lineEditor.marksIn("breakpoints").map((line) => line + 1).join(" ")"""
 UNDO_EDIT = "document.querySelector('#program-editor .cm-editor').lineEditor.undo()"
 # The form below a line that edits its breakpoint: its error and its contents.
 GET_ROW_ERROR = "const shown = document.querySelector('.breakpoint-row .fault'); return shown ? shown.textContent : 'no row'"
-GET_ROW_VALUES = "return [...document.querySelectorAll('.breakpoint-row input')].map((each) => each.value).join('; ')"
+GET_ROW_VALUES = "return [...document.querySelectorAll('.breakpoint-row input')].map((node) => node.value).join('; ')"
 # Fills in the condition, hit count or log message of the first breakpoint in the list.
 FILL_ROW = """
 document.querySelector("#breakpoint-list .edit").click();
@@ -79,7 +79,7 @@ IS_FOCUS_IN_SOURCE = "return document.activeElement.closest('#program-editor .cm
 GET_FOCUSED_TEXT = "return document.activeElement.textContent"
 # Clicks the margin of a line with the secondary mouse button.
 OPEN_MARGIN_MENU = """
-const number = [...document.querySelectorAll("#program-editor .cm-lineNumbers .cm-gutterElement")].find((each) => each.textContent === String(arguments[0]));
+const number = [...document.querySelectorAll("#program-editor .cm-lineNumbers .cm-gutterElement")].find((node) => node.textContent === String(arguments[0]));
 const { x, y } = number.getBoundingClientRect();
 number.dispatchEvent(new MouseEvent("contextmenu", { bubbles: true, cancelable: true, clientX: x + 4, clientY: y + 4 }))"""
 BACKSPACE, UP, DOWN, SHIFT, F9, F10 = "\ue003", "\ue013", "\ue015", "\ue008", "\ue039", "\ue03a"
@@ -140,7 +140,7 @@ def check_no_instruction(browser):
     eventually(browser, "one inside an instruction goes to the next one", GET_BREAKPOINT_LINES, str(JUN_LINE + 2))
     verdict("a message says so", browser.script(GET_POPUP),
             f"010 is inside the instruction of line {JUN_LINE + 1}: its breakpoint is at the next one, line {JUN_LINE + 2}.")
-    eventually(browser, "the breakpoint in the bench", "return [...document.querySelectorAll('#breakpoint-list .place')].map((each) => each.textContent).join()",
+    eventually(browser, "the breakpoint in the bench", "return [...document.querySelectorAll('#breakpoint-list .place')].map((node) => node.textContent).join()",
                f"011 (wait, line {JUN_LINE + 2})")
 
 

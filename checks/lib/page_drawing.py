@@ -19,17 +19,17 @@ COUNT_HIGH = "return document.querySelectorAll('#wiring-picture .high').length"
 GET_SOUND_LABEL = "return document.getElementById('sound').hidden ? '' : document.getElementById('sound-button').textContent"
 GET_FOCUSED_LABEL = "return document.activeElement.getAttribute('aria-label')"
 GET_TITLE = "return document.querySelector('#chosen > b').textContent"
-GET_OFFERED_ENDS = "return [...document.querySelectorAll('#wiring-picture .can-end')].map((each) => each.getAttribute('aria-label'))"
+GET_OFFERED_ENDS = "return [...document.querySelectorAll('#wiring-picture .can-end')].map((node) => node.getAttribute('aria-label'))"
 INSERT = "Insert code that scans these keys"
-GET_PIN_NUMBERS = "return [...document.querySelectorAll('#wiring-picture [aria-label^=\"ROM 0\"] .number')].map((each) => each.textContent).join(' ')"
+GET_PIN_NUMBERS = "return [...document.querySelectorAll('#wiring-picture [aria-label^=\"ROM 0\"] .number')].map((node) => node.textContent).join(' ')"
 GET_SOURCE = "return document.querySelector('#program-editor .cm-editor').lineEditor.getValue()"
-GET_DISABLED_BUTTONS = "return [...document.querySelectorAll('#shelf button:disabled')].map((each) => `${each.textContent}: ${each.title}`)"
+GET_DISABLED_BUTTONS = "return [...document.querySelectorAll('#shelf button:disabled')].map((node) => `${node.textContent}: ${node.title}`)"
 GET_POSITION_OF_KEYS = """
 const box = document.querySelector("#wiring-picture .of-keys rect");
 return [box.getAttribute("x"), box.getAttribute("y")].map(Number)"""
 GET_CENTRE = "const box = document.querySelector(arguments[0]).getBoundingClientRect(); return [box.x + box.width / 2, box.y + box.height / 2]"
 # The descriptions of the parts and wires in the picture.
-GET_WIRING_LINES = "return [...document.querySelectorAll('#wiring-words li')].map((each) => each.textContent).join(' ')"
+GET_WIRING_LINES = "return [...document.querySelectorAll('#wiring-words li')].map((node) => node.textContent).join(' ')"
 # A program whose lamps show which keys are down.
 PROGRAM = """        FIM P0, 0x00    ; ROM 0 and RAM chip 0
         FIM P1, 0x10    ; ROM 1

@@ -16,8 +16,8 @@ GET_SCROLL_TOP = "return document.querySelector('#program-editor .cm-editor').li
 FIND_EDITOR = "const editor = document.querySelector(`${arguments[0]} .cm-editor`).lineEditor; "
 GET_CARET = f"{FIND_EDITOR}const at = editor.getCursor(); return [at.line, at.ch, editor.getSelection()]"
 SET_CARET = f"{FIND_EDITOR}editor.setCursor({{ line: arguments[1], ch: arguments[2] }}); editor.focus()"
-GET_ERRORS = "return [...document.querySelectorAll('{} .fault-list li')].map((each) => each.textContent).join('|')"
-GET_UNDERLINED = "return [...document.querySelectorAll('{} .fault')].map((each) => each.textContent).join(' ')"
+GET_ERRORS = "return [...document.querySelectorAll('{} .fault-list li')].map((node) => node.textContent).join('|')"
+GET_UNDERLINED = "return [...document.querySelectorAll('{} .fault')].map((node) => node.textContent).join(' ')"
 GET_STATUS_OF = "return document.querySelector('{} .status-text').textContent"
 GET_EXPLANATION = "return document.querySelector('{} .meaning').textContent"
 GET_LISTING = "return document.querySelector('#lines-of-program').textContent"
@@ -27,7 +27,7 @@ IS_FOCUS_IN_PAPER = "return document.activeElement.closest('.paper') !== null"
 GET_LINE_NUMBERS = f"""{FIND_EDITOR}
 editor.scrollTo(1e6);
 editor.view.scrollDOM.scrollLeft = 1000;
-const shown = (part) => [...editor.view.dom.querySelectorAll(part)].filter((each) => each.getBoundingClientRect().height > 0);
+const shown = (part) => [...editor.view.dom.querySelectorAll(part)].filter((node) => node.getBoundingClientRect().height > 0);
 const lines = shown(".cm-line").map((line) => line.getBoundingClientRect().top);
 const numbers = shown(".cm-lineNumbers .cm-gutterElement");
 const apart = numbers.map((number) => Math.min(...lines.map((line) => Math.abs(number.getBoundingClientRect().top - line))));
@@ -139,7 +139,7 @@ def check_names(browser):
     browser.keys([F12], 5, 5)
     eventually(browser, "F12 leads to where a name is defined", get_caret, [0, 4, "loop"])
     browser.press_chord(SHIFT, F12)
-    eventually(browser, "its places are listed", "return [...document.querySelectorAll('#program-editor .places li')].map((each) => each.textContent).join('|')",
+    eventually(browser, "its places are listed", "return [...document.querySelectorAll('#program-editor .places li')].map((node) => node.textContent).join('|')",
                "loop is at 3 places Close|line 1, where it is defined loop:\tNOP ; loop|line 2 FIM P0, loop|line 3 JUN loop")
     browser.click(f"{PROGRAM} .places li:nth-child(3) button")
     eventually(browser, "one of them is shown", get_caret, [1, 13, "loop"])
@@ -160,12 +160,12 @@ def check_names(browser):
     browser.press_chord(CONTROL, "h")
     browser.keys([*"again"], 5, 5)
     browser.script(f"document.querySelector('{PROGRAM} [aria-label=\"Replace with\"]').value = 'loop'")
-    browser.script(f"[...document.querySelectorAll('{PROGRAM} .search button')].find((each) => each.textContent === 'Replace all').click()")
+    browser.script(f"[...document.querySelectorAll('{PROGRAM} .search button')].find((node) => node.textContent === 'Replace all').click()")
     eventually(browser, "all are replaced", get_text, "loop:\tNOP ; loop\n\tFIM P0, loop\n\tJUN loop")
     browser.keys([ESCAPE], 5, 5)
 
 
-GET_FOLDED = "return [...document.querySelectorAll('#program-editor .folded-lines')].map((each) => each.textContent).join()"
+GET_FOLDED = "return [...document.querySelectorAll('#program-editor .folded-lines')].map((node) => node.textContent).join()"
 FOLDABLE_PROGRAM = """; two lines
 ; of comment
 
@@ -337,7 +337,7 @@ def check_board(browser):
     for text in ("[[rom]]\nchip = 0\nport = \"0000\"", "[[lamp]]\nline = \"rom0.0\""):
         browser.press_chord(CONTROL, " ")
         browser.until("return document.querySelectorAll('.cm-tooltip-autocomplete li').length", 5)
-        browser.script("[...document.querySelectorAll('.cm-tooltip-autocomplete li')].find((each) => each.textContent.startsWith(arguments[0]))"
+        browser.script("[...document.querySelectorAll('.cm-tooltip-autocomplete li')].find((node) => node.textContent.startsWith(arguments[0]))"
                        ".dispatchEvent(new MouseEvent('mousedown', { bubbles: true, cancelable: true }))",
                        text.split("\n")[0])
         verdict("an empty line becomes a part", browser.script(GET_TEXT_OF_EDITOR, BOARD).endswith(text), True)

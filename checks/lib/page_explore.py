@@ -23,7 +23,7 @@ from web_driver import Chromium
 EDITOR = "#properties-editor"
 GET_PROPERTIES_STATUS = "return document.querySelector('#properties-editor .status-text').textContent"
 GET_BUTTON_LABEL = "return document.getElementById('explore').textContent"
-GET_ROWS = """return [...document.querySelectorAll('#property-list > li')].map((each) => [...each.querySelector('p').children]
+GET_ROWS = """return [...document.querySelectorAll('#property-list > li')].map((node) => [...node.querySelector('p').children]
   .map((child) => child.textContent).filter(Boolean).join(' | '))"""
 GET_MARK = "return document.querySelector('#properties-tab .mark').textContent"
 GET_ERRORS = GET_TESTS_FAULTS.replace("tests", "properties")

@@ -118,7 +118,7 @@ def check_tour(browser):
 
 
 def check_hints(browser):
-    get_titles = "return [...document.querySelectorAll('#processor [title], #calls [title], #ports [title]')].map((each) => each.title).join('; ')"
+    get_titles = "return [...document.querySelectorAll('#processor [title], #calls [title], #ports [title]')].map((node) => node.title).join('; ')"
     for description in ("the accumulator", "in the middle of an instruction of two cycles", "the return addresses, the newest first", "what WRR has written"):
         eventually(browser, f"a cell says what it shows: {description}", get_titles, re.compile(description))
 

@@ -37,8 +37,8 @@ ENTER, ESCAPE, TAB, DOWN = "\ue007", "\ue00c", "\ue004", "\ue015"
 
 # Returns the number of controls without an accessible name.
 COUNT_UNNAMED_CONTROLS = """
-return [...document.querySelectorAll("button, input, select, textarea")].filter((each) => !each.textContent.trim()
-  && !each.getAttribute("aria-label") && !each.labels?.length && !each.getAttribute("aria-labelledby")).length"""
+return [...document.querySelectorAll("button, input, select, textarea")].filter((node) => !node.textContent.trim()
+  && !node.getAttribute("aria-label") && !node.labels?.length && !node.getAttribute("aria-labelledby")).length"""
 
 # Records the saved session one second after the page is hidden, and again when the page is shown.
 RECORD_SAVED_SESSIONS = """

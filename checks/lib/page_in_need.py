@@ -3,7 +3,7 @@
 import re
 import time
 
-from page_altered import REQUEST_FAULT, EXPOSE_WORKER, INSTALL_FAULTS, write_altered_page
+from page_altered import REQUEST_FAILURE, EXPOSE_WORKER, INSTALL_FAILURES, write_altered_page
 from page_in_browser import (ENTER, ESCAPE, GET_DIGITS, GET_NOTICE, GET_STATUS, GET_TEXT_OF_EDITOR, IS_READY, PUT_INTO_EDITOR, choose_example,
                              send_lines, reopen_page, stop_time, until_ready)
 from verdicts import eventually, verdict
@@ -12,7 +12,7 @@ from web_driver import Chromium
 # Scripts that make the store of sessions (IndexedDB) unusable. Each key names one way in which a browser can lack this store.
 SCRIPTS_WITHOUT_STORE = {
     "no IndexedDB": "Object.defineProperty(window, 'indexedDB', { value: undefined })",
-    "IndexedDB and locks are refused": "IDBFactory.prototype.open = () => { throw new DOMException('', 'SecurityError'); };"
+    "IndexedDB and locks are blocked": "IDBFactory.prototype.open = () => { throw new DOMException('', 'SecurityError'); };"
                                        "LockManager.prototype.request = async () => { throw new DOMException('', 'SecurityError'); }",
     "a store that does not answer": "IDBFactory.prototype.open = () => ({})",
 }
@@ -29,8 +29,9 @@ return [...document.querySelectorAll("button, input, select, textarea")].filter(
   .map((each) => each.textContent)"""
 
 
-def cause_fault(browser, fault):
-    browser.script(REQUEST_FAULT, fault)
+def cause_failure(browser, failure):
+    """Makes the worker or its module fail in one of the ways of INSTALL_FAILURES."""
+    browser.script(REQUEST_FAILURE, failure)
 
 
 def dismiss(browser):
@@ -39,24 +40,24 @@ def dismiss(browser):
 
 def check_failures(browser, page, folder):
     """Checks that the session survives a trap in the module, a lack of memory, a worker that dies or hangs, and a full store."""
-    browser.go(write_altered_page(page, folder, EXPOSE_WORKER, INSTALL_FAULTS).as_uri())
+    browser.go(write_altered_page(page, folder, EXPOSE_WORKER, INSTALL_FAILURES).as_uri())
     until_ready(browser)
     choose_example(browser, "calculator")
     browser.keys([ESCAPE, "1", "2"])
     browser.until(GET_DIGITS, "12")
-    cause_fault(browser, "trap")
+    cause_failure(browser, "trap")
     eventually(browser, "a trap is reported", GET_NOTICE, re.compile("the module stopped inside a call .unreachable. and was started again"))
     verdict("the session is unchanged", browser.script(GET_DIGITS), "12")
     dismiss(browser)
     browser.click("#run")
     browser.keys(["3"])
     eventually(browser, "the bench continues after a trap", GET_DIGITS, "123")
-    cause_fault(browser, "no memory")
+    cause_failure(browser, "no memory")
     eventually(browser, "lack of memory is reported", GET_NOTICE, re.compile("no 90: there was no memory"))
-    eventually(browser, "the session is as it was then, too", GET_DIGITS, "123")
+    eventually(browser, "the session is unchanged after a lack of memory", GET_DIGITS, "123")
     dismiss(browser)
     check_full_store(browser)
-    cause_fault(browser, "trap without room")
+    cause_failure(browser, "trap without memory")
     browser.click("#step")
     eventually(browser, "no memory for the module after a trap is reported", GET_NOTICE, re.compile("no 90: there was no memory"))
     verdict("and the session is unchanged", browser.script(GET_DIGITS), "123")
@@ -77,7 +78,7 @@ def check_worker(browser):
     """Checks a worker that dies while time is running, and a worker that hangs when its work is cancelled."""
     browser.click("#run")
     browser.until(GET_STATUS, re.compile("^Running \""))
-    cause_fault(browser, "die")
+    cause_failure(browser, "die")
     eventually(browser, "a worker that died is reported", GET_NOTICE, re.compile("worker stopped and was restarted.*session is unchanged"), 40)
     eventually(browser, "and the session is unchanged", GET_DIGITS, "123")
     dismiss(browser)
@@ -86,14 +87,14 @@ def check_worker(browser):
     eventually(browser, "the bench continues in a new worker", GET_DIGITS, "1234")
     stop_time(browser)
     answer_before = send_lines(browser, "seq")
-    cause_fault(browser, "hang")
+    cause_failure(browser, "hang")
     browser.script("document.getElementById('lines').value = 'poke r5 9'")
     browser.script("document.getElementById('send').click()")
     eventually(browser, "work that hangs can be cancelled", "return document.getElementById('work').hidden", False)
     browser.click("#cancel")
     eventually(browser, "the cancelled worker is ended", GET_NOTICE, re.compile("worker stopped and was restarted"), 20)
     browser.script("document.getElementById('lines').value = ''")
-    verdict("and the session is as it was then, too", send_lines(browser, "seq"), answer_before)
+    verdict("the session is unchanged after the cancellation", send_lines(browser, "seq"), answer_before)
     dismiss(browser)
 
 
@@ -145,20 +146,20 @@ def check_long_work(browser, page):
     eventually(browser, "long work shows how far it is", HAS_PROGRESS, True, 60)
     browser.click("#cancel")
     eventually(browser, "long work can be cancelled", GET_NOTICE, re.compile("It was cancelled. The session is as it was before."), 30)
-    print(f"beside long work the page answers at least every {browser.script(GET_LONGEST_BLOCK):.0f} ms in {browser.name}")
+    print(f"during long work the page answers at least every {browser.script(GET_LONGEST_BLOCK):.0f} ms in {browser.name}")
     browser.script("const area = document.getElementById('lines'); area.value = ''; area.style.display = ''")
     verdict("cancelled work has no effect", send_lines(browser, "seq"), answer_before)
     dismiss(browser)
     browser.script("document.getElementById('lines').value = 'step\\n'.repeat(20000)")
     browser.script("document.getElementById('send').click()")
-    eventually(browser, "work in pieces is done whole", "return document.getElementById('lines').value", "", 60)
+    eventually(browser, "work in pieces is completed", "return document.getElementById('lines').value", "", 60)
     send_lines(browser, "seq")
     verdict("each line of the work is executed once", browser.script(GET_LAST_ENTRY), f"seqseq {int(answer_before.rsplit(' ', 1)[1]) + 20000}")
 
 
 SHORTEN_WAIT = """
 const wait = setTimeout;
-window.setTimeout = (act, time, ...rest) => wait(act, time === 10000 ? 300 : time, ...rest);
+window.setTimeout = (handler, time, ...rest) => wait(handler, time === 10000 ? 300 : time, ...rest);
 """
 
 
@@ -268,9 +269,9 @@ def check_leaving_early(browser, address, session):
         browser.go("about:blank")
         # Wait, because another tab could still be opening the session at this time.
         time.sleep(2.1)
-        verdict(f"a session of a page that is left at once is opened by itself again ({query})",
+        verdict(f"a session of a page that is left at once is opened automatically again ({query})",
                 [reopen(browser, address), browser.script("return location.hash")], ["", session])
-        verdict("with what was typed last", browser.script(GET_TEXT_OF_EDITOR, "#program-editor"), text)
+        verdict("the text that was typed last", browser.script(GET_TEXT_OF_EDITOR, "#program-editor"), text)
 
 
 def check_unfinished_opening(browser, page, folder):
@@ -282,17 +283,17 @@ def check_unfinished_opening(browser, page, folder):
     choose_example(browser, "die")
     browser.click("#step")
     session = browser.until("return location.hash", re.compile("^#session="))
-    eventually(browser, "an opening that came to an end leaves nothing", COUNT_FLAGS, 0)
-    verdict("the session is opened by itself", [reopen(browser, hanging), browser.script("return location.hash")], ["", session])
+    eventually(browser, "no flag is left after a session was opened", COUNT_FLAGS, 0)
+    verdict("the session is opened automatically", [reopen(browser, hanging), browser.script("return location.hash")], ["", session])
     browser.until(COUNT_FLAGS, 0)
     hang(browser, hanging + session)
     for address in (hanging, hanging + session):
-        verdict("one whose opening did not is reported", reopen(browser, address), UNFINISHED_NOTICE)
-        verdict("and is not opened by itself", browser.script("return location.hash") != session, True)
+        verdict("a session whose opening did not finish is reported", reopen(browser, address), UNFINISHED_NOTICE)
+        verdict("that session is not opened automatically", browser.script("return location.hash") != session, True)
     browser.click("#notice button[aria-label^='Open it']")
     eventually(browser, "the session can be opened", "return location.hash", session)
     eventually(browser, "the session is intact", COUNT_FLAGS, 0)
-    verdict("at the next start, too", [reopen(browser, hanging), browser.script("return location.hash")], ["", session])
+    verdict("the session is opened automatically at the next start", [reopen(browser, hanging), browser.script("return location.hash")], ["", session])
     browser.until(COUNT_FLAGS, 0)
     check_leaving_early(browser, hanging, session)
     browser.until(COUNT_FLAGS, 0)

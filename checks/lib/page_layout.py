@@ -49,7 +49,7 @@ def check(browser, page, _folder, _mcs4):
 # --- tabs and panels ---
 
 GET_FRONT_TAB = "return document.querySelector('#text-tabs [aria-selected=true]').id"
-GET_SHOWN_EDITOR = "return [...document.querySelectorAll('#texts [role=tabpanel]')].filter(isShown).map((each) => each.id).join(' ')"
+GET_SHOWN_EDITOR = "return [...document.querySelectorAll('#texts [role=tabpanel]')].filter(isShown).map((node) => node.id).join(' ')"
 
 
 def check_tabs(browser):
@@ -85,7 +85,7 @@ def check_folds(browser):
 
 # --- the disassembly ---
 
-GET_ROWS = "return [...document.querySelectorAll('#lines-of-program button')].filter((each) => !each.hidden).map((each) => each.textContent)"
+GET_ROWS = "return [...document.querySelectorAll('#lines-of-program button')].filter((node) => !node.hidden).map((node) => node.textContent)"
 GET_FOCUSED_ROW = "return document.activeElement.closest('#lines-of-program') ? document.activeElement.textContent.replace(/\\W/g, '').slice(0, 3) : ''"
 GET_LAST_ROW = GET_ROWS.replace("return", "return (") + ").pop().replace(/\\W/g, '').slice(0, 3)"
 GET_SCROLL_TOP = "return document.getElementById('lines-of-program').scrollTop"
@@ -175,7 +175,7 @@ def text_of(browser, name):
 
 # --- marks and cells ---
 
-GET_MARKED_REGISTERS = "return [...document.querySelectorAll('#registers .changed')].map((each) => each.id.slice('value-'.length)).join(' ')"
+GET_MARKED_REGISTERS = "return [...document.querySelectorAll('#registers .changed')].map((node) => node.id.slice('value-'.length)).join(' ')"
 COUNT_MARKS = """
 window.marks = 0;
 new MutationObserver((all) => { window.marks += all.filter((each) => each.target.classList.contains("changed")).length; })
@@ -265,7 +265,7 @@ def check_refusals(browser):
     send_lines(browser, "\n".join(f"watch 7 {address}" for address in range(8)))
     browser.click(".ram button:nth-child(5)")
     eventually(browser, "a watch too many is rejected at its cell", GET_POPUP, re.compile("8 characters"))
-    is_popup_near = "const [a, b] = [arguments[0], '.popup-message'].map((each) => document.querySelector(each).getBoundingClientRect()); " \
+    is_popup_near = "const [a, b] = [arguments[0], '.popup-message'].map((node) => document.querySelector(node).getBoundingClientRect()); " \
         "return Math.abs(a.left - b.left) + Math.abs(a.bottom - b.top) < 260"
     verdict("the message is near the cell", browser.script(is_popup_near, ".ram button:nth-child(5)"), True)
     send_lines(browser, "\n".join([*(f"unwatch 7 {address}" for address in range(8)), *(f"break {0x300 + address}" for address in range(32))]))
@@ -277,7 +277,7 @@ def check_refusals(browser):
 # --- accessibility ---
 
 GET_WRONGLY_NAMED_CELLS = """
-return [...document.querySelectorAll(".ram button")].filter((each) => !/^[0-9A-F]$/.test(each.textContent)
+return [...document.querySelectorAll(".ram button")].filter((node) => !/^[0-9A-F]$/.test(node.textContent)
   || each.getAttribute("aria-label") || !/bank \\d, chip \\d, register \\d, (character \\d+: SRC byte [0-9A-F]{2}|status character \\d)/.test(each.title)).length"""
 # Counts the changes in ARIA live regions from now on. A screen reader would announce these changes.
 COUNT_ANNOUNCEMENTS = """
@@ -372,8 +372,8 @@ return boxes.flatMap(([id, a], k) => boxes.slice(k + 1)
 # The controls of the toolbar and the status bar that are partly outside the window while there is a notice.
 FIND_OUTSIDE = """
 document.getElementById("notices-button").hidden = false;
-return [...document.querySelectorAll("#toolbar :is(button, input, select):not([role=menu] *), #statusbar button")].filter(isShown).filter((each) => {
-  const [{ left, right }, room] = [each, each.closest("#cycles, #toolbar, #statusbar")].map((node) => node.getBoundingClientRect());
+return [...document.querySelectorAll("#toolbar :is(button, input, select):not([role=menu] *), #statusbar button")].filter(isShown).filter((control) => {
+  const [{ left, right }, room] = [control, control.closest("#cycles, #toolbar, #statusbar")].map((node) => node.getBoundingClientRect());
   return left < Math.max(0, room.left) || right > Math.min(innerWidth, room.right);
 }).map(({ id }) => id)"""
 MEASURE_OVERFLOW = "return document.documentElement.scrollWidth - document.documentElement.clientWidth"
@@ -427,7 +427,7 @@ FIND_WRONG_CONTROLS = """
 const rows = [...document.querySelectorAll("#wave-bar, .editor > .bar, #wiring > .bar, #statusbar")].filter(isShown);
 return rows.flatMap((row) => {
   const room = row.getBoundingClientRect();
-  const shown = [...row.querySelectorAll("button, input, select, summary")].filter((each) => isShown(each) && !each.closest(".pop > :not(summary)"));
+  const shown = [...row.querySelectorAll("button, input, select, summary")].filter((node) => isShown(node) && !node.closest(".pop > :not(summary)"));
   const boxes = shown.map((each) => [each.id || each.textContent, each.getBoundingClientRect()]);
   const cut = boxes.filter(([, box]) => box.left < room.left - 1 || box.top < room.top - 1 || box.right > Math.min(room.right, innerWidth) + 1
     || box.bottom > room.bottom + 1).map(([name]) => `${name} is cut off`);
@@ -547,7 +547,7 @@ def emulate(browser, media="", **features):
 
 ARE_LAMPS_DISTINCT = """
 const look = (each) => { const style = getComputedStyle(each); return `${style.backgroundColor} ${style.borderTopColor}`; };
-const [lit, dark] = [".bulb.lit", ".bulb:not(.lit)"].map((each) => look(document.querySelector(each)));
+const [lit, dark] = [".bulb.lit", ".bulb:not(.lit)"].map((node) => look(document.querySelector(node)));
 return lit !== dark && !lit.startsWith("rgba(0, 0, 0, 0)")"""
 
 
@@ -561,7 +561,7 @@ def check_forced_colours(browser):
 
 
 COUNT_PRINTED_CONTROLS = """
-return [...document.querySelectorAll("#bench *")].filter((each) => isShown(each) && each.matches("button:not(.fold), select, #log, "
+return [...document.querySelectorAll("#bench *")].filter((node) => isShown(node) && node.matches("button:not(.fold), select, #log, "
   + "textarea, .cm-editor")).length"""
 
 

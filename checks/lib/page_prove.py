@@ -19,7 +19,7 @@ from web_driver import Chromium
 GET_BUTTON_LABEL = "return document.getElementById('prove').textContent"
 GET_PROGRESS = "return document.getElementById('proof-progress').textContent.trim()"
 GET_BAR = "const bar = document.querySelector('#proof-progress progress'); return [bar.value, bar.max]"
-GET_ROWS = """return [...document.querySelectorAll('#proof-list > li')].map((each) => [...each.querySelector('p').children]
+GET_ROWS = """return [...document.querySelectorAll('#proof-list > li')].map((node) => [...node.querySelector('p').children]
   .map((child) => child.textContent).filter(Boolean).join(' | '))"""
 COUNT_LAMPS_ON = "return document.querySelectorAll('.bulb.lit').length"
 COUNT_LIT_ROWS = "return [...document.querySelectorAll('#proof-list .lit')].length"

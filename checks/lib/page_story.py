@@ -13,8 +13,8 @@ from verdicts import eventually, verdict
 
 CONTROL, BACKSPACE, END, HOME, UP = "\ue009", "\ue003", "\ue010", "\ue011", "\ue013"
 F8, F9, F11 = "\ue038", "\ue039", "\ue03b"
-GET_LAMPS = "return [...document.querySelectorAll('.bulb')].map((each) => (each.classList.contains('lit') ? '*' : '.')).join('')"
-GET_KEYS_DOWN = "return [...document.querySelectorAll(\"#keys [aria-pressed='true']\")].map((each) => each.textContent).join(' ')"
+GET_LAMPS = "return [...document.querySelectorAll('.bulb')].map((node) => (node.classList.contains('lit') ? '*' : '.')).join('')"
+GET_KEYS_DOWN = "return [...document.querySelectorAll(\"#keys [aria-pressed='true']\")].map((node) => node.textContent).join(' ')"
 IS_BOARD_OFFERED = "return document.getElementById('board-offer').checkVisibility()"
 IS_SESSIONS_OPEN = "return document.getElementById('sessions').open"
 IS_IN_SOURCE = "e.closest('#program-editor .cm-editor') !== null"
@@ -89,8 +89,8 @@ def check_keys(browser):
     browser.keys([ESCAPE, TAB], 5, 5)
     lamps_before = browser.script(GET_LAMPS)
     browser.script("window.shown = new Set()")
-    browser.script("new MutationObserver(() => window.shown.add([...document.querySelectorAll('.bulb')].map((each) => "
-                   "(each.classList.contains('lit') ? '*' : '.')).join(''))).observe(document.getElementById('lamps'), "
+    browser.script("new MutationObserver(() => window.shown.add([...document.querySelectorAll('.bulb')].map((node) => "
+                   "(node.classList.contains('lit') ? '*' : '.')).join(''))).observe(document.getElementById('lamps'), "
                    "{ subtree: true, attributes: true })")
     letter = browser.script("return document.querySelector('#keys kbd').textContent")
     browser.keys([letter], 300, 100)

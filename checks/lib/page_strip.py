@@ -12,7 +12,7 @@ const lines = [...document.querySelectorAll("#paper div")].map((line) => line.te
 return document.getElementById("strip").hidden ? "-" : lines.join(" ")"""
 GET_TAPE_HEIGHT = "return document.getElementById('strip').offsetHeight"
 GET_BOARD_TEXT = "return document.querySelector('#board-editor .cm-editor').lineEditor.getValue()"
-GET_PANEL_ERRORS = "return [...document.querySelectorAll('#face-faults li')].map((each) => each.textContent).join(' ')"
+GET_PANEL_ERRORS = "return [...document.querySelectorAll('#face-faults li')].map((node) => node.textContent).join(' ')"
 IS_AT_END = "const paper = document.getElementById('paper'); return paper.scrollHeight - paper.scrollTop - paper.clientHeight < 4"
 BOARD = """# printer rom0.3: ram0.0 a CE b_c
 [[rom]]

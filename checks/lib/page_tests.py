@@ -14,12 +14,12 @@ EDITOR = "#tests-editor"
 GET_TESTS_STATUS = "return document.querySelector('#tests-editor .status-text').textContent"
 GET_RESULTS = """return [...document.querySelectorAll('#test-list > li > p:first-child')]
   .map((each) => each.textContent.split(' ').slice(0, 4).join(' '))"""
-GET_FAILURES = "return [...document.querySelectorAll('#test-list .wrong')].map((each) => each.textContent)"
-GET_COUNTS = "return [...document.querySelectorAll('#program-editor .mark-counts')].map((each) => each.textContent).filter(Boolean)"
+GET_FAILURES = "return [...document.querySelectorAll('#test-list .wrong')].map((node) => node.textContent)"
+GET_COUNTS = "return [...document.querySelectorAll('#program-editor .mark-counts')].map((node) => node.textContent).filter(Boolean)"
 GET_LABELS = """return [...document.querySelectorAll('#profile-labels tr')]
   .map((row) => [...row.cells].map((cell) => cell.textContent).join(' ').trim())"""
 GET_MARK = "return document.querySelector('#tests-tab .mark').textContent"
-GET_ERRORS = "return [...document.querySelectorAll('#tests-editor .fault-list li')].map((each) => each.textContent)"
+GET_ERRORS = "return [...document.querySelectorAll('#tests-editor .fault-list li')].map((node) => node.textContent)"
 GET_SELECTED = "return document.querySelector('#tests-editor .cm-editor').lineEditor.getSelection()"
 
 

@@ -7,7 +7,7 @@ import time
 from page_in_browser import GET_STATUS, choose_example, reopen_page, show_text, status_of, stop_time, until_ready
 from verdicts import eventually, verdict
 
-GET_ROWS = "return [...document.querySelectorAll('#usual-list li .words')].map((each) => each.textContent)"
+GET_ROWS = "return [...document.querySelectorAll('#usual-list li .words')].map((node) => node.textContent)"
 IS_PANEL_SHOWN = "return isShown(document.getElementById('usual'))"
 BOARD = """rom = [{ chip = 0, port = "0000" }, { chip = 1, port = "iiii" }]
 ram = [{ bank = 0, chips = 1 }]

@@ -35,7 +35,7 @@ editor.setCursor({ line: arguments[0] - 1, ch: editor.getLine(arguments[0] - 1).
 GET_NEXT_LINE = "return document.querySelector('#program-editor .next').textContent"
 # The instruction or label at which each step stops, starting at ADD. The list was worked out manually.
 STEPS = ("BBL", "JUN turn", "turn:", "SRC", "LDM", "WRM", "INC", "JMS", "JUN turn")
-GET_LINE_VALUES = "return [...document.querySelectorAll('#program-editor .line-values')].map((each) => each.textContent)"
+GET_LINE_VALUES = "return [...document.querySelectorAll('#program-editor .line-values')].map((node) => node.textContent)"
 GET_WATCHES = """return [...document.querySelectorAll("#watched-list li")].map((row) =>
   `${row.querySelector("b").textContent} ${row.querySelector(".values").textContent}`)"""
 CELL = "#program-editor .meaning button.value"

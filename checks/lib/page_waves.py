@@ -17,7 +17,7 @@ GET_SCOPE_STATUS = "return document.getElementById('scope-status').textContent"
 GET_CURSOR_DISTANCE = "return document.getElementById('wave-between').textContent"
 GET_FIRST_CYCLE = "return document.getElementById('wave-first').textContent"
 GET_SPOKEN_VALUE = "return document.getElementById('wave-canvas').getAttribute('aria-valuetext')"
-GET_NAMES = "return [...document.querySelectorAll('#wave-table th')].map((each) => each.textContent).join(' ')"
+GET_NAMES = "return [...document.querySelectorAll('#wave-table th')].map((node) => node.textContent).join(' ')"
 LEFT, RIGHT, DOWN, HOME, END, ENTER = "\ue012", "\ue014", "\ue015", "\ue011", "\ue010", "\ue007"
 
 # Selects only the given lines.
