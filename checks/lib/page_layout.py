@@ -265,7 +265,7 @@ def check_refusals(browser):
     send_lines(browser, "\n".join(f"watch 7 {address}" for address in range(8)))
     browser.click(".ram button:nth-child(5)")
     eventually(browser, "a watch too many is rejected at its cell", GET_POPUP, re.compile("8 characters"))
-    is_popup_near = "const [a, b] = [arguments[0], '.popup-message'].map((node) => document.querySelector(node).getBoundingClientRect()); " \
+    is_popup_near = "const [a, b] = [arguments[0], '.popup-message'].map((selector) => document.querySelector(selector).getBoundingClientRect()); " \
         "return Math.abs(a.left - b.left) + Math.abs(a.bottom - b.top) < 260"
     verdict("the message is near the cell", browser.script(is_popup_near, ".ram button:nth-child(5)"), True)
     send_lines(browser, "\n".join([*(f"unwatch 7 {address}" for address in range(8)), *(f"break {0x300 + address}" for address in range(32))]))
@@ -278,7 +278,7 @@ def check_refusals(browser):
 
 GET_WRONGLY_NAMED_CELLS = """
 return [...document.querySelectorAll(".ram button")].filter((node) => !/^[0-9A-F]$/.test(node.textContent)
-  || each.getAttribute("aria-label") || !/bank \\d, chip \\d, register \\d, (character \\d+: SRC byte [0-9A-F]{2}|status character \\d)/.test(each.title)).length"""
+  || node.getAttribute("aria-label") || !/bank \\d, chip \\d, register \\d, (character \\d+: SRC byte [0-9A-F]{2}|status character \\d)/.test(node.title)).length"""
 # Counts the changes in ARIA live regions from now on. A screen reader would announce these changes.
 COUNT_ANNOUNCEMENTS = """
 window.said = 0;
@@ -546,8 +546,8 @@ def emulate(browser, media="", **features):
 
 
 ARE_LAMPS_DISTINCT = """
-const look = (each) => { const style = getComputedStyle(each); return `${style.backgroundColor} ${style.borderTopColor}`; };
-const [lit, dark] = [".bulb.lit", ".bulb:not(.lit)"].map((node) => look(document.querySelector(node)));
+const coloursOf = (lamp) => { const style = getComputedStyle(lamp); return `${style.backgroundColor} ${style.borderTopColor}`; };
+const [lit, dark] = [".bulb.lit", ".bulb:not(.lit)"].map((selector) => coloursOf(document.querySelector(selector)));
 return lit !== dark && !lit.startsWith("rgba(0, 0, 0, 0)")"""
 
 
