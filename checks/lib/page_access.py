@@ -233,7 +233,8 @@ const shown = (selector) => [...root.querySelectorAll(selector)].filter(isVisibl
 const errors = [];
 const check = (kind, node, colour, ground, minimum) => {
   const actual = contrast(blend(colour, ground), ground);
-  if (actual < minimum) errors.push(`${kind} ${node.id || node.className.baseVal || node.className || node.textContent.slice(0, 20)} ${actual.toFixed(2)}`);
+  const name = node.id || node.className.baseVal || node.className || node.textContent.slice(0, 20);
+  if (actual < minimum) errors.push(`${kind} ${name} ${actual.toFixed(2)}`);
 };
 for (const node of shown("button, input:not([type=checkbox]), select, textarea, [role=tab]")) {
   const style = getComputedStyle(node);
@@ -251,7 +252,8 @@ const [lit, dark] = [".bulb.lit", ".bulb:not(.lit)"].map((node) => shown(node)[0
 if (lit && dark) {
   const [litBorder, darkBorder] = [lit, dark].map((node) => blend(getComputedStyle(node).borderTopColor, groundOf(node.parentElement)));
   const fill = contrast(groundOf(lit), groundOf(dark));
-  if (contrast(litBorder, darkBorder) < 3 && fill < 3) errors.push(`lit and dark lamps ${contrast(litBorder, darkBorder).toFixed(2)}, ${fill.toFixed(2)}`);
+  const border = contrast(litBorder, darkBorder);
+  if (border < 3 && fill < 3) errors.push(`lit and dark lamps ${border.toFixed(2)}, ${fill.toFixed(2)}`);
 }
 for (const node of shown("svg :is(rect, circle, path):not(.picture *, .number *, .cap, .glass)")) {
   const { stroke } = getComputedStyle(node);

@@ -124,7 +124,8 @@ new MutationObserver((_, observer) => {
 }).observe(document.getElementById("digits"), { childList: true, characterData: true, subtree: true })"""
 GET_KEY_TIME = "return window.keyTime"
 
-# Clicks a button that searches for a goal, and stores the cycles per second in `searchSpeed`. A search for a change is for a value that never changes.
+# Clicks a button that searches for a goal, and stores the cycles per second in `searchSpeed`. A search for a change is for a value that never
+# changes.
 START_SEARCH = """
 window.searchSpeed = 0;
 document.getElementById("change-place").value = "st.0.3.3";

@@ -43,7 +43,8 @@ def call_of(signature):
     """Converts a function's signature to the format of public_calls.txt: the name, the types of the parameters, and the type of the result."""
     signature = re.sub(r"\s+", " ", signature).strip()
     name, _, parameters_and_result = re.sub(r"^(?:pub )?(?:const )?fn ", "", signature).partition("(")
-    end = next(index for index in range(len(parameters_and_result)) if parameters_and_result[:index + 1].count(")") > parameters_and_result[:index + 1].count("("))
+    prefixes = (parameters_and_result[:length] for length in range(1, len(parameters_and_result) + 1))
+    end = next(len(prefix) - 1 for prefix in prefixes if prefix.count(")") > prefix.count("("))
     return f"{name}({', '.join(type_of(parameter) for parameter in parts_of(parameters_and_result[:end]))}){parameters_and_result[end + 1:]}"
 
 

@@ -28,8 +28,8 @@ def wired(board, record):
     return Command(wire(board.text(), board).text, record, wire("", board).do)
 
 
-# Boards with their records: an empty one; one in which the order of a port's characters matters (lines 3, 2, 1, 0); one with each part; and one with the
-# maximum of each part.
+# Boards with their records: an empty one; one in which the order of a port's characters matters (lines 3, 2, 1, 0); one with each part; and one with
+# the maximum of each part.
 BOARDS = [
     wired(Board(), b"\1" + NO_ROMS + bytes(11)),
     wired(TWO_KEYS, b"\1" + b"0000" + b"1i0i" + NO_ROMS[:56]

@@ -145,7 +145,7 @@ class Running:
     start_time: float = field(default_factory=time.monotonic)
 
     def seconds(self):
-        return time.monotonic() - self.begun
+        return time.monotonic() - self.start_time
 
     def is_late(self):
         return self.check is not GATE and self.seconds() > self.check.limit()
@@ -219,7 +219,7 @@ class Run:
         self.running, self.ended, self.times = [], [], {}
         self.passed = self.failed = 0
         self.left_out = []
-        self.begun = time.monotonic()
+        self.start_time = time.monotonic()
 
     def program(self):
         """Returns the program that a check uses if it starts now."""
@@ -236,8 +236,8 @@ class Run:
             environment["MCS4"] = self.program()
         with output.open("wb") as file:
             # A check must receive the signals that this process ignores, for example in the background. `env` restores them.
-            process = subprocess.Popen(["env", "--default-signal=INT,QUIT", *arguments], cwd=TOP, env=environment, stdin=subprocess.DEVNULL, stdout=file,
-                                       stderr=subprocess.STDOUT)
+            process = subprocess.Popen(["env", "--default-signal=INT,QUIT", *arguments], cwd=TOP, env=environment, stdin=subprocess.DEVNULL,
+                                       stdout=file, stderr=subprocess.STDOUT)
         self.running.append(Running(check, process, output, mark))
         return self.running[-1]
 
@@ -277,7 +277,7 @@ class Run:
         else:
             self.show(f"== {running.check.title(self.mode)}\n{text}checks/{running.check.label} took {seconds:.0f} s")
 
-    def most(self):
+    def max_running(self):
         """Returns the number of checks that may run now, including the gate."""
         if self.gate is None or self.gate.is_over:
             return self.processors
@@ -288,7 +288,7 @@ class Run:
     def next(self):
         """Removes and returns the next waiting check that can start now."""
         is_gate_over = self.gate is None or self.gate.is_over
-        if len(self.running) >= self.most():
+        if len(self.running) >= self.max_running():
             return None
         for check in self.waiting:
             if not check.alone and (is_gate_over or not check.reads_built):
@@ -315,7 +315,7 @@ class Run:
         if (check := self.next()) is not None:
             self.start(check)
 
-    def all(self):
+    def run_all(self):
         """Runs the gate and all checks. The checks that run alone come last."""
         if self.mode in ("all", "gate"):
             self.show("== rt ci")
@@ -335,21 +335,23 @@ class Run:
         if not sys.stdout.isatty():
             return
         spent = {running.check.label: running.seconds() for running in self.running}
-        remaining = {check: max(self.usual[check.label] - spent.get(check.label, 0), 5) for check in [*self.checks, GATE] if check in self.waiting or check.label in spent}
+        remaining = {check: max(self.usual[check.label] - spent.get(check.label, 0), 5)
+                     for check in [*self.checks, GATE] if check in self.waiting or check.label in spent}
         check_seconds = sum(seconds for check, seconds in remaining.items() if check is not GATE) / min(self.processors, max(len(remaining), 1))
         names = ", ".join(name for name in spent if name != GATE.label)
         gate = f"gate {self.gate.passed} of {self.gate.crates} crates, " if self.gate and not self.gate.is_over else ""
         done = sum(check is not GATE for check in self.ended)
-        line = f"{gate}checks {done} of {len(self.checks)} done, running: {names or 'none'}, about {max(check_seconds, remaining.get(GATE, 0)) / 60:.0f} min left"
+        minutes = max(check_seconds, remaining.get(GATE, 0)) / 60
+        line = f"{gate}checks {done} of {len(self.checks)} done, running: {names or 'none'}, about {minutes:.0f} min left"
         print(f"\r\033[K{line[: shutil.get_terminal_size().columns - 1]}", end="", flush=True)
 
-    def sum_up(self):
+    def write_totals(self):
         """Writes the totals for ./test, and prints the longest checks."""
         (self.folder / "summed").write_text(f"{self.passed} {self.failed}\n")
         (self.folder / "left_out").write_text("".join(f"{line}\n" for line in self.left_out))
         longest = sorted(self.times.items(), key=lambda pair: -pair[1])[:10]
         self.show("longest: " + ", ".join(f"{name} {seconds:.0f} s" for name, seconds in longest))
-        self.show(f"all took {(time.monotonic() - self.begun) / 60:.0f} min on {self.processors} processors")
+        self.show(f"all took {(time.monotonic() - self.start_time) / 60:.0f} min on {self.processors} processors")
 
 
 class Gate:
@@ -410,7 +412,7 @@ def main():
     signal.signal(signal.SIGINT, signal.default_int_handler)
     run = Run(arguments.mode, arguments.folder)
     try:
-        run.all()
+        run.run_all()
     except KeyboardInterrupt:
         for number in (signal.SIGINT, signal.SIGTERM):
             signal.signal(number, signal.SIG_IGN)
@@ -420,7 +422,7 @@ def main():
         gate = f", and the gate {run.gate.passed} of {run.gate.crates} crates" if run.gate else ""
         print(f"test: stopped. {ended} of {len(run.checks)} checks had ended{gate}: {run.passed} passed, {run.failed} failed so far", flush=True)
         return 130
-    run.sum_up()
+    run.write_totals()
     store_times(arguments.mode, run.times)
     return 0
 

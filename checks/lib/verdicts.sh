@@ -90,8 +90,8 @@ shorten_usage() {
     sed '/^       mcs4 /d; s/^\(usage: mcs4 [a-z]*\).*/\1/'
 }
 
-# Serves the lines from standard input in a new session (`new_session`) or in an existing one (`continue_session`). Argument: the name of the session's
-# file in the folder, without .mcs. The answers are written to the file `answers`.
+# Serves the lines from standard input in a new session (`new_session`) or in an existing one (`continue_session`). Argument: the name of the
+# session's file in the folder, without .mcs. The answers are written to the file `answers`.
 new_session() {
     rm -f -- "$folder/$1.mcs"
     "$mcs4" new "$folder/$1.mcs" > "$folder/answers"

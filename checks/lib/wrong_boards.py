@@ -88,7 +88,8 @@ def spoil_text(rng, text):
         lines = text.split("\n")
         row = rng.randrange(len(lines))
         text = rng.choice([
-            text[:index] + rng.choice(CHARACTERS) + text[index:], text[:index] + text[index + 1:], text[:index] + rng.choice(CHARACTERS) + text[index + 1:],
+            text[:index] + rng.choice(CHARACTERS) + text[index:], text[:index] + text[index + 1:],
+            text[:index] + rng.choice(CHARACTERS) + text[index + 1:],
             text[:index], "\n".join(lines[:row] + lines[row + 1:]), "\n".join(lines[:row] + lines[row:row + 1] * 2 + lines[row + 1:]),
         ])
     return text

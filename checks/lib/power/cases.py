@@ -109,8 +109,8 @@ OPEN_CASES = ("linked", "copied", "moved", "replaced", "long-copied", "long-move
 
 # --- the trials of a run of the check
 
-# The numbers of commands to send: to the session of a case with `gets_all_commands`, to a session that is already durable or is opened again, and to any
-# other session.
+# The numbers of commands to send: to the session of a case with `gets_all_commands`, to a session that is already durable or is opened again, and to
+# any other session.
 ALL_COMMANDS, MORE_COMMANDS, FEW_COMMANDS = 110, 24, 12
 
 

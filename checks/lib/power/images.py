@@ -32,9 +32,9 @@ Part = tuple[int, int] | None
 @dataclasses.dataclass
 class Image:
     """Possible contents of the disk after a power cut. Cuts after the event with the number `first`, or after a later event up to `last`, can leave
-    this image. After each of these cuts, at least `min_commands` and at most `max_commands` commands must be found. `min_commands` is None before the first answer if no
-    session existed at the beginning. `durable` is the number of durable writes, and `parts` has the parts of the pending writes that are on the disk. `selection` names how the
-    parts were selected: none, all or some."""
+    this image. After each of these cuts, at least `min_commands` and at most `max_commands` commands must be found. `min_commands` is None before the
+    first answer if no session existed at the beginning. `durable` is the number of durable writes, and `parts` has the parts of the pending writes
+    that are on the disk. `selection` names how the parts were selected: none, all or some."""
     first: int
     last: int
     phase: Phase

@@ -77,7 +77,8 @@ def bounds() -> bool:
     answer, there is no lower bound."""
     events = history_of([write_event(1, 0, A), event_of("answered", 0), event_of("sent", 1), write_event(2, 0, B), event_of("wrote", 2), event_of("flush", 3),
                     event_of("flushed", 3), event_of("answered", 1)])
-    bounds_by_image = {(image.durable, len(image.parts)): (image.min_commands, image.max_commands) for image in events.all_images() if image.selection != "some"}
+    bounds_by_image = {(image.durable, len(image.parts)): (image.min_commands, image.max_commands)
+                       for image in events.all_images() if image.selection != "some"}
     return bounds_by_image == {(0, 0): (0, 0), (0, 1): (0, 0), (0, 2): (0, 1), (1, 0): (1, 1), (1, 1): (1, 1)}
 
 

@@ -77,7 +77,8 @@ class Runner:
     """Runs trials on a machine with two disks. Images are written to `disk`. The machine copies the session files that it finds to `out`."""
 
     def __init__(self, machine: Machine, sessions: Sessions, keep: pathlib.Path, show_command: str, seed: int) -> None:
-        """Images with errors are stored in `keep`. `show_command` is the command line that examines a stored image again, without the name of the image."""
+        """Images with errors are stored in `keep`. `show_command` is the command line that examines a stored image again, without the name of the
+        image."""
         self.machine, self.sessions, self.keep, self.show_command = machine, sessions, keep, show_command
         self.disk, self.out = machine.disks["disk"], machine.disks["out"]
         self.rng = random.Random(seed)
@@ -261,7 +262,8 @@ class Runner:
         builder.build(image)
         name.write_bytes(self.disk.bytes[:kind.size * MEGA])
         self.disk.undo_writes()
-        description = {"kind": trial.kind, "options": self.options(kind, trial), "file": case.file, "least": image.min_commands, "most": image.max_commands}
+        description = {"kind": trial.kind, "options": self.options(kind, trial), "file": case.file, "least": image.min_commands,
+                       "most": image.max_commands}
         name.with_suffix(".json").write_text(json.dumps(description))
         print(f"    examine it again: {self.show_command} --show {name}", flush=True)
 
