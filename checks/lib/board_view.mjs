@@ -1,7 +1,7 @@
 // Runs the lamps and keys view of the Visual Studio Code extension with stand-ins for the editor: `node board_view.mjs FOLDER`. FOLDER is the
 // unpacked extension. The script uses the extension's module and the real debug adapter, which debugs the lock in real time. Each line of standard
-// input is JSON: { said } is a message from the view's page, { ask, args } is a request to the adapter, and { end } ends the script. Each line of
-// standard output is also JSON: { html } is the view's HTML, { post } a message for the page, { asked, body } the answer to a request, { stopped } a
+// input is JSON: { fromPage } is a message from the view's page, { request, args } is a request to the adapter, and { end } ends the script. Each line of
+// standard output is also JSON: { html } is the view's HTML, { toPage } a message for the page, { response, body } the response to a request, { stopped } a
 // stop of the program, and { error } an error.
 import { createRequire } from "node:module";
 import { createInterface } from "node:readline";
@@ -13,6 +13,7 @@ const { BoardView } = createRequire(import.meta.url)(`${folder}/board_view.js`);
 
 const say = (message) => process.stdout.write(`${JSON.stringify(message)}\n`);
 const listeners = {};
+/** Returns a function that registers a listener under a name. */
 const listening = (name) => (act) => {
   listeners[name] = act;
   return { dispose: () => {} };
@@ -29,13 +30,13 @@ const vscode = {
 new BoardView(vscode, folder).register();
 const webview = {
   cspSource: "file:", asWebviewUri: ({ path }) => path.split("/").pop(),
-  postMessage: (post) => say({ post }), onDidReceiveMessage: listening("said"),
+  postMessage: (toPage) => say({ toPage }), onDidReceiveMessage: listening("fromPage"),
 };
 listeners.view.resolveWebviewView({ webview, onDidDispose: listening("closed") });
 say({ html: webview.html });
 
 const client = new Client(`${TOP}mcs4`);
-const session = { customRequest: (command, args) => client.ask(command, args) };
+const session = { customRequest: (command, args) => client.request(command, args) };
 const tracker = listeners.tracker.createDebugAdapterTracker(session);
 client.check = (message) => {
   tracker.onDidSendMessage(message);
@@ -46,9 +47,9 @@ const lock = { board: `${TOP}examples/lock/board.toml`, program: `${TOP}examples
 await client.begin({ ...lock, realTime: true });
 
 for await (const line of createInterface({ input: process.stdin })) {
-  const { said, ask, args, end } = JSON.parse(line);
-  if (said) await listeners.said(said);
-  if (ask) say({ asked: ask, body: await client.ask(ask, args).catch(({ message }) => message) });
+  const { fromPage, request, args, end } = JSON.parse(line);
+  if (fromPage) await listeners.fromPage(fromPage);
+  if (request) say({ response: request, body: await client.request(request, args).catch(({ message }) => message) });
   if (end) break;
 }
 await client.end();

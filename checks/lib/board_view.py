@@ -1,6 +1,6 @@
 """Checks the lamps and keys view of the Visual Studio Code extension: `python3 board_view.py FOLDER`. FOLDER is the extension, unpacked from its
 .vsix. The view's page runs in Chromium with a stand-in for the editor's interface (acquireVsCodeApi). The extension's module runs in Node with the
-real debug adapter (board_view.mjs). The check passes messages between the page and the module. Prints `ok WORDS` or `fault: WORDS` for each check."""
+real debug adapter (board_view.mjs). The check passes messages between the page and the module. Prints `ok TEXT` or `failed: TEXT` for each check."""
 
 import json
 import pathlib
@@ -15,13 +15,13 @@ sys.dont_write_bytecode = True
 from web_driver import Chromium  # noqa: E402
 
 LIB = pathlib.Path(__file__).resolve().parent
-INSTALL_STUB = """window.said = [];
-window.acquireVsCodeApi = () => ({ postMessage: (message) => window.said.push(message) });
+INSTALL_STUB = """window.messages = [];
+window.acquireVsCodeApi = () => ({ postMessage: (message) => window.messages.push(message) });
 window.broken = [];
 addEventListener("securitypolicyviolation", (event) => window.broken.push(event.violatedDirective));
 addEventListener("error", (event) => window.broken.push(event.message));
 """
-TAKE_MESSAGES = "return window.said.splice(0)"
+TAKE_MESSAGES = "return window.messages.splice(0)"
 POST_MESSAGE = "dispatchEvent(new MessageEvent('message', { data: arguments[0] }))"
 GET_KEYS = "return [...document.querySelectorAll('#keys button')].map((each) => each.textContent).join(' ')"
 GET_KEYS_DOWN = "return [...document.querySelectorAll('#keys [aria-pressed=true]')].map((each) => each.textContent).join(' ')"
@@ -31,7 +31,7 @@ TIMEOUT_SECONDS = 60
 
 
 def expect_equal(actual, expected, description):
-    print(f"ok {description}" if actual == expected else f"fault: {description}: is {actual!r}, must be {expected!r}")
+    print(f"ok {description}" if actual == expected else f"failed: {description}: is {actual!r}, must be {expected!r}")
 
 
 class Bridge:
@@ -51,11 +51,11 @@ class Bridge:
 
     def pass_messages(self):
         for posted in self.browser.script(TAKE_MESSAGES):
-            self.send(said=posted)
+            self.send(fromPage=posted)
         while not self.lines.empty():
             message = json.loads(self.lines.get())
-            if "post" in message:
-                self.browser.script(POST_MESSAGE, message["post"])
+            if "toPage" in message:
+                self.browser.script(POST_MESSAGE, message["toPage"])
             else:
                 self.messages.append(message)
 
@@ -72,11 +72,11 @@ class Bridge:
         expect_equal(result, expected, description)
 
     def request(self, name, **arguments):
-        self.send(ask=name, args=arguments)
+        self.send(request=name, args=arguments)
         deadline = time.monotonic() + TIMEOUT_SECONDS
         while time.monotonic() < deadline:
             self.pass_messages()
-            answer = next((message for message in self.messages if message.get("asked") == name), None)
+            answer = next((message for message in self.messages if message.get("response") == name), None)
             if answer:
                 self.messages.remove(answer)
                 return answer.get("body")

@@ -6,7 +6,7 @@ import subprocess
 import sys
 
 TOP = pathlib.Path(__file__).resolve().parent.parent.parent
-FIND_PROVER = 'top=$0; . "$top/tools/lib/start.sh"; find_prover; printf "%s\\n%s" "$program" "$fault"'
+FIND_PROVER = 'top=$0; . "$top/tools/lib/start.sh"; find_prover; printf "%s\\n%s" "$program" "$reason"'
 
 
 def built_prover():

@@ -12,16 +12,17 @@ import { findInputEnd, matchAnswers, readInputs } from "../../js/core/bench/inpu
 import { disassembleRom } from "../../js/core/engine/text_recovery.js";
 
 const [modulePath, mcs4, count] = process.argv.slice(2);
-// The files are in memory if possible, because the program waits for its disk after each command.
+// The files are in memory if possible, because the program waits for the disk after each command.
 const work = mkdtempSync(join(existsSync("/dev/shm") ? "/dev/shm" : tmpdir(), "compare_page."));
 process.on("exit", () => rmSync(work, { recursive: true, force: true }));
 
 let seed = 20261123;
-function below(limit) {
+/** Returns a random integer from 0 to `limit` - 1. */
+function random(limit) {
   seed = (Math.imul(seed, 1103515245) + 12345) >>> 0;
   return (seed >>> 8) % limit;
 }
-const pick = (list) => list[below(list.length)];
+const pick = (list) => list[random(list.length)];
 const either = (makers) => pick(makers)();
 
 const examples = join(dirname(fileURLToPath(import.meta.url)), "../../examples");
@@ -38,44 +39,44 @@ const BOARDS = [
 ];
 const NAMES = ("NOP CLB CLC IAC CMC CMA RAL RAR TCC DAC TCS STC DAA KBP DCL WRM WMP WRR WR0 WR1 WR2 WR3 SBM RDM RDR ADM "
   + "RD0 RD1 RD2 RD3 WPM").split(" ");
-const PLACES = [() => "acc", () => "cy", () => "pc", () => "dcl", () => `r${below(17)}`, () => `rom.${below(4200)}`,
-  () => `ram.${below(9)}.${below(260)}`, () => `st.${below(8)}.${below(16)}.${below(5)}`];
-const PROBES = PLACES.concat([() => "lamps", () => "ret", () => `rom${below(17)}.${below(4)}`,
-  () => `ram${below(8)}.${below(5)}.${below(4)}`, () => `chain${below(4)}.${below(81)}`, () => `rom${below(16)}`, () => `ram${below(8)}.${below(4)}`,
-  () => `chain${below(4)}`, () => "src"]);
+const PLACES = [() => "acc", () => "cy", () => "pc", () => "dcl", () => `r${random(17)}`, () => `rom.${random(4200)}`,
+  () => `ram.${random(9)}.${random(260)}`, () => `st.${random(8)}.${random(16)}.${random(5)}`];
+const PROBES = PLACES.concat([() => "lamps", () => "ret", () => `rom${random(17)}.${random(4)}`,
+  () => `ram${random(8)}.${random(5)}.${random(4)}`, () => `chain${random(4)}.${random(81)}`, () => `rom${random(16)}`, () => `ram${random(8)}.${random(4)}`,
+  () => `chain${random(4)}`, () => "src"]);
 
 function program() {
   const lines = [];
-  const size = 1 + below(40);
-  for (let at = 0; at < size; at++) {
-    if (below(9) === 0) lines.push(`l${at}:`);
-    lines.push(either([() => pick(NAMES), () => pick(NAMES), () => `FIM P${below(8)}, ${below(256)}`, () => `SRC P${below(8)}`,
-      () => `LDM ${below(16)}`, () => `${pick(["ADD", "SUB", "LD", "XCH", "INC"])} R${below(16)}`, () => `ISZ R${below(16)}, ${below(200)}`,
-      () => `JUN ${below(300)}`, () => `JMS ${below(300)}`, () => `BBL ${below(16)}`, () => `JCN ${below(16)}, ${below(200)}`,
-      () => `DB ${below(256)}, ${below(300)}`, () => `FIN P${below(8)}`, () => `JIN P${below(8)}`, () => `ORG ${below(600)}`,
-      () => `JUN l${below(size)}`]));
+  const size = 1 + random(40);
+  for (let n = 0; n < size; n++) {
+    if (random(9) === 0) lines.push(`l${n}:`);
+    lines.push(either([() => pick(NAMES), () => pick(NAMES), () => `FIM P${random(8)}, ${random(256)}`, () => `SRC P${random(8)}`,
+      () => `LDM ${random(16)}`, () => `${pick(["ADD", "SUB", "LD", "XCH", "INC"])} R${random(16)}`, () => `ISZ R${random(16)}, ${random(200)}`,
+      () => `JUN ${random(300)}`, () => `JMS ${random(300)}`, () => `BBL ${random(16)}`, () => `JCN ${random(16)}, ${random(200)}`,
+      () => `DB ${random(256)}, ${random(300)}`, () => `FIN P${random(8)}`, () => `JIN P${random(8)}`, () => `ORG ${random(600)}`,
+      () => `JUN l${random(size)}`]));
   }
   return `asm\n${lines.join("\n")}\n.\n`;
 }
 
 function line() {
-  return either([() => `run ${1 + below(3000)}`, () => `run ${1 + below(100)}`, () => `run ${pick([0, 100000, 100001])}`, () => "step",
-    () => `poke ${either(PLACES)} ${below(below(4) ? 16 : 300)}`,
-    () => `press ${below(10)} ${below(5)}`, () => `release ${below(10)} ${below(5)}`,
-    () => `test ${below(3)}`, () => "reset", () => `break ${below(400)}`, () => `unbreak ${below(400)}`,
-    () => `watch ${below(9)} ${below(3) ? below(64) : below(260)}`, () => `unwatch ${below(8)} ${below(64)}`,
+  return either([() => `run ${1 + random(3000)}`, () => `run ${1 + random(100)}`, () => `run ${pick([0, 100000, 100001])}`, () => "step",
+    () => `poke ${either(PLACES)} ${random(random(4) ? 16 : 300)}`,
+    () => `press ${random(10)} ${random(5)}`, () => `release ${random(10)} ${random(5)}`,
+    () => `test ${random(3)}`, () => "reset", () => `break ${random(400)}`, () => `unbreak ${random(400)}`,
+    () => `watch ${random(9)} ${random(3) ? random(64) : random(260)}`, () => `unwatch ${random(8)} ${random(64)}`,
     () => pick(["lamps", "regs", "breaks", "watches", "board", "seq", "state"]), () => pick(["state", "watches", "regs"]),
-    () => `count ${1 + below(2000)}`,
-    () => `trace ${1 + below(300)} ${Array.from({ length: below(5) }, () => either(PROBES)).join(" ")}`,
-    () => `ram ${below(9)}`, () => `list ${below(4200)} ${below(260)}`, () => `wire\n${pick(BOARDS)}.`, () => program().trimEnd(),
-    () => `foo ${below(9)}`, () => "", () => "\tregs \r", () => "wire now", () => "x".repeat(250 + below(10)), () => "caf\u00e9"]);
+    () => `count ${1 + random(2000)}`,
+    () => `trace ${1 + random(300)} ${Array.from({ length: random(5) }, () => either(PROBES)).join(" ")}`,
+    () => `ram ${random(9)}`, () => `list ${random(4200)} ${random(260)}`, () => `wire\n${pick(BOARDS)}.`, () => program().trimEnd(),
+    () => `foo ${random(9)}`, () => "", () => "\tregs \r", () => "wire now", () => "x".repeat(250 + random(10)), () => "caf\u00e9"]);
 }
 
 function script() {
-  let text = below(5) ? `wire\n${pick(BOARDS.slice(0, 4))}.\n${program()}` : "";
-  for (let left = 5 + below(60); left > 0; left--) text += `${line()}\n`;
+  let text = random(5) ? `wire\n${pick(BOARDS.slice(0, 4))}.\n${program()}` : "";
+  for (let count = 5 + random(60); count > 0; count--) text += `${line()}\n`;
   // Sometimes the input ends in the middle of a line or of a text.
-  return below(6) ? text : text.slice(0, below(text.length));
+  return random(6) ? text : text.slice(0, random(text.length));
 }
 
 const path = join(work, "s.mcs");
@@ -87,11 +88,11 @@ function programResult(file, input) {
   if (file) writeFileSync(path, file);
   // The input comes from a file. A program that rejects its session exits without reading its input, so a write to a pipe would fail (EPIPE).
   writeFileSync(inputPath, input);
-  const from = openSync(inputPath);
-  const ran = spawnSync(mcs4, [file ? "open" : "new", path], { stdio: [from, "pipe", "pipe"], maxBuffer: 1 << 28 });
-  closeSync(from);
-  if (ran.error) throw ran.error;
-  return { output: ran.stdout.toString("latin1"), status: ran.status, file: readFileSync(path) };
+  const inputFile = openSync(inputPath);
+  const result = spawnSync(mcs4, [file ? "open" : "new", path], { stdio: [inputFile, "pipe", "pipe"], maxBuffer: 1 << 28 });
+  closeSync(inputFile);
+  if (result.error) throw result.error;
+  return { output: result.stdout.toString("latin1"), status: result.status, file: readFileSync(path) };
 }
 
 // Returns the result of a call of the page's module. `bench_serve` serves without settling.
@@ -101,8 +102,8 @@ function pageResult(engine, file, input, call = "bench_serve") {
     const { instance } = engine;
     const size = file ? file.length : engine.size;
     return { output: [opened, ...answers, ""].join("\n"), status, file: instance.view(instance.file, size).slice() };
-  } catch (fault) {
-    return { output: `${fault.message}\n`, status: 3, file };
+  } catch (error) {
+    return { output: `${error.message}\n`, status: 3, file };
   }
 }
 
@@ -125,24 +126,24 @@ function isSplit(input, output) {
   const answers = output.split("\n").slice(1, -1);
   const inputs = readInputs(Buffer.from(input).toString("latin1"));
   const parts = matchAnswers(inputs, answers);
-  const matches = (part, at) => part.length > 0 && (/^no \d/.test(part[0]) || (BEGINNINGS[inputs[at].kind] || /^ok \d/).test(part[0]));
+  const matches = (part, index) => part.length > 0 && (/^no \d/.test(part[0]) || (BEGINNINGS[inputs[index].kind] || /^ok \d/).test(part[0]));
   return parts.every(matches) && parts.flat().length === answers.length;
 }
 
 let passed = 0;
 let failed = 0;
 function compare(name, engine, file, input) {
-  const wanted = programResult(file, input);
-  const found = pageResult(engine, file, input);
-  const faults = [];
-  if (found.output !== wanted.output) faults.push("answers");
-  if (found.status !== wanted.status) faults.push(`status ${found.status}, not ${wanted.status}`);
-  if (Buffer.compare(Buffer.from(found.file), wanted.file) !== 0) faults.push("file");
-  if (wanted.status === 0 && !isSplit(input, wanted.output)) faults.push("the answers of each input");
-  passed += faults.length === 0 ? 1 : 0;
-  failed += faults.length === 0 ? 0 : 1;
-  if (faults.length > 0) console.error(`compare_page: ${name} differs: ${faults.join(", ")}; input:\n${input.slice(0, 2000)}`);
-  return wanted.file;
+  const expected = programResult(file, input);
+  const actual = pageResult(engine, file, input);
+  const differences = [];
+  if (actual.output !== expected.output) differences.push("answers");
+  if (actual.status !== expected.status) differences.push(`status ${actual.status}, not ${expected.status}`);
+  if (Buffer.compare(Buffer.from(actual.file), expected.file) !== 0) differences.push("file");
+  if (expected.status === 0 && !isSplit(input, expected.output)) differences.push("the answers of each input");
+  passed += differences.length === 0 ? 1 : 0;
+  failed += differences.length === 0 ? 0 : 1;
+  if (differences.length > 0) console.error(`compare_page: ${name} differs: ${differences.join(", ")}; input:\n${input.slice(0, 2000)}`);
+  return expected.file;
 }
 
 // Converts a settled file of version 2 to version 1, which has no version byte and no number of watches. Returns null if the file has watches.
@@ -159,12 +160,12 @@ function toVersion1(file) {
 }
 
 // Returns true if version 1 can store the board: at most two chains, each of at most four 4003s.
-function isOfVersion1(engine, file) {
+function fitsVersion1(engine, file) {
   const chains = answersTo(engine, file, "board\n").join("\n").split("[[").filter((part) => part.startsWith("chain]]"));
   return chains.length <= 2 && chains.every((chain) => !/^chips = [5-8]$/m.test(chain));
 }
 
-const QUESTIONS = "seq\nstate\nregs\nlamps\nports\nwatches\nbreaks\nboard\nram 0\nram 1\nram 7\nlist 0 256\n";
+const QUERIES = "seq\nstate\nregs\nlamps\nports\nwatches\nbreaks\nboard\nram 0\nram 1\nram 7\nlist 0 256\n";
 
 const ALL_ROM = [...Array(16).keys()].map((page) => `list ${page * 256} 256\n`).join("");
 
@@ -182,7 +183,7 @@ function compareSource(name, engine, file) {
   const board = answersTo(engine, file, "board\n").slice(1).map((line) => `${line}\n`).join("");
   const source = disassembleRom(engine, file);
   const again = answersTo(engine, file, `wire\n.\nwire\n${board}.\nasm\n${source}.\n${ALL_ROM}`).slice(3);
-  verdict(`${name}: the source text made of ROM gives other bytes`, again.join() === answersTo(engine, file, ALL_ROM).join());
+  verdict(`${name}: the source text from ROM gives other bytes`, again.join() === answersTo(engine, file, ALL_ROM).join());
 }
 
 // Reads a file's active slot, as docs/FORMAT.md defines it. Returns the number of commands and the version in its snapshot, and whether records
@@ -195,9 +196,9 @@ function readActiveSlot(file) {
 
 // Checks that a settled file has a snapshot of all commands and no records.
 function checkSettled(name, file, seq) {
-  const found = readActiveSlot(file);
-  const isRight = found.version === 2 && !found.hasRecords && found.seq === seq;
-  verdict(`${name} has not settled the file: ${JSON.stringify(found)}, where ${seq} commands were accepted`, isRight);
+  const slot = readActiveSlot(file);
+  const isRight = slot.version === 2 && !slot.hasRecords && slot.seq === seq;
+  verdict(`${name} has not settled the file: ${JSON.stringify(slot)}, after ${seq} commands were accepted`, isRight);
 }
 
 const seqOf = (engine, file) => Number(answersTo(engine, file, "seq\n")[0].split(" ")[1]);
@@ -206,12 +207,12 @@ const seqOf = (engine, file) => Number(answersTo(engine, file, "seq\n")[0].split
 function compareInPieces(name, engine, file, input) {
   const bytes = Uint8Array.from(file);
   const answers = [engine.ask(file, "").opened];
-  for (let at = 0; at < input.length;) {
-    const end = findInputEnd(input, at, 1 + below(200));
-    answers.push(...engine.serve(bytes, input.slice(at, end), bytes).answers);
-    at = end;
+  for (let start = 0; start < input.length;) {
+    const end = findInputEnd(input, start, 1 + random(200));
+    answers.push(...engine.serve(bytes, input.slice(start, end), bytes).answers);
+    start = end;
   }
-  verdict(`${name}: lines that are cut are answered otherwise`, [...answers, ""].join("\n") === pageResult(engine, file, input).output);
+  verdict(`${name}: lines in pieces have other answers`, [...answers, ""].join("\n") === pageResult(engine, file, input).output);
 }
 
 function compareFiles(name, engine, file) {
@@ -222,27 +223,27 @@ function compareFiles(name, engine, file) {
   const both = new Uint8Array(file.length);
   engine.serve(file, "poke acc 1\npoke acc 2\n", both);
   checkSettled(`${name}: serving and settling`, both, seqOf(engine, file) + 2);
-  const output = pageResult(engine, file, QUESTIONS).output;
-  compare(`${name}, settled`, engine, settled, QUESTIONS);
-  verdict(`${name}: settling changed an answer`, pageResult(engine, settled, QUESTIONS).output === output);
+  const output = pageResult(engine, file, QUERIES).output;
+  compare(`${name}, settled`, engine, settled, QUERIES);
+  verdict(`${name}: settling changed an answer`, pageResult(engine, settled, QUERIES).output === output);
   const old = toVersion1(settled);
-  if (old && isOfVersion1(engine, settled)) {
-    compare(`${name}, of version 1`, engine, old, QUESTIONS);
+  if (old && fitsVersion1(engine, settled)) {
+    compare(`${name}, of version 1`, engine, old, QUERIES);
     checkSettled(`${name}: settle of version 1`, settle(engine, Uint8Array.from(old)), seqOf(engine, old));
   }
   const damaged = Uint8Array.from(file);
-  const place = () => either([() => below(24), () => 16 + below(8000), () => 16400 + below(2000)]);
-  for (let times = 1 + below(3); times > 0; times--) damaged[place()] ^= 1 << below(8);
-  compare(`${name}, damaged`, engine, damaged, QUESTIONS);
+  const randomOffset = () => either([() => random(24), () => 16 + random(8000), () => 16400 + random(2000)]);
+  for (let changes = 1 + random(3); changes > 0; changes--) damaged[randomOffset()] ^= 1 << random(8);
+  compare(`${name}, damaged`, engine, damaged, QUERIES);
 }
 
-function time(act) {
+function seconds(act) {
   const start = process.hrtime.bigint();
   act();
   return Number(process.hrtime.bigint() - start) / 1e9;
 }
 
-const fastest = (act) => Math.min(...[1, 2, 3].map(() => time(act)));
+const fastest = (act) => Math.min(...[1, 2, 3].map(() => seconds(act)));
 
 // Returns the cycles per second of the page's module and of the program, with the calculator.
 function speeds(engine) {
@@ -263,7 +264,7 @@ for (const name of readdirSync(examples, { recursive: true })) {
 for (const size of [70000, 1100000, 16777300]) compare(`an input of ${size} bytes`, engine, null, `poke acc 1\n${"\n".repeat(size)}seq\n`);
 for (let number = 1; number <= Number(count); number++) {
   const file = compare(`script ${number}`, engine, null, script());
-  if (number % 4 === 0) compare(`script ${number}, gone on with`, engine, file, script());
+  if (number % 4 === 0) compare(`script ${number}, continued`, engine, file, script());
   if (number % 8 === 0) compareFiles(`script ${number}`, engine, file);
 }
 for (const bytes of [Buffer.from("no session"), new Uint8Array(163856), new Uint8Array(163857)]) {
@@ -271,5 +272,5 @@ for (const bytes of [Buffer.from("no session"), new Uint8Array(163856), new Uint
 }
 const { page, native } = speeds(engine);
 const millions = [page, native].map((speed) => Math.round(speed / 1e6));
-console.log(`${passed} same, ${failed} other; ${millions[0]} million cycles a second in node, the program ${millions[1]}`);
+console.log(`${passed} equal, ${failed} different; ${millions[0]} million cycles a second in node, the program ${millions[1]}`);
 process.exitCode = failed === 0 ? 0 : 1;

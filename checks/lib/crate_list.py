@@ -9,8 +9,9 @@ import re
 TOP = pathlib.Path(__file__).resolve().parent.parent.parent
 HEAD = """# Crates
 
-Made from [crates.txt](../crates.txt), which has what each crate uses, by `checks/lib/crate_list.py`;
-lowest first. What a crate has in it, and where to change what, is in [docs/MAP.md](../docs/MAP.md).
+`checks/lib/crate_list.py` generates this list from [crates.txt](../crates.txt), which lists the crates
+that each crate uses. The lowest crate comes first. [docs/MAP.md](../docs/MAP.md) says what a crate
+contains, and where to change what.
 """
 
 

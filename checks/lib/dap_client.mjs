@@ -2,22 +2,23 @@
 import { MessageClient } from "./message_client.mjs";
 
 export class Client extends MessageClient {
-  /** @param {string} command mcs4, or a command that starts mcs4 with extra arguments and another environment */
-  constructor(command, folder = ".", words = [], { before = [], env = process.env } = {}) {
-    super(command, folder, [...before, "dap", ...words], env);
+  /** @param {string} command mcs4, or a command that starts mcs4 with the arguments `before` and the environment `env` */
+  constructor(command, folder = ".", args = [], { before = [], env = process.env } = {}) {
+    super(command, folder, [...before, "dap", ...args], env);
     /** The protocol violations in the adapter's messages. */
-    this.faults = [];
-    this.expected = 0;
+    this.violations = [];
+    /** The number of the last message. */
+    this.lastNumber = 0;
   }
 
   /** Checks a message from the adapter against the rules of the protocol. */
   check(message) {
-    this.expected += 1;
-    if (message.seq !== this.expected) this.faults.push(`seq ${message.seq}, not ${this.expected}`);
+    this.lastNumber += 1;
+    if (message.seq !== this.lastNumber) this.violations.push(`seq ${message.seq}, not ${this.lastNumber}`);
     const isResponse = message.type === "response" && typeof message.command === "string" && typeof message.request_seq === "number"
       && typeof message.success === "boolean" && (message.success || typeof message.message === "string");
     const isEvent = message.type === "event" && typeof message.event === "string";
-    if (!isResponse && !isEvent) this.faults.push(`neither a response nor an event: ${JSON.stringify(message)}`);
+    if (!isResponse && !isEvent) this.violations.push(`neither a response nor an event: ${JSON.stringify(message)}`);
   }
 
   /** Resolves to the response to a request, successful or not. */
@@ -29,54 +30,57 @@ export class Client extends MessageClient {
   }
 
   /** Resolves to the body of the response. Throws an error if the request failed. */
-  async ask(command, args) {
+  async request(command, args) {
     const response = await this.answer(command, args);
     if (!response.success) throw new Error(`${command}: ${response.message}`);
     return response.body;
   }
 
+  /** Waits for an event, and resolves to it. */
   event(name) {
     return this.next((message) => message.type === "event" && message.event === name);
   }
 
   /** Sends the requests from initialize to configurationDone. `configure` is called before configurationDone and can set breakpoints. */
   async begin(args, configure = async () => {}) {
-    const capabilities = await this.ask("initialize", { adapterID: "mcs4", linesStartAt1: true, columnsStartAt1: true, pathFormat: "path" });
-    await this.ask("launch", args);
+    const capabilities = await this.request("initialize", { adapterID: "mcs4", linesStartAt1: true, columnsStartAt1: true, pathFormat: "path" });
+    await this.request("launch", args);
     await this.event("initialized");
     await configure();
-    await this.ask("configurationDone");
+    await this.request("configurationDone");
     return capabilities;
   }
 
   /** Sends a request that runs the machine, and waits until it stops. */
   async move(command, args = {}) {
-    await this.ask(command, { threadId: 1, ...args });
+    await this.request(command, { threadId: 1, ...args });
     return (await this.event("stopped")).body;
   }
 
+  /** Resolves to the stack frames. */
   async frames() {
-    return (await this.ask("stackTrace", { threadId: 1 })).stackFrames;
+    return (await this.request("stackTrace", { threadId: 1 })).stackFrames;
   }
 
   /** Resolves to the variables of a scope, in the adapter's order and by name. */
   async scope(name) {
-    const { scopes } = await this.ask("scopes", { frameId: 1 });
-    const { variablesReference } = scopes.find((each) => each.name === name);
-    const { variables } = await this.ask("variables", { variablesReference });
-    return { variablesReference, variables, values: Object.fromEntries(variables.map((each) => [each.name, each.value])) };
+    const { scopes } = await this.request("scopes", { frameId: 1 });
+    const { variablesReference } = scopes.find((scope) => scope.name === name);
+    const { variables } = await this.request("variables", { variablesReference });
+    return { variablesReference, variables, values: Object.fromEntries(variables.map((variable) => [variable.name, variable.value])) };
   }
 
   /** Returns the output since the last call. */
   output() {
     const isOutput = (message) => message.type === "event" && message.event === "output";
-    const words = this.received.filter(isOutput).map(({ body }) => body.output);
+    const texts = this.received.filter(isOutput).map(({ body }) => body.output);
     this.received = this.received.filter((message) => !isOutput(message));
-    return words.join("");
+    return texts.join("");
   }
 
+  /** Ends the session, and resolves to the exit status of the adapter. */
   async end() {
-    await this.ask("disconnect", {});
+    await this.request("disconnect", {});
     return this.ended;
   }
 }

@@ -1,5 +1,5 @@
 // Tests of checks/debugging with wrong messages: messages with wrong lengths, requests in the wrong order, unknown requests, and some 2,000 requests
-// with wrong arguments. The adapter must answer each request once and continue, or print an error and end. Prints `ok WORDS` or `fault: WORDS` for
+// with wrong arguments. The adapter must answer each request once and continue, or print an error and end. Prints `ok TEXT` or `failed: TEXT` for
 // each check.
 import { Client } from "./dap_client.mjs";
 
@@ -9,14 +9,14 @@ const LOCK = { program: `${TOP}examples/lock/lock.asm`, board: `${TOP}examples/l
 const REQUESTS = 2000;
 const BATCH = 50;
 
-function verdict(is, wanted, words) {
-  const [one, other] = [JSON.stringify(is), JSON.stringify(wanted)];
-  console.log(one === other ? `ok ${words}` : `fault: ${words}: ${one}, not ${other}`);
+function verdict(actual, expected, description) {
+  const [actualText, expectedText] = [JSON.stringify(actual), JSON.stringify(expected)];
+  console.log(actualText === expectedText ? `ok ${description}` : `failed: ${description}: ${actualText}, not ${expectedText}`);
 }
 
-const matches = (words, pattern, what) => console.log(pattern.test(words) ? `ok ${what}` : `fault: ${what}: ${words}`);
+const matches = (text, pattern, description) => console.log(pattern.test(text) ? `ok ${description}` : `failed: ${description}: ${text}`);
 
-// --- messages with their header ---
+// --- messages with their header
 
 const frameMessage = (text, size = Buffer.byteLength(text)) => `Content-Length: ${size}\r\n\r\n${text}`;
 const request = (seq, command, args) => JSON.stringify({ seq, type: "request", command, arguments: args });
@@ -24,37 +24,37 @@ const INITIALIZE = frameMessage(request(1, "initialize", {}));
 
 /** Byte sequences after which the adapter cannot find the next message, with the expected error. If `isOpen` is true, the stream stays open. */
 const FATAL_INPUTS = [
-  { name: "the rest of a message never comes", bytes: frameMessage("{\"seq\":", 50), words: /^only 7 of the 50 bytes/, isOpen: true },
-  { name: "the rest of a head never comes", bytes: "Content-Le", words: /^only a part of the head/, isOpen: true },
-  { name: "a Content-Length that is too large", bytes: `${INITIALIZE}${frameMessage("{}", 9)}`, words: /^only 2 of the 9 bytes/ },
-  { name: "a Content-Length that is too small", bytes: `${frameMessage(request(1, "threads"), 20)}${INITIALIZE}`, words: /^a message begins with/ },
-  { name: "a Content-Length that is no number", bytes: "Content-Length: many\r\n\r\n{}", words: /^a message begins with/ },
-  { name: "a Content-Length below 0", bytes: "Content-Length: -2\r\n\r\n{}", words: /^a message begins with/ },
-  { name: "two of them", bytes: "Content-Length: 2\r\nContent-Length: 3\r\n\r\n{}", words: /^a message begins with/ },
-  { name: "a head that does not end", bytes: "x".repeat(5000), words: /^the head of a message has more than/ },
-  { name: "binary bytes", bytes: Buffer.from(Array.from({ length: 6000 }, (_, at) => (at * 7919) % 256)), words: /^the head|^a message begins/ },
+  { name: "the rest of a message never arrives", bytes: frameMessage("{\"seq\":", 50), pattern: /^only 7 of the 50 bytes/, isOpen: true },
+  { name: "the rest of a header never arrives", bytes: "Content-Le", pattern: /^only a part of the head/, isOpen: true },
+  { name: "a Content-Length that is too large", bytes: `${INITIALIZE}${frameMessage("{}", 9)}`, pattern: /^only 2 of the 9 bytes/ },
+  { name: "a Content-Length that is too small", bytes: `${frameMessage(request(1, "threads"), 20)}${INITIALIZE}`, pattern: /^a message begins with/ },
+  { name: "a Content-Length that is not a number", bytes: "Content-Length: many\r\n\r\n{}", pattern: /^a message begins with/ },
+  { name: "a Content-Length below 0", bytes: "Content-Length: -2\r\n\r\n{}", pattern: /^a message begins with/ },
+  { name: "two Content-Lengths", bytes: "Content-Length: 2\r\nContent-Length: 3\r\n\r\n{}", pattern: /^a message begins with/ },
+  { name: "a header that does not end", bytes: "x".repeat(5000), pattern: /^the head of a message has more than/ },
+  { name: "binary bytes", bytes: Buffer.from(Array.from({ length: 6000 }, (_, index) => (index * 7919) % 256)), pattern: /^the head|^a message begins/ },
 ];
 
 /** Checks that the adapter sends and prints the error, and exits with a status other than 0. */
-async function tryFatalInput({ name, bytes, words, isOpen = false }) {
+async function tryFatalInput({ name, bytes, pattern, isOpen = false }) {
   const client = new Client(ADAPTER);
-  client.raw(bytes);
+  client.sendBytes(bytes);
   if (!isOpen) client.child.stdin.end();
   const status = await client.ended;
   const last = client.received.filter(({ type, success }) => type === "response" && !success).pop() || { message: "nothing was sent" };
   verdict([status, client.stderr], [1, `dap: ${last.message}\n`], name);
-  matches(last.message, words, `${name}: what is said`);
+  matches(last.message, pattern, `${name}: the message`);
 }
 
-// --- requests ---
+// --- requests
 
 let state = 20261128;
 /** Returns a random integer from 0 to `count` - 1. */
-function upTo(count) {
+function random(count) {
   state = (Math.imul(state, 1664525) + 1013904223) >>> 0;
   return Math.floor((state / 2 ** 32) * count);
 }
-const oneOf = (list) => list[upTo(list.length)];
+const oneOf = (list) => list[random(list.length)];
 
 const COMMANDS = ["initialize", "launch", "attach", "configurationDone", "setBreakpoints", "setFunctionBreakpoints", "setInstructionBreakpoints",
   "setDataBreakpoints", "dataBreakpointInfo", "setExceptionBreakpoints", "breakpointLocations", "continue", "next", "stepIn", "stepInTargets",
@@ -70,30 +70,33 @@ const TEXTS = ["", "r4", "acc = 9", "r4 +", "((((", "ram.0.0x12", "ram 0", "0x00
   "hover", "watch", "AAAA", "A", "=", "%%%", "lamp open on", "key 5 down", "display 4", "/dev/zero", "/dev/stdin", "/", ".", LOCK.program, LOCK.board,
   ADAPTER, "\u0000\u0001\u001b[2J", "\ud800", "é".repeat(20), "{{}}", "x".repeat(65536), "(".repeat(3000), "r4 and ".repeat(2000), "calls", "chip"];
 
-function value(depth) {
+/** Returns a random value. */
+function randomValue(depth) {
   const kinds = [() => oneOf(TEXTS), () => oneOf([0, 1, 2, 3, 100, 200, -1, 0.5, 1e9, 2 ** 53, -(2 ** 60), 4095, 4096, 65536]), () => oneOf([true, false, null]),
-    () => (depth > 2 ? [] : Array.from({ length: upTo(4) }, () => value(depth + 1))), () => (depth > 2 ? {} : given(depth + 1))];
+    () => (depth > 2 ? [] : Array.from({ length: random(4) }, () => randomValue(depth + 1))), () => (depth > 2 ? {} : randomArguments(depth + 1))];
   return oneOf(kinds)();
 }
 
-function given(depth = 0) {
-  return Object.fromEntries(Array.from({ length: upTo(7) }, () => [oneOf(NAMES), value(depth)]));
+/** Returns random arguments. */
+function randomArguments(depth = 0) {
+  return Object.fromEntries(Array.from({ length: random(7) }, () => [oneOf(NAMES), randomValue(depth)]));
 }
 
 /** Returns arguments most of which are valid, so that the adapter's later checks of the arguments are also tested. */
-function nearlyRight(command) {
-  const right = { threadId: 1, frameId: 1, variablesReference: 1 + upTo(7), name: oneOf(["acc", "R4", "lamp 0"]), value: oneOf(TEXTS), expression: oneOf(TEXTS),
-    context: oneOf(["repl", "watch", "hover", "clipboard"]), memoryReference: oneOf(["0x000", "0x10000", "ram.0"]), offset: upTo(300) - 20, count: upTo(5000),
-    data: oneOf(["AAAA", "////", "AQID"]), instructionCount: upTo(300), instructionOffset: upTo(100) - 50, source: { path: LOCK.program }, line: upTo(120),
-    column: upTo(20), text: oneOf(TEXTS), targetId: upTo(4200), filters: ["calls"], filterOptions: [{ filterId: "chip", condition: oneOf(TEXTS) }],
-    breakpoints: [{ line: upTo(120), name: oneOf(TEXTS), dataId: oneOf(["r4", "acc", oneOf(TEXTS)]), instructionReference: oneOf(["0x02C", "show"]),
+function mostlyValidArguments(command) {
+  const valid = { threadId: 1, frameId: 1, variablesReference: 1 + random(7), name: oneOf(["acc", "R4", "lamp 0"]), value: oneOf(TEXTS), expression: oneOf(TEXTS),
+    context: oneOf(["repl", "watch", "hover", "clipboard"]), memoryReference: oneOf(["0x000", "0x10000", "ram.0"]), offset: random(300) - 20, count: random(5000),
+    data: oneOf(["AAAA", "////", "AQID"]), instructionCount: random(300), instructionOffset: random(100) - 50, source: { path: LOCK.program }, line: random(120),
+    column: random(20), text: oneOf(TEXTS), targetId: random(4200), filters: ["calls"], filterOptions: [{ filterId: "chip", condition: oneOf(TEXTS) }],
+    breakpoints: [{ line: random(120), name: oneOf(TEXTS), dataId: oneOf(["r4", "acc", oneOf(TEXTS)]), instructionReference: oneOf(["0x02C", "show"]),
       condition: oneOf(["", "r4 = 7", oneOf(TEXTS)]), hitCondition: oneOf(["", "3", oneOf(TEXTS)]) }], key: oneOf(["5", "#", "no"]), place: oneOf(["1 1", "9 9", "x"]) };
-  const all = Object.entries(right).map(([name, own]) => [name, upTo(9) === 0 ? value(0) : own]);
-  return command === "cancel" ? { requestId: upTo(2000) } : Object.fromEntries(all);
+  const all = Object.entries(valid).map(([name, validValue]) => [name, random(9) === 0 ? randomValue(0) : validValue]);
+  return command === "cancel" ? { requestId: random(2000) } : Object.fromEntries(all);
 }
 
+/** Returns arguments of any kind for a request. */
 function argumentsFor(command) {
-  return oneOf([() => undefined, () => null, () => value(0), () => given(), () => nearlyRight(command), () => nearlyRight(command)])();
+  return oneOf([() => undefined, () => null, () => randomValue(0), () => randomArguments(), () => mostlyValidArguments(command), () => mostlyValidArguments(command)])();
 }
 
 /** Sends requests in batches, without waiting within a batch. Resolves to the numbers of the requests that were not answered exactly once. */
@@ -101,7 +104,7 @@ async function sendAll(client, count) {
   const answered = new Map();
   for (let done = 0; done < count; done += BATCH) {
     const batch = [];
-    for (let at = 0; at < BATCH; at++) {
+    for (let n = 0; n < BATCH; n++) {
       const command = oneOf(COMMANDS);
       client.number += 1;
       batch.push(client.number);
@@ -113,8 +116,8 @@ async function sendAll(client, count) {
       await client.next((message) => message.type === "response" && message.request_seq === seq);
       answered.set(seq, 1);
     }
-    const more = client.received.filter(({ type, request_seq: seq }) => type === "response" && answered.has(seq));
-    for (const { request_seq: seq } of more) answered.set(seq, answered.get(seq) + 1);
+    const extra = client.received.filter(({ type, request_seq: seq }) => type === "response" && answered.has(seq));
+    for (const { request_seq: seq } of extra) answered.set(seq, answered.get(seq) + 1);
     client.received = [];
   }
   return [...answered].filter(([, times]) => times !== 1);
@@ -124,7 +127,7 @@ async function tryRequests() {
   const client = new Client(ADAPTER);
   verdict(await (async () => {
     const answers = new Set();
-    for (const command of COMMANDS.filter((each) => each !== "initialize")) answers.add((await client.answer(command, given())).message);
+    for (const command of COMMANDS.filter((name) => name !== "initialize")) answers.add((await client.answer(command, randomArguments())).message);
     return [...answers];
   })(), ["send initialize first"], "all requests before initialize");
   for (const message of [[], 7, "text", null, {}, { type: "request" }, { seq: "1", type: "request", command: "threads" },
@@ -134,17 +137,17 @@ async function tryRequests() {
   }
   client.send({ seq: 1, type: "response", request_seq: 1, success: true, command: "runInTerminal" });
   client.send({ seq: 1, type: "event", event: "nothing" });
-  await client.ask("initialize", { adapterID: "mcs4", supportsProgressReporting: true, supportsMemoryEvent: true });
+  await client.request("initialize", { adapterID: "mcs4", supportsProgressReporting: true, supportsMemoryEvent: true });
   verdict(await sendAll(client, REQUESTS / 4), [], "requests before launch are answered once");
   client.received = [];
   const { success } = await client.answer("launch", LOCK);
-  if (success) await client.ask("configurationDone");
+  if (success) await client.request("configurationDone");
   verdict(await sendAll(client, REQUESTS), [], `${REQUESTS} requests with wrong arguments are answered once`);
-  verdict(client.faults, [], "each answer is as the protocol has it");
-  verdict((await client.ask("threads")).threads.length, 1, "the adapter goes on");
-  verdict([await client.end(), client.stderr], [0, ""], "and ends");
+  verdict(client.violations, [], "each message follows the protocol");
+  verdict((await client.request("threads")).threads.length, 1, "the adapter continues");
+  verdict([await client.end(), client.stderr], [0, ""], "the adapter's status");
 }
 
 await Promise.all(FATAL_INPUTS.slice(0, 3).map(tryFatalInput));
-for (const each of FATAL_INPUTS.slice(3)) await tryFatalInput(each);
+for (const input of FATAL_INPUTS.slice(3)) await tryFatalInput(input);
 await tryRequests();

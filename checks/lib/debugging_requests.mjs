@@ -1,4 +1,4 @@
-// Tests of checks/debugging with the sequence of requests that Visual Studio Code sends. Prints `ok WORDS` or `fault: WORDS` for each check. The
+// Tests of checks/debugging with the sequence of requests that Visual Studio Code sends. Prints `ok TEXT` or `failed: TEXT` for each check. The
 // adapter's answers are compared with the answers of the program mcs4 on a separate session file.
 import { execFileSync, spawn } from "node:child_process";
 import { chmodSync, copyFileSync, readFileSync, writeFileSync } from "node:fs";
@@ -16,52 +16,52 @@ const VSCODE = {
   supportsANSIStyling: true,
 };
 
-function verdict(is, wanted, words) {
-  const [one, other] = [JSON.stringify(is), JSON.stringify(wanted)];
-  console.log(one === other ? `ok ${words}` : `fault: ${words}: ${one}, not ${other}`);
+function verdict(actual, expected, description) {
+  const [actualText, expectedText] = [JSON.stringify(actual), JSON.stringify(expected)];
+  console.log(actualText === expectedText ? `ok ${description}` : `failed: ${description}: ${actualText}, not ${expectedText}`);
 }
 
-const matches = (words, pattern, what) => console.log(pattern.test(words) ? `ok ${what}` : `fault: ${what}: ${words}`);
+const matches = (text, pattern, description) => console.log(pattern.test(text) ? `ok ${description}` : `failed: ${description}: ${text}`);
 
 /** Returns the program's answers to lines in a copy of a session file. */
 function answersOf(file, input) {
-  copyFileSync(file, `${folder}/asked.mcs`);
-  chmodSync(`${folder}/asked.mcs`, 0o600);
-  return execFileSync(process.env.MCS4, ["open", `${folder}/asked.mcs`], { input, encoding: "utf8" }).split("\n").slice(1, -1);
+  copyFileSync(file, `${folder}/copy.mcs`);
+  chmodSync(`${folder}/copy.mcs`, 0o600);
+  return execFileSync(process.env.MCS4, ["open", `${folder}/copy.mcs`], { input, encoding: "utf8" }).split("\n").slice(1, -1);
 }
 
 /** Creates a session file for the lock with the native program, without the debug adapter, and executes session lines in it. */
 function sessionFile(name, lines) {
   const file = `${folder}/${name}.mcs`;
-  const bare = (text, mark) => text.split("\n").map((line) => line.replace(new RegExp(`${mark}.*`), "").trimEnd()).join("\n");
-  const board = bare(readFileSync(BOARD, "utf8"), "#");
-  const program = bare(readFileSync(PROGRAM, "utf8"), ";");
+  const withoutComments = (text, mark) => text.split("\n").map((line) => line.replace(new RegExp(`${mark}.*`), "").trimEnd()).join("\n");
+  const board = withoutComments(readFileSync(BOARD, "utf8"), "#");
+  const program = withoutComments(readFileSync(PROGRAM, "utf8"), ";");
   execFileSync(process.env.MCS4, ["new", file], { input: `wire\n${board}.\nasm\n${program}.\n${lines}` });
   return file;
 }
 
 /** Sends the requests that Visual Studio Code sends up to the first stop. */
 async function begin(client, command, args, { watches = [], filterOptions = [], functions = [] } = {}) {
-  const capabilities = await client.ask("initialize", VSCODE);
+  const capabilities = await client.request("initialize", VSCODE);
   const launched = client.answer(command, { name: "MCS-4", type: "mcs4", request: command, __sessionId: "1", ...args });
   await client.event("initialized");
-  await client.ask("setBreakpoints", { source: { name: "lock.asm", path: PROGRAM }, lines: [], breakpoints: [], sourceModified: false });
-  await client.ask("setFunctionBreakpoints", { breakpoints: functions });
-  const data = watches.length > 0 ? await client.ask("setDataBreakpoints", { breakpoints: watches }) : null;
-  const filters = await client.ask("setExceptionBreakpoints", { filters: [], filterOptions });
-  await client.ask("configurationDone");
+  await client.request("setBreakpoints", { source: { name: "lock.asm", path: PROGRAM }, lines: [], breakpoints: [], sourceModified: false });
+  await client.request("setFunctionBreakpoints", { breakpoints: functions });
+  const data = watches.length > 0 ? await client.request("setDataBreakpoints", { breakpoints: watches }) : null;
+  const filters = await client.request("setExceptionBreakpoints", { filters: [], filterOptions });
+  await client.request("configurationDone");
   verdict((await launched).success, true, `${command} is answered`);
   return { capabilities, data, filters, stopped: (await client.event("stopped")).body };
 }
 
 /** Sends the requests that Visual Studio Code sends at each stop. Resolves to their results. */
-async function look(client) {
-  await client.ask("threads");
-  const top = await client.ask("stackTrace", { threadId: 1, startFrame: 0, levels: 1 });
-  const rest = await client.ask("stackTrace", { threadId: 1, startFrame: 1, levels: 19 });
+async function readStop(client) {
+  await client.request("threads");
+  const top = await client.request("stackTrace", { threadId: 1, startFrame: 0, levels: 1 });
+  const rest = await client.request("stackTrace", { threadId: 1, startFrame: 1, levels: 19 });
   const frames = [...top.stackFrames, ...rest.stackFrames];
-  verdict(frames.length, top.totalFrames, "the frames come in two parts");
-  const { scopes } = await client.ask("scopes", { frameId: frames[0].id });
+  verdict(frames.length, top.totalFrames, "the frames arrive in two parts");
+  const { scopes } = await client.request("scopes", { frameId: frames[0].id });
   return { frames, scopes };
 }
 
@@ -73,49 +73,49 @@ async function tryAttach() {
   const [state] = answersOf(file, "state\n");
   const client = new Client(ADAPTER);
   const { stopped } = await begin(client, "attach", { session: file });
-  verdict([stopped.reason, (await client.ask("evaluate", { expression: "state", context: "repl" })).result], ["entry", state], "attach is where the file is");
-  await look(client);
+  verdict([stopped.reason, (await client.request("evaluate", { expression: "state", context: "repl" })).result], ["entry", state], "the state after attach is that of the file");
+  await readStop(client);
   const stepped = answersOf(file, "step\nstep\nstep\nstate\n").pop();
   for (let step = 0; step < 3; step++) await client.move("stepIn", { granularity: "statement" });
-  verdict((await client.ask("evaluate", { expression: "state", context: "repl" })).result, stepped, "three steps after attach");
-  verdict(Buffer.compare(before, readFileSync(file)), 0, "the file stays as it is");
+  verdict((await client.request("evaluate", { expression: "state", context: "repl" })).result, stepped, "three steps after attach");
+  verdict(Buffer.compare(before, readFileSync(file)), 0, "the file is unchanged");
   verdict(answersOf(file, "state\n")[0], state, "the program can open it meanwhile");
   await client.move("restart", {});
-  verdict((await client.ask("evaluate", { expression: "state", context: "repl" })).result, state, "restart reads it again");
-  await client.ask("disconnect", { restart: false, terminateDebuggee: false });
-  verdict([await client.ended, Buffer.compare(before, readFileSync(file)), client.faults], [0, 0, []], "it ends, and the file is as it was");
+  verdict((await client.request("evaluate", { expression: "state", context: "repl" })).result, state, "restart reads the file again");
+  await client.request("disconnect", { restart: false, terminateDebuggee: false });
+  verdict([await client.ended, Buffer.compare(before, readFileSync(file)), client.violations], [0, 0, []], "the adapter's status, and the file is unchanged");
   chmodSync(file, 0o600);
   const writer = new Client(ADAPTER);
   await begin(writer, "attach", { session: file, write: true, program: PROGRAM, board: BOARD });
   await writer.move("stepIn");
-  const { result } = await writer.ask("evaluate", { expression: "state", context: "repl" });
-  verdict(answersOf(file, "state\n")[0], result, "with write the file has what was done");
+  const { result } = await writer.request("evaluate", { expression: "state", context: "repl" });
+  verdict(answersOf(file, "state\n")[0], result, "with `write`, the file has the new state");
   const other = new Client(ADAPTER);
-  await other.ask("initialize", VSCODE);
+  await other.request("initialize", VSCODE);
   for (const args of [{ session: file }, { session: file, write: true }]) {
-    matches((await other.answer("attach", args)).message, /in use.*mcs4 open attached\.mcs \(process \d+\)/s, "who has the file is said");
+    matches((await other.answer("attach", args)).message, /in use.*mcs4 open attached\.mcs \(process \d+\)/s, "the message names the program that uses the file");
   }
   await writer.end();
-  await other.ask("attach", { session: file });
+  await other.request("attach", { session: file });
   await other.end();
 }
 
 /**
  * Checks that the adapter rejects a session file in use, and names the program that uses it. Also checks that it rejects files that are not sessions.
  */
-async function tryRefused() {
+async function tryRejected() {
   const file = sessionFile("held", "");
   const holder = spawn(process.env.MCS4, ["open", file], { stdio: ["pipe", "pipe", "ignore"] });
   await new Promise((resume) => holder.stdout.once("data", resume));
   const client = new Client(ADAPTER);
-  await client.ask("initialize", VSCODE);
+  await client.request("initialize", VSCODE);
   for (const command of ["attach", "launch"]) {
     const { message } = await client.answer(command, { session: file });
-    matches(message, new RegExp(`in use.*mcs4 open held\\.mcs \\(process ${holder.pid}\\)`, "s"), `${command}: a session in use is refused with its holder`);
+    matches(message, new RegExp(`in use.*mcs4 open held\\.mcs \\(process ${holder.pid}\\)`, "s"), `${command}: a session in use is rejected, and its user is named`);
   }
   holder.stdin.end();
   await new Promise((resume) => holder.on("close", resume));
-  writeFileSync(`${folder}/binary`, Buffer.from(Array.from({ length: 70000 }, (_, at) => (at * 7919) % 256)));
+  writeFileSync(`${folder}/binary`, Buffer.from(Array.from({ length: 70000 }, (_, index) => (index * 7919) % 256)));
   writeFileSync(`${folder}/text`, "x".repeat(65536));
   writeFileSync(`${folder}/program.asm`, " NOP\n".repeat(13107));
   execFileSync("sh", ["-c", "cd \"$0\"; ln -s /dev/zero zero; ln -s /dev/stdin stdin; mkfifo fifo; ln -s loop loop; mkdir folder", folder]);
@@ -126,7 +126,7 @@ async function tryRefused() {
     }
   }
   matches((await client.answer("launch", { cwd: folder, program: "program.asm", board: BOARD })).message, /program\.asm/, "a program of 64 KB");
-  await client.ask("attach", { session: file });
+  await client.request("attach", { session: file });
   await client.end();
 }
 
@@ -139,19 +139,19 @@ async function tryWatches() {
     verdict(data.breakpoints.map(({ verified }) => verified), [true], `${dataId} can be watched`);
     const lines = answersOf(file, `trace 20000 ${probe} pc\n`);
     let before = lines[0].split(" ").slice(-2)[0];
-    const wanted = lines.slice(1, -1).flatMap((line, at) => {
+    const expected = lines.slice(1, -1).flatMap((line, index) => {
       const after = line.split(" ")[2];
       const isChange = after !== before;
       before = after;
-      return isChange ? [`0x${lines[at + 2].split(" ")[1]}`] : [];
+      return isChange ? [`0x${lines[index + 2].split(" ")[1]}`] : [];
     }).slice(0, 12);
     const stops = [];
-    for (let stop = 0; stop < wanted.length; stop++) {
+    for (let stop = 0; stop < expected.length; stop++) {
       const { reason, hitBreakpointIds } = await client.move("continue");
-      const { stackFrames: [frame] } = await client.ask("stackTrace", { threadId: 1, startFrame: 0, levels: 1 });
+      const { stackFrames: [frame] } = await client.request("stackTrace", { threadId: 1, startFrame: 0, levels: 1 });
       stops.push(reason === "data breakpoint" && hitBreakpointIds[0] === data.breakpoints[0].id ? frame.instructionPointerReference : reason);
     }
-    verdict(stops, wanted, `stops at changes of ${dataId}`);
+    verdict(stops, expected, `stops at changes of ${dataId}`);
     await client.end();
   }
 }
@@ -164,50 +164,50 @@ async function tryRequests() {
     { functions: [{ name: "scan" }], filterOptions: [{ filterId: "calls" }, { filterId: "chip", condition: "r0 = 3" }] });
   const named = ["supportsStepInTargetsRequest", "supportsRestartFrame", "supportsCancelRequest", "supportsValueFormattingOptions",
     "supportsExceptionFilterOptions", "supportsDataBreakpoints", "supportsCompletionsRequest", "supportsReadMemoryRequest", "supportsWriteMemoryRequest"];
-  verdict(named.filter((name) => capabilities[name] !== true), [], "what the adapter can is announced");
+  verdict(named.filter((name) => capabilities[name] !== true), [], "the announced capabilities");
   verdict(filters.breakpoints.map(({ verified }) => verified), [true, true], "filters with options");
-  const initial = await look(client);
-  const { targets } = await client.ask("stepInTargets", { frameId: initial.frames[0].id });
-  verdict(targets, [], "a jump is no call");
+  const initial = await readStop(client);
+  const { targets } = await client.request("stepInTargets", { frameId: initial.frames[0].id });
+  verdict(targets, [], "a jump is not a call");
   await client.move("stepIn");
-  const ahead = await client.ask("stepInTargets", { frameId: 1 });
+  const ahead = await client.request("stepInTargets", { frameId: 1 });
   verdict(ahead.targets.map(({ line }) => line), [29, 31], "the calls that come next");
   await client.move("stepIn", { targetId: ahead.targets[0].id });
-  const { frames } = await look(client);
-  verdict([frames[0].name, frames.length], ["show", 2], "a step into the one that is chosen");
+  const { frames } = await readStop(client);
+  verdict([frames[0].name, frames.length], ["show", 2], "a step into the chosen call");
   await client.move("continue");
-  const scanning = await look(client);
+  const scanning = await readStop(client);
   const [depth] = [scanning.frames.length];
-  await client.ask("setFunctionBreakpoints", { breakpoints: [] });
+  await client.request("setFunctionBreakpoints", { breakpoints: [] });
   for (let step = 0; step < 5; step++) await client.move("next");
   const { reason } = await client.move("restartFrame", { frameId: 2 });
-  const again = await look(client);
-  verdict([reason, again.frames.length, again.frames[0].canRestart], ["restart", depth - 1, true], "a frame that begins again");
+  const again = await readStop(client);
+  verdict([reason, again.frames.length, again.frames[0].canRestart], ["restart", depth - 1, true], "a restarted frame");
   const address = Number(again.frames[0].instructionPointerReference);
   const call = Number(again.frames[1].instructionPointerReference);
   const [listed] = answersOf(file, `list ${call} 1\n`);
   matches(listed, new RegExp(`JMS 0x${again.frames[0].instructionPointerReference.slice(2)}$`), `it begins at ${address}, where the JMS leads`);
   const registers = again.scopes.find(({ name }) => name === "Registers").variablesReference;
-  const values = async (format) => (await client.ask("variables", { variablesReference: registers, format })).variables.map(({ value }) => value);
+  const values = async (format) => (await client.request("variables", { variablesReference: registers, format })).variables.map(({ value }) => value);
   const [hex, decimal] = [await values({ hex: true }), await values({ hex: false })];
   verdict(hex.map(Number), decimal.map(Number), "hexadecimal and decimal are the same numbers");
   verdict([hex.every((value) => /^0x[0-9A-F]+$/.test(value)), decimal.every((value) => /^\d+$/.test(value))], [true, true], "each in its base");
-  const rom = Buffer.from((await client.ask("readMemory", { memoryReference: "0x000", offset: 0, count: 4096 })).data, "base64");
+  const rom = Buffer.from((await client.request("readMemory", { memoryReference: "0x000", offset: 0, count: 4096 })).data, "base64");
   const bytes = Array.from({ length: 16 }, (_, page) => answersOf(file, `list ${256 * page} 256\n`)).flat();
   const wrong = bytes.filter((line) => {
     const [at, ...rest] = line.slice(0, 9).trim().split(/ +/);
     return rest.some((byte, more) => rom[parseInt(at, 16) + more] !== parseInt(byte, 16));
   });
   verdict([bytes.length > 1000, wrong], [true, []], "ROM, as the program lists it");
-  await client.ask("writeMemory", { memoryReference: "0x10000", offset: 18, data: Buffer.from([1, 2, 3]).toString("base64") });
+  await client.request("writeMemory", { memoryReference: "0x10000", offset: 18, data: Buffer.from([1, 2, 3]).toString("base64") });
   await client.event("memory");
-  const { result } = await client.ask("evaluate", { expression: "ram 0", context: "repl" });
+  const { result } = await client.request("evaluate", { expression: "ram 0", context: "repl" });
   const wanted = answersOf(file, "poke ram.0.18 1\npoke ram.0.19 2\npoke ram.0.20 3\nram 0\n").slice(3);
   const ofRegister = (lines) => lines.find((line) => line.startsWith("0.0.1 ")).split(" ")[1];
   verdict(ofRegister(result.split("\n")).slice(2, 5), ofRegister(wanted).slice(2, 5), "characters that are written");
-  const keys = await client.ask("completions", { frameId: 1, text: "press ", column: 7, line: 1 });
+  const keys = await client.request("completions", { frameId: 1, text: "press ", column: 7, line: 1 });
   verdict(keys.targets.map(({ label }) => label).join(" "), "1 2 3 4 5 6 7 8 9 * 0 #", "keys after press");
-  verdict(client.faults, [], "each message is as the protocol has it");
+  verdict(client.violations, [], "each message is as the protocol has it");
   verdict(await client.end(), 0, "it ends");
 }
 
@@ -217,15 +217,15 @@ async function tryLong() {
   writeFileSync(program, " FIM P0, 0\nturn: ISZ R0, turn\n ISZ R1, turn\n JUN turn\n");
   const client = new Client(ADAPTER);
   await begin(client, "launch", { program, board: BOARD });
-  await client.ask("continue", { threadId: 1 });
+  await client.request("continue", { threadId: 1 });
   const { body: { progressId } } = await client.event("progressStart");
   await client.event("progressUpdate");
-  await client.ask("cancel", { progressId });
+  await client.request("cancel", { progressId });
   await client.event("progressEnd");
   verdict((await client.event("stopped")).body.reason, "pause", "a long run is reported, and pauses where it is cancelled");
-  const { result: before } = await client.ask("evaluate", { expression: "seq", context: "repl" });
+  const { result: before } = await client.request("evaluate", { expression: "seq", context: "repl" });
   // Search the whole past for an event that never happened.
-  await client.ask("evaluate", { expression: "back r9 = 9", context: "repl" });
+  await client.request("evaluate", { expression: "back r9 = 9", context: "repl" });
   verdict((await client.event("stopped")).body.reason !== "", true, "a search in the past ends");
   const lines = `poke r4 7\n${"run 100000\n".repeat(990)}`;
   client.number += 1;
@@ -235,17 +235,17 @@ async function tryLong() {
   // The first progress report shows that the request has begun. A fast machine can finish the request before it reports progress.
   const first = await client.next((message) => isAnswer(message) || (message.type === "event" && message.event === "progressStart"));
   const isDone = isAnswer(first);
-  if (!isDone) await client.ask("cancel", { requestId: seq });
+  if (!isDone) await client.request("cancel", { requestId: seq });
   const answer = isDone ? first : await client.next(isAnswer);
-  const { result: after } = await client.ask("evaluate", { expression: "seq", context: "repl" });
+  const { result: after } = await client.request("evaluate", { expression: "seq", context: "repl" });
   verdict([answer.message || "done", after === before], answer.success ? ["done", false] : ["cancelled", true], "a line that is cancelled does nothing");
-  await client.ask("continue", { threadId: 1 });
-  await client.ask("disconnect", { terminateDebuggee: true });
+  await client.request("continue", { threadId: 1 });
+  await client.request("disconnect", { terminateDebuggee: true });
   verdict(await client.ended, 0, "it ends while time runs");
 }
 
 await tryAttach();
-await tryRefused();
+await tryRejected();
 await tryWatches();
 await tryRequests();
 await tryLong();

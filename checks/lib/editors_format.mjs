@@ -1,6 +1,6 @@
 // Tests of checks/editors for the program formatter. The server formats random programs, alternately with spaces and with tabs. The bench must give
-// the same answers to both texts, byte for byte, and formatting twice must give the same result as formatting once. Prints `ok WORDS` or `fault:
-// WORDS`.
+// the same answers to both texts, byte for byte, and formatting twice must give the same result as formatting once. Prints `ok TEXT` or `failed:
+// TEXT`.
 import { execFileSync } from "node:child_process";
 import { mkdirSync, readFileSync, rmSync } from "node:fs";
 import { Client } from "./lsp_client.mjs";
@@ -9,17 +9,17 @@ const TOP = new URL("../..", import.meta.url).pathname;
 const [folder] = process.argv.slice(2);
 /** The number of valid programs, and the number of programs with errors. */
 const ACCEPTED = 500;
-const REFUSED = 60;
-const COUNT = ACCEPTED + REFUSED;
+const REJECTED = 60;
+const COUNT = ACCEPTED + REJECTED;
 /** The number of programs in one session. */
 const BATCH_SIZE = 50;
 const ALL_ROMS = `wire\n${[...Array(16).keys()].map((chip) => `[[rom]]\nchip = ${chip}\nport = "0000"\n`).join("")}.\n`;
 const LISTS = [...Array(16).keys()].map((page) => `list ${page * 256} 256\n`).join("");
 
-const verdict = (isRight, words) => console.log(isRight ? `ok ${words}` : `fault: ${words}`);
+const verdict = (isRight, description) => console.log(isRight ? `ok ${description}` : `failed: ${description}`);
 
 /** Applies edits to a text. Each edit is within one line. */
-function edited(text, edits) {
+function applyEdits(text, edits) {
   const lines = text.split("\n");
   for (const { range: { start, end }, newText } of edits) {
     lines[start.line] = lines[start.line].slice(0, start.character) + newText + lines[start.line].slice(end.character);
@@ -28,43 +28,44 @@ function edited(text, edits) {
 }
 
 /** Returns the program's answers for each source text: the answer to `map`, the answer to `asm`, and then the contents of the whole ROM. */
-function answers(texts) {
+function answersTo(texts) {
   const input = ALL_ROMS + texts.map((text) => `map\n${text}.\nasm\n${text}.\n${LISTS}`).join("");
   const file = `${folder}/formatted.mcs`;
   rmSync(file, { force: true });
   return execFileSync(process.env.MCS4, ["new", file], { input, encoding: "latin1", maxBuffer: 1 << 28 });
 }
 
-async function formatted(client, name, text, options) {
+/** Resolves to a text after formatting. */
+async function format(client, name, text, options) {
   const textDocument = { uri: `file://${folder}/${name}` };
   client.notify("textDocument/didOpen", { textDocument: { ...textDocument, languageId: "asm", version: 1, text } });
-  const edits = await client.ask("textDocument/formatting", { textDocument, options });
+  const edits = await client.request("textDocument/formatting", { textDocument, options });
   client.notify("textDocument/didClose", { textDocument });
-  return edited(text, edits);
+  return applyEdits(text, edits);
 }
 
 const programs = `${folder}/programs`;
 mkdirSync(programs);
-execFileSync("python3", [`${TOP}checks/lib/seeded_programs.py`, programs, String(ACCEPTED), String(REFUSED)]);
+execFileSync("python3", [`${TOP}checks/lib/seeded_programs.py`, programs, String(ACCEPTED), String(REJECTED)]);
 const client = new Client(`${TOP}mcs4`);
 await client.begin();
 let changed = 0;
 let loaded = 0;
-for (let begin = 0; begin < COUNT; begin += BATCH_SIZE) {
-  const numbers = [...Array(Math.min(BATCH_SIZE, COUNT - begin)).keys()].map((at) => begin + at);
+for (let start = 0; start < COUNT; start += BATCH_SIZE) {
+  const numbers = [...Array(Math.min(BATCH_SIZE, COUNT - start)).keys()].map((index) => start + index);
   const texts = numbers.map((number) => readFileSync(`${programs}/${number}.asm`, "utf8"));
   const after = [];
-  for (const [at, number] of numbers.entries()) {
+  for (const [index, number] of numbers.entries()) {
     const options = { tabSize: 8, insertSpaces: number % 2 === 0 };
-    const once = await formatted(client, `${number}.asm`, texts[at], options);
-    verdict(await formatted(client, `again${number}.asm`, once, options) === once, `program ${number}: formatting twice is as once`);
-    changed += once === texts[at] ? 0 : 1;
+    const once = await format(client, `${number}.asm`, texts[index], options);
+    verdict(await format(client, `again${number}.asm`, once, options) === once, `program ${number}: formatting twice has the same result as once`);
+    changed += once === texts[index] ? 0 : 1;
     after.push(once);
   }
-  const [one, other] = [answers(texts), answers(after)];
-  loaded += (one.match(/^ok \d+ bytes /gm) || []).length;
-  verdict(one === other, `programs ${begin} to ${begin + numbers.length - 1}: the same answers, byte for byte`);
+  const [before, afterFormatting] = [answersTo(texts), answersTo(after)];
+  loaded += (before.match(/^ok \d+ bytes /gm) || []).length;
+  verdict(before === afterFormatting, `programs ${start} to ${start + numbers.length - 1}: the same answers, byte for byte`);
 }
 verdict(loaded === ACCEPTED, `${loaded} programs were loaded`);
 verdict(changed > COUNT / 2, `${changed} of ${COUNT} programs have another layout`);
-verdict(await client.end() === 0, "the end after programs in columns");
+verdict(await client.end() === 0, "the server's status");

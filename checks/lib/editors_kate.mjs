@@ -8,23 +8,23 @@ import { MessageClient } from "./message_client.mjs";
 /** The time in milliseconds to wait for each result. */
 const TIMEOUT = 90000;
 /** The time in milliseconds after which a key that had no effect is pressed again, and after which a display command is ended. */
-const AGAIN = 20000;
+const RETRY_AFTER = 20000;
 /** The window title of Kate's question about starting the server. */
 const QUESTION = "LSP server start requested";
 const folder = process.argv[2];
 /** Functions that end the processes that this script has started. */
-const ends = new Set();
+const endFunctions = new Set();
 const say = (line) => process.stdout.write(`${line}\n`);
-const shortly = () => new Promise((resume) => setTimeout(resume, 100));
+const shortDelay = () => new Promise((resume) => setTimeout(resume, 100));
 
-/** Calls `look` repeatedly until it returns a truthy value. Resolves to that value. Fails after TIMEOUT, with a message that contains `what`. */
-async function once(what, look) {
+/** Calls `find` repeatedly until it returns a truthy value. Resolves to that value. Fails after TIMEOUT, with a message that contains `description`. */
+async function waitFor(description, find) {
   for (const end = Date.now() + TIMEOUT; Date.now() < end;) {
-    const found = look();
-    if (found) return found;
-    await shortly();
+    const value = find();
+    if (value) return value;
+    await shortDelay();
   }
-  throw new Error(`${what}: not after ${TIMEOUT} ms`);
+  throw new Error(`${description}: not after ${TIMEOUT} ms`);
 }
 
 /** Returns the messages in the file `sent` or `received`. */
@@ -33,8 +33,8 @@ function messagesOf(name) {
   return existsSync(file) ? MessageClient.messagesIn(readFileSync(file)).messages : [];
 }
 
-const sent = (method) => messagesOf("sent").filter((each) => each.method === method);
-const lastFaults = () => messagesOf("received").filter((each) => each.method === "textDocument/publishDiagnostics").at(-1)?.params.diagnostics;
+const sent = (method) => messagesOf("sent").filter((message) => message.method === method);
+const lastDiagnostics = () => messagesOf("received").filter(({ method }) => method === "textDocument/publishDiagnostics").at(-1)?.params.diagnostics;
 
 // --- the display and its screenshot
 
@@ -42,12 +42,12 @@ const lastFaults = () => messagesOf("received").filter((each) => each.method ===
 async function startDisplay() {
   const server = spawn("Xvfb", ["-displayfd", "3", "-screen", "0", "1280x800x24", "-nolisten", "tcp", "-fbdir", folder],
     { stdio: ["ignore", "ignore", "ignore", "pipe"] });
-  ends.add(() => server.kill());
+  endFunctions.add(() => server.kill());
   let number = "";
   server.stdio[3].on("data", (bytes) => {
     number += bytes;
   });
-  await once("the display", () => number.endsWith("\n"));
+  await waitFor("the display", () => number.endsWith("\n"));
   return `:${number.trim()}`;
 }
 
@@ -55,24 +55,24 @@ async function startDisplay() {
  * Counts the pixels of a screenshot with the colour that Kate's theme uses for a line with an error: #FFE5E5, or a shade of it at the cursor. The
  * screenshot is an XWD picture: its first word is the length of its header, and its twentieth word is the number of its colours.
  */
-function marked() {
+function countMarkedPixels() {
   const picture = readFileSync(`${folder}/Xvfb_screen0`);
-  const begin = picture.readUInt32BE(0) + 12 * picture.readUInt32BE(19 * 4);
+  const start = picture.readUInt32BE(0) + 12 * picture.readUInt32BE(19 * 4);
   let count = 0;
-  for (let at = begin; at + 3 < picture.length; at += 4) {
-    const [blue, green, red] = picture.subarray(at, at + 3);
+  for (let offset = start; offset + 3 < picture.length; offset += 4) {
+    const [blue, green, red] = picture.subarray(offset, offset + 3);
     if (red >= 240 && red - green >= 20 && green - blue <= 6 && blue - green <= 6 && green > 200) count += 1;
   }
   return count;
 }
 
 /** Returns true if a line is marked. A marked line is many hundred pixels wide and several pixels high. */
-const isMarked = () => marked() > 2000;
+const isMarked = () => countMarkedPixels() > 2000;
 
 // --- Kate
 
 class Kate {
-  constructor(display, file, more = []) {
+  constructor(display, file, options = []) {
     this.environment = { ...process.env, HOME: `${folder}/home`, XDG_RUNTIME_DIR: `${folder}/run`, PATH: `${folder}/bin:${process.env.PATH}`,
       DISPLAY: display, QT_QPA_PLATFORM: "xcb", LANG: "C.UTF-8" };
     for (const name of ["XDG_CONFIG_HOME", "XDG_DATA_HOME", "XDG_STATE_HOME", "XDG_CACHE_HOME", "WAYLAND_DISPLAY", "LC_ALL", "LANGUAGE"]) {
@@ -81,14 +81,14 @@ class Kate {
     for (const name of ["sent", "received"]) rmSync(`${folder}/${name}`, { force: true });
     this.file = file;
     // Kate gets its own process group, so that its child processes can be ended together with it.
-    this.child = spawn("dbus-run-session", ["--", "kate", "-n", ...more, file],
+    this.child = spawn("dbus-run-session", ["--", "kate", "-n", ...options, file],
       { cwd: `${folder}/lock`, env: this.environment, stdio: "ignore", detached: true });
     this.child.on("error", () => {});
-    ends.add(() => this.end());
+    endFunctions.add(() => this.end());
   }
 
-  xdotool(...words) {
-    return spawnSync("xdotool", words, { env: this.environment, encoding: "utf8", timeout: AGAIN }).stdout ?? "";
+  xdotool(...args) {
+    return spawnSync("xdotool", args, { env: this.environment, encoding: "utf8", timeout: RETRY_AFTER }).stdout ?? "";
   }
 
   /** Returns the window whose title contains a text, or undefined if there is none. */
@@ -98,24 +98,24 @@ class Kate {
 
   /** Sends keys to the window whose title contains a text. */
   async keys(title, ...keys) {
-    const window = await once(`the window ${title}`, () => this.window(title));
+    const window = await waitFor(`the window ${title}`, () => this.window(title));
     this.xdotool("windowfocus", window, "key", "--delay", "100", ...keys);
   }
 
   /** Waits for the server's diagnostics, and resolves to them. If Kate asks whether it may start the server, confirms that. */
-  async answered() {
+  async diagnostics() {
     let askedAt = 0;
-    const faults = await once("faults", () => {
+    const diagnostics = await waitFor("faults", () => {
       // Send only one key, because a second one would go into the text.
-      const window = Date.now() - askedAt > AGAIN && this.window(QUESTION);
+      const window = Date.now() - askedAt > RETRY_AFTER && this.window(QUESTION);
       if (window) {
         askedAt = Date.now();
         this.xdotool("windowfocus", window, "key", "Return");
       }
-      return lastFaults();
+      return lastDiagnostics();
     });
     say(`${this.file}: ${askedAt ? "asked" : "did not ask"} before it started the server`);
-    return faults;
+    return diagnostics;
   }
 
   end() {
@@ -127,28 +127,28 @@ class Kate {
   }
 }
 
-function printFaults(faults) {
-  for (const { range, message } of faults) say(`fault ${range.start.line + 1}:${range.start.character}-${range.end.character} ${message}`);
-  if (faults.length === 0) say("no fault");
+function printDiagnostics(diagnostics) {
+  for (const { range, message } of diagnostics) say(`fault ${range.start.line + 1}:${range.start.character}-${range.end.character} ${message}`);
+  if (diagnostics.length === 0) say("no fault");
 }
 
 /** Opens a program with an error. Checks that the error is marked, and that the mark disappears after typing corrects the error. */
-async function program(display) {
+async function checkProgram(display) {
   const kate = new Kate(display, "wrong.asm", ["-l", "39", "-c", "9"]);
   try {
-    await once("the question", () => kate.window(QUESTION));
+    await waitFor("the question", () => kate.window(QUESTION));
     say(isMarked() ? "a line is marked too early" : "no line is marked");
-    const faults = await kate.answered();
+    const diagnostics = await kate.diagnostics();
     const [{ params: { textDocument: opened } }] = sent("textDocument/didOpen");
     say(`initialize ${sent("initialize").length}, opened ${opened.uri.split("/").at(-1)} as ${opened.languageId}`);
-    printFaults(faults);
-    await once("a mark", isMarked);
+    printDiagnostics(diagnostics);
+    await waitFor("a mark", isMarked);
     say("a line is marked");
     await kate.keys("wrong.asm", "Delete", "Delete", "Delete", "J", "U", "N");
-    printFaults(await once("no faults", () => lastFaults().length === 0 && lastFaults()));
+    printDiagnostics(await waitFor("no faults", () => lastDiagnostics().length === 0 && lastDiagnostics()));
     const changes = sent("textDocument/didChange").at(-1).params.contentChanges;
     say(`changed to ${changes.at(-1).text.split("\n")[38].trim()}`);
-    await once("no mark", () => !isMarked());
+    await waitFor("no mark", () => !isMarked());
     say("no line is marked");
   } finally {
     kate.end();
@@ -159,18 +159,18 @@ async function program(display) {
  * Checks that Kate uses the generated grammars. Its settings assign a server only to the file type that a grammar defines. So if Kate asks about the
  * server when it opens a text, it has recognised the grammar.
  */
-async function grammar(display, file) {
+async function checkGrammar(display, file) {
   const settings = `${folder}/home/.config/kate/lspclient/settings.json`;
-  const own = JSON.parse(readFileSync(settings, "utf8"));
-  own.servers.mcs4.highlightingModeRegex = file === "board.toml" ? "^MCS-4 board$" : "^MCS-4 program$";
-  writeFileSync(settings, JSON.stringify(own));
+  const settingsValue = JSON.parse(readFileSync(settings, "utf8"));
+  settingsValue.servers.mcs4.highlightingModeRegex = file === "board.toml" ? "^MCS-4 board$" : "^MCS-4 program$";
+  writeFileSync(settings, JSON.stringify(settingsValue));
   const kate = new Kate(display, file);
   try {
-    const faults = await kate.answered();
+    const diagnostics = await kate.diagnostics();
     say(`by the grammar: ${file}`);
-    printFaults(faults);
+    printDiagnostics(diagnostics);
     await kate.keys(file, "ctrl+q");
-    await once("the end", () => kate.child.exitCode !== null);
+    await waitFor("the end", () => kate.child.exitCode !== null);
     say(`shutdown ${sent("shutdown").length}, exit ${sent("exit").length}`);
   } finally {
     kate.end();
@@ -181,19 +181,19 @@ async function main() {
   mkdirSync(`${folder}/run`, { mode: 0o700 });
   try {
     const name = await startDisplay();
-    await program(name);
+    await checkProgram(name);
     cpSync(new URL("../../editors/kate", import.meta.url), `${folder}/home/.local/share/org.kde.syntax-highlighting/syntax`, { recursive: true });
-    await grammar(name, "lock.asm");
-    await grammar(name, "board.toml");
+    await checkGrammar(name, "lock.asm");
+    await checkGrammar(name, "board.toml");
     say("end");
-  } catch (fault) {
-    say(`the check failed: ${fault.message}`);
+  } catch (error) {
+    say(`the check failed: ${error.message}`);
   }
 }
 
 for (const signal of ["SIGHUP", "SIGINT", "SIGTERM"]) process.on(signal, () => process.exit(1));
 process.on("exit", () => {
-  for (const end of ends) end();
+  for (const end of endFunctions) end();
 });
 await main();
 process.exit(0);

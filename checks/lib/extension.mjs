@@ -1,5 +1,5 @@
 // Starts the extension of editors/vscode with a stand-in for the editor's module and the real `mcs4 lsp`. Opens a text with an error and checks the
-// results of the providers. Prints `ok WORDS` or `fault: WORDS` for each check.
+// results of the providers. Prints `ok TEXT` or `failed: TEXT` for each check.
 import { createRequire } from "node:module";
 import { mkdirSync, mkdtempSync, readFileSync, rmSync, writeFileSync } from "node:fs";
 import { tmpdir } from "node:os";
@@ -9,13 +9,13 @@ import Module from "node:module";
 const TOP = new URL("../..", import.meta.url).pathname;
 const require = createRequire(import.meta.url);
 
-function verdict(is, wanted, words) {
-  const [one, other] = [JSON.stringify(is), JSON.stringify(wanted)];
-  console.log(one === other ? `ok ${words}` : `fault: ${words}: ${one}, not ${other}`);
+function verdict(actual, expected, description) {
+  const [actualText, expectedText] = [JSON.stringify(actual), JSON.stringify(expected)];
+  console.log(actualText === expectedText ? `ok ${description}` : `failed: ${description}: ${actualText}, not ${expectedText}`);
 }
 
 const providers = {};
-const shown = new Map();
+const diagnostics = new Map();
 const listeners = {};
 const disposable = { dispose: () => {} };
 class Plain {
@@ -23,12 +23,13 @@ class Plain {
     this.given = given;
   }
 }
-const changed = [];
+/** The texts whose language the extension has set, with these languages. */
+const assigned = [];
 const setTextDocumentLanguage = async (document, language) => {
-  changed.push([document.fileName, language]);
+  assigned.push([document.fileName, language]);
 };
 const languages = new Proxy({ setTextDocumentLanguage }, {
-  get: (own, name) => own[name] || (name === "createDiagnosticCollection" ? () => ({ set: (uri, list) => shown.set(uri.text, list), dispose: () => {} })
+  get: (own, name) => own[name] || (name === "createDiagnosticCollection" ? () => ({ set: (uri, list) => diagnostics.set(uri.text, list), dispose: () => {} })
     : (...given) => {
       providers[name] = given[Math.min(1, given.length - 1)];
       return disposable;
@@ -39,7 +40,7 @@ const uri = { scheme: "file", text: "file:///tmp/a.asm", fsPath: "/tmp/a.asm", t
 const document = { languageId: "mcs4", fileName: "/tmp/a.asm", uri, version: 1, getText: () => text };
 const factories = {};
 const messages = [];
-const opened = [];
+const openListeners = [];
 const vscode = {
   languages,
   tasks: { registerTaskProvider: () => disposable },
@@ -51,7 +52,7 @@ const vscode = {
     createFileSystemWatcher: () => ({ onDidCreate: () => disposable, onDidChange: () => disposable, onDidDelete: () => disposable }),
     getConfiguration: () => ({ get: () => `${TOP}mcs4` }),
     onDidOpenTextDocument: (act) => {
-      opened.push(act);
+      openListeners.push(act);
       return disposable;
     },
     onDidCloseTextDocument: () => disposable,
@@ -86,10 +87,10 @@ const vscode = {
       factories.view = id;
       return disposable;
     },
-    activeTextEditor: { document }, showErrorMessage: (words) => console.log(`fault: ${words}`),
-    showInformationMessage: (words) => messages.push(words),
+    activeTextEditor: { document }, showErrorMessage: (message) => console.log(`failed: ${message}`),
+    showInformationMessage: (message) => messages.push(message),
   },
-  Uri: { parse: (words) => ({ text: words, toString: () => words }) },
+  Uri: { parse: (address) => ({ text: address, toString: () => address }) },
   DiagnosticSeverity: { Error: 0, Warning: 1, Information: 2 }, CodeActionKind: { QuickFix: "quickfix" },
   MarkdownString: class { constructor(words) { this.words = words; } },
   FoldingRangeKind: { Comment: 1 },
@@ -108,7 +109,7 @@ async function tryFeatures() {
   const [formatted] = await providers.registerDocumentRangeFormattingEditProvider
     .provideDocumentRangeFormattingEdits(document, { start: { line: 1, character: 0 }, end: { line: 1, character: 3 } }, { tabSize: 4, insertSpaces: true })
     .then((edits) => [edits.length]);
-  verdict(formatted, 0, "a line in its columns stays");
+  verdict(formatted, 0, "a line that is already formatted");
   const range = { start: { line: 0, character: 0 }, end: { line: 9, character: 0 } };
   const hints = await providers.registerInlayHintsProvider.provideInlayHints(document, range);
   verdict(hints.map(({ given: [{ given: at }, label], paddingLeft }) => [...at, label, paddingLeft]),
@@ -116,25 +117,25 @@ async function tryFeatures() {
   const [fold] = await providers.registerFoldingRangeProvider.provideFoldingRanges(document);
   verdict(fold.given.slice(0, 2), [0, 1], "a fold");
   const [selection] = await providers.registerSelectionRangeProvider.provideSelectionRanges(document, [{ line: 1, character: 13 }]);
-  verdict([selection.given[0].given, selection.given[1].given[0].given], [[1, 12, 1, 13], [1, 8, 1, 13]], "a selection and a larger one");
+  verdict([selection.given[0].given, selection.given[1].given[0].given], [[1, 12, 1, 13], [1, 8, 1, 13]], "a selection, and a larger one");
   const help = await providers.registerSignatureHelpProvider.provideSignatureHelp(document, { line: 1, character: 12 });
-  verdict([help.signatures[0].given[0], help.signatures[0].parameters.length, help.activeParameter], ["LDM d", 1, 0], "the form of a statement");
+  verdict([help.signatures[0].given[0], help.signatures[0].parameters.length, help.activeParameter], ["LDM d", 1, 0], "the syntax of a statement");
   const [lens] = await providers.registerCodeLensProvider.provideCodeLenses(document);
   const { title, command, arguments: [at, , [place]] } = lens.given[1];
   verdict([title, command, at.text, place.given[1].given], ["1 reference", "editor.action.showReferences", "file:///tmp/a.asm", [0, 12, 0, 17]], "a lens");
   const [symbol] = await providers.registerWorkspaceSymbolProvider.provideWorkspaceSymbols("sta");
-  verdict([symbol.given[0], symbol.given[1], symbol.given[2]], ["start", 11, "a.asm"], "a name of the workspace");
+  verdict([symbol.given[0], symbol.given[1], symbol.given[2]], ["start", 11, "a.asm"], "a symbol of the workspace");
   const [item] = await providers.registerCallHierarchyProvider.prepareCallHierarchy(document, { line: 0, character: 13 });
   verdict(item.given.slice(0, 2), [11, "start"], "a routine");
   const [kind, name, detail, where, whole, own] = item.given;
   const plain = (given) => ({ start: { line: given[0], character: given[1] }, end: { line: given[2], character: given[3] } });
   const callItem = { kind, name, detail, uri: where, range: plain(whole.given), selectionRange: plain(own.given) };
-  verdict(await providers.registerCallHierarchyProvider.provideCallHierarchyOutgoingCalls(callItem), [], "what it calls");
+  verdict(await providers.registerCallHierarchyProvider.provideCallHierarchyOutgoingCalls(callItem), [], "the outgoing calls of a routine");
   verdict(await providers.registerDocumentLinkProvider.provideDocumentLinks(document), [], "a program has no links");
   const tokens = providers.registerDocumentSemanticTokensProvider;
   const { given: [, id] } = await tokens.provideDocumentSemanticTokens(document);
   verdict((await tokens.provideDocumentSemanticTokensEdits(document, id)).given[0], [], "no colour has changed");
-  await factories["mcs4.runTest"]("file:///tmp/none.test", "a").catch((fault) => messages.push(fault.message));
+  await factories["mcs4.runTest"]("file:///tmp/none.test", "a").catch((error) => messages.push(error.message));
   verdict(messages, ["file:///tmp/none.test is not open"], "a test that is not open");
 }
 const load = Module._load;
@@ -142,52 +143,52 @@ Module._load = (name, ...more) => (name === "vscode" ? vscode : load(name, ...mo
 
 const extension = require(`${TOP}editors/vscode/extension.js`);
 await extension.activate({ subscriptions: [] });
-for (let turns = 0; turns < 300 && !shown.has(uri.text); turns++) await new Promise((resume) => setTimeout(resume, 100));
-verdict((shown.get(uri.text) || []).map(({ given: [range, words] }) => [range.given, words.split("\n")[0]]),
-  [[[0, 8, 0, 11], "JMP is not an instruction; JUN?"]], "faults are shown at their places");
+for (let tries = 0; tries < 300 && !diagnostics.has(uri.text); tries++) await new Promise((resume) => setTimeout(resume, 100));
+verdict((diagnostics.get(uri.text) || []).map(({ given: [range, words] }) => [range.given, words.split("\n")[0]]),
+  [[[0, 8, 0, 11], "JMP is not an instruction; JUN?"]], "the diagnostics of a text");
 const hover = await providers.registerHoverProvider.provideHover(document, { line: 1, character: 9 });
-verdict(/accumulator|ACC/i.test(hover.given[0].words), true, "help where one points");
+verdict(/accumulator|ACC/i.test(hover.given[0].words), true, "a hover");
 const range = { start: { line: 0, character: 8 }, end: { line: 0, character: 11 } };
 const [action] = await providers.registerCodeActionsProvider.provideCodeActions(document, range);
-verdict(action.edit.edits, [["file:///tmp/a.asm", 0, 8, 0, 11, "JUN"]], "a cure");
+verdict(action.edit.edits, [["file:///tmp/a.asm", 0, 8, 0, 11, "JUN"]], "a quick fix");
 listeners.change({ document: { ...document, version: 2 }, contentChanges: [{ range, text: "JUN" }] });
 const found = await providers.registerDefinitionProvider.provideDefinition(document, { line: 0, character: 13 });
 verdict(found.given[1].given, [0, 0, 0, 5], "a definition");
 const edit = await providers.registerRenameProvider.provideRenameEdits(document, { line: 0, character: 1 }, "again");
-verdict(edit.edits.map((each) => each[5]), ["again", "again"], "another name");
+verdict(edit.edits.map((each) => each[5]), ["again", "again"], "a renamed label");
 verdict((await providers.registerDocumentSymbolProvider.provideDocumentSymbols(document)).map(({ given }) => given[0]), ["start"], "the outline");
 verdict((await providers.registerCompletionItemProvider.provideCompletionItems(document, { line: 1, character: 10 })).length > 0, true, "completion");
 const { given: [data] } = await providers.registerDocumentSemanticTokensProvider.provideDocumentSemanticTokens(document);
-verdict(data.length % 5 === 0 && data.length > 0, true, "colours by what a word is");
+verdict(data.length % 5 === 0 && data.length > 0, true, "semantic colours");
 await tryFeatures();
 verdict(factories.mcs4.createDebugAdapterDescriptor().given, [`${TOP}mcs4`, ["dap"], { env: {} }], "the debug adapter");
-verdict(factories.provider.resolveDebugConfiguration(undefined, {}).program, "/tmp/a.asm", "F5 debugs the program that is shown");
+verdict(factories.provider.resolveDebugConfiguration(undefined, {}).program, "/tmp/a.asm", "F5 debugs the program in the editor");
 // The extension assigns its language to an .asm file only if board.toml is in the file's folder, or mcs4.toml is there or above, and only once.
 const folder = mkdtempSync(join(tmpdir(), "extension."));
 for (const name of ["board", "project/deep/er", "other"]) mkdirSync(join(folder, name), { recursive: true });
 for (const name of ["board/board.toml", "project/mcs4.toml"]) writeFileSync(join(folder, name), "");
 const show = (name, languageId = "asm", scheme = "file") => {
   const fileName = join(folder, name);
-  for (const act of opened) act({ languageId, fileName, uri: { scheme, fsPath: fileName, toString: () => `${scheme}://${fileName}` }, version: 1, getText: () => "" });
+  for (const act of openListeners) act({ languageId, fileName, uri: { scheme, fsPath: fileName, toString: () => `${scheme}://${fileName}` }, version: 1, getText: () => "" });
 };
 for (const name of ["board/a.asm", "project/deep/er/A.ASM", "project/b.asm", "other/x86.asm", "board/a.s", "board/a.asm"]) show(name);
 for (const name of ["board/a.test", "project/a.props", "other/a.test", "other/a.props"]) show(name, "plaintext");
 show("board/mine.asm", "mcs4");
 show("board/old.asm", "asm", "git");
-verdict(changed.slice(0, 3), ["board/a.asm", "project/deep/er/A.ASM", "project/b.asm"].map((name) => [join(folder, name), "mcs4"]),
-  "which .asm are claimed");
-verdict(changed.slice(3), [[join(folder, "board/a.test"), "mcs4-test"], [join(folder, "project/a.props"), "mcs4-props"]],
-  "which tests and properties are claimed");
+verdict(assigned.slice(0, 3), ["board/a.asm", "project/deep/er/A.ASM", "project/b.asm"].map((name) => [join(folder, name), "mcs4"]),
+  "the .asm files that get the extension's language");
+verdict(assigned.slice(3), [[join(folder, "board/a.test"), "mcs4-test"], [join(folder, "project/a.props"), "mcs4-props"]],
+  "the tests and properties that get the extension's languages");
 rmSync(folder, { recursive: true });
-const own = JSON.parse(readFileSync(`${TOP}editors/vscode/package.json`, "utf8"));
-verdict([factories.view, factories.tracker], [own.contributes.views.debug[0].id, "mcs4"], "the view of lamps and keys");
-verdict(own.contributes.languages.map(({ extensions, filenames }) => [extensions, filenames]), [
+const manifest = JSON.parse(readFileSync(`${TOP}editors/vscode/package.json`, "utf8"));
+verdict([factories.view, factories.tracker], [manifest.contributes.views.debug[0].id, "mcs4"], "the view of lamps and keys");
+verdict(manifest.contributes.languages.map(({ extensions, filenames }) => [extensions, filenames]), [
   [[".4004"], undefined], [undefined, ["board.toml"]], [undefined, undefined], [undefined, undefined]],
-  "no text but a .4004 is claimed by its extension");
-verdict(own.activationEvents.filter((event) => event.startsWith("workspace")), ["workspaceContains:**/mcs4.toml", "workspaceContains:**/board.toml"],
-  "it starts where a project or a board is");
-verdict(own.contributes.configuration.properties["mcs4.command"].scope, "machine", "no workspace names the command");
-verdict(own.license, "UNLICENSED", "the licence");
-const named = [...own.contributes.grammars, ...own.contributes.languages.map(({ configuration }) => ({ path: configuration })), { path: own.main }];
-for (const { path } of named) verdict(readFileSync(`${TOP}editors/vscode/${path}`, "utf8").length > 0, true, `${path} is there`);
+  "only .4004 files get a language by their extension");
+verdict(manifest.activationEvents.filter((event) => event.startsWith("workspace")), ["workspaceContains:**/mcs4.toml", "workspaceContains:**/board.toml"],
+  "the activation events");
+verdict(manifest.contributes.configuration.properties["mcs4.command"].scope, "machine", "a workspace cannot set the command");
+verdict(manifest.license, "UNLICENSED", "the licence");
+const named = [...manifest.contributes.grammars, ...manifest.contributes.languages.map(({ configuration }) => ({ path: configuration })), { path: manifest.main }];
+for (const { path } of named) verdict(readFileSync(`${TOP}editors/vscode/${path}`, "utf8").length > 0, true, `${path} exists`);
 await extension.deactivate();

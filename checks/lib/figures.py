@@ -27,7 +27,7 @@ def edit_phrases():
 
 def sweep_phrases():
     """Yields the table rows with the number of cases that each check tries in ./test and in ./test long."""
-    arguments_of = {check.name: (check.words.split(), check.long.split()) for check in CHECKS if check.long}
+    arguments_of = {check.name: (check.arguments.split(), check.long.split()) for check in CHECKS if check.long}
     for name, index, unit in (("locks", 0, "rounds"), ("assembler", 0, "seeded programs"), ("time", 0, "seeded boards and programs"),
                                ("time", 1, "sessions of tools"), ("prove", 0, "seeded questions"), ("calculator", 0, "seeded chains"),
                                ("explore", 0, "seconds"), ("page", 3, "seeded scripts")):

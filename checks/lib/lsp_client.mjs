@@ -4,14 +4,15 @@ import { MessageClient } from "./message_client.mjs";
 
 export class Client extends MessageClient {
   /** @param {string} command the command that starts mcs4 */
-  constructor(command, folder = ".", words = []) {
-    super(command, folder, ["lsp", ...words]);
+  constructor(command, folder = ".", args = []) {
+    super(command, folder, ["lsp", ...args]);
   }
 
   send(message) {
     super.send({ jsonrpc: "2.0", ...message });
   }
 
+  /** Sends a notification. */
   notify(method, params) {
     this.send({ method, params });
   }
@@ -24,14 +25,16 @@ export class Client extends MessageClient {
     return this.next((message) => message.id === id && message.method === undefined);
   }
 
-  async ask(method, params) {
+  /** Resolves to the result of a request. Throws an error if the request failed. */
+  async request(method, params) {
     const { result, error } = await this.answer(method, params);
     if (error) throw new Error(`${method}: ${error.message}`);
     return result;
   }
 
+  /** Sends the requests at the start, and resolves to the answer to `initialize`. */
   async begin() {
-    const answer = await this.ask("initialize", { processId: process.pid, rootUri: null, capabilities: {} });
+    const answer = await this.request("initialize", { processId: process.pid, rootUri: null, capabilities: {} });
     this.notify("initialized", {});
     return answer;
   }
@@ -39,16 +42,18 @@ export class Client extends MessageClient {
   /** Opens a text, and waits until the server has reported its errors. Resolves to these errors. */
   async open(uri, text, languageId = "asm") {
     this.notify("textDocument/didOpen", { textDocument: { uri, languageId, version: 1, text } });
-    return this.faults(uri);
+    return this.errorsIn(uri);
   }
 
-  async faults(uri) {
-    const { params } = await this.next((each) => each.method === "textDocument/publishDiagnostics" && each.params.uri === uri);
+  /** Waits for the errors in a text, and resolves to them. */
+  async errorsIn(uri) {
+    const { params } = await this.next((message) => message.method === "textDocument/publishDiagnostics" && message.params.uri === uri);
     return params.diagnostics;
   }
 
+  /** Ends the server, and resolves to its exit status. */
   async end() {
-    await this.ask("shutdown");
+    await this.request("shutdown");
     this.notify("exit");
     return this.ended;
   }

@@ -1,9 +1,9 @@
-# Checks that the manual shows the output of the tools. A check reads this file by `.`, after it has defined `verdict`, `top`, `mcs4` and `folder`.
+# Checks that the manual shows the output of the commands. A check reads this file by `.`, after it has defined `verdict`, `top`, `mcs4` and `folder`.
 # shellcheck shell=sh
 
-# Runs each command that a chapter shows, in a folder with the tools, the examples and the program. Its output must be the text below the command.
-# The chapter must have at least a given number of commands.
-as_shown() {
+# Runs each command that a chapter of the manual shows, in a folder with the commands, the examples and the program. Its output must be the text below
+# the command. Arguments: the title of the chapter, and the minimum number of its commands.
+check_chapter() {
     mkdir -p "$folder/manual"
     ln -s "$top/tools" "$top/examples" "$folder/manual"
     # `new` and `open` start the program itself. All other commands start the `mcs4` of the top folder.

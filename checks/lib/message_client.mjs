@@ -1,4 +1,4 @@
-// The common part of the clients for the language server and the debug adapter: it starts the server's process, and sends and receives messages,
+// The common class of the clients for the language server and the debug adapter. It starts the server's process, and sends and receives messages,
 // each after a header with its length.
 import { spawn } from "node:child_process";
 
@@ -7,8 +7,8 @@ const TIMEOUT = 60000;
 
 export class MessageClient {
   /** @param {string} command the command that starts the server */
-  constructor(command, folder = ".", words = [], env = process.env) {
-    this.child = spawn(command, words, { stdio: ["pipe", "pipe", "pipe"], cwd: folder, env });
+  constructor(command, folder = ".", args = [], env = process.env) {
+    this.child = spawn(command, args, { stdio: ["pipe", "pipe", "pipe"], cwd: folder, env });
     this.input = Buffer.alloc(0);
     this.received = [];
     this.stderr = "";
@@ -40,6 +40,7 @@ export class MessageClient {
     return { messages, rest };
   }
 
+  /** Adds received bytes, and checks and stores the messages that are complete. */
   take(bytes) {
     const { messages, rest } = MessageClient.messagesIn(this.input.length === 0 ? bytes : Buffer.concat([this.input, bytes]));
     this.input = rest;
@@ -54,23 +55,24 @@ export class MessageClient {
   check() {}
 
   /** Sends bytes unchanged. */
-  raw(bytes) {
+  sendBytes(bytes) {
     this.child.stdin.write(bytes);
   }
 
+  /** Sends a message with its header. */
   send(message) {
     const body = Buffer.from(JSON.stringify(message));
-    this.raw(`Content-Length: ${body.length}\r\n\r\n`);
-    this.raw(body);
+    this.sendBytes(`Content-Length: ${body.length}\r\n\r\n`);
+    this.sendBytes(body);
   }
 
   /** Waits for the first message that matches, removes it from the list, and resolves to it. */
   async next(matches) {
-    const end = Date.now() + TIMEOUT;
+    const deadline = Date.now() + TIMEOUT;
     for (;;) {
-      const at = this.received.findIndex(matches);
-      if (at >= 0) return this.received.splice(at, 1)[0];
-      if (Date.now() > end) throw new Error(`no answer after ${TIMEOUT} ms; on standard error: ${this.stderr}`);
+      const index = this.received.findIndex(matches);
+      if (index >= 0) return this.received.splice(index, 1)[0];
+      if (Date.now() > deadline) throw new Error(`no answer after ${TIMEOUT} ms; on standard error: ${this.stderr}`);
       await new Promise((resume) => {
         const timer = setTimeout(resume, 1000);
         this.wake = () => {

@@ -1,7 +1,7 @@
 // Checks that the packed extension for Visual Studio Code works if nothing else of Fethsaim is installed: `node packed_extension.mjs EXTENSION
 // FOLDER`. EXTENSION is the unpacked extension, and FOLDER is a folder for a workspace. The script acts like the editor, with a stand-in for its
 // module. It activates the extension, opens a text, waits for errors, runs and debugs a test, opens the front panel, lets a board print, and runs a
-// task. Prints `ok WORDS` or `fault: WORDS` for each check.
+// task. Prints `ok TEXT` or `failed: TEXT` for each check.
 import { spawnSync } from "node:child_process";
 import { copyFileSync, cpSync, existsSync, mkdirSync, readFileSync, writeFileSync } from "node:fs";
 import Module, { createRequire } from "node:module";
@@ -10,21 +10,21 @@ import { Client } from "./dap_client.mjs";
 import { standIn } from "./vscode_stand_in.mjs";
 
 const TOP = new URL("../..", import.meta.url).pathname;
-const [extensionFolder, place] = process.argv.slice(2);
-const folder = join(place, "a board, and its program");
+const [extensionFolder, parent] = process.argv.slice(2);
+const folder = join(parent, "a board, and its program");
 /** The time in milliseconds to wait for each result. It is long, so that a busy machine does not cause an error. */
 const TIMEOUT = 60000;
 
-function verdict(is, wanted, words) {
-  const [one, other] = [JSON.stringify(is), JSON.stringify(wanted)];
-  console.log(one === other ? `ok ${words}` : `fault: ${words}: ${one}, not ${other}`);
+function verdict(actual, expected, description) {
+  const [actualText, expectedText] = [JSON.stringify(actual), JSON.stringify(expected)];
+  console.log(actualText === expectedText ? `ok ${description}` : `failed: ${description}: ${actualText}, not ${expectedText}`);
 }
 
 /** Waits until `find` returns a truthy value. Resolves to that value, or to null after a timeout. */
 async function until(find) {
   for (const end = Date.now() + TIMEOUT; Date.now() < end;) {
-    const found = find();
-    if (found) return found;
+    const value = find();
+    if (value) return value;
     await new Promise((resume) => { setTimeout(resume, 20); });
   }
   return null;
@@ -45,11 +45,11 @@ function makeWorkspace() {
 
 /** Sets PATH to an empty folder, and removes the environment variables that could lead to Fethsaim. Checks that mcs4 cannot be started. */
 function makeBare() {
-  const bare = join(place, "nothing");
+  const bare = join(parent, "nothing");
   mkdirSync(bare);
   process.env.PATH = bare;
   for (const name of ["MCS4", "MCS4_PROVE", "HOME", "XDG_CACHE_HOME"]) delete process.env[name];
-  verdict(spawnSync("mcs4", ["version"]).error?.code, "ENOENT", "no mcs4 is there");
+  verdict(spawnSync("mcs4", ["version"]).error?.code, "ENOENT", "mcs4 cannot be started");
 }
 
 const diagnosticsOf = ({ shown }, { uri }) => until(() => shown.diagnostics.has(uri.toString()) && shown.diagnostics.get(uri.toString())
@@ -57,11 +57,11 @@ const diagnosticsOf = ({ shown }, { uri }) => until(() => shown.diagnostics.has(
 
 async function tryTexts(editor) {
   const wrong = editor.open("lock/wrong.asm", "plaintext");
-  verdict(wrong.languageId, "mcs4", "an .asm beside a board");
-  const line = readFileSync(wrong.fileName, "utf8").split("\n").findIndex((each) => each.includes("JMP enter"));
-  verdict(await diagnosticsOf(editor, wrong), [[line, "JMP is not an instruction; JUN?"]], "errors of a text, where no mcs4 is on the PATH");
-  verdict(await diagnosticsOf(editor, editor.open("lone/three_lamps.4004", "mcs4")), [], "a program called .4004");
-  verdict(await diagnosticsOf(editor, editor.open("lone/three_lamps.test", "plaintext")), [], "its tests");
+  verdict(wrong.languageId, "mcs4", "an .asm file in a folder with a board");
+  const line = readFileSync(wrong.fileName, "utf8").split("\n").findIndex((text) => text.includes("JMP enter"));
+  verdict(await diagnosticsOf(editor, wrong), [[line, "JMP is not an instruction; JUN?"]], "errors in a text, without mcs4 on the PATH");
+  verdict(await diagnosticsOf(editor, editor.open("lone/three_lamps.4004", "mcs4")), [], "a program with the extension .4004");
+  verdict(await diagnosticsOf(editor, editor.open("lone/three_lamps.test", "plaintext")), [], "the tests of a .4004 program");
 }
 
 /** Runs a test profile on items. Resolves to the results. */
@@ -76,23 +76,23 @@ async function tryTests(editor) {
   await tests.resolveHandler(undefined);
   const files = [];
   tests.items.forEach((file) => files.push([file.label, file.children.size]));
-  const own = readFileSync(join(folder, "lock", "lock.test"), "utf8");
-  verdict(files, [["three_lamps.test", 2], ["lock.test", own.match(/^test /gm).length], ["printing_calculator.test", tests.items
-    .get(editor.vscode.Uri.file(join(folder, "printer", "printing_calculator.test")).toString()).children.size]], "the texts of tests, and how many they have");
+  const lockTests = readFileSync(join(folder, "lock", "lock.test"), "utf8");
+  verdict(files, [["three_lamps.test", 2], ["lock.test", lockTests.match(/^test /gm).length], ["printing_calculator.test", tests.items
+    .get(editor.vscode.Uri.file(join(folder, "printer", "printing_calculator.test")).toString()).children.size]], "the texts of tests, with the numbers of their tests");
   const itemsOf = (name) => tests.items.get(editor.vscode.Uri.file(join(folder, name)).toString());
   const lock = itemsOf("lock/lock.test");
   const all = await runTests(editor, "Run", [lock]);
   verdict([all.isEnded, all.results.length, all.results.every(([kind]) => kind === "passed")], [true, lock.children.size, true], "tests of a project run");
   const lone = [];
   itemsOf("lone/three_lamps.test").children.forEach((item) => lone.push(item));
-  const [, fails] = lone;
-  verdict([fails.label, fails.range.start.line], ["it fails", 3], "the line of a test");
+  const [, failingTest] = lone;
+  verdict([failingTest.label, failingTest.range.start.line], ["it fails", 3], "the line of a test");
   const { results } = await runTests(editor, "Run", lone);
   const [[, ], [kind, , message]] = results;
   const { given: [uri, at] } = message.location;
-  verdict([results[0], kind, uri.fsPath, at.line], [["passed", "it begins"], "failed", join(folder, "lone", "three_lamps.test"), 5], "a test that fails, and where");
-  verdict(/^acc is \w+, but must be 9\n/.test(message.given[0]), true, `why it fails: ${message.given[0].split("\n")[0]}`);
-  await runTests(editor, "Debug", [fails]);
+  verdict([results[0], kind, uri.fsPath, at.line], [["passed", "it begins"], "failed", join(folder, "lone", "three_lamps.test"), 5], "a failed test, and its location");
+  verdict(/^acc is \w+, but must be 9\n/.test(message.given[0]), true, `the message of a failed test: ${message.given[0].split("\n")[0]}`);
+  await runTests(editor, "Debug", [failingTest]);
   return shown.launched.pop();
 }
 
@@ -104,8 +104,8 @@ async function debug(editor, configuration) {
   const { registered, events } = editor;
   const { given: [command, words, { env }] } = registered["adapter mcs4"].createDebugAdapterDescriptor();
   verdict([command, words[words.length - 1], env.ELECTRON_RUN_AS_NODE], [process.execPath, "dap", "1"], "the debug adapter runs on the editor's own Node");
-  const client = new Client(command, place, [], { before: words.slice(0, -1), env: { ...process.env, ...env } });
-  const session = { type: "mcs4", configuration, customRequest: (name, args) => client.ask(name, args) };
+  const client = new Client(command, parent, [], { before: words.slice(0, -1), env: { ...process.env, ...env } });
+  const session = { type: "mcs4", configuration, customRequest: (name, args) => client.request(name, args) };
   const tracker = registered["tracker mcs4"].createDebugAdapterTracker(session);
   const { check } = Client.prototype;
   client.check = (message) => {
@@ -117,7 +117,7 @@ async function debug(editor, configuration) {
   return { client, end: async () => {
     await client.end();
     events.terminate.fire(session);
-    verdict(client.faults, [], "what the adapter sends");
+    verdict(client.violations, [], "the messages of the adapter follow the protocol");
   } };
 }
 
@@ -129,7 +129,7 @@ async function tryDebuggedTest(editor, configuration) {
   const counter = async () => (await client.frames())[0].instructionPointerReference;
   const before = await counter();
   await client.move("stepBack");
-  verdict(before !== await counter(), true, "time goes back from the failure");
+  verdict(before !== await counter(), true, "a step back from the failure");
   await end();
 }
 
@@ -141,14 +141,14 @@ async function tryPanel(editor) {
   const [{ webview, title, options }] = shown.panels;
   verdict([title, options.enableScripts, options.localResourceRoots.map(({ fsPath }) => fsPath)], ["Lamps and keys", true, [extensionFolder]], "the front panel");
   const [, policy] = /Content-Security-Policy" content="([^"]*)"/.exec(webview.html);
-  verdict(policy, "default-src 'none'; script-src vscode-resource:; style-src vscode-resource:; base-uri 'none'; form-action 'none'", "its policy");
-  const sources = [...webview.html.matchAll(/(?:src|href)="([^"]*)"/g)].map(([, each]) => each);
-  verdict(sources.map((each) => existsSync(join(extensionFolder, each.replace("vscode-resource:", "")))), [true, true], `what it loads: ${sources.join(", ")}`);
+  verdict(policy, "default-src 'none'; script-src vscode-resource:; style-src vscode-resource:; base-uri 'none'; form-action 'none'", "the policy of the front panel");
+  const loadedFiles = [...webview.html.matchAll(/(?:src|href)="([^"]*)"/g)].map(([, path]) => path);
+  verdict(loadedFiles.map((path) => existsSync(join(extensionFolder, path.replace("vscode-resource:", "")))), [true, true], `the files that the panel loads: ${loadedFiles.join(", ")}`);
   const configuration = shown.launched.pop();
-  verdict([configuration.project, configuration.realTime, configuration.stopOnEntry], [join(folder, "printer"), true, false], "what is launched for it");
+  verdict([configuration.project, configuration.realTime, configuration.stopOnEntry], [join(folder, "printer"), true, false], "the session that is launched for the panel");
   await webview.say({ isReady: true });
   const { end } = await debug(editor, { ...configuration, realTime: false });
-  const news = () => Object.assign({}, ...webview.posted.map((each) => each.news || {}));
+  const news = () => Object.assign({}, ...webview.posted.map((message) => message.news || {}));
   verdict(await until(() => news().board && news().boardText.includes("printer")), true, "the board is drawn");
   // Press `7` and `+`, which makes the calculator print the operand.
   for (const legend of ["7", "+"]) {
@@ -160,9 +160,9 @@ async function tryPanel(editor) {
     await until(() => (news().keys || []).length === 0);
     await new Promise((resume) => { setTimeout(resume, 300); });
   }
-  verdict(Boolean(await until(() => news().printed && news().printed.codes.length > 0)), true, "what is printed comes to the panel");
+  verdict(Boolean(await until(() => news().printed && news().printed.codes.length > 0)), true, "the printout in the panel");
   await webview.say({ isTorn: true });
-  verdict(Boolean(await until(() => news().printed.codes.length === 0)), true, "the paper is torn off");
+  verdict(Boolean(await until(() => news().printed.codes.length === 0)), true, "the printout is cleared");
   await end();
   verdict(webview.posted[webview.posted.length - 1].news, null, "the panel after the end");
 }
@@ -173,15 +173,15 @@ function keyPlaceOf(legend) {
     const [, row, keys] = /^#\s*row (\d+):\s*(.*)$/.exec(line) || [];
     return row ? [[row, keys.split(/\s+/)]] : [];
   });
-  const [row, keys] = rows.find(([, each]) => each.includes(legend));
+  const [row, keys] = rows.find(([, legends]) => legends.includes(legend));
   return `${row} ${keys.indexOf(legend)}`;
 }
 
 /** Returns the problems that the problem matchers of package.json find in a text. */
-function matchesOf(text, matchers) {
-  return text.split("\n").flatMap((line) => matchers.flatMap(({ pattern: { regexp, file, line: at, message } }) => {
-    const found = new RegExp(regexp).exec(line);
-    return found ? [[found[file], found[at], found[message]]] : [];
+function problemsIn(text, matchers) {
+  return text.split("\n").flatMap((line) => matchers.flatMap(({ pattern: { regexp, file, line: lineGroup, message } }) => {
+    const match = new RegExp(regexp).exec(line);
+    return match ? [[match[file], match[lineGroup], match[message]]] : [];
   }));
 }
 
@@ -192,9 +192,9 @@ async function tryTasks({ registered }, { contributes }) {
   const { status, stdout } = run(tasks[0]);
   verdict([status, /^1\.\.\d+$/m.test(stdout)], [0, true], "a task runs the tests");
   writeFileSync(join(folder, "lock", "mcs4.toml"), readFileSync(join(folder, "lock", "mcs4.toml"), "utf8").replace("lock.asm", "wrong.asm"));
-  const found = matchesOf(run(tasks[0]).stderr, contributes.problemMatchers);
-  const line = readFileSync(join(folder, "lock", "wrong.asm"), "utf8").split("\n").findIndex((each) => each.includes("JMP enter")) + 1;
-  verdict(found.map(([file, at]) => [file, Number(at)]), [[join(folder, "lock", "wrong.asm"), line]], "an error of a task, and where");
+  const problems = problemsIn(run(tasks[0]).stderr, contributes.problemMatchers);
+  const line = readFileSync(join(folder, "lock", "wrong.asm"), "utf8").split("\n").findIndex((text) => text.includes("JMP enter")) + 1;
+  verdict(problems.map(([file, number]) => [file, Number(number)]), [[join(folder, "lock", "wrong.asm"), line]], "an error of a task, and its location");
   cpSync(new URL("../../examples/pictures", import.meta.url), join(folder, "pictures"), { recursive: true });
   const proof = run(registered["tasks mcs4"].resolveTask({ definition: { type: "mcs4", command: "prove", folder: join(folder, "pictures") } }));
   verdict([proof.status, /^ok 1 - never .* # proved for all inputs \(9 states\)$/m.test(proof.stdout)], [0, true], `a proof by the module: ${proof.stderr.trim()}`);
@@ -208,25 +208,25 @@ const editor = standIn(folder);
 const load = Module._load;
 Module._load = (name, ...more) => (name === "vscode" ? editor.vscode : load(name, ...more));
 const require = createRequire(import.meta.url);
-const own = require(join(extensionFolder, "package.json"));
-const extension = require(join(extensionFolder, own.main));
+const manifest = require(join(extensionFolder, "package.json"));
+const extension = require(join(extensionFolder, manifest.main));
 const uri = editor.vscode.Uri.file(extensionFolder);
 await extension.activate({ subscriptions: [], extensionPath: extensionFolder, extensionUri: uri });
-verdict(editor.shown.errors, [], "nothing is wrong at the start");
-verdict(own.contributes.languages.map(({ id, extensions }) => [id, extensions]).filter(([, each]) => each), [["mcs4", [".4004"]]], "the ending of its own");
+verdict(editor.shown.errors, [], "no errors at the start");
+verdict(manifest.contributes.languages.map(({ id, extensions }) => [id, extensions]).filter(([, extensions]) => extensions), [["mcs4", [".4004"]]], "the extension's file extension");
 await tryTexts(editor);
 await tryDebuggedTest(editor, await tryTests(editor));
 await tryPanel(editor);
-await tryTasks(editor, own);
+await tryTasks(editor, manifest);
 await extension.deactivate();
 
 // The command in the user's settings does not exist. The extension uses its own mcs4 instead, and shows a message about that.
-const other = standIn(folder, { command: join(place, "none", "mcs4") });
-Module._load = (name, ...more) => (name === "vscode" ? other.vscode : load(name, ...more));
+const secondEditor = standIn(folder, { command: join(parent, "none", "mcs4") });
+Module._load = (name, ...more) => (name === "vscode" ? secondEditor.vscode : load(name, ...more));
 for (const name of Object.keys(require.cache)) if (name.startsWith(extensionFolder)) delete require.cache[name];
-const again = require(join(extensionFolder, own.main));
-await again.activate({ subscriptions: [], extensionPath: extensionFolder, extensionUri: uri });
-verdict(other.shown.errors.map((words) => words.replace(/^The command .* was not started/, "The command was not started")),
-  ["The command was not started; the setting mcs4.command names it. The extension's own commands take its place."], "a command that is not there");
-verdict((await diagnosticsOf(other, other.open("lock/wrong.asm", "mcs4"))).length, 1, "errors of a text, then");
-await again.deactivate();
+const secondExtension = require(join(extensionFolder, manifest.main));
+await secondExtension.activate({ subscriptions: [], extensionPath: extensionFolder, extensionUri: uri });
+verdict(secondEditor.shown.errors.map((words) => words.replace(/^The command .* was not started/, "The command was not started")),
+  ["The command was not started; the setting mcs4.command names it. The extension's own commands take its place."], "a missing command");
+verdict((await diagnosticsOf(secondEditor, secondEditor.open("lock/wrong.asm", "mcs4"))).length, 1, "errors in a text, with a missing command");
+await secondExtension.deactivate();

@@ -31,22 +31,22 @@ def check_answers_announced(browser):
     stop_time(browser)
     get_status = "return document.getElementById('answer-status').textContent"
     send_lines(browser, "poke acc 5")
-    eventually(browser, "an answer is said", get_status, re.compile(r"^ok \d+$"))
+    eventually(browser, "an answer is announced", get_status, re.compile(r"^ok \d+$"))
     send_lines(browser, "poke acc 77")
-    eventually(browser, "and a refusal in words", get_status, re.compile(r"^no \d+.*: [a-z]"))
+    eventually(browser, "and the message about a rejected line", get_status, re.compile(r"^no \d+.*: [a-z]"))
 
 
 # The panels in the order in which the Tab key reaches them, starting at the session's name. Escape and then Tab leave an editor.
 DESCRIBE_FOCUS = """
-const at = document.activeElement;
-const place = at.closest("#session-bar, #clock, #tools, #front, #texts, #dock, #side > section, #statusbar, #notice, .splitter");
-return place ? place.id : at.id"""
+const focused = document.activeElement;
+const region = focused.closest("#session-bar, #clock, #tools, #front, #texts, #dock, #side > section, #statusbar, #notice, .splitter");
+return region ? region.id : focused.id"""
 IS_FOCUS_IN_EDITOR = "return document.activeElement.closest('.cm-editor') !== null"
 # The column that is a tab stop in Firefox, because the arrow keys scroll it.
 SCROLLABLE_COLUMN = "side"
 SIDE_PANELS = ["processor", "calls", "watched", "breakpoints", "memory", "ports"]
 TAB_ORDER = ["session-bar", "clock", "tools", "front", "front-splitter", "texts", "dock-splitter", "dock", "side-splitter",
-         *[place for name in SIDE_PANELS for place in (name, f"{name}-splitter")], "history", "statusbar"]
+         *[region for name in SIDE_PANELS for region in (name, f"{name}-splitter")], "history", "statusbar"]
 
 
 def check_tab_key(browser):
@@ -63,12 +63,12 @@ def check_tab_key(browser):
         browser.keys([ESCAPE, TAB] if browser.script(IS_FOCUS_IN_EDITOR) else [TAB], 1, 1)
         tab_count += 1
     verdict("Tab goes through the panels in their order", visited, TAB_ORDER)
-    verdict("in few stops", tab_count < 80, True)
+    verdict("the number of stops of the Tab key", tab_count < 80, True)
     browser.script("document.querySelector('#program-editor .cm-editor').lineEditor.focus()")
     text_before = browser.script(GET_TEXT_OF_EDITOR, "#program-editor")
     browser.keys([ESCAPE, TAB])
     verdict("Escape and then Tab leaves a text", browser.script(IS_FOCUS_IN_EDITOR), False)
-    verdict("which is as it was", browser.script(GET_TEXT_OF_EDITOR, "#program-editor"), text_before)
+    verdict("the text after Escape and Tab is unchanged", browser.script(GET_TEXT_OF_EDITOR, "#program-editor"), text_before)
 
 
 # --- the accessibility tree and colours, through Chromium's driver ---
@@ -90,9 +90,9 @@ def check_names(browser, view):
     """Checks that each control, region and group has a name that consists of words."""
     nodes = list(nodes_of(browser))
     unnamed = [role for role, name, _ in nodes if role in CONTROL_ROLES and not name]
-    verdict(f"{view}: all that can be used has a name", unnamed, [])
+    verdict(f"{view}: each control has a name", unnamed, [])
     unnamed = [role for role, name, properties in nodes if role in NAMED_ROLES and not name and role != "group"]
-    verdict(f"{view}: so has each place", unnamed, [])
+    verdict(f"{view}: each region has a name", unnamed, [])
     unspoken_names = [name for role, name, _ in nodes if role in CONTROL_ROLES | NAMED_ROLES | {"heading"} and UNSPOKEN_SYMBOLS.search(name)]
     verdict(f"{view}: names are words", unspoken_names, [])
     return nodes
@@ -130,8 +130,8 @@ def check_board(browser):
     step_with_marks(browser)
     eventually(browser, "the listing is at the counter", IS_AT_COUNTER, True)
     browser.click_at_rest("#lines-of-program button.next")
-    eventually(browser, "a breakpoint is said as pressed", "return document.querySelector('#lines-of-program .next').getAttribute('aria-pressed')", "true")
-    verdict("the line that comes next is said as the current one",
+    eventually(browser, "a breakpoint is announced as pressed", "return document.querySelector('#lines-of-program .next').getAttribute('aria-pressed')", "true")
+    verdict("the next line is announced as the current one",
             browser.script("return document.querySelector('#lines-of-program [aria-current]').classList.contains('next')"), True)
     nodes = check_view(browser, "the board and the source")
     roles = [role for role, *_ in nodes]
@@ -139,10 +139,10 @@ def check_board(browser):
     levels = [properties.get("level") for role, _, properties in nodes if role == "heading"]
     verdict("one heading is the page's, all others are of its parts", (levels[0], set(levels[1:])), (1, {2}))
     folds = [properties for role, name, properties in nodes if role == "button" and name in ("Registers", "RAM")]
-    verdict("what folds says so", [properties.get("expanded") for properties in folds], [True, True])
-    verdict("tabs of texts and dock say which one is in front", [properties.get("selected") for role, _, properties in nodes if role == "tab"].count(True), 2)
+    verdict("each panel that folds announces its state", [properties.get("expanded") for properties in folds], [True, True])
+    verdict("the tabs of texts and dock announce the selected one", [properties.get("selected") for role, _, properties in nodes if role == "tab"].count(True), 2)
     lamps = [name for role, name, _ in nodes if role == "image" and re.search(", (lit|dark)$", name)]
-    verdict("each lamp says whether it is lit", len(lamps), browser.script("return document.querySelectorAll('.bulb').length"))
+    verdict("each lamp announces whether it is on", len(lamps), browser.script("return document.querySelectorAll('.bulb').length"))
 
 
 def check_other_views(browser):
@@ -156,10 +156,10 @@ def check_other_views(browser):
     show_text(browser, "program")
     browser.type_into("#step-count", "x\ue007")
     invalid_fields = [name for role, name, properties in nodes_of(browser) if properties.get("invalid") == "true"]
-    verdict("a field with a wrong value says so", invalid_fields, ["How many instructions to step"])
+    verdict("a field with a wrong value is announced as invalid", invalid_fields, ["How many instructions to step"])
     show_text(browser, "waves")
     browser.click("#record")
-    eventually(browser, "waves are there", "return document.getElementById('waves').hidden", False)
+    eventually(browser, "the waves are shown", "return document.getElementById('waves').hidden", False)
     browser.script(EXPAND_ALL, "#scope")
     check_view(browser, "the waves")
     show_text(browser, "program")
@@ -176,7 +176,7 @@ def check_tests(browser):
     check_properties(browser)
     show_text(browser, "program")
     browser.script("document.querySelector('#program-editor .cm-editor').lineEditor.scrollIntoView({ line: 480, ch: 0 }, 0)")
-    eventually(browser, "counts stand beside the source", "return document.querySelectorAll('.at-lacking .mark-counts').length > 0", True)
+    eventually(browser, "counts are next to the source", "return document.querySelectorAll('.at-lacking .mark-counts').length > 0", True)
     check_view(browser, "the source with its counts")
 
 
@@ -200,67 +200,70 @@ def check_dialogs(browser):
     check_view(browser, "the help")
     browser.click("#help-close")
     browser.click("#sessions-button")
-    eventually(browser, "the dialog of sessions is there", "return document.getElementById('sessions').open", True)
+    eventually(browser, "the dialog of sessions opens", "return document.getElementById('sessions').open", True)
     nodes = check_view(browser, "the dialog of sessions")
-    verdict("it is modal", [properties.get("modal") for role, _, properties in nodes if role == "dialog"], [True])
+    verdict("the dialog is modal", [properties.get("modal") for role, _, properties in nodes if role == "dialog"], [True])
     browser.click("#close-sessions")
     browser.click("#from-rom")
     eventually(browser, "a question is asked", "return document.querySelectorAll('#ask[open]').length", 1)
     check_view(browser, "a question")
     browser.keys([ESCAPE])
-    eventually(browser, "Escape leaves it", "return document.querySelectorAll('#ask[open]').length", 0)
+    eventually(browser, "Escape closes the question", "return document.querySelectorAll('#ask[open]').length", 0)
 
 
 # Computes the contrast of two colours as WCAG defines it. A transparent colour is blended with its background.
 FIND_LOW_CONTRAST = """
 const parts = (text) => (text.match(/[\\d.]+/g) || []).map(Number);
-const over = (text, ground) => {
+const blend = (text, ground) => {
   const [red, green, blue, alpha = 1] = parts(text);
-  return [red, green, blue].map((each, at) => each * alpha + ground[at] * (1 - alpha));
+  return [red, green, blue].map((channel, index) => channel * alpha + ground[index] * (1 - alpha));
 };
-const light = (colour) => colour.map((each) => each / 255).map((each) => (each <= 0.04045 ? each / 12.92 : ((each + 0.055) / 1.055) ** 2.4))
-  .reduce((sum, each, at) => sum + each * [0.2126, 0.7152, 0.0722][at], 0);
-const contrast = (one, other) => {
-  const [low, high] = [light(one), light(other)].sort((a, b) => a - b);
+const luminance = (colour) => colour.map((channel) => channel / 255)
+  .map((channel) => (channel <= 0.04045 ? channel / 12.92 : ((channel + 0.055) / 1.055) ** 2.4))
+  .reduce((sum, channel, index) => sum + channel * [0.2126, 0.7152, 0.0722][index], 0);
+const contrast = (first, second) => {
+  const [low, high] = [luminance(first), luminance(second)].sort((a, b) => a - b);
   return (high + 0.05) / (low + 0.05);
 };
-const PAPER = parts(getComputedStyle(document.body).backgroundColor);
-const groundOf = (node) => (node ? over(getComputedStyle(node).backgroundColor, groundOf(node.parentElement)) : PAPER);
-const isSeen = (each) => isShown(each) && !each.closest(":disabled, .unseen, [aria-hidden=true]:not(#wiring-picture *), option");
+const PAGE_COLOUR = parts(getComputedStyle(document.body).backgroundColor);
+const groundOf = (node) => (node ? blend(getComputedStyle(node).backgroundColor, groundOf(node.parentElement)) : PAGE_COLOUR);
+const isVisible = (node) => isShown(node) && !node.closest(":disabled, .unseen, [aria-hidden=true]:not(#wiring-picture *), option");
 const root = document.querySelector("dialog[open]") || document.body;
-const shown = (selector) => [...root.querySelectorAll(selector)].filter(isSeen);
-const faults = [];
-const look = (what, node, colour, ground, least) => {
-  const found = contrast(over(colour, ground), ground);
-  if (found < least) faults.push(`${what} ${node.id || node.className.baseVal || node.className || node.textContent.slice(0, 20)} ${found.toFixed(2)}`);
+const shown = (selector) => [...root.querySelectorAll(selector)].filter(isVisible);
+const errors = [];
+const check = (kind, node, colour, ground, minimum) => {
+  const actual = contrast(blend(colour, ground), ground);
+  const name = node.id || node.className.baseVal || node.className || node.textContent.slice(0, 20);
+  if (actual < minimum) errors.push(`${kind} ${name} ${actual.toFixed(2)}`);
 };
-for (const each of shown("button, input:not([type=checkbox]), select, textarea, [role=tab]")) {
-  const style = getComputedStyle(each);
+for (const node of shown("button, input:not([type=checkbox]), select, textarea, [role=tab]")) {
+  const style = getComputedStyle(node);
   if (style.borderTopStyle === "none" || parts(style.borderTopColor)[3] === 0 || !parseFloat(style.borderTopWidth)) continue;
-  look("border", each, style.borderTopColor, groundOf(each.parentElement), 3);
+  check("border", node, style.borderTopColor, groundOf(node.parentElement), 3);
 }
-for (const each of shown(".changed")) {
-  look("mark", each, getComputedStyle(each).boxShadow.match(/rgba?\\([^)]*\\)/)[0], groundOf(each.parentElement), 3);
+for (const node of shown(".changed")) {
+  check("mark", node, getComputedStyle(node).boxShadow.match(/rgba?\\([^)]*\\)/)[0], groundOf(node.parentElement), 3);
 }
-for (const each of shown(".bulb")) {
-  if (getComputedStyle(each).opacity !== "1") faults.push("a lamp that is seen through");
-  look("lamp", each, getComputedStyle(each).borderTopColor, groundOf(each.parentElement), 3);
+for (const node of shown(".bulb")) {
+  if (getComputedStyle(node).opacity !== "1") errors.push("a transparent lamp");
+  check("lamp", node, getComputedStyle(node).borderTopColor, groundOf(node.parentElement), 3);
 }
-const [lit, dark] = [".bulb.lit", ".bulb:not(.lit)"].map((each) => shown(each)[0]);
+const [lit, dark] = [".bulb.lit", ".bulb:not(.lit)"].map((node) => shown(node)[0]);
 if (lit && dark) {
-  const [one, other] = [lit, dark].map((each) => over(getComputedStyle(each).borderTopColor, groundOf(each.parentElement)));
+  const [litBorder, darkBorder] = [lit, dark].map((node) => blend(getComputedStyle(node).borderTopColor, groundOf(node.parentElement)));
   const fill = contrast(groundOf(lit), groundOf(dark));
-  if (contrast(one, other) < 3 && fill < 3) faults.push(`lit beside dark ${contrast(one, other).toFixed(2)}, ${fill.toFixed(2)}`);
+  const border = contrast(litBorder, darkBorder);
+  if (border < 3 && fill < 3) errors.push(`lit and dark lamps ${border.toFixed(2)}, ${fill.toFixed(2)}`);
 }
-for (const each of shown("svg :is(rect, circle, path):not(.picture *, .number *, .cap, .glass)")) {
-  const { stroke } = getComputedStyle(each);
-  if (stroke !== "none") look("line", each, stroke, groundOf(each.closest("svg").parentElement), 3);
+for (const node of shown("svg :is(rect, circle, path):not(.picture *, .number *, .cap, .glass)")) {
+  const { stroke } = getComputedStyle(node);
+  if (stroke !== "none") check("line", node, stroke, groundOf(node.closest("svg").parentElement), 3);
 }
 const walker = document.createTreeWalker(root, NodeFilter.SHOW_TEXT);
-for (let node = walker.nextNode(); node; node = walker.nextNode()) {
-  const each = node.parentElement;
-  if (!node.textContent.trim() || !isSeen(each) || each.closest("script, style, noscript")) continue;
-  const style = getComputedStyle(each);
-  look("text", each, each.closest("svg") ? style.fill : style.color, groundOf(each.closest("svg") ? each.closest("svg").parentElement : each), 4.5);
+for (let textNode = walker.nextNode(); textNode; textNode = walker.nextNode()) {
+  const node = textNode.parentElement;
+  if (!textNode.textContent.trim() || !isVisible(node) || node.closest("script, style, noscript")) continue;
+  const style = getComputedStyle(node);
+  check("text", node, node.closest("svg") ? style.fill : style.color, groundOf(node.closest("svg") ? node.closest("svg").parentElement : node), 4.5);
 }
-return [...new Set(faults)].slice(0, 12)"""
+return [...new Set(errors)].slice(0, 12)"""

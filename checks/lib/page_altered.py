@@ -7,48 +7,48 @@ import re
 
 from page_module import with_worker_code
 
-# Stores the worker in a variable, so that tests can send messages to INSTALL_FAULTS.
+# Stores the worker in a variable, so that tests can send messages to INSTALL_FAILURES.
 EXPOSE_WORKER = """
-const made = Worker;
-window.Worker = function (...words) {
-  window.benchWorker = new made(...words);
+const OriginalWorker = Worker;
+window.Worker = function (...args) {
+  window.benchWorker = new OriginalWorker(...args);
   return window.benchWorker;
 };"""
 
-# Code for the worker. A message selects a fault. It occurs at the next call of the module, or at once for "die" and "hang".
-INSTALL_FAULTS = """
+# Code for the worker. A message selects a failure. It occurs at the next call of the module, or at once for "die" and "hang".
+INSTALL_FAILURES = """
 (() => {
-  const made = WebAssembly.Instance;
+  const OriginalInstance = WebAssembly.Instance;
   const NO_MEMORY = 90;
-  let fault = "";
+  let failure = "";
   addEventListener("message", (event) => {
-    if (!event.data.fault) return;
+    if (!event.data.failure) return;
     event.stopImmediatePropagation();
-    fault = event.data.fault;
-    if (fault === "die") close();
-    while (fault === "hang");
+    failure = event.data.failure;
+    if (failure === "die") close();
+    while (failure === "hang");
   });
-  const failing = (exports, name) => (...words) => {
-    const now = fault;
-    // After a trap without room there is no memory for another instance either.
-    if (now !== "trap without room") fault = "";
-    if (now.startsWith("trap")) throw new WebAssembly.RuntimeError("unreachable");
-    if (now !== "no memory") return exports[name](...words);
-    new DataView(exports.memory.buffer).setUint32(Number(words[words.length - 1]), NO_MEMORY, true);
+  const failing = (exports, name) => (...args) => {
+    const current = failure;
+    // After a trap without memory, there is no memory for another instance either.
+    if (current !== "trap without memory") failure = "";
+    if (current.startsWith("trap")) throw new WebAssembly.RuntimeError("unreachable");
+    if (current !== "no memory") return exports[name](...args);
+    new DataView(exports.memory.buffer).setUint32(Number(args[args.length - 1]), NO_MEMORY, true);
     return 0;
   };
-  WebAssembly.Instance = function (...words) {
-    if (fault === "trap without room") {
-      fault = "";
+  WebAssembly.Instance = function (...args) {
+    if (failure === "trap without memory") {
+      failure = "";
       throw new RangeError("out of memory");
     }
-    const { exports } = new made(...words);
+    const { exports } = new OriginalInstance(...args);
     const calls = ["bench_serve_and_settle", "bench_ask"].map((name) => [name, failing(exports, name)]);
     return { exports: { ...exports, ...Object.fromEntries(calls) } };
   };
 })();"""
 
-REQUEST_FAULT = "window.benchWorker.postMessage({ fault: arguments[0] })"
+REQUEST_FAILURE = "window.benchWorker.postMessage({ failure: arguments[0] })"
 
 
 def hash_of(script):

@@ -15,7 +15,7 @@ F1, F5, F8, F9, F10, F11 = "\ue031", "\ue035", "\ue038", "\ue039", "\ue03a", "\u
 STEPPED_OVER = re.compile(f"{STEPPED.pattern}|^Returned to [0-9A-F]{{3}}, after ")
 STEPPED_OUT = re.compile("^Returned to |no call is open here")
 IS_PALETTE_OPEN = "const palette = document.getElementById('palette'); return palette !== null && palette.open"
-GET_PALETTE_ITEMS = "return [...document.querySelectorAll('#palette-list li .grow')].map((each) => each.textContent)"
+GET_PALETTE_ITEMS = "return [...document.querySelectorAll('#palette-list li .grow')].map((node) => node.textContent)"
 GET_FIRST_COMMAND = "return document.querySelector('#palette-list li').textContent"
 GET_ACTIVE_OPTION = """
 const field = document.querySelector('#palette input');
@@ -66,7 +66,7 @@ def check_palette_contents(browser):
     # This is only the run button's label while time is running. It is not a separate command.
     command_names.pop("time.pause")
     verdict("the palette has each command", sorted(set(command_names.values()) - listed_commands), [])
-    verdict("and each text, panel, theme, speed and example", {"Show Source", "Show RAM", "Theme: dark", "Speed: full speed",
+    verdict("the palette has each text, panel, theme, speed and example", {"Show Source", "Show RAM", "Theme: dark", "Speed: full speed",
                                                               "Open the example three lamps", "Press C"} - listed_commands, set())
     browser.keys([ESCAPE])
     browser.until(IS_PALETTE_OPEN, False)
@@ -85,33 +85,33 @@ def check_listbox(browser):
     browser.script("document.getElementById('name').focus()")
     press_chord(browser, CONTROL, SHIFT, "p")
     eventually(browser, "Control, Shift and P open the palette", IS_PALETTE_OPEN, True)
-    get_roles = "return ['input', 'ul', 'li'].map((each) => document.querySelector(`#palette ${each}`).getAttribute('role'))"
-    verdict("its roles", browser.script(get_roles), ["combobox", "listbox", "option"])
-    get_labels = "return ['', ' input', ' ul'].map((each) => document.querySelector(`#palette${each}`).getAttribute('aria-label'))"
-    verdict("its names", browser.script(get_labels), ["Commands", "Type a command", "Commands"])
-    verdict("the first one is chosen", browser.script(GET_ACTIVE_OPTION), 0)
+    get_roles = "return ['input', 'ul', 'li'].map((node) => document.querySelector(`#palette ${node}`).getAttribute('role'))"
+    verdict("the roles of the palette's parts", browser.script(get_roles), ["combobox", "listbox", "option"])
+    get_labels = "return ['', ' input', ' ul'].map((node) => document.querySelector(`#palette${node}`).getAttribute('aria-label'))"
+    verdict("the names of the palette's parts", browser.script(get_labels), ["Commands", "Type a command", "Commands"])
+    verdict("the first command is selected", browser.script(GET_ACTIVE_OPTION), 0)
     browser.keys([DOWN, DOWN, UP])
-    verdict("arrows choose another one", browser.script(GET_ACTIVE_OPTION), 1)
+    verdict("an arrow selects another command", browser.script(GET_ACTIVE_OPTION), 1)
     browser.keys([UP, UP])
     get_last_index = "return document.querySelectorAll('#palette-list li').length - 1"
-    verdict("and go round at the ends", browser.script(GET_ACTIVE_OPTION), browser.script(get_last_index))
+    verdict("arrows wrap around at the ends", browser.script(GET_ACTIVE_OPTION), browser.script(get_last_index))
     browser.type_into("#palette input", "step ov")
-    eventually(browser, "words find a command, which shows its key", GET_FIRST_COMMAND, "Step overTimeF10")
+    eventually(browser, "typed words find a command, which shows its key", GET_FIRST_COMMAND, "Step overTimeF10")
     verdict("the field has the focus", browser.script("return document.activeElement.getAttribute('role')"), "combobox")
     browser.type_into("#palette input", " qqq")
-    eventually(browser, "what nothing has is said", GET_FIRST_COMMAND, "Nothing is named step ov qqq")
+    eventually(browser, "a search without results shows a message", GET_FIRST_COMMAND, "Nothing is named step ov qqq")
     browser.keys([ESCAPE])
     eventually(browser, "Escape closes it", IS_PALETTE_OPEN, False)
-    verdict("and the focus is back", browser.script(GET_FOCUSED_ID), "name")
+    verdict("the focus after the palette is closed", browser.script(GET_FOCUSED_ID), "name")
     browser.script("document.activeElement.blur()")
 
 
 def check_disabled(browser):
     open_palette(browser, "redo what")
-    verdict("a command that cannot be done says why", browser.script(GET_FIRST_COMMAND), "Redo what was undonenothing was undone")
-    verdict("and is marked", browser.script("return document.querySelector('#palette-list li').getAttribute('aria-disabled')"), "true")
+    verdict("an unavailable command shows the reason", browser.script(GET_FIRST_COMMAND), "Redo what was undonenothing was undone")
+    verdict("an unavailable command is marked", browser.script("return document.querySelector('#palette-list li').getAttribute('aria-disabled')"), "true")
     browser.keys([ENTER])
-    verdict("Enter does nothing", browser.script(IS_PALETTE_OPEN), True)
+    verdict("Enter on an unavailable command does nothing", browser.script(IS_PALETTE_OPEN), True)
     browser.keys([ESCAPE])
 
 
@@ -138,11 +138,11 @@ def check_keys(browser):
     count_breakpoints = "return document.querySelectorAll('#breakpoint-list li').length"
     eventually(browser, "F9 sets a breakpoint at the caret", count_breakpoints, 1)
     browser.keys([F9])
-    eventually(browser, "and clears it", count_breakpoints, 0)
+    eventually(browser, "F9 clears the breakpoint", count_breakpoints, 0)
     browser.keys([F5])
     eventually(browser, "F5 continues", GET_STATUS, re.compile("^Running"))
     browser.keys([F8])
-    eventually(browser, "F8 goes on to pause", GET_STATUS, re.compile("^Paused"))
+    eventually(browser, "F8 after a pause", GET_STATUS, re.compile("^Paused"))
     browser.keys([F1])
     eventually(browser, "F1 opens the help", "return document.getElementById('help').hidden", False)
     browser.keys([ESCAPE])
@@ -152,7 +152,7 @@ def check_places(browser):
     """Checks that Ctrl+P opens the palette for places, and that a text, a line or an address chosen there is shown."""
     press_chord(browser, CONTROL, "p")
     eventually(browser, "Control and P open the palette for places", IS_PALETTE_OPEN, True)
-    verdict("its name", browser.script("return document.getElementById('palette').getAttribute('aria-label')"), "Go to")
+    verdict("the name of the palette for places", browser.script("return document.getElementById('palette').getAttribute('aria-label')"), "Go to")
     browser.type_into("#palette input", "wiring" + ENTER)
     eventually(browser, "a text comes to the front", GET_FRONT_TAB, "wiring-tab")
     press_chord(browser, CONTROL, "p")
@@ -160,7 +160,7 @@ def check_places(browser):
     browser.type_into("#palette input", ":3" + ENTER)
     eventually(browser, "a line of the source", GET_FRONT_TAB, "program-tab")
     get_caret_line = "return document.querySelector('#program-editor .cm-editor').lineEditor.getCursor().line"
-    eventually(browser, "has the caret", get_caret_line, 2)
+    eventually(browser, "the chosen source line has the caret", get_caret_line, 2)
     browser.script("document.activeElement.blur()")
     press_chord(browser, CONTROL, "p")
     browser.until(IS_PALETTE_OPEN, True)
@@ -169,12 +169,12 @@ def check_places(browser):
     press_chord(browser, CONTROL, "p")
     browser.until(IS_PALETTE_OPEN, True)
     browser.type_into("#palette input", ">stop")
-    eventually(browser, "> changes to commands", "return document.getElementById('palette').getAttribute('aria-label')", "Commands")
+    eventually(browser, "`>` changes to commands", "return document.getElementById('palette').getAttribute('aria-label')", "Commands")
     browser.keys([ESCAPE])
 
 
 IS_WATCH_SHOWN = "return isShown(document.getElementById('watched'))"
-GET_KEY_ROWS = "return [...document.querySelectorAll('#help-sections tr')].map((each) => each.textContent).join('|')"
+GET_KEY_ROWS = "return [...document.querySelectorAll('#help-sections tr')].map((node) => node.textContent).join('|')"
 
 
 def check_command_effects(browser):
@@ -187,7 +187,7 @@ def check_command_effects(browser):
     eventually(browser, "a button of a panel is pressed", f"{get_text_size} !== {size_before!r}", True)
     execute_command(browser, "smaller text")
     execute_command(browser, "find in the text")
-    eventually(browser, "something is done in the text in front", "return document.activeElement.closest('#tests-editor') !== null", True)
+    eventually(browser, "a command acts on the selected text", "return document.activeElement.closest('#tests-editor') !== null", True)
     execute_command(browser, "add a watch")
     eventually(browser, "a field has the caret", GET_FOCUSED_ID, "watched-field")
     execute_command(browser, "speed 1/100")
@@ -197,7 +197,7 @@ def check_command_effects(browser):
     execute_command(browser, "close or reopen watch")
     eventually(browser, "a panel is closed", IS_WATCH_SHOWN, False)
     execute_command(browser, "close or reopen watch")
-    eventually(browser, "and opened again", IS_WATCH_SHOWN, True)
+    eventually(browser, "the panel is open again", IS_WATCH_SHOWN, True)
     execute_command(browser, "list of keys")
     eventually(browser, "the help lists the keys", GET_KEY_ROWS, re.compile(r"F5, F8Continue\|F10Step over.*Ctrl\+Shift\+P, Ctrl\+KShow all commands"))
     browser.keys([ESCAPE])
@@ -216,17 +216,17 @@ def check_theme(browser):
     eventually(browser, "the theme is dark", f"{GET_PAGE_COLOUR} !== {light!r}", True)
     dark = browser.script(GET_PAGE_COLOUR)
     get_scheme = "return getComputedStyle(document.documentElement).colorScheme"
-    verdict("so are the browser's own parts", browser.script(get_scheme), "dark")
+    verdict("the browser's controls are dark, too", browser.script(get_scheme), "dark")
     browser.reload()
     until_ready(browser)
-    eventually(browser, "it is kept", GET_PAGE_COLOUR, dark)
+    eventually(browser, "the theme after a reload", GET_PAGE_COLOUR, dark)
     browser.command("Emulation.setEmulatedMedia", features=[{"name": "prefers-color-scheme", "value": "dark"}])
     execute_command(browser, "theme light")
     eventually(browser, "the theme is light where the system is dark", GET_PAGE_COLOUR, light)
     execute_command(browser, "theme system")
-    eventually(browser, "as the system", GET_PAGE_COLOUR, dark)
+    eventually(browser, "the theme of the system", GET_PAGE_COLOUR, dark)
     browser.command("Emulation.setEmulatedMedia", features=[])
-    eventually(browser, "it follows the system", GET_PAGE_COLOUR, light)
+    eventually(browser, "the theme follows the system", GET_PAGE_COLOUR, light)
 
 
 HOVER = {"type": "pointer", "id": "mouse", "parameters": {"pointerType": "mouse"}}
@@ -236,29 +236,29 @@ def check_tooltips(browser):
     """Checks that a button's tooltip, which names its key, appears on focus, under a resting pointer, and on a long touch."""
     browser.script("document.getElementById('back-instruction').focus()")
     browser.keys([TAB, TAB])
-    eventually(browser, "it is shown where the focus is", GET_TOOLTIP, "Step over: one instruction; a subroutine that it calls runs whole F10")
+    eventually(browser, "a tooltip appears at the focused button", GET_TOOLTIP, "Step over: one instruction; a subroutine that it calls runs whole F10")
     browser.keys([ESCAPE])
-    eventually(browser, "Escape takes it away", GET_TOOLTIP, "")
+    eventually(browser, "Escape hides the tooltip", GET_TOOLTIP, "")
     browser.script("document.activeElement.blur()")
     move_to_step = {"type": "pointerMove", "duration": 0, "x": 0, "y": 0, "origin": {ELEMENT: browser.find("#step")}}
     browser.actions({**HOVER, "actions": [move_to_step]})
-    eventually(browser, "where the pointer rests", GET_TOOLTIP, re.compile("^Step into.* F11$"))
+    eventually(browser, "a tooltip appears at the pointer", GET_TOOLTIP, re.compile("^Step into.* F11$"))
     browser.actions({**HOVER, "actions": [{"type": "pointerMove", "duration": 0, "x": 300, "y": 300}]})
-    eventually(browser, "not once it has gone", GET_TOOLTIP, "")
+    eventually(browser, "no tooltip after the pointer has left", GET_TOOLTIP, "")
     status_before = browser.script(GET_STATUS)
     browser.touch("#out", 900)
-    eventually(browser, "and where a finger stays", GET_TOOLTIP, re.compile("^Step out.* Shift\\+F11$"))
-    verdict("which does nothing else", browser.script(GET_STATUS), status_before)
-    eventually(browser, "it leaves after the finger", GET_TOOLTIP, "")
+    eventually(browser, "a tooltip appears for a long touch", GET_TOOLTIP, re.compile("^Step out.* Shift\\+F11$"))
+    verdict("a long touch does nothing else", browser.script(GET_STATUS), status_before)
+    eventually(browser, "the tooltip disappears after the touch", GET_TOOLTIP, "")
 
 
 GET_PRIMARY_BUTTONS = """
-return [...document.querySelectorAll("#toolbar button")].filter((each) => isShown(each)
-  && getComputedStyle(each).backgroundColor === getComputedStyle(document.getElementById("run")).backgroundColor).length"""
+return [...document.querySelectorAll("#toolbar button")].filter((node) => isShown(node)
+  && getComputedStyle(node).backgroundColor === getComputedStyle(document.getElementById("run")).backgroundColor).length"""
 MEASURE_TOOLS = """
-return [...document.querySelectorAll("#toolbar button")].filter((each) => isShown(each)).map((each) => {
-  const { width, height } = each.getBoundingClientRect();
-  return { id: each.id, name: each.getAttribute("aria-label") || each.textContent, icons: each.querySelectorAll("svg.icon").length,
+return [...document.querySelectorAll("#toolbar button")].filter((node) => isShown(node)).map((node) => {
+  const { width, height } = node.getBoundingClientRect();
+  return { id: node.id, name: node.getAttribute("aria-label") || node.textContent, icons: node.querySelectorAll("svg.icon").length,
     size: Math.min(width, height) };
 })"""
 IS_MENU_EXPANDED = "return document.getElementById('menu-button').getAttribute('aria-expanded')"
@@ -270,24 +270,24 @@ def check_toolbar(browser):
     verdict("the toolbar is one row", browser.script("return document.getElementById('toolbar').offsetHeight"), 44)
     tools = browser.script(MEASURE_TOOLS)
     verdict("each button has an icon", [tool["id"] for tool in tools if tool["icons"] == 0 and tool["id"] != "test"], [])
-    verdict("and a name", [tool["id"] for tool in tools if not tool["name"].strip()], [])
-    verdict("and room for a finger's tip", [tool["id"] for tool in tools if tool["size"] < 24], [])
+    verdict("each button has a name", [tool["id"] for tool in tools if not tool["name"].strip()], [])
+    verdict("each button is large enough for a finger", [tool["id"] for tool in tools if tool["size"] < 24], [])
     verdict("exactly one button is filled", browser.script(GET_PRIMARY_BUTTONS), 1)
     browser.script("document.getElementById('menu-button').focus()")
     browser.keys([ENTER])
     eventually(browser, "Enter opens the menu of files", IS_MENU_EXPANDED, "true")
-    verdict("at its first item", browser.script(GET_FOCUSED_ID), "open-button")
-    get_roles = "return [...document.querySelectorAll('#menu button')].map((each) => each.getAttribute('role')).join(' ')"
-    verdict("its items' roles", set(browser.script(get_roles).split()), {"menuitem"})
+    verdict("the focus is at the first item of the menu", browser.script(GET_FOCUSED_ID), "open-button")
+    get_roles = "return [...document.querySelectorAll('#menu button')].map((node) => node.getAttribute('role')).join(' ')"
+    verdict("the roles of the menu's items", set(browser.script(get_roles).split()), {"menuitem"})
     browser.keys([UP])
-    verdict("the arrow goes round", browser.script(GET_FOCUSED_ID), "projects-button")
+    verdict("the arrow wraps around in the menu", browser.script(GET_FOCUSED_ID), "projects-button")
     browser.keys([ESCAPE])
     eventually(browser, "Escape closes it", IS_MENU_EXPANDED, "false")
-    verdict("and the focus is at its button", browser.script(GET_FOCUSED_ID), "menu-button")
+    verdict("the focus after the menu is closed", browser.script(GET_FOCUSED_ID), "menu-button")
     browser.script("document.activeElement.blur()")
     browser.click("#theme-button")
-    get_checked = "return [...document.querySelectorAll('#theme-menu button')].map((each) => each.getAttribute('aria-checked'))"
-    eventually(browser, "the menu of themes shows the one that is chosen", get_checked, ["true", "false", "false"])
+    get_checked = "return [...document.querySelectorAll('#theme-menu button')].map((node) => node.getAttribute('aria-checked'))"
+    eventually(browser, "the menu of themes marks the selected theme", get_checked, ["true", "false", "false"])
     browser.click("#front h2")
     verdict("a click beside a menu closes it", browser.script("return document.getElementById('theme-menu').hidden"), True)
     browser.click("#front h2")
@@ -308,7 +308,7 @@ def check_accessibility(browser):
     browser.command("Accessibility.disable")
 
 
-GET_WELCOME_CARDS = "return [...document.querySelectorAll('#welcome b')].map((each) => each.textContent)"
+GET_WELCOME_CARDS = "return [...document.querySelectorAll('#welcome b')].map((node) => node.textContent)"
 COUNT_LAMPS_ON = "return document.querySelectorAll('.bulb.lit').length"
 
 
@@ -327,21 +327,21 @@ def check_first_visit(browser, page):
         execute_command(browser, "first steps")
     cards = browser.script(GET_WELCOME_CARDS)
     verdict("six cards", len(cards), 6)
-    verdict("the first of them", cards[0], "Light a lamp (3 clicks)")
+    verdict("the first card", cards[0], "Light a lamp (3 clicks)")
     browser.click("#welcome li:nth-child(1) button")
-    eventually(browser, "the first program begins", "return document.getElementById('tour').hidden", False)
+    eventually(browser, "the tour of the first program begins", "return document.getElementById('tour').hidden", False)
     eventually(browser, "the tour points at the button that inserts its program", DESCRIBE_TOUR_RING, "tour-put")
     browser.click("#tour-put")
-    eventually(browser, "then at the one that assembles it", DESCRIBE_TOUR_RING, "send")
+    eventually(browser, "the tour points at the button that assembles", DESCRIBE_TOUR_RING, "send")
     browser.click("#program-editor .send")
-    eventually(browser, "after three clicks a lamp is lit", COUNT_LAMPS_ON, 1)
-    eventually(browser, "then at what goes on", DESCRIBE_TOUR_RING, "tour-next")
+    eventually(browser, "a lamp is on after three clicks", COUNT_LAMPS_ON, 1)
+    eventually(browser, "the tour points at the next step", DESCRIBE_TOUR_RING, "tour-next")
     for number in range(4):
         browser.script("document.getElementById('tour-next').click()")
     browser.click("#tour-put")
-    eventually(browser, "what it points at comes into view", MEASURE_RAM_IN_RING, True)
+    eventually(browser, "the target of the tour scrolls into view", MEASURE_RAM_IN_RING, True)
     browser.click("#tour-close")
-    eventually(browser, "without the tour there is no ring", "return document.getElementById('tour-ring').hidden", True)
+    eventually(browser, "no ring without the tour", "return document.getElementById('tour-ring').hidden", True)
     browser.go("about:blank")
     browser.go(page.as_uri())
     until_ready(browser)
@@ -360,7 +360,7 @@ MEASURE_RAM_IN_RING = """
 const ring = document.getElementById('tour-ring').getBoundingClientRect();
 const cell = document.querySelector('#banks .ram button').getBoundingClientRect();
 return Math.abs(ring.left + 4 - cell.left) < 2 && Math.abs(ring.top + 4 - cell.top) < 2 && cell.bottom <= innerHeight && cell.top >= 0"""
-COUNT_EXAMPLES_WITHOUT_NOTE = "return [...document.querySelectorAll('#examples li .grow')].filter((each) => each.textContent.split('. ').length < 2).length"
+COUNT_EXAMPLES_WITHOUT_NOTE = "return [...document.querySelectorAll('#examples li .grow')].filter((node) => node.textContent.split('. ').length < 2).length"
 
 
 IS_EMPTY_NOTE_SHOWN = "return isShown(document.querySelector('#watched-list + .empty'))"
@@ -369,12 +369,12 @@ IS_EMPTY_NOTE_SHOWN = "return isShown(document.querySelector('#watched-list + .e
 def check_empty(browser):
     """Checks that an empty panel has a button that adds to it, and that the button disappears when the panel has contents."""
     choose_example(browser, "three lamps")
-    eventually(browser, "an empty watch says what it is for", IS_EMPTY_NOTE_SHOWN, True)
+    eventually(browser, "an empty watch explains itself", IS_EMPTY_NOTE_SHOWN, True)
     browser.click("#watched-list + .empty button")
-    eventually(browser, "and its button enters the field", GET_FOCUSED_ID, "watched-field")
+    eventually(browser, "the button of an empty watch moves the focus to the field", GET_FOCUSED_ID, "watched-field")
     browser.type_into("#watched-field", "R5" + ENTER)
-    eventually(browser, "which fills it", IS_EMPTY_NOTE_SHOWN, False)
-    count_other_panels = "return [...document.querySelectorAll('.empty')].filter((each) => each.querySelectorAll('button').length !== 1).length"
+    eventually(browser, "the button's text in the field", IS_EMPTY_NOTE_SHOWN, False)
+    count_other_panels = "return [...document.querySelectorAll('.empty')].filter((node) => node.querySelectorAll('button').length !== 1).length"
     verdict("each empty panel offers one action", browser.script(count_other_panels), 0)
 
 

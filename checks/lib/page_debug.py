@@ -40,17 +40,17 @@ editor.replaceRange(`        ${arguments[1]}\\n`, { line: arguments[0] - 1, ch: 
 GET_BREAKPOINTS = """
 return [...document.querySelectorAll("#breakpoint-list li")].map((row) =>
   `${row.querySelector("i").textContent} ${row.querySelector(".place").textContent}`).join("; ")"""
-GET_HITS = "return [...document.querySelectorAll('#breakpoint-list .hits')].map((each) => each.textContent).join('; ')"
-GET_BREAKPOINT_ERRORS = "return [...document.querySelectorAll('#breakpoint-list .fault')].map((each) => each.textContent).join('')"
-GET_NOTES = "return [...document.querySelectorAll('#breakpoint-notes p')].map((each) => each.textContent).slice(0, 3).join('; ')"
-GET_BREAKPOINT_DETAILS = 'return [...document.querySelectorAll("#breakpoint-list .words")].map((each) => each.textContent).join("; ")'
+GET_HITS = "return [...document.querySelectorAll('#breakpoint-list .hits')].map((node) => node.textContent).join('; ')"
+GET_BREAKPOINT_ERRORS = "return [...document.querySelectorAll('#breakpoint-list .fault')].map((node) => node.textContent).join('')"
+GET_NOTES = "return [...document.querySelectorAll('#breakpoint-notes p')].map((node) => node.textContent).slice(0, 3).join('; ')"
+GET_BREAKPOINT_DETAILS = 'return [...document.querySelectorAll("#breakpoint-list .words")].map((node) => node.textContent).join("; ")'
 # The source lines that have a breakpoint in the margin, including lines that are out of view.
 GET_LINES_IN_MARGIN = """
 return document.querySelector("#program-editor .cm-editor").lineEditor.marksIn("breakpoints").map((line) => line + 1).join(" ")"""
 UNDO_EDIT = "document.querySelector('#program-editor .cm-editor').lineEditor.undo()"
 # The form below a line that edits its breakpoint: its error and its contents.
 GET_ROW_ERROR = "const shown = document.querySelector('.breakpoint-row .fault'); return shown ? shown.textContent : 'no row'"
-GET_ROW_VALUES = "return [...document.querySelectorAll('.breakpoint-row input')].map((each) => each.value).join('; ')"
+GET_ROW_VALUES = "return [...document.querySelectorAll('.breakpoint-row input')].map((node) => node.value).join('; ')"
 # Fills in the condition, hit count or log message of the first breakpoint in the list.
 FILL_ROW = """
 document.querySelector("#breakpoint-list .edit").click();
@@ -79,7 +79,7 @@ IS_FOCUS_IN_SOURCE = "return document.activeElement.closest('#program-editor .cm
 GET_FOCUSED_TEXT = "return document.activeElement.textContent"
 # Clicks the margin of a line with the secondary mouse button.
 OPEN_MARGIN_MENU = """
-const number = [...document.querySelectorAll("#program-editor .cm-lineNumbers .cm-gutterElement")].find((each) => each.textContent === String(arguments[0]));
+const number = [...document.querySelectorAll("#program-editor .cm-lineNumbers .cm-gutterElement")].find((node) => node.textContent === String(arguments[0]));
 const { x, y } = number.getBoundingClientRect();
 number.dispatchEvent(new MouseEvent("contextmenu", { bubbles: true, cancelable: true, clientX: x + 4, clientY: y + 4 }))"""
 BACKSPACE, UP, DOWN, SHIFT, F9, F10 = "\ue003", "\ue013", "\ue015", "\ue008", "\ue039", "\ue03a"
@@ -105,14 +105,14 @@ def check_moves_with_line(browser):
     browser.script(CLICK_MARGIN, JUN_LINE)
     eventually(browser, "a breakpoint in the margin", GET_BREAKPOINT_LINES, str(JUN_LINE))
     browser.script(INSERT_LINE, 2, "NOP")
-    eventually(browser, "it moves with its line", GET_BREAKPOINT_LINES, str(JUN_LINE + 1))
+    eventually(browser, "the breakpoint moves with its line", GET_BREAKPOINT_LINES, str(JUN_LINE + 1))
     browser.click(SEND_BUTTON)
-    eventually(browser, "assembled anew it stops there, reported by name and line", GET_WHOLE_STATUS,
+    eventually(browser, "assembled again it stops there, reported by name and line", GET_WHOLE_STATUS,
                f"Paused at 010 (loop + 7, line {JUN_LINE + 1}), at a breakpoint.")
-    verdict("and is no other one", send_lines(browser, "breaks"), re.compile("breaks 010$"))
+    verdict("the breakpoint keeps its address", send_lines(browser, "breaks"), re.compile("breaks 010$"))
     browser.script(CLICK_MARGIN, WMP_LINE + 1)
     browser.script(CLICK_MARGIN, JUN_LINE + 1)
-    eventually(browser, "another one in its place", GET_BREAKPOINT_LINES, str(WMP_LINE + 1))
+    eventually(browser, "a breakpoint at WMP instead", GET_BREAKPOINT_LINES, str(WMP_LINE + 1))
     browser.script(INSERT_LINE, 3, "FIM P2, 0")
     browser.click(SEND_BUTTON)
     eventually(browser, "two bytes more before it: it stays at WMP", GET_WHOLE_STATUS, f"Paused at 00F (loop + 4, line {WMP_LINE + 2}), at a breakpoint.")
@@ -120,7 +120,7 @@ def check_moves_with_line(browser):
     browser.script(INSERT_LINE, 1, "")
     eventually(browser, "while the source differs from ROM its mark stays", GET_BREAKPOINT_LINES, str(WMP_LINE + 3))
     browser.script(UNDO_EDIT)
-    eventually(browser, "undone it is where it was", GET_BREAKPOINT_LINES, str(WMP_LINE + 2))
+    eventually(browser, "the breakpoint after Undo", GET_BREAKPOINT_LINES, str(WMP_LINE + 2))
 
 
 def check_no_instruction(browser):
@@ -132,15 +132,15 @@ def check_no_instruction(browser):
     browser.script(CLICK_MARGIN, JUN_LINE)
     eventually(browser, "a line without bytes", GET_POPUP,
                f"Line {JUN_LINE} puts no bytes into ROM: its breakpoint is at the next instruction, line {JUN_LINE + 1}.")
-    eventually(browser, "it is at the next instruction", GET_BREAKPOINT_LINES, str(JUN_LINE + 1))
-    eventually(browser, "which stops the time that runs", GET_STATUS, "Paused at 00F, at a breakpoint.")
+    eventually(browser, "the breakpoint of a line without bytes is at the next instruction", GET_BREAKPOINT_LINES, str(JUN_LINE + 1))
+    eventually(browser, "the breakpoint stops the running program", GET_STATUS, "Paused at 00F, at a breakpoint.")
     browser.click("#breakpoint-list .bar button[title='removes it']")
-    eventually(browser, "it is taken away in the list", GET_BREAKPOINT_LINES, "")
+    eventually(browser, "the breakpoint is removed in the list", GET_BREAKPOINT_LINES, "")
     send_lines(browser, "break 0x010")
     eventually(browser, "one inside an instruction goes to the next one", GET_BREAKPOINT_LINES, str(JUN_LINE + 2))
-    verdict("and says so", browser.script(GET_POPUP),
+    verdict("a message says so", browser.script(GET_POPUP),
             f"010 is inside the instruction of line {JUN_LINE + 1}: its breakpoint is at the next one, line {JUN_LINE + 2}.")
-    eventually(browser, "in the bench, too", "return [...document.querySelectorAll('#breakpoint-list .place')].map((each) => each.textContent).join()",
+    eventually(browser, "the breakpoint in the bench", "return [...document.querySelectorAll('#breakpoint-list .place')].map((node) => node.textContent).join()",
                f"011 (wait, line {JUN_LINE + 2})")
 
 
@@ -149,48 +149,48 @@ def check_condition(browser):
     load_program(browser)
     browser.script(OPEN_CONDITION_ROW, INC_LINE - 1)
     eventually(browser, "Shift and F9 sets one, and the caret is in its condition, below the line", GET_LINE_ABOVE_FOCUSED_ROW, ROW_LINE)
-    verdict("at its line", browser.script(GET_BREAKPOINT_LINES), str(INC_LINE))
+    verdict("the condition's row is at its line", browser.script(GET_BREAKPOINT_LINES), str(INC_LINE))
     browser.keys([*"r9 = 9", ENTER])
-    eventually(browser, "one with a condition has a mark of its own", GET_BREAKPOINTS, re.compile("^\u25c6 "))
+    eventually(browser, "a breakpoint with a condition has its own mark", GET_BREAKPOINTS, re.compile("^\u25c6 "))
     browser.click("#run")
-    eventually(browser, "it stops where its condition holds", GET_STATUS, "Paused at 011, at a breakpoint, when r9 = 9.")
-    verdict("as the bench says", send_lines(browser, "regs"), re.compile(" r .{9}9.{6} "))
+    eventually(browser, "the program stops when the condition is true", GET_STATUS, "Paused at 011, at a breakpoint, when r9 = 9.")
+    verdict("the condition is true in the bench", send_lines(browser, "regs"), re.compile(" r .{9}9.{6} "))
     check_going_back(browser)
-    verdict("it is none of the session's file", send_lines(browser, "breaks"), re.compile("breaks -$"))
+    verdict("a conditional breakpoint is not in the session file", send_lines(browser, "breaks"), re.compile("breaks -$"))
     check_console_run(browser)
     browser.script(FILL_ROW, CONDITION, "r44 = 9")
-    eventually(browser, "a condition that cannot be read says why, in its place", GET_BREAKPOINT_ERRORS,
+    eventually(browser, "an invalid condition shows an error in its row", GET_BREAKPOINT_ERRORS,
                "It stops every time, because of an error: r44: no such place; the registers are r0 to r15 (column 1).")
     browser.click("#run")
-    eventually(browser, "and stops every time", GET_STATUS,
+    eventually(browser, "a breakpoint with an invalid condition always stops", GET_STATUS,
                "Paused at 011, at a breakpoint that has an error, r44: no such place; the registers are r0 to r15 (column 1).")
     browser.script(FILL_ROW, CONDITION, "R9 == 3 || (r9 >= 0xF && lamp 1 on)")
-    eventually(browser, "once it is mended it is as any other", GET_BREAKPOINT_ERRORS, "")
+    eventually(browser, "a corrected condition works", GET_BREAKPOINT_ERRORS, "")
     browser.script(FILL_ROW, CONDITION, "rom3 in 1")
-    eventually(browser, "one that names what the board lacks", GET_BREAKPOINT_ERRORS,
+    eventually(browser, "a condition about a part that the board lacks", GET_BREAKPOINT_ERRORS,
                "It stops every time, because of an error: the board has no ROM 3 (column 1).")
     browser.script(CHANGE_AND_RUN, "r9 = 7", "", "r9 = 5")
-    eventually(browser, "a run right after a change goes by the new condition", GET_STATUS, "Paused at 011, at a breakpoint, when r9 = 5.")
+    eventually(browser, "a run immediately after a change uses the new condition", GET_STATUS, "Paused at 011, at a breakpoint, when r9 = 5.")
     browser.script(FILL_ROW, CONDITION, "")
-    eventually(browser, "none: it is a plain one again", GET_BREAKPOINTS, re.compile("^\u25cf "))
+    eventually(browser, "a breakpoint without a condition again", GET_BREAKPOINTS, re.compile("^\u25cf "))
     browser.click("#breakpoints-hits")
     browser.script(FILL_ROW, HIT_COUNT, "50")
     browser.click("#reset")
     browser.until(GET_STATUS, re.compile("^The board was reset"))
     browser.click("#run")
-    eventually(browser, "from the fiftieth hit on", GET_HITS, "50 hits")
-    eventually(browser, "it stops", GET_STATUS, "Paused at 011, at a breakpoint, at hit 50.")
+    eventually(browser, "a hit count of 50", GET_HITS, "50 hits")
+    eventually(browser, "the program stops at the hit count", GET_STATUS, "Paused at 011, at a breakpoint, at hit 50.")
     verdict("R9 was counted on 49 times", send_lines(browser, "regs"), re.compile(" r .{9}1.{6} "))
     browser.script(FILL_ROW, HIT_COUNT, "")
     browser.script(FILL_ROW, LOG_MESSAGE, "R9 is {r9}, {lamps}")
-    eventually(browser, "one with a note has a mark of its own", GET_BREAKPOINTS, re.compile("^\u25b8 "))
+    eventually(browser, "a breakpoint with a log message has its own mark", GET_BREAKPOINTS, re.compile("^\u25b8 "))
     browser.click("#reset")
     browser.until(GET_STATUS, re.compile("^The board was reset"))
     browser.click("#run")
-    eventually(browser, "the note is logged in place of a stop", GET_NOTES, re.compile(r"^011 \(wait, line \d+\) R9 is [0-9A-F], [*.]{4}; "))
-    verdict("time runs", browser.script(GET_RUN_LABEL), "Pause")
+    eventually(browser, "the message is logged instead of a stop", GET_NOTES, re.compile(r"^011 \(wait, line \d+\) R9 is [0-9A-F], [*.]{4}; "))
+    verdict("time is running", browser.script(GET_RUN_LABEL), "Pause")
     browser.click("#breakpoints-off")
-    eventually(browser, "switched off it is kept", GET_BREAKPOINTS, re.compile("^\u25cb "))
+    eventually(browser, "a disabled breakpoint is kept", GET_BREAKPOINTS, re.compile("^\u25cb "))
     browser.click("#run")
     browser.until(GET_RUN_LABEL, "Continue")
 
@@ -199,10 +199,10 @@ def check_console_run(browser):
     """Checks that a `run` typed at the console also stops at a breakpoint, with a message."""
     browser.script(FILL_ROW, CONDITION, "r9 = 9")
     send_lines(browser, "reset")
-    verdict("a line's run ends where the condition holds", send_lines(browser, "run 100000"), re.compile(r"run (\d+)ok \d+ ran \1 end$"))
-    eventually(browser, "and the status says so", GET_WHOLE_STATUS,
+    verdict("a run by a line stops when the condition is true", send_lines(browser, "run 100000"), re.compile(r"run (\d+)ok \d+ ran \1 end$"))
+    eventually(browser, "the status after the run", GET_WHOLE_STATUS,
                "Paused at 011 (wait, line 14), at a breakpoint, when r9 = 9. The line run 100000 ended there.")
-    verdict("the bench stands there", send_lines(browser, "regs"), re.compile(" r .{9}9.{6} "))
+    verdict("the bench's counter after the run", send_lines(browser, "regs"), re.compile(" r .{9}9.{6} "))
 
 
 def check_going_back(browser):
@@ -212,21 +212,21 @@ def check_going_back(browser):
     for cycles in (150, 26, 77):
         send_lines(browser, f"run {cycles}")
     browser.click("#back-breakpoint")
-    eventually(browser, "back to the arrival where its condition holds", GET_STATUS,
+    eventually(browser, "back to the arrival at which the condition is true", GET_STATUS,
                re.compile(r"^Back at 011, 77 cycles, .* earlier, at a breakpoint, when r9 = 9\.$"))
-    verdict("R9 is what it was", send_lines(browser, "regs"), re.compile(" r .{9}9.{6} "))
+    verdict("R9 after going back", send_lines(browser, "regs"), re.compile(" r .{9}9.{6} "))
     browser.click("#forward")
     browser.until(GET_STATUS, re.compile("^Forward again"))
     browser.click("#back-breakpoint")
     browser.until(GET_STATUS, re.compile("at a breakpoint, when r9 = 9"))
     browser.click("#back-breakpoint")
-    eventually(browser, "and to the one before it", GET_STATUS, re.compile("^Back at 011, 176 cycles, "))
+    eventually(browser, "back to the previous arrival", GET_STATUS, re.compile("^Back at 011, 176 cycles, "))
     browser.script(FILL_ROW, CONDITION, "r9 = 9 and r9 = 8")
     browser.click("#back-breakpoint")
-    eventually(browser, "there is none where it never holds", GET_STATUS,
+    eventually(browser, "no arrival if the condition is never true", GET_STATUS,
                re.compile("^Back at ..., .* at the beginning of the remembered past: no breakpoint was passed since then"))
     browser.click("#forward")
-    eventually(browser, "and forward again", GET_STATUS, re.compile("^Forward again to 011"))
+    eventually(browser, "forward again to the arrival", GET_STATUS, re.compile("^Forward again to 011"))
 
 
 def check_reload(browser):
@@ -237,15 +237,15 @@ def check_reload(browser):
     browser.reload()
     until_ready(browser)
     eventually(browser, "a reload keeps the list", GET_BREAKPOINTS, list_before)
-    verdict("and their words", browser.script(GET_BREAKPOINT_DETAILS), 'if at wait: logs "R9 is {r9}, {lamps}" and continues')
+    verdict("the conditions after a reload", browser.script(GET_BREAKPOINT_DETAILS), 'if at wait: logs "R9 is {r9}, {lamps}" and continues')
     browser.click("#breakpoint-list .edit")
     browser.keys([*"r9 ="])
     browser.until(GET_ROW_VALUES, "r9 =; ; R9 is {r9}, {lamps}")
     browser.reload()
     until_ready(browser)
-    eventually(browser, "and a condition that is typed and not entered", GET_BREAKPOINT_DETAILS, re.compile('^if r9 =: logs "R9 is'))
+    eventually(browser, "a typed condition that was not applied", GET_BREAKPOINT_DETAILS, re.compile('^if r9 =: logs "R9 is'))
     browser.click("#breakpoints-remove")
-    eventually(browser, "all are taken away", GET_BREAKPOINT_LINES, "")
+    eventually(browser, "all breakpoints are removed", GET_BREAKPOINT_LINES, "")
 
 
 def check_replaced(browser, folder):
@@ -267,15 +267,15 @@ def check_replaced(browser, folder):
             eventually(browser, f"a {length} source has none of the breakpoints of the one before it", GET_LINES_IN_MARGIN, "")
             undo()
             eventually(browser, f"{action} brings back the lines of the breakpoints", GET_LINES_IN_MARGIN, both_lines)
-            eventually(browser, "and the list", GET_BREAKPOINTS, list_before[0])
-            verdict("with its words", browser.script(GET_BREAKPOINT_DETAILS), list_before[1])
+            eventually(browser, "the list after an undo", GET_BREAKPOINTS, list_before[0])
+            verdict("the conditions after an undo", browser.script(GET_BREAKPOINT_DETAILS), list_before[1])
     browser.script("for (const each of document.querySelectorAll('#notice .dismiss')) each.click()")
     browser.script(CLICK_MARGIN, WMP_LINE)
     browser.until(GET_LINES_IN_MARGIN, str(INC_LINE))
     browser.click("#reset")
     browser.until(GET_STATUS, re.compile("^The board was reset"))
     browser.click("#run")
-    eventually(browser, "it stops where its condition holds", GET_STATUS, "Paused at 011, at a breakpoint, when r9 = 9.")
+    eventually(browser, "the program stops when the condition is true", GET_STATUS, "Paused at 011, at a breakpoint, when r9 = 9.")
     time.sleep(1)
     browser.reload()
     until_ready(browser)
@@ -288,26 +288,26 @@ def check_row(browser):
     browser.script(OPEN_CONDITION_ROW, INC_LINE - 1)
     browser.until(GET_LINE_ABOVE_FOCUSED_ROW, ROW_LINE)
     browser.keys([*"r44 = 9", ENTER])
-    eventually(browser, "an error is said in the row, in the words of conditions", GET_ROW_ERROR,
+    eventually(browser, "an error in a condition is shown in the row", GET_ROW_ERROR,
                "It stops every time, because of an error: r44: no such place; the registers are r0 to r15 (column 1).")
-    verdict("where the caret stays", browser.script(GET_LINE_ABOVE_FOCUSED_ROW), ROW_LINE)
+    verdict("the caret stays in the row", browser.script(GET_LINE_ABOVE_FOCUSED_ROW), ROW_LINE)
     browser.keys([*[BACKSPACE] * 7, *"r9 = 9", TAB, *"0", ENTER])
-    eventually(browser, "a count that is none is marked", "return document.activeElement.getAttribute('aria-invalid')", "true")
-    verdict("and nothing is applied", browser.script(GET_BREAKPOINT_DETAILS), "if r44 = 9")
+    eventually(browser, "an invalid count is marked", "return document.activeElement.getAttribute('aria-invalid')", "true")
+    verdict("nothing is applied after an error", browser.script(GET_BREAKPOINT_DETAILS), "if r44 = 9")
     browser.keys([BACKSPACE, "2", ENTER])
-    eventually(browser, "Enter applies all that is typed", GET_BREAKPOINT_DETAILS, "if r9 = 9 from hit 2 on")
-    verdict("the row goes", browser.script(GET_ROW_VALUES), "")
-    verdict("the keyboard is the text's again", browser.script(IS_FOCUS_IN_SOURCE), True)
+    eventually(browser, "Enter applies the typed values", GET_BREAKPOINT_DETAILS, "if r9 = 9 from hit 2 on")
+    verdict("the row closes", browser.script(GET_ROW_VALUES), "")
+    verdict("the text has the focus again", browser.script(IS_FOCUS_IN_SOURCE), True)
     browser.press_chord(SHIFT, F9)
-    eventually(browser, "with the caret in the line that it had", GET_ROW_VALUES, "r9 = 9; 2; ")
+    eventually(browser, "the caret is in the same line", GET_ROW_VALUES, "r9 = 9; 2; ")
     browser.keys([*"at loop", TAB, TAB, *"seen"])
     verdict("a field that is left counts for itself not yet", browser.script(GET_BREAKPOINT_DETAILS), "if r9 = 9 from hit 2 on")
     browser.keys([F10, F10])
     eventually(browser, "steps leave the caret where it is", GET_ROW_VALUES, "at loop; 2; seen")
-    verdict("in the row", browser.script(GET_LINE_ABOVE_FOCUSED_ROW), ROW_LINE)
+    verdict("the focus is in the row", browser.script(GET_LINE_ABOVE_FOCUSED_ROW), ROW_LINE)
     browser.keys([ESCAPE])
     eventually(browser, "Escape leaves it", GET_ROW_VALUES, "")
-    verdict("with the words that it had", browser.script(GET_BREAKPOINT_DETAILS), "if r9 = 9 from hit 2 on")
+    verdict("Escape restores the condition", browser.script(GET_BREAKPOINT_DETAILS), "if r9 = 9 from hit 2 on")
     browser.script(OPEN_CONDITION_ROW, INC_LINE - 1)
     browser.until(GET_LINE_ABOVE_FOCUSED_ROW, ROW_LINE)
     browser.keys([*"at wait"])
@@ -329,7 +329,7 @@ def check_menu(browser):
     browser.keys([DOWN, DOWN, DOWN, ENTER])
     eventually(browser, "Log message sets a breakpoint and edits it", GET_LINE_ABOVE_FOCUSED_ROW, ROW_LINE)
     browser.keys([*"R9 is {r9}", ENTER])
-    eventually(browser, "it logs", GET_BREAKPOINT_DETAILS, 'logs "R9 is {r9}" and continues')
+    eventually(browser, "the log message is logged", GET_BREAKPOINT_DETAILS, 'logs "R9 is {r9}" and continues')
     browser.script(OPEN_MARGIN_MENU, INC_LINE)
     browser.until(GET_FOCUSED_TEXT, "Remove breakpointF9")
     browser.keys([UP, UP, ENTER])
@@ -345,8 +345,8 @@ def check_menu(browser):
     browser.click("#breakpoint-list .edit")
     eventually(browser, "one without a line is edited in the list", "return document.activeElement.closest('#breakpoint-list .breakpoint-row') !== null", True)
     browser.keys([*"r9 = 1", ENTER])
-    eventually(browser, "and applied", GET_BREAKPOINT_DETAILS, "if r9 = 1")
-    eventually(browser, "the keyboard is at its button", GET_FOCUSED_TEXT, "Edit")
+    eventually(browser, "the edit in the list is applied", GET_BREAKPOINT_DETAILS, "if r9 = 1")
+    eventually(browser, "the focus is at the breakpoint's button", GET_FOCUSED_TEXT, "Edit")
     choose_example(browser, "three lamps")
     eventually(browser, "another session has no row", GET_ROW_VALUES, "")
 

@@ -19,17 +19,17 @@ COUNT_HIGH = "return document.querySelectorAll('#wiring-picture .high').length"
 GET_SOUND_LABEL = "return document.getElementById('sound').hidden ? '' : document.getElementById('sound-button').textContent"
 GET_FOCUSED_LABEL = "return document.activeElement.getAttribute('aria-label')"
 GET_TITLE = "return document.querySelector('#chosen > b').textContent"
-GET_OFFERED_ENDS = "return [...document.querySelectorAll('#wiring-picture .can-end')].map((each) => each.getAttribute('aria-label'))"
+GET_OFFERED_ENDS = "return [...document.querySelectorAll('#wiring-picture .can-end')].map((node) => node.getAttribute('aria-label'))"
 INSERT = "Insert code that scans these keys"
-GET_PIN_NUMBERS = "return [...document.querySelectorAll('#wiring-picture [aria-label^=\"ROM 0\"] .number')].map((each) => each.textContent).join(' ')"
+GET_PIN_NUMBERS = "return [...document.querySelectorAll('#wiring-picture [aria-label^=\"ROM 0\"] .number')].map((node) => node.textContent).join(' ')"
 GET_SOURCE = "return document.querySelector('#program-editor .cm-editor').lineEditor.getValue()"
-GET_DISABLED_BUTTONS = "return [...document.querySelectorAll('#shelf button:disabled')].map((each) => `${each.textContent}: ${each.title}`)"
+GET_DISABLED_BUTTONS = "return [...document.querySelectorAll('#shelf button:disabled')].map((node) => `${node.textContent}: ${node.title}`)"
 GET_POSITION_OF_KEYS = """
 const box = document.querySelector("#wiring-picture .of-keys rect");
 return [box.getAttribute("x"), box.getAttribute("y")].map(Number)"""
 GET_CENTRE = "const box = document.querySelector(arguments[0]).getBoundingClientRect(); return [box.x + box.width / 2, box.y + box.height / 2]"
 # The descriptions of the parts and wires in the picture.
-GET_WIRING_LINES = "return [...document.querySelectorAll('#wiring-words li')].map((each) => each.textContent).join(' ')"
+GET_WIRING_LINES = "return [...document.querySelectorAll('#wiring-words li')].map((node) => node.textContent).join(' ')"
 # A program whose lamps show which keys are down.
 PROGRAM = """        FIM P0, 0x00    ; ROM 0 and RAM chip 0
         FIM P1, 0x10    ; ROM 1
@@ -124,7 +124,7 @@ def check_by_mouse(browser):
     eventually(browser, "a lamp is named", GET_DRAWING_STATUS, "Lamp 3 is called fourth one.")
     browser.type_into("#chosen [aria-label=colour]", "green")
     eventually(browser, "and coloured", GET_DRAWING_STATUS, "Lamp 3 is green.")
-    verdict("as the face has it", text_of(browser).split("\n")[:3], ["# lamp 3: fourth_one", "# colour 3: green", ""])
+    verdict("as in the front panel", text_of(browser).split("\n")[:3], ["# lamp 3: fourth_one", "# colour 3: green", ""])
     browser.click("#drawing-wire")
     eventually(browser, "it is wired", GET_DRAWING_STATUS, "Board applied.")
     eventually(browser, "four keys", COUNT_KEYS, 4)
@@ -163,7 +163,7 @@ def check_wires(browser):
     eventually(browser, "it is undone", GET_DRAWING_STATUS, "Undone.")
     browser.click("#drawing-undo")
     eventually(browser, "and the one before it", GET_WIRING_LINES, re.compile("open is at ram0.0.1"))
-    verdict("the text is as it was", text_of(browser), text_before)
+    verdict("the text is unchanged", text_of(browser), text_before)
     browser.click("#drawing-redo")
     eventually(browser, "and done again", GET_WIRING_LINES, re.compile("open is at rom0.2"))
     browser.click("#shelf-ram")
@@ -182,7 +182,7 @@ def check_buzzer(browser):
     verdict("a board without a buzzer has no sound", browser.script(GET_SOUND_LABEL), "")
     browser.click("#shelf-buzzer")
     eventually(browser, "a buzzer comes with what it needs", GET_DRAWING_STATUS, "The buzzer was added, with ROM 0.")
-    verdict("as a line of the face", text_of(browser).split("\n")[0], "# buzzer rom0.0: buzzer")
+    verdict("as a line of the front panel", text_of(browser).split("\n")[0], "# buzzer rom0.0: buzzer")
     verdict("a second one is not offered, and says why", browser.script(GET_DISABLED_BUTTONS), ["Buzzer: A board has one buzzer: delete that one first."])
     drag(browser, f"{pin('ROM 0 · 4001, out 3')} circle", f"{pin('Buzzer, buzzer')} circle")
     eventually(browser, "a wire is dragged to it", GET_DRAWING_STATUS, "Line rom0.3 is wired to the buzzer.")
@@ -278,7 +278,7 @@ def check_by_keyboard(browser):
     eventually(browser, "Ctrl Z takes the wire back", GET_DRAWING_STATUS, "Undone.")
     browser.press_chord(CONTROL, "z")
     eventually(browser, "and the lamp", GET_WIRING_LINES, re.compile("Lamps · 3"))
-    verdict("the text is as it was", text_of(browser), text_before)
+    verdict("the text is unchanged", text_of(browser), text_before)
     browser.script("document.querySelector('#wiring-picture .of-chain').focus()")
     browser.keys([DELETE])
     eventually(browser, "what hangs on a part goes with it", GET_DRAWING_STATUS, "Chain 0 was deleted, and with it the keys.")
@@ -406,7 +406,7 @@ def check_drag_from_shelf(browser, kind):
     eventually(browser, "a lamp that is dropped on a pin is wired to it", GET_WIRING_LINES, re.compile("lamp 0 is at rom0.3"))
     browser.click("#drawing-undo")
     eventually(browser, "undone in one step", GET_DRAWING_STATUS, "Undone.")
-    verdict("the chip is as before", text_of(browser), '[[rom]]\nchip = 0\nport = "0000"\n')
+    verdict("the chip is unchanged", text_of(browser), '[[rom]]\nchip = 0\nport = "0000"\n')
     if kind == "mouse":
         drag_from_shelf(browser, "ram", target, kind, ESCAPE)
         verdict("Escape drops nothing", "ram" in text_of(browser), False)
@@ -476,10 +476,10 @@ def check_text_with_errors(browser):
     """Checks that the picture stays unchanged while the board's text has errors, and is updated when they are corrected."""
     text = text_of(browser)
     browser.script(PUT_INTO_EDITOR, BOARD, f"{text}\n[[lamp]]\n")
-    eventually(browser, "a text with faults says so", GET_STATE, re.compile("^The bench rejects the board's text"))
+    eventually(browser, "a text with errors says so", GET_STATE, re.compile("^The bench rejects the board's text"))
     verdict("and nothing can be added", len(browser.script(GET_DISABLED_BUTTONS)), 12)
     browser.script(PUT_INTO_EDITOR, BOARD, text.replace("# title: Lock", "# title: Other"))
-    eventually(browser, "without them it goes on", GET_STATE, "")
+    eventually(browser, "without them it continues", GET_STATE, "")
     browser.script("document.querySelector('#wiring-picture [tabindex=\"0\"]').focus()")
     browser.keys([ESCAPE])
     eventually(browser, "what is typed in the text is drawn", "const field = document.querySelector('#chosen [aria-label=title]'); return field && field.value",

@@ -16,8 +16,8 @@ GET_SCROLL_TOP = "return document.querySelector('#program-editor .cm-editor').li
 FIND_EDITOR = "const editor = document.querySelector(`${arguments[0]} .cm-editor`).lineEditor; "
 GET_CARET = f"{FIND_EDITOR}const at = editor.getCursor(); return [at.line, at.ch, editor.getSelection()]"
 SET_CARET = f"{FIND_EDITOR}editor.setCursor({{ line: arguments[1], ch: arguments[2] }}); editor.focus()"
-GET_ERRORS = "return [...document.querySelectorAll('{} .fault-list li')].map((each) => each.textContent).join('|')"
-GET_UNDERLINED = "return [...document.querySelectorAll('{} .fault')].map((each) => each.textContent).join(' ')"
+GET_ERRORS = "return [...document.querySelectorAll('{} .fault-list li')].map((node) => node.textContent).join('|')"
+GET_UNDERLINED = "return [...document.querySelectorAll('{} .fault')].map((node) => node.textContent).join(' ')"
 GET_STATUS_OF = "return document.querySelector('{} .status-text').textContent"
 GET_EXPLANATION = "return document.querySelector('{} .meaning').textContent"
 GET_LISTING = "return document.querySelector('#lines-of-program').textContent"
@@ -27,7 +27,7 @@ IS_FOCUS_IN_PAPER = "return document.activeElement.closest('.paper') !== null"
 GET_LINE_NUMBERS = f"""{FIND_EDITOR}
 editor.scrollTo(1e6);
 editor.view.scrollDOM.scrollLeft = 1000;
-const shown = (part) => [...editor.view.dom.querySelectorAll(part)].filter((each) => each.getBoundingClientRect().height > 0);
+const shown = (part) => [...editor.view.dom.querySelectorAll(part)].filter((node) => node.getBoundingClientRect().height > 0);
 const lines = shown(".cm-line").map((line) => line.getBoundingClientRect().top);
 const numbers = shown(".cm-lineNumbers .cm-gutterElement");
 const apart = numbers.map((number) => Math.min(...lines.map((line) => Math.abs(number.getBoundingClientRect().top - line))));
@@ -85,23 +85,23 @@ def check_errors(browser):
     browser.script(SET_CARET, PROGRAM, 0, 0)
     set_text(browser, PROGRAM, FAULTY_PROGRAM)
     browser.script(SET_CARET, PROGRAM, 1, 3)
-    eventually(browser, "all faults of a program, in words", GET_ERRORS.format(PROGRAM), ERROR_MESSAGES)
-    verdict("with the words at fault underlined", browser.script(GET_UNDERLINED.format(PROGRAM)), "LDX R0 JMP LDM loop")
+    eventually(browser, "all errors of a program, with a message", GET_ERRORS.format(PROGRAM), ERROR_MESSAGES)
+    verdict("with the words at error underlined", browser.script(GET_UNDERLINED.format(PROGRAM)), "LDX R0 JMP LDM loop")
     verdict("the caret stays, and nothing is selected", browser.script(GET_CARET, PROGRAM), [1, 3, ""])
-    verdict("each fault is in the margin of its line",
+    verdict("each error is in the margin of its line",
             browser.script("return document.querySelectorAll('#program-editor .mark-faults').length"), 5)
     verdict("the tab shows how many", browser.text("#program-tab"), re.compile("5 errors$"))
     browser.click(f"{PROGRAM} .send")
-    eventually(browser, "a program with faults is not assembled", GET_STATUS_OF.format(PROGRAM), re.compile("^line 1: LDX is not an instruction.*4 more$"))
+    eventually(browser, "a program with errors is not assembled", GET_STATUS_OF.format(PROGRAM), re.compile("^line 1: LDX is not an instruction.*4 more$"))
     browser.click(f"{PROGRAM} .fault-list li:nth-child(3) button")
-    verdict("a fault in the list leads to its word", browser.script(GET_CARET, PROGRAM), [2, 8, ""])
+    verdict("an error in the list leads to its word", browser.script(GET_CARET, PROGRAM), [2, 8, ""])
     corrected = FAULTY_PROGRAM.replace("LDM\n", "LDM 1\t; caf\u00e9\n").replace("LDX", "LDM").replace("R0", "P0").replace("JMP", "JUN")
     corrected = corrected.replace("loop:   NOP\nloop:", "loop:   NOP\nmore:")
     set_text(browser, PROGRAM, corrected.replace("start\n", "strat\n").replace("LDM 1\t", "LDM 16\t"))
     eventually(browser, "errors of values come when each line has a form", GET_ERRORS.format(PROGRAM),
           "line 3: strat is not defined; start?|line 4: LDM takes a value, 0 to 15")
     set_text(browser, PROGRAM, corrected)
-    eventually(browser, "mended, no fault is left", GET_ERRORS.format(PROGRAM), "")
+    eventually(browser, "corrected, no error is left", GET_ERRORS.format(PROGRAM), "")
 
 
 def check_typing(browser):
@@ -139,13 +139,13 @@ def check_names(browser):
     browser.keys([F12], 5, 5)
     eventually(browser, "F12 leads to where a name is defined", get_caret, [0, 4, "loop"])
     browser.press_chord(SHIFT, F12)
-    eventually(browser, "its places are listed", "return [...document.querySelectorAll('#program-editor .places li')].map((each) => each.textContent).join('|')",
+    eventually(browser, "its places are listed", "return [...document.querySelectorAll('#program-editor .places li')].map((node) => node.textContent).join('|')",
                "loop is at 3 places Close|line 1, where it is defined loop:\tNOP ; loop|line 2 FIM P0, loop|line 3 JUN loop")
     browser.click(f"{PROGRAM} .places li:nth-child(3) button")
     eventually(browser, "one of them is shown", get_caret, [1, 13, "loop"])
     browser.keys([F2], 5, 5)
     browser.keys([*"jun", ENTER], 5, 5)
-    eventually(browser, "a name that is none is refused in words", "return document.querySelector('#program-editor .search:not([hidden]) p').textContent",
+    eventually(browser, "an unknown name is rejected with a message", "return document.querySelector('#program-editor .search:not([hidden]) p').textContent",
                "jun is an instruction.")
     browser.keys([BACKSPACE, BACKSPACE, BACKSPACE, *"again", ENTER], 5, 5)
     eventually(browser, "another name stands at all places", get_text, "again:\tNOP ; loop\n\tFIM P0, again\n\tJUN again")
@@ -160,12 +160,12 @@ def check_names(browser):
     browser.press_chord(CONTROL, "h")
     browser.keys([*"again"], 5, 5)
     browser.script(f"document.querySelector('{PROGRAM} [aria-label=\"Replace with\"]').value = 'loop'")
-    browser.script(f"[...document.querySelectorAll('{PROGRAM} .search button')].find((each) => each.textContent === 'Replace all').click()")
+    browser.script(f"[...document.querySelectorAll('{PROGRAM} .search button')].find((node) => node.textContent === 'Replace all').click()")
     eventually(browser, "all are replaced", get_text, "loop:\tNOP ; loop\n\tFIM P0, loop\n\tJUN loop")
     browser.keys([ESCAPE], 5, 5)
 
 
-GET_FOLDED = "return [...document.querySelectorAll('#program-editor .folded-lines')].map((each) => each.textContent).join()"
+GET_FOLDED = "return [...document.querySelectorAll('#program-editor .folded-lines')].map((node) => node.textContent).join()"
 FOLDABLE_PROGRAM = """; two lines
 ; of comment
 
@@ -206,7 +206,7 @@ def check_folding(browser):
     browser.click("#step")
     browser.until(GET_STATUS, STEPPED)
     # Time is paused either at the loop's label, so that the line below the label stays folded, or at that line.
-    eventually(browser, "and the line at which time stands still is unfolded", GET_FOLDED, re.compile("^\u2026 1 line(,\u2026 1 line){1,2}$"))
+    eventually(browser, "and the line at which time is paused is unfolded", GET_FOLDED, re.compile("^\u2026 1 line(,\u2026 1 line){1,2}$"))
 
 
 def check_numbers(browser):
@@ -251,8 +251,8 @@ def check_limits(browser):
     set_text(browser, PROGRAM, "\tNOP\n")
     browser.script(SET_CARET, PROGRAM, 1, 0)
     browser.script(PASTE_TEXT, PROGRAM, "\tNOP\n", 1_000_000)
-    eventually(browser, "5 MB pasted are refused in words", GET_STATUS_OF.format(PROGRAM), re.compile("^It was not inserted: the text would have 5,000,005 characters"))
-    verdict("and the text is as it was", browser.script(GET_TEXT_OF_EDITOR, PROGRAM), "\tNOP\n")
+    eventually(browser, "5 MB pasted are rejected with a message", GET_STATUS_OF.format(PROGRAM), re.compile("^It was not inserted: the text would have 5,000,005 characters"))
+    verdict("and the text is unchanged", browser.script(GET_TEXT_OF_EDITOR, PROGRAM), "\tNOP\n")
 
 
 def check_sessions(browser):
@@ -281,7 +281,7 @@ def check_running(browser):
     browser.script(SET_CARET, PROGRAM, 0, 0)
     browser.press_chord(CONTROL, ENTER)
     eventually(browser, "Control and Enter assemble and run", GET_STATUS_OF.format(PROGRAM), "Assembled 3 bytes; running from 000.")
-    eventually(browser, "time runs", GET_STATUS, re.compile("^Running"))
+    eventually(browser, "time is running", GET_STATUS, re.compile("^Running"))
     browser.until("return document.querySelector('#registers').textContent", re.compile("^acc7"))
     stop_time(browser)
     eventually(browser, "the machine is at the program's end", "return document.querySelector('#registers').textContent", re.compile("^acc7.*pc00[12]"))
@@ -304,7 +304,7 @@ def check_empty(browser):
     verdict("with lamps", browser.script("return document.querySelectorAll('#lamps li').length"), 4)
     verdict("and it is not offered again", browser.script("return document.getElementById('board-offer').hidden"), True)
     show_text(browser, "program")
-    eventually(browser, "then the program has no fault", GET_ERRORS.format(PROGRAM), "")
+    eventually(browser, "then the program has no error", GET_ERRORS.format(PROGRAM), "")
 
 
 FAULTY_BOARD = """[[rom]]
@@ -327,7 +327,7 @@ def check_board(browser):
     text = FAULTY_BOARD
     for wrong_text, corrected_text, message, underlined in BOARD_CORRECTIONS:
         set_text(browser, BOARD, text)
-        eventually(browser, "the error of a board, in words", GET_ERRORS.format(BOARD), message)
+        eventually(browser, "the error of a board, with a message", GET_ERRORS.format(BOARD), message)
         verdict("with what is wrong underlined", browser.script(GET_UNDERLINED.format(BOARD)), underlined)
         text = text.replace(wrong_text, corrected_text)
     set_text(browser, BOARD, text)
@@ -337,12 +337,12 @@ def check_board(browser):
     for text in ("[[rom]]\nchip = 0\nport = \"0000\"", "[[lamp]]\nline = \"rom0.0\""):
         browser.press_chord(CONTROL, " ")
         browser.until("return document.querySelectorAll('.cm-tooltip-autocomplete li').length", 5)
-        browser.script("[...document.querySelectorAll('.cm-tooltip-autocomplete li')].find((each) => each.textContent.startsWith(arguments[0]))"
+        browser.script("[...document.querySelectorAll('.cm-tooltip-autocomplete li')].find((node) => node.textContent.startsWith(arguments[0]))"
                        ".dispatchEvent(new MouseEvent('mousedown', { bubbles: true, cancelable: true }))",
                        text.split("\n")[0])
         verdict("an empty line becomes a part", browser.script(GET_TEXT_OF_EDITOR, BOARD).endswith(text), True)
         browser.keys([ENTER])
-    eventually(browser, "and a board of such parts has no fault", GET_ERRORS.format(BOARD), "")
+    eventually(browser, "and a board of such parts has no error", GET_ERRORS.format(BOARD), "")
     set_text(browser, BOARD, "[[rom]]\nchip = 0\nport = 0000\n")
     eventually(browser, "what is no TOML", GET_ERRORS.format(BOARD), 'line 3: a number has no leading zero; write a text in quotes: "0000"')
     show_text(browser, "program")
@@ -369,8 +369,8 @@ def check_phone(browser, page):
     set_text(browser, PROGRAM, "\tLDM \n\tJUN nowhere\n")
     browser.script(SET_CARET, PROGRAM, 0, 5)
     compose(browser, "w", "wo", "wor", "word")
-    eventually(browser, "a word that is composed while faults are marked is there", get_text, "\tLDM word\n\tJUN nowhere\n")
-    eventually(browser, "with its fault", GET_ERRORS.format(PROGRAM), re.compile("^line 1: .*word"))
+    eventually(browser, "a word that is composed while errors are marked is there", get_text, "\tLDM word\n\tJUN nowhere\n")
+    eventually(browser, "with its error", GET_ERRORS.format(PROGRAM), re.compile("^line 1: .*word"))
     set_text(browser, PROGRAM, "lable:\tNOP\n")
     browser.script(SET_CARET, PROGRAM, 0, 5)
     compose(browser, "label", replaced_range=(0, 5))

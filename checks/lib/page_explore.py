@@ -23,7 +23,7 @@ from web_driver import Chromium
 EDITOR = "#properties-editor"
 GET_PROPERTIES_STATUS = "return document.querySelector('#properties-editor .status-text').textContent"
 GET_BUTTON_LABEL = "return document.getElementById('explore').textContent"
-GET_ROWS = """return [...document.querySelectorAll('#property-list > li')].map((each) => [...each.querySelector('p').children]
+GET_ROWS = """return [...document.querySelectorAll('#property-list > li')].map((node) => [...node.querySelector('p').children]
   .map((child) => child.textContent).filter(Boolean).join(' | '))"""
 GET_MARK = "return document.querySelector('#properties-tab .mark').textContent"
 GET_ERRORS = GET_TESTS_FAULTS.replace("tests", "properties")
@@ -60,7 +60,7 @@ def faulty_program():
     """Returns the lock's program with an error: the lock accepts any digit for one digit of the code."""
     program = (LOCK / "lock.asm").read_text()
     faulty = re.sub(r"^        JCN nonzero, wrong$", "        NOP", program, flags=re.M)
-    verdict("the fault is put into the program", faulty == program, False)
+    verdict("the error is put into the program", faulty == program, False)
     return faulty
 
 
@@ -75,23 +75,23 @@ def start_tool(folder, program, mcs4):
 def check_counterexample(browser, folder, mcs4):
     program = faulty_program()
     choose_example(browser, "lock")
-    verdict("properties come with their example", text_of(browser, "properties"), (LOCK / "lock.props").read_text())
+    verdict("an example has its properties", text_of(browser, "properties"), (LOCK / "lock.props").read_text())
     set_text(browser, "program", program)
     explore(browser, SEARCH_SECONDS)
-    eventually(browser, "the button stops it", GET_BUTTON_LABEL, "Stop")
+    eventually(browser, "the button stops the search", GET_BUTTON_LABEL, "Stop")
     eventually(browser, "steps are counted", GET_FIGURES, re.compile("^[1-9][0-9,]* steps"))
     cycles_before = browser.script(GET_CYCLES)
     eventually(browser, "what is broken is reported while it looks on", GET_PROPERTIES_STATUS, "1 property is broken so far.")
     verdict("the tab says so", browser.script(GET_MARK), "1 broken")
-    eventually(browser, "the session's time goes on meanwhile", f"{GET_CYCLES.replace('return ', 'return (')}) > {cycles_before}", True)
-    eventually(browser, "it comes to its end", GET_BUTTON_LABEL, "Search", SEARCH_SECONDS + 30)
+    eventually(browser, "the session's time continues meanwhile", f"{GET_CYCLES.replace('return ', 'return (')}) > {cycles_before}", True)
+    eventually(browser, "the search ends", GET_BUTTON_LABEL, "Search", SEARCH_SECONDS + 30)
     verdict("what was found is reported", browser.script(GET_PROPERTIES_STATUS), "1 property is broken.")
     tool = start_tool(folder, program, mcs4)
     output, _ = tool.communicate()
     rows = browser.script(GET_ROWS)
     verdict("each property has its row", len(rows), 8)
-    verdict("with how it is broken", rows[0], re.compile(r"^not ok \| lamp open on only after press 4, .* \| broken by \d+ steps?, [\d,]+ cycles"))
-    verdict("the others hold", rows[1:3], ["ok | never lamp open on and lamp locked on", "ok | never lamp open on and lamp alarm on"])
+    verdict("the row shows how the property is broken", rows[0], re.compile(r"^not ok \| lamp open on only after press 4, .* \| broken by \d+ steps?, [\d,]+ cycles"))
+    verdict("the other properties are not broken", rows[1:3], ["ok | never lamp open on and lamp locked on", "ok | never lamp open on and lamp alarm on"])
     verdict("the tool has found the same one alone", re.findall("^not ok (.*) - ", output, re.M), ["1"])
     tests_of_tool = (folder / "finds.test").read_text()
     verdict("by the same test, with the same seed", browser.script(GET_COUNTEREXAMPLE_TEST), tests_of_tool[tests_of_tool.index("\ntest ") + 1:].rstrip("\n"))
@@ -117,7 +117,7 @@ def check_test_added(browser):
     verdict("the test is added", browser.script(GET_PROPERTIES_STATUS), "It is at the end of Tests, where Run tests runs it.")
     verdict("behind those of before", text_of(browser, "tests"), f"{tests_before.rstrip()}\n\n{test}\n")
     browser.click(add_button)
-    verdict("once", (browser.script(GET_PROPERTIES_STATUS), text_of(browser, "tests").count(test)), ("Tests has it already.", 1))
+    verdict("the test is added once", (browser.script(GET_PROPERTIES_STATUS), text_of(browser, "tests").count(test)), ("Tests has it already.", 1))
     set_text(browser, "tests", test)
     show_text(browser, "tests")
     browser.click("#tests-editor .send")
@@ -128,33 +128,33 @@ def check_test_added(browser):
 
 def check_counterexample_opened(browser):
     browser.click("#property-list .bar button:nth-of-type(1)")
-    eventually(browser, "the find is opened as a session", GET_NAME, re.compile("^lamp open on only after press 4"))
+    eventually(browser, "the counterexample is opened as a session", GET_NAME, re.compile("^lamp open on only after press 4"))
     eventually(browser, "the way back is offered", GET_NOTICE, re.compile('"lock" is saved'))
-    verdict("the lamp is lit there", "lamps .*." in send_lines(browser, "lamps"), True)
-    verdict("its texts are there", (text_of(browser, "properties"), text_of(browser, "program") == faulty_program()),
+    verdict("the lamp is on there", "lamps .*." in send_lines(browser, "lamps"), True)
+    verdict("the counterexample's session has its texts", (text_of(browser, "properties"), text_of(browser, "program") == faulty_program()),
             ((LOCK / "lock.props").read_text(), True))
-    verdict("nothing was looked for in it yet", browser.script("return isShown(document.getElementById('explore-results'))"), False)
+    verdict("nothing was searched in the new session", browser.script("return isShown(document.getElementById('explore-results'))"), False)
     browser.click("#sessions-button")
     browser.until("return document.getElementById('sessions').open", True)
     browser.click("#kept button[aria-label='open lock']")
     eventually(browser, "back in the session", GET_NAME, "lock")
-    eventually(browser, "what was found in it is there", GET_ROWS, re.compile("^.'not ok . lamp open on only after"))
+    eventually(browser, "the results of the session are shown", GET_ROWS, re.compile("^.'not ok . lamp open on only after"))
 
 
 def check_stop_button(browser):
     """Checks that a ten-minute search stops at once, whether with the mouse or from the keyboard."""
     explore(browser, 600)
     # The page first attempts a proof, for a tenth of the time.
-    eventually(browser, "it looks", GET_FIGURES, re.compile("^[1-9][0-9,]* steps"), 120)
+    eventually(browser, "the search runs", GET_FIGURES, re.compile("^[1-9][0-9,]* steps"), 120)
     start = time.monotonic()
     browser.hold("#explore", 400)
-    eventually(browser, "it stops", GET_BUTTON_LABEL, "Search", 5)
-    verdict("at once", time.monotonic() - start < 3, True)
+    eventually(browser, "the search stops", GET_BUTTON_LABEL, "Search", 5)
+    verdict("the search stops at once", time.monotonic() - start < 3, True)
     verdict("and says so", browser.script(GET_PROPERTIES_STATUS), re.compile("^Stopped. "))
     browser.script("document.querySelector('#properties-editor .cm-editor').lineEditor.focus()")
     browser.press_chord(CONTROL, ENTER)
     eventually(browser, "Ctrl and Enter begins it", GET_BUTTON_LABEL, "Stop")
-    eventually(browser, "and it looks", GET_FIGURES, re.compile("^[1-9][0-9,]* steps"), 120)
+    eventually(browser, "the search runs", GET_FIGURES, re.compile("^[1-9][0-9,]* steps"), 120)
     browser.script("document.getElementById('explore').focus()")
     browser.keys([ENTER])
     eventually(browser, "Enter on the button stops it", GET_BUTTON_LABEL, "Search", 5)
@@ -166,23 +166,23 @@ def check_stop_button(browser):
 def check_errors(browser):
     set_text(browser, "properties", "wait 0 to 5\nnever lamp purple on\npress A\n")
     show_text(browser, "properties")
-    eventually(browser, "faults are reported while one types", GET_ERRORS,
+    eventually(browser, "errors are reported during typing", GET_ERRORS,
                ["line 1: write `wait TIME to TIME`, from 1 cycle to 100,000 (1.08 s), as in: wait 1 ms to 20 ms",
                 "line 2: the board has no lamp purple; it has: locked open alarm (column 7)",
                 "line 3: the board has no key A; it has: 1 2 3 4 5 6 7 8 9 * 0 #"])
     verdict("the tab shows how many", browser.script(GET_MARK), "3 errors")
     browser.click("#explore")
-    eventually(browser, "nothing is looked for then", GET_PROPERTIES_STATUS, re.compile("^Nothing was run: Properties, line 1: write .* and 2 more.$"))
+    eventually(browser, "no search starts then", GET_PROPERTIES_STATUS, re.compile("^Nothing was run: Properties, line 1: write .* and 2 more.$"))
     for seconds, seed, message in ((0, 1, "Seconds must be a number from 1 to 86,400."), ("x", -1, re.compile("^Seconds .* The seed must be a number"))):
         explore(browser, seconds, seed)
-        verdict(f"{seconds} seconds are refused", browser.script(GET_PROPERTIES_STATUS), message)
+        verdict(f"{seconds} seconds are rejected", browser.script(GET_PROPERTIES_STATUS), message)
     board = text_of(browser, "board")
     set_text(browser, "board", f"{board}[rom]\n")
     explore(browser, 5)
-    eventually(browser, "a board that is refused is reported", GET_PROPERTIES_STATUS, re.compile("^Nothing was run: Board: no 20: the text is not TOML"))
+    eventually(browser, "a board that is rejected is reported", GET_PROPERTIES_STATUS, re.compile("^Nothing was run: Board: no 20: the text is not TOML"))
     set_text(browser, "board", board)
     set_text(browser, "properties", "")
-    eventually(browser, "a text to begin with is offered", "return isShown(document.getElementById('first-properties'))", True)
+    eventually(browser, "a sample text is offered", "return isShown(document.getElementById('first-properties'))", True)
     browser.click("#first-properties")
     explore(browser, 3)
     eventually(browser, "its goals are reached", GET_PROPERTIES_STATUS, "Nothing was found that breaks a property.", 20)
@@ -212,12 +212,12 @@ def check_search_from_state(browser):
     set_text(browser, "tests", "test it is lit\n  set test 1\n  run 40\n  save lit\n")
     set_text(browser, "properties", "from lit\ntest\nwait 1 to 20\nnever lamp 0 on\nfrom dark\n")
     show_text(browser, "properties")
-    eventually(browser, "a second state is a fault", GET_ERRORS, ["line 5: an earlier line already says from which state it begins"])
+    eventually(browser, "a second state is an error", GET_ERRORS, ["line 5: an earlier line already says from which state it begins"])
     set_text(browser, "properties", "from dark\ntest\nnever lamp 0 on\n")
     eventually(browser, "and one that no test saves", GET_ERRORS, ["line 1: no test saves a state dark; there is: lit"])
     set_text(browser, "properties", "from lit\ntest\nwait 1 to 20\nnever lamp 0 on\n")
     explore(browser, 5)
-    eventually(browser, "a find from a state", GET_PROPERTIES_STATUS, "1 property is broken.", 20)
+    eventually(browser, "a counterexample from a state", GET_PROPERTIES_STATUS, "1 property is broken.", 20)
     verdict("has its lines", browser.script(GET_COUNTEREXAMPLE_TEST), re.compile("^test never lamp 0 on\n  set test 1\n  run 40\n"))
 
 
@@ -225,8 +225,8 @@ def check_phone(browser):
     set_size(browser, 390, 844, True)
     verdict("on a phone nothing scrolls sideways", browser.script(MEASURE_OVERFLOW), 0)
     explore(browser, 5)
-    eventually(browser, "it looks there, too", GET_BUTTON_LABEL, "Search", 20)
-    eventually(browser, "with its rows", GET_ROWS, re.compile("never lamp 0 on"))
+    eventually(browser, "the search runs on a phone, too", GET_BUTTON_LABEL, "Search", 20)
+    eventually(browser, "the rows on a phone", GET_ROWS, re.compile("never lamp 0 on"))
     verdict("which fit into its width", browser.script("""return [...document.querySelectorAll('#explore-results *')]
       .filter((each) => isShown(each) && each.getBoundingClientRect().right > innerWidth).length"""), 0)
     verdict("and nothing scrolls sideways", browser.script(MEASURE_OVERFLOW), 0)
@@ -245,7 +245,7 @@ def check_saving(browser, folder):
     choose_from_file_menu(browser, "#save-button")
     project_file = wait_for_download(folder, "with properties.mcsp")
     text = project_file.read_text()
-    verdict("a project has it", "\nunended properties\n" in text and "\nproperties\nnever lamp 1 on\n.\n" in text, True)
+    verdict("a project contains the properties", "\nunended properties\n" in text and "\nproperties\nnever lamp 1 on\n.\n" in text, True)
     browser.click("#sessions-button")
     browser.type_into("#file", str(LOCK / "lock.props"))
     eventually(browser, "a file of properties comes into its tab", GET_TEXT_OF_EDITOR.replace("arguments[0]", f"'{EDITOR}'"),

@@ -75,7 +75,7 @@ def lamps_pattern(names):
 def check_traffic_light(browser):
     choose_example(browser, "traffic light")
     eventually(browser, "the title", GET_TITLE, "Traffic light")
-    eventually(browser, "the lamps have names and say whether they are lit", GET_NAMES,
+    eventually(browser, "the lamps have names and say whether they are on", GET_NAMES,
                lamps_pattern("red, dark; amber, dark; stand, lit; green, lit; walk, dark"))
     positions = browser.script(GET_LAMP_POSITIONS)
     verdict("red, amber and green stand below each other", [positions["red"][0], positions["red"][0]], [positions["amber"][0], positions["green"][0]])
@@ -85,7 +85,7 @@ def check_traffic_light(browser):
     red, amber, stand, green, walk = browser.script(GET_COLOURS)
     verdict("red, amber and green are three colours", len({red, amber, green}), 3)
     verdict("the pedestrians have the same red and green", [stand, walk], [red, green])
-    verdict("what is lit is full, what is dark is a ring", browser.script(ARE_ONLY_LIT_LAMPS_FILLED), True)
+    verdict("what is on is full, what is dark is a ring", browser.script(ARE_ONLY_LIT_LAMPS_FILLED), True)
     check_spring_button(browser)
 
 
@@ -106,9 +106,9 @@ def check_spring_button(browser):
     browser.keys([" "], 100)
     eventually(browser, "by the space bar", "return window.presses.join(' ')", "true false true false true false")
     browser.click("#run")
-    eventually(browser, "time stands still", GET_STATUS, re.compile("^Paused"))
+    eventually(browser, "time is paused", GET_STATUS, re.compile("^Paused"))
     browser.click(TEST_KEY)
-    eventually(browser, "while time stands still it stays as a click puts it", IS_TEST_PRESSED, "true")
+    eventually(browser, "while time is paused it stays as a click puts it", IS_TEST_PRESSED, "true")
     browser.click(TEST_KEY)
     eventually(browser, "up to the next one", IS_TEST_PRESSED, "false")
 
@@ -124,7 +124,7 @@ def check_stopwatch(browser):
     eventually(browser, "and the digits count", GET_DIGITS, re.compile("^[1-9][0-9][0-9]$"))
     browser.touch_together([TEST_KEY], 80)
     eventually(browser, "until it is switched off", IS_TEST_PRESSED, "false")
-    eventually(browser, "what stands still is announced", IS_ANNOUNCEMENT_SHOWN, True)
+    eventually(browser, "what is paused is announced", IS_ANNOUNCEMENT_SHOWN, True)
     digits, segments = browser.script(GET_DISPLAY)
     segment_counts = [SEGMENT_COUNTS[digit] for digit in digits]
     verdict("four digits are drawn, of seven segments each", segments, [0] * (4 - len(segment_counts)) + segment_counts)
@@ -169,16 +169,16 @@ def check_ports(browser):
 
 def check_no_panel(browser):
     status_of(browser, "#board-editor", board_of_lamps(16))
-    eventually(browser, "sixteen lamps without a face are no number", "return document.getElementById('display').hidden", True)
+    eventually(browser, "sixteen lamps without a front panel are no number", "return document.getElementById('display').hidden", True)
     names = re.sub(", (lit|dark)", "", browser.script(GET_NAMES))
     verdict("but have the names of their lines", names, "; ".join(f"chain0.{number}" for number in range(16)))
     verdict("and a title like any", browser.script(GET_TITLE), "Lamps and keys")
-    verdict("TEST is where it is without a face", browser.script("return document.getElementById('test').hidden"), False)
+    verdict("TEST is where it is without a front panel", browser.script("return document.getElementById('test').hidden"), False)
 
 
 def check_bad_panels(browser):
     bad_panel = "# title: Odd <b>one</b>\n# colour 0: pink\n# lamp 16: nobody\n# lamp 0: here <i>x</i>\n# display 15: 1 digit\n# grid 0: ghost\n"
-    verdict("a board with a face that is none is wired", status_of(browser, "#board-editor", bad_panel + board_of_lamps(16)),
+    verdict("a board with an invalid front panel is wired", status_of(browser, "#board-editor", bad_panel + board_of_lamps(16)),
             "Board applied.")
     eventually(browser, "what is wrong with it is reported with its lines", GET_PANEL_ERRORS, "; ".join(f"line {line} of the board's text: {message}" for line, message in (
         (2, "pink is not a colour; the colours are red, amber, yellow, green, blue and white"),
@@ -191,13 +191,13 @@ def check_bad_panels(browser):
     verdict("the lamp has its name", browser.script(GET_NAMES).split("; ")[0], re.compile("^here, (lit|dark)$"))
     show_text(browser, "board")
     browser.script(PUT_INTO_EDITOR, "#board-editor", "# title: Another\n" + board_of_lamps(16))
-    eventually(browser, "a face that is written is shown without wiring", GET_TITLE, "Another")
-    eventually(browser, "and no fault is left", GET_PANEL_ERRORS, "")
+    eventually(browser, "a front panel that is typed is shown without wiring", GET_TITLE, "Another")
+    eventually(browser, "and no error is left", GET_PANEL_ERRORS, "")
     # The page reads texts 600 ms after the last edit.
     for description, text in (("of another board", board_of_lamps(15)), ("with a fault", board_of_lamps(16) + "[[lamp\n")):
         browser.script(PUT_INTO_EDITOR, "#board-editor", "# title: Third\n# lamp 16: nobody\n" + text)
         time.sleep(1.5)
-        verdict(f"the face of a text {description} waits until that is wired", [browser.script(GET_TITLE), browser.script(GET_PANEL_ERRORS)], ["Another", ""])
+        verdict(f"the front panel of a text {description} waits until that is wired", [browser.script(GET_TITLE), browser.script(GET_PANEL_ERRORS)], ["Another", ""])
     browser.reload()
     until_ready(browser)
     eventually(browser, "after a reload, too", GET_TITLE, "Another")
@@ -210,7 +210,7 @@ def check_forced_colours(browser):
     eventually(browser, "the traffic light again", GET_NAMES, re.compile("green, lit"))
     browser.command("Emulation.setEmulatedMedia", features=[{"name": "forced-colors", "value": "active"}])
     verdict("in forced colours all lamps have one colour", len(set(browser.script(GET_RINGS))), 1)
-    verdict("what is lit is full there, too", browser.script(ARE_ONLY_LIT_LAMPS_FILLED), True)
+    verdict("what is on is full there, too", browser.script(ARE_ONLY_LIT_LAMPS_FILLED), True)
     get_letters = "return [...document.querySelectorAll('#front .bulb')].map((bulb) => getComputedStyle(bulb, '::before').content).join(' ')"
     verdict("and letters show the colours", browser.script(get_letters), '"" "A" "" "G" "G"')
     browser.command("Emulation.setEmulatedMedia", features=[])

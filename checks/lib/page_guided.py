@@ -16,8 +16,8 @@ GET_TOUR_STATUS = "return document.getElementById('tour-status').textContent"
 GET_SESSION_NAME = "return document.getElementById('name').value"
 GET_TAB = "return document.querySelector('#text-tabs [aria-selected=true]').textContent"
 GET_DOCK_TAB = GET_TAB.replace("text-tabs", "dock-tabs")
-GET_KEYS_DOWN = "return [...document.querySelectorAll(\"#keys [aria-pressed='true'] b\")].map((each) => each.textContent).join(' ')"
-GET_LINKS = "return [...document.querySelectorAll('#tour-words .place')].map((each) => each.textContent)"
+GET_KEYS_DOWN = "return [...document.querySelectorAll(\"#keys [aria-pressed='true'] b\")].map((node) => node.textContent).join(' ')"
+GET_LINKS = "return [...document.querySelectorAll('#tour-words .place')].map((node) => node.textContent)"
 CLICK_LINK = "document.querySelectorAll('#tour-words .place')[arguments[0]].click()"
 FOCUS_LINK = "document.querySelectorAll('#tour-words .place')[arguments[0]].focus()"
 IS_MEMORY_IN_VIEW = "const { top, bottom } = document.getElementById('memory').getBoundingClientRect(); return bottom > 0 && top < innerHeight"
@@ -54,9 +54,9 @@ def check_sum(browser):
 def check_main_loop(browser):
     next_step(browser, "One digit at a time")
     click_link(browser, "Pause")
-    eventually(browser, "time stands still", GET_STATUS, re.compile("^Paused"))
+    eventually(browser, "time is paused", GET_STATUS, re.compile("^Paused"))
     click_link(browser, "Resume")
-    eventually(browser, "time runs", GET_STATUS, re.compile("^Running"))
+    eventually(browser, "time is running", GET_STATUS, re.compile("^Running"))
     click_link(browser, "wiring")
     eventually(browser, "the wiring is in front", GET_TAB, re.compile("^Wiring"))
     click_link(browser, "a turn")
@@ -77,13 +77,13 @@ def check_phone(browser):
 def check_key(browser):
     next_step(browser, "A key goes down")
     click_link(browser, "Pause")
-    eventually(browser, "time stands still", GET_STATUS, re.compile("^Paused"))
+    eventually(browser, "time is paused", GET_STATUS, re.compile("^Paused"))
     click_link(browser, "press 5")
     eventually(browser, "the key stays down", GET_KEYS_DOWN, "5")
     click_link(browser, "press 5")
     verdict("also where it is pressed again", browser.script(GET_KEYS_DOWN), "5")
     click_link(browser, "Run to where the columns are read")
-    eventually(browser, "time has come to where the columns are read", GET_WHOLE_STATUS, re.compile(r"look, line"))
+    eventually(browser, "time has reached the place where the columns are read", GET_WHOLE_STATUS, re.compile(r"look, line"))
     click_link(browser, "Run to where the key is accepted")
     eventually(browser, "and to where the key is accepted", GET_WHOLE_STATUS, re.compile(r"taken, line"))
     verdict("R11 has its number", browser.script(GET_REGISTER, "R11"), "5")
@@ -102,12 +102,12 @@ def check_key(browser):
 def check_digit_entry(browser):
     next_step(browser, "A digit of a number")
     click_link(browser, "Run to where the digit is entered")
-    eventually(browser, "time has come to where the digit is entered", GET_WHOLE_STATUS, re.compile(r"enter, line"))
+    eventually(browser, "time has reached the place where the digit is entered", GET_WHOLE_STATUS, re.compile(r"enter, line"))
     verdict("R15 has its code", browser.script(GET_REGISTER, "R15"), "5")
     click_link(browser, "RAM")
     eventually(browser, "RAM is in view", IS_MEMORY_IN_VIEW, True)
     click_link(browser, "run on to where it is shown")
-    eventually(browser, "time has come to where it is shown", GET_WHOLE_STATUS, re.compile(r"show, line"))
+    eventually(browser, "time has reached the place where it is shown", GET_WHOLE_STATUS, re.compile(r"show, line"))
     click_link(browser, "Run to the next turn")
     eventually(browser, "and to the next turn", GET_WHOLE_STATUS, re.compile(r"turn, line"))
     click_link(browser, "Release 5")
@@ -115,7 +115,7 @@ def check_digit_entry(browser):
     click_link(browser, "resume")
     eventually(browser, "the digit is seen", GET_DIGITS, "5")
     click_link(browser, "Run to where the digit is entered")
-    eventually(browser, "without a key time runs up to there", GET_WHOLE_STATUS, re.compile("^Running to"))
+    eventually(browser, "without a key time is running up to there", GET_WHOLE_STATUS, re.compile("^Running to"))
     click_link(browser, "resume")
     eventually(browser, "until it is to run on without a goal", GET_WHOLE_STATUS, re.compile('^Running ".*F5'))
     browser.keys(["5"])
@@ -126,13 +126,13 @@ def check_digit_entry(browser):
 def check_printing(browser):
     next_step(browser, "A printed line")
     click_link(browser, "Pause")
-    eventually(browser, "time stands still", GET_STATUS, re.compile("^Paused"))
+    eventually(browser, "time is paused", GET_STATUS, re.compile("^Paused"))
     click_link(browser, "press =")
     click_link(browser, "run to where a character is sent")
-    eventually(browser, "time has come to where a character is sent", GET_WHOLE_STATUS, re.compile(r"send, line"))
+    eventually(browser, "time has reached the place where a printer code is sent", GET_WHOLE_STATUS, re.compile(r"send, line"))
     verdict("the accumulator has its code", browser.script(GET_REGISTER, "acc"), "5")
     click_link(browser, "Run on")
-    eventually(browser, "the paper has one character more", GET_PRINTER_TAPE, "12+ 30= 42 5")
+    eventually(browser, "the printout has one character more", GET_PRINTER_TAPE, "12+ 30= 42 5")
     click_link(browser, "Go back to before the code was written")
     eventually(browser, "it is gone again", GET_PRINTER_TAPE, "12+ 30= 42")
 
@@ -149,7 +149,7 @@ def check_end(browser):
         eventually(browser, f"Enter on {label}", query, expected)
     browser.script(FOCUS_LINK, browser.script(GET_LINKS).index("resume"))
     browser.keys([ENTER])
-    eventually(browser, "time runs", GET_STATUS, re.compile("^Running"))
+    eventually(browser, "time is running", GET_STATUS, re.compile("^Running"))
     status_of(browser, "#program-editor", "NOP\n")
     browser.click("#tour-back")
     click_link(browser, "run to where a character is sent")

@@ -61,7 +61,7 @@ def check_wiring(browser):
     choose_example(browser, "traffic light")
     browser.click("#wiring-tab")
     eventually(browser, "the wiring is drawn", "return document.querySelectorAll('#wiring-picture .part').length >= 4", True)
-    eventually(browser, "lines at 1 are marked while time runs", COUNT_HIGH, re.compile("[1-9]"))
+    eventually(browser, "lines at 1 are marked while time is running", COUNT_HIGH, re.compile("[1-9]"))
     verdict("and described in words", browser.text("#wiring-words"), re.compile("ROM 0 · 4001: line rom0.0, an (in|out)put, "))
     browser.script("document.querySelector('#wiring-picture .part.of-rom').focus()")
     browser.keys([ENTER])
@@ -118,7 +118,7 @@ def check_tour(browser):
 
 
 def check_hints(browser):
-    get_titles = "return [...document.querySelectorAll('#processor [title], #calls [title], #ports [title]')].map((each) => each.title).join('; ')"
+    get_titles = "return [...document.querySelectorAll('#processor [title], #calls [title], #ports [title]')].map((node) => node.title).join('; ')"
     for description in ("the accumulator", "in the middle of an instruction of two cycles", "the return addresses, the newest first", "what WRR has written"):
         eventually(browser, f"a cell says what it shows: {description}", get_titles, re.compile(description))
 

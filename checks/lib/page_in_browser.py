@@ -37,8 +37,8 @@ ENTER, ESCAPE, TAB, DOWN = "\ue007", "\ue00c", "\ue004", "\ue015"
 
 # Returns the number of controls without an accessible name.
 COUNT_UNNAMED_CONTROLS = """
-return [...document.querySelectorAll("button, input, select, textarea")].filter((each) => !each.textContent.trim()
-  && !each.getAttribute("aria-label") && !each.labels?.length && !each.getAttribute("aria-labelledby")).length"""
+return [...document.querySelectorAll("button, input, select, textarea")].filter((node) => !node.textContent.trim()
+  && !node.getAttribute("aria-label") && !node.labels?.length && !node.getAttribute("aria-labelledby")).length"""
 
 # Records the saved session one second after the page is hidden, and again when the page is shown.
 RECORD_SAVED_SESSIONS = """
@@ -125,10 +125,10 @@ def choose_example(browser, name):
 def step_with_marks(browser):
     """Checks with the traffic light that a lamp is on, that time can be paused, and that a step marks the values that it changed."""
     choose_example(browser, "traffic light")
-    eventually(browser, "a lamp is lit", "return document.querySelectorAll('.bulb.lit').length > 0", True)
+    eventually(browser, "a lamp is on", "return document.querySelectorAll('.bulb.lit').length > 0", True)
     stop_time(browser)
     browser.click("#step")
-    eventually(browser, "a step leaves marks", "return document.querySelectorAll('.changed').length > 0", True)
+    eventually(browser, "a step marks the changed values", "return document.querySelectorAll('.changed').length > 0", True)
 
 
 def check_calculator(browser):
@@ -143,7 +143,7 @@ def check_calculator(browser):
     browser.keys([ESCAPE, "7", "-", "9", ENTER])
     eventually(browser, "7 - 9 by the keyboard", GET_DIGITS, "-2")
     browser.keys([ESCAPE, "6", "*", "9", ENTER], 1, 1)
-    eventually(browser, "6 * 9, typed faster than a hand can", GET_DIGITS, "54")
+    eventually(browser, "6 * 9, typed very fast", GET_DIGITS, "54")
     # Each key is pressed again before its release is reported in the next frame, 43 ms after the press.
     for down, up in ((20, 50), (50, 20), (90, 25)):
         browser.keys([ESCAPE, *"11111111"], down, up)
@@ -156,7 +156,7 @@ def check_two_keys(browser):
                    "{ subtree: true, attributes: true, attributeFilter: ['aria-pressed'] })")
     browser.touch_together([key("C"), key("S"), key("0")], 400)
     eventually(browser, "three keys at once", "return window.both", 3)
-    eventually(browser, "and all up again", COUNT_KEYS_DOWN, 0)
+    eventually(browser, "all keys are up again", COUNT_KEYS_DOWN, 0)
 
 
 def display_of(mcs4, file, keys):
@@ -192,26 +192,26 @@ def check_files(browser, folder, mcs4):
     old_file = folder / "old.mcs"
     old_file.write_bytes(as_version_1(saved_file.read_bytes()))
     browser.type_into("#file", str(old_file))
-    eventually(browser, "a file of version 1 is carried over", "return document.getElementById('name').value", "old")
-    verdict("and shows the same", browser.script(GET_DIGITS), "42")
-    verdict("the saved file, gone on with by the program", display_of(mcs4, saved_file, "/8="), "5.25")
+    eventually(browser, "a file of version 1 is converted", "return document.getElementById('name').value", "old")
+    verdict("the display of the converted session", browser.script(GET_DIGITS), "42")
+    verdict("the saved file, continued by the program", display_of(mcs4, saved_file, "/8="), "5.25")
     browser.type_into("#file", str(saved_file))
     eventually(browser, "the program's file, opened by the page", GET_DIGITS, "5.25")
-    verdict("its keys have their names", browser.text("#keys"), "789/456*123-0.~+CCEcS=")
+    verdict("the keys of the opened session have names", browser.text("#keys"), "789/456*123-0.~+CCEcS=")
     source = browser.script(GET_TEXT_OF_EDITOR, "#program-editor")
-    verdict("its program has its text", source, (TOP / "examples/calculator/calculator.asm").read_text())
+    verdict("the program of the opened session has a text", source, (TOP / "examples/calculator/calculator.asm").read_text())
     foreign_file = folder / "rubbish.mcs"
     foreign_file.write_bytes(b"no session")
     browser.type_into("#file", str(foreign_file))
-    eventually(browser, "rubbish is refused in words", GET_NOTICE, re.compile(r"Cannot open rubbish\.mcs: no 50: not a session file"))
+    eventually(browser, "a file that is not a session is rejected with a message", GET_NOTICE, re.compile(r"Cannot open rubbish\.mcs: no 50: not a session file"))
     damaged_file = folder / "damaged.mcs"
     damaged_bytes = bytearray(saved_file.read_bytes())
     damaged_bytes[16:20] = b"\xff" * 4
     damaged_bytes[81936:81940] = b"\xff" * 4
     damaged_file.write_bytes(damaged_bytes)
     browser.type_into("#file", str(damaged_file))
-    eventually(browser, "a damaged file is refused in words", GET_NOTICE, re.compile("no 51: the session file is damaged"))
-    verdict("the session is as it was", browser.script(GET_DIGITS), "5.25")
+    eventually(browser, "a damaged file is rejected with a message", GET_NOTICE, re.compile("no 51: the session file is damaged"))
+    verdict("the session is unchanged", browser.script(GET_DIGITS), "5.25")
     browser.click("#notice .dismiss")
 
 
@@ -233,10 +233,10 @@ def check_stops(browser):
     browser.script(SET_SPEED, "full")
     browser.click("#run")
     browser.touch_together([key("C")], 60)
-    eventually(browser, "a run at full speed stops where the character changes", GET_STATUS,
+    eventually(browser, "a run at full speed stops where the nibble changes", GET_STATUS,
                re.compile("^Paused at ..., after a watched nibble changed.$"))
     browser.script(SET_SPEED, "real")
-    verdict("and it is marked", "changed" in browser.script("return document.querySelector('.ram button').className"), True)
+    verdict("the changed nibble is marked", "changed" in browser.script("return document.querySelector('.ram button').className"), True)
     browser.click(".ram button")
     browser.until("return document.querySelector('.ram button').getAttribute('aria-pressed')", "false")
 
@@ -260,8 +260,8 @@ def check_keyboard_alone(browser):
     browser.keys([DOWN, DOWN, ENTER])
     eventually(browser, "arrows and Enter set a breakpoint", "return document.activeElement.getAttribute('aria-pressed')", "true")
     browser.keys([ENTER])
-    eventually(browser, "and clear it", "return document.activeElement.getAttribute('aria-pressed')", "false")
-    verdict("all that can be used has a name", browser.script(COUNT_UNNAMED_CONTROLS), 0)
+    eventually(browser, "arrows and Enter clear the breakpoint", "return document.activeElement.getAttribute('aria-pressed')", "false")
+    verdict("each control has a name", browser.script(COUNT_UNNAMED_CONTROLS), 0)
 
 
 def check_narrow(browser):
@@ -280,12 +280,12 @@ def check_hidden(browser):
     browser.new_tab()
     time.sleep(2.5)
     browser.close_tab(shown_tab)
-    eventually(browser, "a page that was hidden says for how long it stood still", GET_STATUS,
+    eventually(browser, "a page that was hidden shows how long it was paused", GET_STATUS,
                re.compile(r"^Running\. Paused for \d+ seconds while the page was hidden\.$"))
-    eventually(browser, "what is kept did not change meanwhile", COUNT_SAVED_SESSIONS, [2, 1])
-    eventually(browser, "and it runs on as fast as it should", GET_RATE, re.compile("^9[0-4]...$"))
+    eventually(browser, "the stored session did not change while hidden", COUNT_SAVED_SESSIONS, [2, 1])
+    eventually(browser, "the speed after the page was hidden", GET_RATE, re.compile("^9[0-4]...$"))
     browser.script(BLOCK_PAGE, 1500)
-    eventually(browser, "the same where the browser did not run the page", GET_STATUS,
+    eventually(browser, "a page that the browser suspended", GET_STATUS,
                re.compile(r"Paused for \d+ seconds while the tab was busy\.$"))
     check_hidden_at_full_speed(browser)
 
@@ -299,10 +299,10 @@ def check_hidden_at_full_speed(browser):
     browser.new_tab()
     time.sleep(6)
     browser.close_tab(shown_tab)
-    eventually(browser, "at full speed what is kept goes on while hidden", COUNT_SAVED_SESSIONS, [2, 2])
-    verdict("and nothing stood still", browser.script(GET_STATUS), re.compile("^Running"))
+    eventually(browser, "at full speed the session continues while hidden", COUNT_SAVED_SESSIONS, [2, 2])
+    verdict("no pause is reported at full speed", browser.script(GET_STATUS), re.compile("^Running"))
     browser.script(SET_SPEED, "real")
-    eventually(browser, "and real time is held again", GET_RATE, re.compile("^9[0-4]...$"))
+    eventually(browser, "real time is kept again", GET_RATE, re.compile("^9[0-4]...$"))
 
 
 def check_speed_field(browser):
@@ -342,7 +342,7 @@ def status_of(browser, editor, text):
 
 
 def check_texts(browser):
-    verdict("a program's fault at its line", status_of(browser, "#program-editor", "NOP\n\tJCN 4, far\n ORG 0x300\nfar: NOP\n"),
+    verdict("a program's error at its line", status_of(browser, "#program-editor", "NOP\n\tJCN 4, far\n ORG 0x300\nfar: NOP\n"),
             re.compile("^line 2: far is on another page; JCN reaches"))
     verdict("a dot in a text", status_of(browser, "#program-editor", "NOP\n.\nNOP\n"), re.compile("^line 2: a line with only a dot"))
     verdict("a letter that is not of ASCII", status_of(browser, "#program-editor", "NOP\ncaf\u00e9: NOP"), re.compile("^line 2: \u00e9 is not a"))
@@ -351,12 +351,12 @@ def check_texts(browser):
             "line 4: size is not a key of rom, which has chip, port")
     verdict("a line that the board lacks", status_of(browser, "#board-editor", f'{rom}\n[[lamp]]\nline = "ram0.0.0"\n'),
             "line 6: the board has no line ram0.0.0: no [[ram]] has bank = 0")
-    verdict("the board is as it was", browser.script(GET_DIGITS) != "", True)
+    verdict("the board is unchanged", browser.script(GET_DIGITS) != "", True)
     verdict("lines and their answers", send_lines(browser, "poke r5 9\nfoo\nseq"),
             re.compile(r"poke r5 9ok \d+foono 10: not a command.*seqseq \d+$"))
     three_lamps_board = (TOP / "examples/three_lamps/board.toml").read_text()
     verdict("a board that is wired", status_of(browser, "#board-editor", three_lamps_board), "Board applied.")
-    verdict("has three lamps", browser.script("return document.querySelectorAll('#lamps li').length"), 3)
+    verdict("the new board has three lamps", browser.script("return document.querySelectorAll('#lamps li').length"), 3)
 
 
 def send_lines(browser, lines):
@@ -375,11 +375,11 @@ def check_two_tabs(browser):
     browser.go(address)
     until_ready(browser)
     verdict("a second tab on the session is informed", browser.script(GET_NOTICE), re.compile("open in another tab"))
-    verdict("and shows another session", browser.script("return location.href") != address, True)
+    verdict("the second tab shows another session", browser.script("return location.href") != address, True)
     name = browser.script("return document.getElementById('name').value")
     browser.click("#notice button[aria-label^='Open a copy']")
-    eventually(browser, "a copy of the first one can be opened there", "return document.getElementById('name').value", re.compile(", a copy$"))
-    verdict("which is none of the session that was shown", browser.script("return document.getElementById('name').value") != f"{name}, a copy", True)
+    eventually(browser, "a copy of the session can be opened in the second tab", "return document.getElementById('name').value", re.compile(", a copy$"))
+    verdict("the copy is a separate session", browser.script("return document.getElementById('name').value") != f"{name}, a copy", True)
     browser.close_tab(first_tab)
 
 
@@ -387,7 +387,7 @@ def check_basic_use(browser, page, folder, mcs4):
     """Checks the basic use of the page in a browser that has all features that the page needs."""
     browser.go(page.as_uri())
     until_ready(browser)
-    verdict("without a notice", browser.script(GET_NOTICE), "")
+    verdict("the copy opens without a notice", browser.script(GET_NOTICE), "")
     check_calculator(browser)
     if browser.can_multitouch:
         check_two_keys(browser)
@@ -409,14 +409,14 @@ def check_by_chromium(browser, page):
     check_narrow(browser)
     # The check's own scripts can fail until the result for which they wait exists. These are not errors of the page.
     expected_words = ("javascript ", "Script error", "favicon")
-    verdict("no fault in the browser's log", [line for line in browser.log() if not any(word in line for word in expected_words)], [])
+    verdict("no error in the browser's log", [line for line in browser.log() if not any(word in line for word in expected_words)], [])
 
 
 def check_policy(browser, page):
     browser.go(page.as_uri())
     until_ready(browser)
     browser.script(TRY_FORBIDDEN)
-    eventually(browser, "what the policy forbids", GET_VIOLATIONS, "base-uri form-action img-src script-src-elem style-src-elem")
+    eventually(browser, "requests that the policy blocks", GET_VIOLATIONS, "base-uri form-action img-src script-src-elem style-src-elem")
 
 
 def page_figures(browser, page):

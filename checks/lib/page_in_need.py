@@ -3,7 +3,7 @@
 import re
 import time
 
-from page_altered import REQUEST_FAULT, EXPOSE_WORKER, INSTALL_FAULTS, write_altered_page
+from page_altered import REQUEST_FAILURE, EXPOSE_WORKER, INSTALL_FAILURES, write_altered_page
 from page_in_browser import (ENTER, ESCAPE, GET_DIGITS, GET_NOTICE, GET_STATUS, GET_TEXT_OF_EDITOR, IS_READY, PUT_INTO_EDITOR, choose_example,
                              send_lines, reopen_page, stop_time, until_ready)
 from verdicts import eventually, verdict
@@ -12,7 +12,7 @@ from web_driver import Chromium
 # Scripts that make the store of sessions (IndexedDB) unusable. Each key names one way in which a browser can lack this store.
 SCRIPTS_WITHOUT_STORE = {
     "no IndexedDB": "Object.defineProperty(window, 'indexedDB', { value: undefined })",
-    "IndexedDB and locks are refused": "IDBFactory.prototype.open = () => { throw new DOMException('', 'SecurityError'); };"
+    "IndexedDB and locks are blocked": "IDBFactory.prototype.open = () => { throw new DOMException('', 'SecurityError'); };"
                                        "LockManager.prototype.request = async () => { throw new DOMException('', 'SecurityError'); }",
     "a store that does not answer": "IDBFactory.prototype.open = () => ({})",
 }
@@ -29,8 +29,9 @@ return [...document.querySelectorAll("button, input, select, textarea")].filter(
   .map((each) => each.textContent)"""
 
 
-def cause_fault(browser, fault):
-    browser.script(REQUEST_FAULT, fault)
+def cause_failure(browser, failure):
+    """Makes the worker or its module fail in one of the ways of INSTALL_FAILURES."""
+    browser.script(REQUEST_FAILURE, failure)
 
 
 def dismiss(browser):
@@ -39,27 +40,27 @@ def dismiss(browser):
 
 def check_failures(browser, page, folder):
     """Checks that the session survives a trap in the module, a lack of memory, a worker that dies or hangs, and a full store."""
-    browser.go(write_altered_page(page, folder, EXPOSE_WORKER, INSTALL_FAULTS).as_uri())
+    browser.go(write_altered_page(page, folder, EXPOSE_WORKER, INSTALL_FAILURES).as_uri())
     until_ready(browser)
     choose_example(browser, "calculator")
     browser.keys([ESCAPE, "1", "2"])
     browser.until(GET_DIGITS, "12")
-    cause_fault(browser, "trap")
+    cause_failure(browser, "trap")
     eventually(browser, "a trap is reported", GET_NOTICE, re.compile("the module stopped inside a call .unreachable. and was started again"))
-    verdict("the session is as it was", browser.script(GET_DIGITS), "12")
+    verdict("the session is unchanged", browser.script(GET_DIGITS), "12")
     dismiss(browser)
     browser.click("#run")
     browser.keys(["3"])
-    eventually(browser, "and goes on", GET_DIGITS, "123")
-    cause_fault(browser, "no memory")
+    eventually(browser, "the bench continues after a trap", GET_DIGITS, "123")
+    cause_failure(browser, "no memory")
     eventually(browser, "lack of memory is reported", GET_NOTICE, re.compile("no 90: there was no memory"))
-    eventually(browser, "the session is as it was then, too", GET_DIGITS, "123")
+    eventually(browser, "the session is unchanged after a lack of memory", GET_DIGITS, "123")
     dismiss(browser)
     check_full_store(browser)
-    cause_fault(browser, "trap without room")
+    cause_failure(browser, "trap without memory")
     browser.click("#step")
     eventually(browser, "no memory for the module after a trap is reported", GET_NOTICE, re.compile("no 90: there was no memory"))
-    verdict("and the session is as it was", browser.script(GET_DIGITS), "123")
+    verdict("and the session is unchanged", browser.script(GET_DIGITS), "123")
     dismiss(browser)
     check_worker(browser)
 
@@ -67,33 +68,33 @@ def check_failures(browser, page, folder):
 def check_full_store(browser):
     browser.script(FILL_STORE)
     verdict("an answer that is not kept says so", send_lines(browser, "poke r5 9"), re.compile("not kept: "))
-    verdict("a full store is reported", browser.script(GET_NOTICE), re.compile("This session is not kept: the browser has no more space"))
+    verdict("a full storage is reported", browser.script(GET_NOTICE), re.compile("This session is not kept: the browser has no more space"))
     browser.script("IDBObjectStore.prototype.put = window.put")
     send_lines(browser, "seq")
-    verdict("once it is kept the notice goes", browser.script(GET_NOTICE), "")
+    verdict("the notice disappears when the session is stored", browser.script(GET_NOTICE), "")
 
 
 def check_worker(browser):
     """Checks a worker that dies while time is running, and a worker that hangs when its work is cancelled."""
     browser.click("#run")
     browser.until(GET_STATUS, re.compile("^Running \""))
-    cause_fault(browser, "die")
+    cause_failure(browser, "die")
     eventually(browser, "a worker that died is reported", GET_NOTICE, re.compile("worker stopped and was restarted.*session is unchanged"), 40)
-    eventually(browser, "and the session is as it was", GET_DIGITS, "123")
+    eventually(browser, "and the session is unchanged", GET_DIGITS, "123")
     dismiss(browser)
     browser.click("#run")
     browser.keys(["4"])
-    eventually(browser, "and goes on in another worker", GET_DIGITS, "1234")
+    eventually(browser, "the bench continues in a new worker", GET_DIGITS, "1234")
     stop_time(browser)
     answer_before = send_lines(browser, "seq")
-    cause_fault(browser, "hang")
+    cause_failure(browser, "hang")
     browser.script("document.getElementById('lines').value = 'poke r5 9'")
     browser.script("document.getElementById('send').click()")
     eventually(browser, "work that hangs can be cancelled", "return document.getElementById('work').hidden", False)
     browser.click("#cancel")
-    eventually(browser, "then its worker is ended", GET_NOTICE, re.compile("worker stopped and was restarted"), 20)
+    eventually(browser, "the cancelled worker is ended", GET_NOTICE, re.compile("worker stopped and was restarted"), 20)
     browser.script("document.getElementById('lines').value = ''")
-    verdict("and the session is as it was then, too", send_lines(browser, "seq"), answer_before)
+    verdict("the session is unchanged after the cancellation", send_lines(browser, "seq"), answer_before)
     dismiss(browser)
 
 
@@ -144,21 +145,21 @@ def check_long_work(browser, page):
     browser.script("document.getElementById('send').click()")
     eventually(browser, "long work shows how far it is", HAS_PROGRESS, True, 60)
     browser.click("#cancel")
-    eventually(browser, "it can be cancelled", GET_NOTICE, re.compile("It was cancelled. The session is as it was before."), 30)
-    print(f"beside long work the page answers at least every {browser.script(GET_LONGEST_BLOCK):.0f} ms in {browser.name}")
+    eventually(browser, "long work can be cancelled", GET_NOTICE, re.compile("It was cancelled. The session is as it was before."), 30)
+    print(f"during long work the page answers at least every {browser.script(GET_LONGEST_BLOCK):.0f} ms in {browser.name}")
     browser.script("const area = document.getElementById('lines'); area.value = ''; area.style.display = ''")
-    verdict("and nothing of it is done", send_lines(browser, "seq"), answer_before)
+    verdict("cancelled work has no effect", send_lines(browser, "seq"), answer_before)
     dismiss(browser)
     browser.script("document.getElementById('lines').value = 'step\\n'.repeat(20000)")
     browser.script("document.getElementById('send').click()")
-    eventually(browser, "work in pieces is done whole", "return document.getElementById('lines').value", "", 60)
+    eventually(browser, "work in pieces is completed", "return document.getElementById('lines').value", "", 60)
     send_lines(browser, "seq")
-    verdict("each line of it once", browser.script(GET_LAST_ENTRY), f"seqseq {int(answer_before.rsplit(' ', 1)[1]) + 20000}")
+    verdict("each line of the work is executed once", browser.script(GET_LAST_ENTRY), f"seqseq {int(answer_before.rsplit(' ', 1)[1]) + 20000}")
 
 
 SHORTEN_WAIT = """
 const wait = setTimeout;
-window.setTimeout = (act, time, ...rest) => wait(act, time === 10000 ? 300 : time, ...rest);
+window.setTimeout = (handler, time, ...rest) => wait(handler, time === 10000 ? 300 : time, ...rest);
 """
 
 
@@ -176,7 +177,7 @@ def notice_after_reopening(browser, page, code=GET_NOTICE, expected=re.compile("
 def check_works(browser, description):
     eventually(browser, description, IS_READY, True)
     browser.keys([ESCAPE, "6", "*", "7", ENTER])
-    eventually(browser, "and the bench works all the same", GET_DIGITS, "42")
+    eventually(browser, "the bench works despite the missing feature", GET_DIGITS, "42")
 
 
 def check_poor_browsers(browser, page, folder):
@@ -190,7 +191,7 @@ def check_poor_browsers(browser, page, folder):
         browser.click("#sessions-button")
         eventually(browser, "the sessions of this page are shown", "return document.querySelectorAll('#kept li').length", 1)
         browser.click("#close-sessions")
-    verdict("a store that cannot be read", notice_after_reopening(browser, page_without_feature(page, folder, FAIL_READING)), re.compile("could not be read"))
+    verdict("a storage that cannot be read", notice_after_reopening(browser, page_without_feature(page, folder, FAIL_READING)), re.compile("could not be read"))
     check_works(browser, "a store that cannot be read")
     check_no_locks(browser, page, folder)
 
@@ -206,11 +207,11 @@ def check_no_locks(browser, page, folder):
     until_ready(browser)
     verdict("the second tab keeps its line", send_lines(browser, "poke r5 9"), re.compile(r"poke r5 9ok \d+"))
     browser.close_tab(first_tab)
-    verdict("the first one is reported", send_lines(browser, "poke r5 3"), re.compile("not kept: another tab has changed"))
+    verdict("the first tab's line is reported", send_lines(browser, "poke r5 3"), re.compile("not kept: another tab has changed"))
     browser.reload()
     until_ready(browser)
-    verdict("and what the second one wrote is there", send_lines(browser, "regs"), re.compile(" r .{5}9"))
-    verdict("a page that was left holds up no other", reopen(browser, page.as_uri()), "")
+    verdict("the second tab's changes are stored", send_lines(browser, "regs"), re.compile(" r .{5}9"))
+    verdict("a closed page does not block another page", reopen(browser, page.as_uri()), "")
 
 
 def check_blocked(browser_class, page, folder):
@@ -236,7 +237,7 @@ def check_little_memory(page, folder):
         browser.script("document.getElementById('send').click()")
         eventually(browser, "lack of memory in the module is reported", GET_NOTICE, re.compile("no 90: there was no memory.*The session is as it was"), 30)
         browser.script("document.getElementById('lines').value = ''")
-        verdict("and the session is as it was", send_lines(browser, "seq").split()[-1], number_before)
+        verdict("and the session is unchanged", send_lines(browser, "seq").split()[-1], number_before)
     finally:
         browser.end()
 
@@ -268,9 +269,9 @@ def check_leaving_early(browser, address, session):
         browser.go("about:blank")
         # Wait, because another tab could still be opening the session at this time.
         time.sleep(2.1)
-        verdict(f"a session of a page that is left at once is opened by itself again ({query})",
+        verdict(f"a session of a page that is left at once is opened automatically again ({query})",
                 [reopen(browser, address), browser.script("return location.hash")], ["", session])
-        verdict("with what was typed last", browser.script(GET_TEXT_OF_EDITOR, "#program-editor"), text)
+        verdict("the text that was typed last", browser.script(GET_TEXT_OF_EDITOR, "#program-editor"), text)
 
 
 def check_unfinished_opening(browser, page, folder):
@@ -282,25 +283,25 @@ def check_unfinished_opening(browser, page, folder):
     choose_example(browser, "die")
     browser.click("#step")
     session = browser.until("return location.hash", re.compile("^#session="))
-    eventually(browser, "an opening that came to an end leaves nothing", COUNT_FLAGS, 0)
-    verdict("the session is opened by itself", [reopen(browser, hanging), browser.script("return location.hash")], ["", session])
+    eventually(browser, "no flag is left after a session was opened", COUNT_FLAGS, 0)
+    verdict("the session is opened automatically", [reopen(browser, hanging), browser.script("return location.hash")], ["", session])
     browser.until(COUNT_FLAGS, 0)
     hang(browser, hanging + session)
     for address in (hanging, hanging + session):
-        verdict("one whose opening did not is reported", reopen(browser, address), UNFINISHED_NOTICE)
-        verdict("and is not opened by itself", browser.script("return location.hash") != session, True)
+        verdict("a session whose opening did not finish is reported", reopen(browser, address), UNFINISHED_NOTICE)
+        verdict("that session is not opened automatically", browser.script("return location.hash") != session, True)
     browser.click("#notice button[aria-label^='Open it']")
-    eventually(browser, "it can be opened", "return location.hash", session)
-    eventually(browser, "and is well again then", COUNT_FLAGS, 0)
-    verdict("at the next start, too", [reopen(browser, hanging), browser.script("return location.hash")], ["", session])
+    eventually(browser, "the session can be opened", "return location.hash", session)
+    eventually(browser, "the session is intact", COUNT_FLAGS, 0)
+    verdict("the session is opened automatically at the next start", [reopen(browser, hanging), browser.script("return location.hash")], ["", session])
     browser.until(COUNT_FLAGS, 0)
     check_leaving_early(browser, hanging, session)
     browser.until(COUNT_FLAGS, 0)
     hang(browser, hanging + session)
     reopen(browser, hanging)
     browser.click("#notice button[aria-label^='Delete it']")
-    eventually(browser, "it can be deleted", GET_NOTICE, 'Deleted "die".')
-    verdict("and is not reported any more", reopen(browser, hanging), "")
+    eventually(browser, "the session can be deleted", GET_NOTICE, 'Deleted "die".')
+    verdict("the deleted session is no longer reported", reopen(browser, hanging), "")
 
 
 def check_failures_and_missing_features(browser, page, folder):

@@ -49,7 +49,7 @@ def check(browser, page, _folder, _mcs4):
 # --- tabs and panels ---
 
 GET_FRONT_TAB = "return document.querySelector('#text-tabs [aria-selected=true]').id"
-GET_SHOWN_EDITOR = "return [...document.querySelectorAll('#texts [role=tabpanel]')].filter(isShown).map((each) => each.id).join(' ')"
+GET_SHOWN_EDITOR = "return [...document.querySelectorAll('#texts [role=tabpanel]')].filter(isShown).map((node) => node.id).join(' ')"
 
 
 def check_tabs(browser):
@@ -63,7 +63,7 @@ def check_tabs(browser):
     verdict("an arrow shows the next one", (browser.script(GET_FRONT_TAB), browser.script(GET_SHOWN_EDITOR)), ("board-tab", "board-editor"))
     verdict("one tab is a stop of the Tab key", browser.script("return document.querySelectorAll('#text-tabs [tabindex=\"0\"]').length"), 1)
     browser.keys([LEFT])
-    verdict("and back", browser.script(GET_SHOWN_EDITOR), "program-editor")
+    verdict("the previous tab is selected again", browser.script(GET_SHOWN_EDITOR), "program-editor")
 
 
 def check_folds(browser):
@@ -78,14 +78,14 @@ def check_folds(browser):
     verdict("the tab is kept, too", browser.script(GET_FRONT_TAB), "board-tab")
     verdict("and that of the dock", browser.script("return isShown(document.getElementById('talk'))"), True)
     browser.click("#memory .fold")
-    verdict("it unfolds", browser.script(get_fold_state), "truetrue")
+    verdict("the panel unfolds", browser.script(get_fold_state), "truetrue")
     show_text(browser, "program")
     show_text(browser, "disassembly")
 
 
 # --- the disassembly ---
 
-GET_ROWS = "return [...document.querySelectorAll('#lines-of-program button')].filter((each) => !each.hidden).map((each) => each.textContent)"
+GET_ROWS = "return [...document.querySelectorAll('#lines-of-program button')].filter((node) => !node.hidden).map((node) => node.textContent)"
 GET_FOCUSED_ROW = "return document.activeElement.closest('#lines-of-program') ? document.activeElement.textContent.replace(/\\W/g, '').slice(0, 3) : ''"
 GET_LAST_ROW = GET_ROWS.replace("return", "return (") + ").pop().replace(/\\W/g, '').slice(0, 3)"
 GET_SCROLL_TOP = "return document.getElementById('lines-of-program').scrollTop"
@@ -105,12 +105,12 @@ def check_listing(browser):
     focus_row(browser, 3)
     browser.keys([HOME])
     eventually(browser, "Home goes to 000", GET_FOCUSED_ROW, "000")
-    verdict("follow is off then", browser.script("return document.getElementById('follow').checked"), False)
+    verdict("follow is off after Home", browser.script("return document.getElementById('follow').checked"), False)
     first_addresses = shown_addresses(browser)
     browser.keys([DOWN])
     eventually(browser, "an arrow goes to the next line", GET_FOCUSED_ROW, first_addresses[1])
     browser.keys([UP, UP])
-    eventually(browser, "and stays at the first one", GET_FOCUSED_ROW, "000")
+    eventually(browser, "an arrow at the first line", GET_FOCUSED_ROW, "000")
     seen_addresses = set(first_addresses)
     for _ in range(200):
         last_address = shown_addresses(browser)[-1]
@@ -143,7 +143,7 @@ def check_scroll_bar(browser):
     browser.script("document.getElementById('lines-of-program').scrollTop = arguments[0] * 24", 0x100)
     eventually(browser, "the scroll bar goes to 100", GET_ROWS, re.compile(r"^\['\W*10[0-3]"))
     browser.script("document.getElementById('lines-of-program').scrollTop = 1e9")
-    eventually(browser, "and to the end", GET_ROWS, re.compile(r"FF[EF][^,]*\]$"))
+    eventually(browser, "the scroll bar goes to the end", GET_ROWS, re.compile(r"FF[EF][^,]*\]$"))
     browser.type_into("#go-to", f"0x010{ENTER}")
     eventually(browser, "go to brings an address to the top", GET_ROWS, re.compile(r"^\['\W*010"))
     eventually(browser, "and the box is scrolled there", GET_SCROLL_TOP, 16 * 24)
@@ -162,10 +162,10 @@ def check_follow(browser):
     for _ in range(5):
         value_before = text_of(browser, "pc")
         browser.click("#step")
-        eventually(browser, "a step goes on", f"return document.getElementById('value-pc').textContent !== '{value_before}'", True)
+        eventually(browser, "a step changes the counter", f"return document.getElementById('value-pc').textContent !== '{value_before}'", True)
         eventually(browser, "a line begins at the counter at each step", IS_AT_COUNTER, True)
     browser.click("#run")
-    eventually(browser, "while time runs it follows, too", GET_NEXT_LINE, re.compile("."))
+    eventually(browser, "while time is running it follows, too", GET_NEXT_LINE, re.compile("."))
     stop_time(browser)
 
 
@@ -175,7 +175,7 @@ def text_of(browser, name):
 
 # --- marks and cells ---
 
-GET_MARKED_REGISTERS = "return [...document.querySelectorAll('#registers .changed')].map((each) => each.id.slice('value-'.length)).join(' ')"
+GET_MARKED_REGISTERS = "return [...document.querySelectorAll('#registers .changed')].map((node) => node.id.slice('value-'.length)).join(' ')"
 COUNT_MARKS = """
 window.marks = 0;
 new MutationObserver((all) => { window.marks += all.filter((each) => each.target.classList.contains("changed")).length; })
@@ -189,7 +189,7 @@ def check_marks(browser):
     choose_example(browser, "three lamps")
     stop_time(browser)
     send_lines(browser, f"asm\n{SLOW_PROGRAM}.\nreset\nbreak 12".replace("\\n", "\n"))
-    eventually(browser, "after a reset the status is true", GET_STATUS, "The board was reset; the program counter is at 000.")
+    eventually(browser, "the status after a reset", GET_STATUS, "The board was reset; the program counter is at 000.")
     browser.script(COUNT_MARKS)
     browser.click("#run")
     eventually(browser, "a long run ends at its breakpoint", GET_STATUS, "Paused at 00C, at a breakpoint.", 40)
@@ -228,17 +228,17 @@ def check_cells(browser):
     edit_cell(browser, "#value-pc", ENTER, ["0", "1", "0", ENTER])
     eventually(browser, "the counter is written as it is shown", "return document.getElementById('value-pc').textContent", "010")
     edit_cell(browser, "#value-cy", ENTER, ["2", ENTER])
-    eventually(browser, "a value out of range is refused at the cell", GET_CELL_STATUS, re.compile("."))
-    verdict("in words of the bench", browser.script(GET_CELL_STATUS), re.compile("value|range|number", re.I))
+    eventually(browser, "a value out of range is rejected at the cell", GET_CELL_STATUS, re.compile("."))
+    verdict("with the bench's message", browser.script(GET_CELL_STATUS), re.compile("value|range|number", re.I))
     browser.keys([ESCAPE])
-    eventually(browser, "Escape leaves", GET_EDITED_CELL, "")
-    verdict("and the value is as it was", text_of(browser, "cy"), "0")
+    eventually(browser, "Escape cancels the edit", GET_EDITED_CELL, "")
+    verdict("and the value is unchanged", text_of(browser, "cy"), "0")
     edit_cell(browser, "#value-acc", ENTER, ["x", ENTER])
-    eventually(browser, "what is no digit is refused", GET_CELL_STATUS, re.compile("hexadecimal"))
+    eventually(browser, "a character that is not a digit is rejected", GET_CELL_STATUS, re.compile("hexadecimal"))
     browser.keys([ESCAPE])
     nibble = ".ram button:nth-child(3)"
     double_click(browser, nibble)
-    eventually(browser, "a double click opens a character of RAM", GET_EDITED_CELL, re.compile(r"bank 0, chip 0, register 0, character 2: SRC byte 02"))
+    eventually(browser, "a double click opens a nibble of RAM", GET_EDITED_CELL, re.compile(r"bank 0, chip 0, register 0, character 2: SRC byte 02"))
     browser.keys(["9", ENTER])
     eventually(browser, "and Enter pokes it", f"return document.querySelector('{nibble}').textContent", "9")
     verdict("it is not watched", browser.script(f"return document.querySelector('{nibble}').getAttribute('aria-pressed')"), "false")
@@ -254,7 +254,7 @@ def check_click_on_changing_text(browser):
     browser.until(GET_STATUS, re.compile("^Running"))
     browser.script("window.pressed = 0; document.getElementById('value-acc').addEventListener('click', () => { window.pressed++; })")
     browser.hold("#value-acc", 400)
-    eventually(browser, "a value that changes is pressed while time runs", "return window.pressed", 1)
+    eventually(browser, "a value that changes is pressed while time is running", "return window.pressed", 1)
 
 
 GET_POPUP = "const shown = document.querySelector('.popup-message'); return shown.hidden ? '' : shown.textContent"
@@ -264,21 +264,21 @@ def check_refusals(browser):
     """Checks that the errors about a ninth watch and a thirty-third breakpoint appear at the clicked element."""
     send_lines(browser, "\n".join(f"watch 7 {address}" for address in range(8)))
     browser.click(".ram button:nth-child(5)")
-    eventually(browser, "a watch too many is refused at its cell", GET_POPUP, re.compile("8 characters"))
-    is_popup_near = "const [a, b] = [arguments[0], '.popup-message'].map((each) => document.querySelector(each).getBoundingClientRect()); " \
+    eventually(browser, "a watch too many is rejected at its cell", GET_POPUP, re.compile("8 characters"))
+    is_popup_near = "const [a, b] = [arguments[0], '.popup-message'].map((selector) => document.querySelector(selector).getBoundingClientRect()); " \
         "return Math.abs(a.left - b.left) + Math.abs(a.bottom - b.top) < 260"
-    verdict("near it", browser.script(is_popup_near, ".ram button:nth-child(5)"), True)
+    verdict("the message is near the cell", browser.script(is_popup_near, ".ram button:nth-child(5)"), True)
     send_lines(browser, "\n".join([*(f"unwatch 7 {address}" for address in range(8)), *(f"break {0x300 + address}" for address in range(32))]))
     browser.click("#lines-of-program button:nth-child(2)")
-    eventually(browser, "a breakpoint too many is refused at its line", GET_POPUP, re.compile("32 breakpoints"))
+    eventually(browser, "a breakpoint too many is rejected at its line", GET_POPUP, re.compile("32 breakpoints"))
     send_lines(browser, "\n".join(f"unbreak {0x300 + address}" for address in range(32)))
 
 
 # --- accessibility ---
 
 GET_WRONGLY_NAMED_CELLS = """
-return [...document.querySelectorAll(".ram button")].filter((each) => !/^[0-9A-F]$/.test(each.textContent)
-  || each.getAttribute("aria-label") || !/bank \\d, chip \\d, register \\d, (character \\d+: SRC byte [0-9A-F]{2}|status character \\d)/.test(each.title)).length"""
+return [...document.querySelectorAll(".ram button")].filter((node) => !/^[0-9A-F]$/.test(node.textContent)
+  || node.getAttribute("aria-label") || !/bank \\d, chip \\d, register \\d, (character \\d+: SRC byte [0-9A-F]{2}|status character \\d)/.test(node.title)).length"""
 # Counts the changes in ARIA live regions from now on. A screen reader would announce these changes.
 COUNT_ANNOUNCEMENTS = """
 window.said = 0;
@@ -290,7 +290,7 @@ for (const each of places) {
 
 
 def check_names(browser):
-    verdict("each RAM character has its value as its name, and its address beside it", browser.script(GET_WRONGLY_NAMED_CELLS), 0)
+    verdict("each RAM nibble has its value as its name, and its address beside it", browser.script(GET_WRONGLY_NAMED_CELLS), 0)
     verdict("the tab has the session's name", browser.script("return document.title"), re.compile("^three lamps"))
     choose_example(browser, "stopwatch")
     time.sleep(1)
@@ -323,7 +323,7 @@ def check_swipe(browser):
     for speed, milliseconds in (("quick", 20), ("slow", 200)):
         browser.script(SWIPE_KEY, key("7"), milliseconds)
         time.sleep(0.5)
-        eventually(browser, f"after a {speed} swipe while time stands still no key is down", COUNT_KEYS_DOWN, 0)
+        eventually(browser, f"after a {speed} swipe while time is paused no key is down", COUNT_KEYS_DOWN, 0)
     verdict("the bench has served lines meanwhile", send_lines(browser, "seq") != answer_before, True)
 
 
@@ -372,8 +372,8 @@ return boxes.flatMap(([id, a], k) => boxes.slice(k + 1)
 # The controls of the toolbar and the status bar that are partly outside the window while there is a notice.
 FIND_OUTSIDE = """
 document.getElementById("notices-button").hidden = false;
-return [...document.querySelectorAll("#toolbar :is(button, input, select):not([role=menu] *), #statusbar button")].filter(isShown).filter((each) => {
-  const [{ left, right }, room] = [each, each.closest("#cycles, #toolbar, #statusbar")].map((node) => node.getBoundingClientRect());
+return [...document.querySelectorAll("#toolbar :is(button, input, select):not([role=menu] *), #statusbar button")].filter(isShown).filter((control) => {
+  const [{ left, right }, room] = [control, control.closest("#cycles, #toolbar, #statusbar")].map((node) => node.getBoundingClientRect());
   return left < Math.max(0, room.left) || right > Math.min(innerWidth, room.right);
 }).map(({ id }) => id)"""
 MEASURE_OVERFLOW = "return document.documentElement.scrollWidth - document.documentElement.clientWidth"
@@ -427,7 +427,7 @@ FIND_WRONG_CONTROLS = """
 const rows = [...document.querySelectorAll("#wave-bar, .editor > .bar, #wiring > .bar, #statusbar")].filter(isShown);
 return rows.flatMap((row) => {
   const room = row.getBoundingClientRect();
-  const shown = [...row.querySelectorAll("button, input, select, summary")].filter((each) => isShown(each) && !each.closest(".pop > :not(summary)"));
+  const shown = [...row.querySelectorAll("button, input, select, summary")].filter((node) => isShown(node) && !node.closest(".pop > :not(summary)"));
   const boxes = shown.map((each) => [each.id || each.textContent, each.getBoundingClientRect()]);
   const cut = boxes.filter(([, box]) => box.left < room.left - 1 || box.top < room.top - 1 || box.right > Math.min(room.right, innerWidth) + 1
     || box.bottom > room.bottom + 1).map(([name]) => `${name} is cut off`);
@@ -489,7 +489,7 @@ def check_menu(browser):
     """Checks that on a phone the session's buttons are in a menu, which a choice or Escape closes."""
     verdict("the menu is shut", browser.script(GET_MENU_STATE), "false false")
     browser.click("#menu-button")
-    verdict("it opens", browser.script(GET_MENU_STATE), "true true")
+    verdict("the menu opens", browser.script(GET_MENU_STATE), "true true")
     browser.keys([ESCAPE])
     verdict("Escape shuts it", browser.script(GET_MENU_STATE), "false false")
     browser.click("#menu-button")
@@ -546,8 +546,8 @@ def emulate(browser, media="", **features):
 
 
 ARE_LAMPS_DISTINCT = """
-const look = (each) => { const style = getComputedStyle(each); return `${style.backgroundColor} ${style.borderTopColor}`; };
-const [lit, dark] = [".bulb.lit", ".bulb:not(.lit)"].map((each) => look(document.querySelector(each)));
+const coloursOf = (lamp) => { const style = getComputedStyle(lamp); return `${style.backgroundColor} ${style.borderTopColor}`; };
+const [lit, dark] = [".bulb.lit", ".bulb:not(.lit)"].map((selector) => coloursOf(document.querySelector(selector)));
 return lit !== dark && !lit.startsWith("rgba(0, 0, 0, 0)")"""
 
 
@@ -561,7 +561,7 @@ def check_forced_colours(browser):
 
 
 COUNT_PRINTED_CONTROLS = """
-return [...document.querySelectorAll("#bench *")].filter((each) => isShown(each) && each.matches("button:not(.fold), select, #log, "
+return [...document.querySelectorAll("#bench *")].filter((node) => isShown(node) && node.matches("button:not(.fold), select, #log, "
   + "textarea, .cm-editor")).length"""
 
 
@@ -575,4 +575,4 @@ def check_print(browser):
     verdict("lamps are printed", browser.script("return isShown(document.querySelector('.bulb'))"), True)
     verdict("and no buttons, fields or editors", browser.script(COUNT_PRINTED_CONTROLS), 0)
     emulate(browser)
-    verdict("the page is as before", browser.script("return isShown(document.getElementById('texts'))"), True)
+    verdict("the page is unchanged", browser.script("return isShown(document.getElementById('texts'))"), True)

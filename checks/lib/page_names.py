@@ -149,7 +149,7 @@ def check_margin(browser, source, values):
     browser.script(CLICK_MARGIN, show_line)
     eventually(browser, "another click clears it", GET_BREAKPOINT_LINES, "")
     browser.script(CLICK_MARGIN, 1)
-    eventually(browser, "at a line without bytes it goes to the next instruction, in words", GET_POPUP,
+    eventually(browser, "at a line without bytes it goes to the next instruction, with a message", GET_POPUP,
                re.compile("^Line 1 puts no bytes into ROM: its breakpoint is at the next instruction, line "))
     breakpoint_line = browser.until(GET_BREAKPOINT_LINES, re.compile("[0-9]"))
     browser.script(CLICK_MARGIN, int(breakpoint_line))
@@ -203,7 +203,7 @@ def check_go_to(browser):
         eventually(browser, f"go to {text}", f"{GET_ADDRESSES}.includes('{address}')", True)
     for text, pattern in (("nosuch", "^nosuch is neither a name of the program nor an address"), ("4096", "^4096 is not an address")):
         go_to(browser, text)
-        eventually(browser, f"{text} is no address, in words", GET_GO_TO_STATUS, re.compile(pattern))
+        eventually(browser, f"{text} is not an address, with a message", GET_GO_TO_STATUS, re.compile(pattern))
         verdict("and the field is marked", browser.script("return document.getElementById('go-to').getAttribute('aria-invalid')"), "true")
     go_to(browser, "scan")
     eventually(browser, "an address takes the words away", GET_GO_TO_STATUS, "")
@@ -213,8 +213,8 @@ def check_names_in_lines(browser, values):
     verdict("a name in a line", send_lines(browser, "list @scan 1"), re.compile(rf"^list 0x{values['scan']} 1{values['scan']} "))
     show_text(browser, "console")
     browser.type_into("#lines", "break @nosuch" + ENTER)
-    eventually(browser, "one that the program lacks, in words", GET_NOTICE, "@nosuch: the program has no such name.")
-    verdict("and the line can be mended", browser.script("return document.getElementById('lines').value"), "break @nosuch")
+    eventually(browser, "one that the program lacks, with a message", GET_NOTICE, "@nosuch: the program has no such name.")
+    verdict("and the line can be corrected", browser.script("return document.getElementById('lines').value"), "break @nosuch")
     browser.script("document.getElementById('lines').value = ''")
     browser.click("#notice button")
     show_text(browser, "disassembly")
@@ -233,7 +233,7 @@ def check_difference(browser, source, lines):
     eventually(browser, "a text that is not in ROM says where it differs", GET_SOURCE_STATUS, message)
     eventually(browser, "and names nothing", GET_LABELS, "")
     browser.script(CLICK_MARGIN, line)
-    eventually(browser, "a breakpoint in it stops nothing yet, in words", GET_POPUP, f"{message} Until then this breakpoint stops nothing.")
+    eventually(browser, "a breakpoint in it stops nothing yet, with a message", GET_POPUP, f"{message} Until then this breakpoint stops nothing.")
     browser.script(CLICK_MARGIN, line)
     eventually(browser, "a second click takes it away", GET_BREAKPOINT_LINES, "")
     set_source(browser, "\n".join(["; one line more", *lines]) + "\n")
@@ -244,7 +244,7 @@ def check_difference(browser, source, lines):
     send_lines(browser, "poke rom.0x106 0xD2")
     eventually(browser, "as long as it is there", GET_SOURCE_STATUS, "")
     set_source(browser, "\tLDM 3\n\tJUN nowhere\n")
-    eventually(browser, "a text with a fault says so", GET_SOURCE_STATUS, re.compile("^The source has an error in line 2: no 32"))
+    eventually(browser, "a text with an error says so", GET_SOURCE_STATUS, re.compile("^The source has an error in line 2: no 32"))
     set_source(browser, "\tORG 0xF00\n\tNOP\n")
     eventually(browser, "and one that has no ROM", GET_SOURCE_STATUS, "The board has no ROM at 0xF00, where line 2 of the source goes.")
 

@@ -119,13 +119,13 @@ def check_numbers(browser):
     for number in ("-5", "1000000000", "99999999999999999999", "1e3", "abc"):
         browser.script(SET_FIELD, "step-count", number)
         browser.script("document.getElementById('step-many').click()")
-        eventually(browser, f"{number} instructions are refused", GET_STATUS, re.compile("^Nothing was done: give a number"))
+        eventually(browser, f"{number} instructions are rejected", GET_STATUS, re.compile("^Nothing was done: give a number"))
     show_text(browser, "waves")
     browser.script("document.getElementById('record-where').value = 'after'")
     for number in ("-5", "99999999999999999999", "abc"):
         browser.script(SET_FIELD, "record-cycles", number)
         browser.click("#record")
-        eventually(browser, f"{number} cycles are refused", "return document.getElementById('scope-status').textContent", re.compile("^Enter a number of cycles"))
+        eventually(browser, f"{number} cycles are rejected", "return document.getElementById('scope-status').textContent", re.compile("^Enter a number of cycles"))
     show_text(browser, "properties")
     browser.script(SET_FIELD, "explore-seconds", "abc")
     browser.click("#explore")

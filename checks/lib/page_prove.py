@@ -19,7 +19,7 @@ from web_driver import Chromium
 GET_BUTTON_LABEL = "return document.getElementById('prove').textContent"
 GET_PROGRESS = "return document.getElementById('proof-progress').textContent.trim()"
 GET_BAR = "const bar = document.querySelector('#proof-progress progress'); return [bar.value, bar.max]"
-GET_ROWS = """return [...document.querySelectorAll('#proof-list > li')].map((each) => [...each.querySelector('p').children]
+GET_ROWS = """return [...document.querySelectorAll('#proof-list > li')].map((node) => [...node.querySelector('p').children]
   .map((child) => child.textContent).filter(Boolean).join(' | '))"""
 COUNT_LAMPS_ON = "return document.querySelectorAll('.bulb.lit').length"
 COUNT_LIT_ROWS = "return [...document.querySelectorAll('#proof-list .lit')].length"
@@ -65,16 +65,16 @@ def check_example(browser, folder, mcs4):
     properties = [line for line in text_of(browser, "properties").splitlines() if line.startswith(("never", "every"))]
     results_of_tool = proved_by_tool(browser, folder, mcs4)
     verdict("the tool proves its properties, and that no mistake is made", [text for text, _ in results_of_tool][: len(properties)], properties)
-    verdict("of which there are seven", len(results_of_tool) - len(properties), MISTAKE_COUNT)
+    verdict("the number of common mistakes", len(results_of_tool) - len(properties), MISTAKE_COUNT)
     start_proof(browser)
     eventually(browser, "the button cancels it", GET_BUTTON_LABEL, "Cancel")
     progress = f"Property 1 of {len(results_of_tool)}: more than 10,000 states so far"
     eventually(browser, "it is said how many states were searched", GET_PROGRESS, progress, MAX_SECONDS)
     verdict("as the bar shows", browser.script(GET_BAR), [10000, 1000000])
-    eventually(browser, "it comes to its end", GET_BUTTON_LABEL, "Prove", MAX_SECONDS)
+    eventually(browser, "the proof ends", GET_BUTTON_LABEL, "Prove", MAX_SECONDS)
     verdict("each property is proved, with as many states as the tool has", browser.script(GET_ROWS),
             [f"proved | {text} | for all inputs: {states}" for text, states in results_of_tool])
-    verdict("with a lit mark", browser.script(COUNT_LIT_ROWS), len(results_of_tool))
+    verdict("a proved property has a mark", browser.script(COUNT_LIT_ROWS), len(results_of_tool))
     verdict("what came of all is said", browser.script(GET_PROPERTIES_STATUS), f"{len(results_of_tool)} proved.")
     verdict("also on the tab", browser.script(GET_MARK), f"{len(results_of_tool)} proved")
 
@@ -142,7 +142,7 @@ def check_all_verdicts(browser):
         "proved | every 1 ms @look | for all inputs: 33 states"])
     verdict("and a form that is not decided", rows[5:6], re.compile(r"^\['not decided \| lamp lit on only after press WALK \| WALK is at the TEST pin"))
     verdict("no mistake is made", [row.split(" | ")[0] for row in rows[6:]], ["proved"] * MISTAKE_COUNT)
-    verdict("what is proved is lit", browser.script(COUNT_LIT_ROWS), 2 + MISTAKE_COUNT)
+    verdict("what is proved is on", browser.script(COUNT_LIT_ROWS), 2 + MISTAKE_COUNT)
     check_counterexample(browser)
     browser.click("#sessions-button")
     browser.until("return document.getElementById('sessions').open", True)
@@ -157,7 +157,7 @@ def check_all_verdicts(browser):
 def check_wrong_inputs(browser):
     for states in ("0", "x", ""):
         start_proof(browser, states)
-        verdict(f"{states or 'no'} states are refused", browser.script(GET_PROPERTIES_STATUS), "The number of states must be 1 to 999,999,999.")
+        verdict(f"{states or 'no'} states are rejected", browser.script(GET_PROPERTIES_STATUS), "The number of states must be 1 to 999,999,999.")
     set_text(browser, "properties", "never lamp purple on\n")
     prove_to_end(browser, "nothing is proved of a text with an error")
     verdict("which is reported", browser.script(GET_PROPERTIES_STATUS), re.compile("^Nothing was run: Properties, line 1: the board has no lamp purple"))
@@ -167,7 +167,7 @@ def check_wrong_inputs(browser):
     set_text(browser, "program", "        JUN 256\n")
     prove_to_end(browser, "a program can make one")
     verdict("which is reported", browser.script(GET_PROPERTIES_STATUS), f"{MISTAKE_COUNT - 1} proved, 1 can fail.")
-    verdict("as one", [row for row in browser.script(GET_ROWS) if not row.startswith("proved")], ["can fail | no ROM that is absent | broken by 0 steps, 2 cycles"])
+    verdict("only one property can fail", [row for row in browser.script(GET_ROWS) if not row.startswith("proved")], ["can fail | no ROM that is absent | broken by 0 steps, 2 cycles"])
 
 
 def check_cancelling(browser):
@@ -175,11 +175,11 @@ def check_cancelling(browser):
     set_text(browser, "program", COUNTING_PROGRAM)
     set_text(browser, "properties", "never lamp 1 on\n")
     start_proof(browser, 999999999)
-    eventually(browser, "it searches", GET_PROGRESS, re.compile("more than .* states so far"), MAX_SECONDS)
+    eventually(browser, "the proof runs", GET_PROGRESS, re.compile("more than .* states so far"), MAX_SECONDS)
     start = time.monotonic()
     browser.hold("#prove", 300)
-    eventually(browser, "it stops", GET_BUTTON_LABEL, "Prove", 10)
-    verdict("at once", time.monotonic() - start < 8, True)
+    eventually(browser, "the proof stops", GET_BUTTON_LABEL, "Prove", 10)
+    verdict("the proof stops at once", time.monotonic() - start < 8, True)
     verdict("and says so", browser.script(GET_PROPERTIES_STATUS), "It was cancelled before anything was proved.")
     verdict("with nothing left of it", browser.script("return isShown(document.getElementById('proof-results'))"), False)
     browser.script("document.querySelector('#properties-editor .cm-editor').lineEditor.focus()")
@@ -200,7 +200,7 @@ def check_phone(browser):
     set_text(browser, "properties", "never lamp lit on\nnever lamp 1 on\n")
     set_size(browser, 390, 844, True)
     prove_to_end(browser, "on a phone it proves, too")
-    verdict("with its verdicts", browser.script(GET_PROPERTIES_STATUS), f"{1 + MISTAKE_COUNT} proved, 1 can fail.")
+    verdict("the verdicts on a phone", browser.script(GET_PROPERTIES_STATUS), f"{1 + MISTAKE_COUNT} proved, 1 can fail.")
     verdict("its rows fit into the width", browser.script("""return [...document.querySelectorAll('#proof-results *')]
       .filter((each) => isShown(each) && each.getBoundingClientRect().right > innerWidth).length"""), 0)
     verdict("and nothing scrolls sideways", browser.script(MEASURE_OVERFLOW), 0)

@@ -56,7 +56,7 @@ def shown_fractions(browser):
 
 def check_pulses(browser, speed):
     browser.script(SET_SPEED, speed)
-    eventually(browser, f"at {speed} speed lamps are as an eye sees them", GET_BRIGHTNESS_STATUS, re.compile("averaged over 30 ms"))
+    eventually(browser, f"at {speed} speed lamps have their perceived brightness", GET_BRIGHTNESS_STATUS, re.compile("averaged over 30 ms"))
     record_brightness(browser, 500)
     record_brightness(browser, 1500)
     ranges = shown_fractions(browser)
@@ -67,7 +67,7 @@ def check_pulses(browser, speed):
 
 def check_instant(browser):
     browser.click("#run")
-    eventually(browser, "time stands still", GET_STATUS, re.compile("^Paused"))
+    eventually(browser, "time is paused", GET_STATUS, re.compile("^Paused"))
     marks = re.search(r"lamps ([.*]+)", send_lines(browser, "lamps")).group(1)
     verdict("then lamps are as they are at this instant", browser.script(GET_BRIGHTNESS), [1 if mark == "*" else 0 for mark in marks])
     verdict("and that is reported", browser.script(GET_BRIGHTNESS_STATUS), "Paused: lamps show this instant.")
@@ -77,7 +77,7 @@ def check_instant(browser):
 def check_refreshed(browser):
     status_of(browser, "#board-editor", REFRESHED_BOARD)
     status_of(browser, "#program-editor", REFRESHED_PROGRAM)
-    eventually(browser, "a display that is written anew all the time shows its number", GET_DIGITS, "42")
+    eventually(browser, "a display that is rewritten all the time shows its number", GET_DIGITS, "42")
     record_brightness(browser, 2000)
     verdict("in each frame", browser.script("return [...new Set(window.numbers)].join(' ')"), "42")
     count_lit_segments = "return [...document.querySelectorAll('#glass svg')].map((digit) => digit.querySelectorAll('.lit').length).join(' ')"
@@ -97,31 +97,31 @@ def check_shifted(browser):
 
 def check_clock(browser):
     choose_example(browser, "clock")
-    eventually(browser, "four digits that are lit by turns show a time", GET_DIGITS, re.compile(r"^12\.?00$"))
+    eventually(browser, "four digits that are on in turn show a time", GET_DIGITS, re.compile(r"^12\.?00$"))
     record_brightness(browser, 1500)
     verdict("in each frame, with its point or without", browser.script("return [...new Set(window.numbers)].sort().join(' ')"), "12.00 1200")
     browser.script(SET_SPEED, "full")
     eventually(browser, "at full speed, too", GET_DIGITS, re.compile(r"^(1[2-9]|[02][0-9])\.?[0-5][0-9]$"))
     browser.script(SET_SPEED, "real")
     browser.click("#run")
-    eventually(browser, "time stands still", GET_STATUS, re.compile("^Paused"))
+    eventually(browser, "time is paused", GET_STATUS, re.compile("^Paused"))
     count_lit_digits = "return [...document.querySelectorAll('#glass svg')].filter((digit) => digit.querySelector('.lit')).length"
-    verdict("at an instant at most one digit is lit", browser.script(count_lit_digits) <= 1, True)
+    verdict("at an instant at most one digit is on", browser.script(count_lit_digits) <= 1, True)
 
 
 def check_pictures(browser):
     choose_example(browser, "pictures")
     get_rows = ("const bulbs = [...document.querySelectorAll('.matrix .bulb')].map((bulb) => (bulb.classList.contains('lit') ? '*' : '.'));"
             "return Array.from({ length: 8 }, (_, row) => bulbs.slice(8 * row, 8 * row + 8).join('')).join(' ')")
-    eventually(browser, "a matrix whose rows are lit by turns shows a heart", get_rows,
+    eventually(browser, "a matrix whose rows are on in turn shows a heart", get_rows,
                "........ .**..**. ******** ******** .******. ..****.. ...**... ........")
     verdict("each lamp names both of its lines", browser.script("return document.querySelectorAll('.matrix .bulb')[13].title"),
             "ram0.1.2 and ram0.2.1")
     browser.keys(["n"], 100)
     eventually(browser, "NEXT brings another picture", get_rows, "..****.. .*....*. *.*..*.* *......* *.*..*.* *..**..* .*....*. ..****..")
     browser.click("#run")
-    eventually(browser, "time stands still", GET_STATUS, re.compile("^Paused"))
-    verdict("at an instant at most one row is lit", sum("*" in row for row in browser.script(get_rows).split()) <= 1, True)
+    eventually(browser, "time is paused", GET_STATUS, re.compile("^Paused"))
+    verdict("at an instant at most one row is on", sum("*" in row for row in browser.script(get_rows).split()) <= 1, True)
 
 
 def check(browser, page, _folder, _mcs4):

@@ -72,7 +72,7 @@ def check_tone(browser):
     verdict("with its name, and it is muted", [browser.text("#sound-button"), browser.script(IS_SOUND_PRESSED)], ["Sound of the buzzer", "false"])
     browser.script(RECORD_SOUND)
     browser.click("#sound-button")
-    eventually(browser, "it is heard once that is asked for", COUNT_PLAYED, re.compile("^[5-9]$|^..$"))
+    eventually(browser, "it is heard once that is confirmed first", COUNT_PLAYED, re.compile("^[5-9]$|^..$"))
     if browser.script(IS_TIME_PAUSED):
         browser.click("#sound-button")
         browser.script(REPLACE_CLOCK + "window.played = [];")

@@ -13,8 +13,8 @@ from verdicts import eventually, verdict
 
 CONTROL, BACKSPACE, END, HOME, UP = "\ue009", "\ue003", "\ue010", "\ue011", "\ue013"
 F8, F9, F11 = "\ue038", "\ue039", "\ue03b"
-GET_LAMPS = "return [...document.querySelectorAll('.bulb')].map((each) => (each.classList.contains('lit') ? '*' : '.')).join('')"
-GET_KEYS_DOWN = "return [...document.querySelectorAll(\"#keys [aria-pressed='true']\")].map((each) => each.textContent).join(' ')"
+GET_LAMPS = "return [...document.querySelectorAll('.bulb')].map((node) => (node.classList.contains('lit') ? '*' : '.')).join('')"
+GET_KEYS_DOWN = "return [...document.querySelectorAll(\"#keys [aria-pressed='true']\")].map((node) => node.textContent).join(' ')"
 IS_BOARD_OFFERED = "return document.getElementById('board-offer').checkVisibility()"
 IS_SESSIONS_OPEN = "return document.getElementById('sessions').open"
 IS_IN_SOURCE = "e.closest('#program-editor .cm-editor') !== null"
@@ -62,7 +62,7 @@ def check_board(browser):
     browser.keys([ENTER])
     eventually(browser, "it has four lamps", GET_LAMPS, "....")
     verdict("and is offered no more", browser.script(IS_BOARD_OFFERED), False)
-    verdict("the keyboard goes on in that panel", browser.script("return document.activeElement.closest('#front') !== null"), True)
+    verdict("the keyboard continues in that panel", browser.script("return document.activeElement.closest('#front') !== null"), True)
 
 
 def check_program(browser):
@@ -71,16 +71,16 @@ def check_program(browser):
     for line in TYPED_LINES:
         type_keys(browser, line)
         browser.keys([ENTER], 2, 2)
-    eventually(browser, "a fault is reported while one types", GET_ERRORS.format(PROGRAM), ERROR_MESSAGE)
+    eventually(browser, "an error is reported during typing", GET_ERRORS.format(PROGRAM), ERROR_MESSAGE)
     caret_before = browser.script(GET_CARET, PROGRAM)
     browser.press_chord(CONTROL, ENTER)
     eventually(browser, "Control and Enter assemble nothing then", GET_STATUS_OF.format(PROGRAM), ERROR_MESSAGE)
     verdict("and the caret stays", browser.script(GET_CARET, PROGRAM), caret_before)
     browser.keys([UP, UP, END, BACKSPACE, "P"], 5, 5)
-    eventually(browser, "mended, it has no fault", GET_ERRORS.format(PROGRAM), "")
+    eventually(browser, "corrected, it has no error", GET_ERRORS.format(PROGRAM), "")
     browser.press_chord(CONTROL, ENTER)
     eventually(browser, "and is assembled and run", GET_STATUS_OF.format(PROGRAM), "Assembled 6 bytes; running from 000.")
-    eventually(browser, "time runs", GET_STATUS, re.compile("^Running"))
+    eventually(browser, "time is running", GET_STATUS, re.compile("^Running"))
     eventually(browser, "the source is what is in ROM", GET_SOURCE_STATUS, "")
 
 
@@ -89,8 +89,8 @@ def check_keys(browser):
     browser.keys([ESCAPE, TAB], 5, 5)
     lamps_before = browser.script(GET_LAMPS)
     browser.script("window.shown = new Set()")
-    browser.script("new MutationObserver(() => window.shown.add([...document.querySelectorAll('.bulb')].map((each) => "
-                   "(each.classList.contains('lit') ? '*' : '.')).join(''))).observe(document.getElementById('lamps'), "
+    browser.script("new MutationObserver(() => window.shown.add([...document.querySelectorAll('.bulb')].map((node) => "
+                   "(node.classList.contains('lit') ? '*' : '.')).join(''))).observe(document.getElementById('lamps'), "
                    "{ subtree: true, attributes: true })")
     letter = browser.script("return document.querySelector('#keys kbd').textContent")
     browser.keys([letter], 300, 100)
@@ -148,9 +148,9 @@ def check_file(browser, folder):
     project_file.unlink()
     verdict("a project has the text as it is", all(line in project_bytes.decode() for line in ("; my first program", "read: RDR")), True)
     browser.script(DROP_FILE, "holiday.jpg", "no session at all")
-    eventually(browser, "a wrong file that is dropped is refused in words", GET_NOTICE,
+    eventually(browser, "a wrong file that is dropped is rejected with a message", GET_NOTICE,
                re.compile(r"Cannot open holiday\.jpg: not a kind of text that the bench has; supported are projects .*The session shown is unchanged"))
-    verdict("and the texts are as they were", browser.script(GET_TEXTS), texts)
+    verdict("and the texts are unchanged", browser.script(GET_TEXTS), texts)
     go_to_source(browser)
     browser.script(SET_CARET, PROGRAM, 0, 0)
     type_keys(browser, "; not this")
@@ -174,7 +174,7 @@ def check_example(browser):
     eventually(browser, "its breakpoint is there", GET_BREAKPOINT_LINES, re.compile(r"^\d+$"))
     eventually(browser, "it shows a 9", GET_LAMPS, "*..*")
     verdict("and its count has just become ten", browser.script(GET_REGISTERS), re.compile("R5A"))
-    verdict("time stands still", browser.script("return document.getElementById('run').textContent"), "Continue")
+    verdict("time is paused", browser.script("return document.getElementById('run').textContent"), "Continue")
     eventually(browser, "no session is made before something is done", "return location.hash", "#example=a%20fault%20to%20find")
     source = browser.script(GET_PROGRAM_TEXT)
     line = source.split("\n").index("        SUB R4")
@@ -182,7 +182,7 @@ def check_example(browser):
     browser.script(SET_CARET, PROGRAM, line, len("        SUB R4"))
     browser.keys([BACKSPACE, "5"], 5, 5)
     browser.press_chord(CONTROL, ENTER)
-    eventually(browser, "mended, it is assembled and run", GET_STATUS_OF.format(PROGRAM), re.compile("^Assembled .* bytes; running from 000"))
+    eventually(browser, "corrected, it is assembled and run", GET_STATUS_OF.format(PROGRAM), re.compile("^Assembled .* bytes; running from 000"))
     browser.until(GET_STATUS, re.compile("at a breakpoint"))
     script = "\n".join(["unbreak 8", "reset", *["run 91000"] * 10, "lamps", "run 97000", "lamps"])
     verdict("and counts to 9, and then from 0 on", send_lines(browser, script), re.compile(r"lamps \*\.\.\*.*lamps \.\.\.\."))

@@ -12,7 +12,7 @@ const lines = [...document.querySelectorAll("#paper div")].map((line) => line.te
 return document.getElementById("strip").hidden ? "-" : lines.join(" ")"""
 GET_TAPE_HEIGHT = "return document.getElementById('strip').offsetHeight"
 GET_BOARD_TEXT = "return document.querySelector('#board-editor .cm-editor').lineEditor.getValue()"
-GET_PANEL_ERRORS = "return [...document.querySelectorAll('#face-faults li')].map((each) => each.textContent).join(' ')"
+GET_PANEL_ERRORS = "return [...document.querySelectorAll('#face-faults li')].map((node) => node.textContent).join(' ')"
 IS_AT_END = "const paper = document.getElementById('paper'); return paper.scrollHeight - paper.scrollTop - paper.clientHeight < 4"
 BOARD = """# printer rom0.3: ram0.0 a CE b_c
 [[rom]]
@@ -45,7 +45,7 @@ def press_keys(browser, legends):
 
 def check_calculator(browser):
     choose_example(browser, "printing calculator")
-    eventually(browser, "a board with a printer has a strip without a line", GET_PRINTER_TAPE, "")
+    eventually(browser, "a board with a printer has an empty printer tape", GET_PRINTER_TAPE, "")
     height = browser.script(GET_TAPE_HEIGHT)
     press_keys(browser, "12+30=")
     eventually(browser, "what is keyed and what comes is printed", GET_PRINTER_TAPE, "12+ 30= 42")
@@ -58,8 +58,8 @@ def check_calculator(browser):
     browser.script(SET_SPEED, "full")
     press_keys(browser, "*3=")
     eventually(browser, "at full speed it prints", GET_PRINTER_TAPE, "12+ 30= 42 42- 58= -16 -16* 3= -48")
-    verdict("the end of the paper is in view", browser.script(IS_AT_END), True)
-    verdict("the paper takes no more room, so the keys stay where they are", browser.script(GET_TAPE_HEIGHT), height)
+    verdict("the end of the printout is in view", browser.script(IS_AT_END), True)
+    verdict("the printout takes no more room, so the keys stay where they are", browser.script(GET_TAPE_HEIGHT), height)
     browser.script(SET_SPEED, "real")
 
 
@@ -70,23 +70,23 @@ def check_editing(browser):
     eventually(browser, "a printer that cannot be is reported", GET_PANEL_ERRORS, re.compile("the board has no output line rom5.2"))
     browser.script(PUT_INTO_EDITOR, "#board-editor", text)
     eventually(browser, "until it is right again", GET_PANEL_ERRORS, "")
-    verdict("the paper keeps its lines", browser.script(GET_PRINTER_TAPE), "12+ 30= 42 42- 58= -16 -16* 3= -48")
+    verdict("the printout keeps its lines", browser.script(GET_PRINTER_TAPE), "12+ 30= 42 42- 58= -16 -16* 3= -48")
 
 
 def check_going_back(browser):
     browser.click("#run")
-    eventually(browser, "time stands still", GET_STATUS, re.compile("^Paused"))
+    eventually(browser, "time is paused", GET_STATUS, re.compile("^Paused"))
     browser.click("#run")
     press_keys(browser, "C7=")
     eventually(browser, "more is printed", GET_PRINTER_TAPE, re.compile("-48 C 7= 7$"))
     browser.click("#run")
-    eventually(browser, "time stands still again", GET_STATUS, re.compile("^Paused"))
+    eventually(browser, "time is paused again", GET_STATUS, re.compile("^Paused"))
     browser.click("#back-stop")
     eventually(browser, "going back takes it back", GET_PRINTER_TAPE, re.compile("-48$"))
     browser.click("#forward")
     eventually(browser, "forward brings it again", GET_PRINTER_TAPE, re.compile("-48 C 7= 7$"))
     browser.click("#clear-printout")
-    eventually(browser, "the paper is torn off", GET_PRINTER_TAPE, "")
+    eventually(browser, "the printout is cleared", GET_PRINTER_TAPE, "")
     browser.click("#run")
     press_keys(browser, "9=")
     eventually(browser, "and the next line begins a new one", GET_PRINTER_TAPE, "9= 9")
@@ -94,7 +94,7 @@ def check_going_back(browser):
 
 def check_other_printer(browser):
     status_of(browser, "#board-editor", BOARD)
-    eventually(browser, "a printer of another board has a strip of its own", GET_PRINTER_TAPE, "")
+    eventually(browser, "a printer of another board has its own printer tape", GET_PRINTER_TAPE, "")
     status_of(browser, "#program-editor", SENDER_PROGRAM)
     eventually(browser, "codes without words are ?", GET_PRINTER_TAPE, f"aCEb c{'?' * 13}")
     status_of(browser, "#board-editor", BOARD.replace("rom0.3", "rom0.0"))
@@ -105,7 +105,7 @@ def check_other_printer(browser):
 def check(browser, page, _folder, _mcs4):
     browser.go(page.as_uri() + "#example=empty%20bench")
     until_ready(browser)
-    verdict("a board without a printer has no strip", browser.script(GET_PRINTER_TAPE), "-")
+    verdict("a board without a printer has no printer tape", browser.script(GET_PRINTER_TAPE), "-")
     check_calculator(browser)
     check_editing(browser)
     check_going_back(browser)

@@ -14,12 +14,12 @@ EDITOR = "#tests-editor"
 GET_TESTS_STATUS = "return document.querySelector('#tests-editor .status-text').textContent"
 GET_RESULTS = """return [...document.querySelectorAll('#test-list > li > p:first-child')]
   .map((each) => each.textContent.split(' ').slice(0, 4).join(' '))"""
-GET_FAILURES = "return [...document.querySelectorAll('#test-list .wrong')].map((each) => each.textContent)"
-GET_COUNTS = "return [...document.querySelectorAll('#program-editor .mark-counts')].map((each) => each.textContent).filter(Boolean)"
+GET_FAILURES = "return [...document.querySelectorAll('#test-list .wrong')].map((node) => node.textContent)"
+GET_COUNTS = "return [...document.querySelectorAll('#program-editor .mark-counts')].map((node) => node.textContent).filter(Boolean)"
 GET_LABELS = """return [...document.querySelectorAll('#profile-labels tr')]
   .map((row) => [...row.cells].map((cell) => cell.textContent).join(' ').trim())"""
 GET_MARK = "return document.querySelector('#tests-tab .mark').textContent"
-GET_ERRORS = "return [...document.querySelectorAll('#tests-editor .fault-list li')].map((each) => each.textContent)"
+GET_ERRORS = "return [...document.querySelectorAll('#tests-editor .fault-list li')].map((node) => node.textContent)"
 GET_SELECTED = "return document.querySelector('#tests-editor .cm-editor').lineEditor.getSelection()"
 
 
@@ -34,14 +34,14 @@ def check_passing(browser):
     eventually(browser, "the tests of an example pass", GET_TESTS_STATUS, "All 2 tests passed.")
     verdict("each has its row", browser.script(GET_RESULTS), ["ok the light goes", "ok each lamp is"])
     verdict("the tab says so", browser.script(GET_MARK), "passed")
-    verdict("time stands still", browser.script(GET_STATUS), re.compile("^Paused"))
+    verdict("time is paused", browser.script(GET_STATUS), re.compile("^Paused"))
     verdict("what was run is reported", browser.text("#coverage-status"),
             "20 of 20 instructions were run (100.0 %), 6 of 6 branch directions (100.0 %). Counts are in the margin.")
     browser.click("#profile summary")
     verdict("the cycles by label", browser.script(GET_LABELS),
             ["turn 016 2,084 96.5", "next 005 60 2.8", "wait 014 8 0.4 4 2,092 523", "first 003 4 0.2", "(no label)  3 0.1"])
     show_text(browser, "program")
-    eventually(browser, "counts stand beside the source", f"{GET_COUNTS}.slice(-5).join(' ')", "3 4 976 912/64 64 60/4 4")
+    eventually(browser, "counts are next to the source", f"{GET_COUNTS}.slice(-5).join(' ')", "3 4 976 912/64 64 60/4 4")
 
 
 def check_failing(browser):
@@ -68,7 +68,7 @@ def check_failing(browser):
 def check_errors(browser):
     browser.script(PUT_INTO_EDITOR, EDITOR, "test a\n  until lamps green within 10 ms\n  press x\n")
     show_text(browser, "tests")
-    eventually(browser, "faults are reported while one types", GET_ERRORS,
+    eventually(browser, "errors are reported during typing", GET_ERRORS,
                ["line 2: the board has no lamp green; it has: left middle right (column 9)",
                 "line 3: the board has no key x; its text names no keys (`# row 0: NAME ..`)"])
     verdict("the tab shows how many", browser.script(GET_MARK), "2 errors")
@@ -76,10 +76,10 @@ def check_errors(browser):
     eventually(browser, "nothing is run then", GET_TESTS_STATUS,
                "Nothing was run: Tests, line 2: the board has no lamp green; it has: left middle right (column 9), and 1 more.")
     browser.script(PUT_INTO_EDITOR, EDITOR, "")
-    eventually(browser, "a text to begin with is offered", "return isShown(document.getElementById('first-test'))", True)
+    eventually(browser, "a sample text is offered", "return isShown(document.getElementById('first-test'))", True)
     insert_sample(browser)
     browser.click(f"{EDITOR} .send")
-    eventually(browser, "and passes", GET_TESTS_STATUS, "The test passed.")
+    eventually(browser, "the sample test passes", GET_TESTS_STATUS, "The test passed.")
     for example, lines in (("calculator", ["press 7", "run 50 ms", "expect display 7"]),
                            ("lock", ["press 1", "run 50 ms", "expect lamp locked on"])):
         choose_example(browser, example)
@@ -139,7 +139,7 @@ def check_saving(browser, folder):
     rename(browser, "with tests")
     choose_from_file_menu(browser, "#save-button")
     project_text = wait_for_download(folder, "with tests.mcsp").read_text()
-    verdict("a project has it", "\nunended test\n" in project_text and "\ntest\ntest mine\n  run 5\n.\n" in project_text, True)
+    verdict("a project contains the tests", "\nunended test\n" in project_text and "\ntest\ntest mine\n  run 5\n.\n" in project_text, True)
 
 
 def check(browser, page, folder, _mcs4):

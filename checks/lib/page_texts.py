@@ -85,7 +85,7 @@ def check_damaged(browser, folder, project_bytes):
     for path, reason in ((cut_file, "cut off: its last line"), (changed_file, "damaged or was edited"), (newer_file, "of version 2"),
                         (foreign_file, "not a text, a session or a project; supported are projects")):
         browser.type_into("#file", str(path))
-        eventually(browser, f"{path.name} is refused in words", GET_NOTICE,
+        eventually(browser, f"{path.name} is rejected with a message", GET_NOTICE,
                    re.compile(f"Cannot open {path.name}: .*{reason}.*The session shown is unchanged"))
     plain_file = folder / "plain"
     plain_file.write_text("hello")
@@ -93,7 +93,7 @@ def check_damaged(browser, folder, project_bytes):
     eventually(browser, "a text with an error in each line is no program unasked", GET_QUESTION, "Replace the source by plain?")
     browser.keys([ESCAPE])
     eventually(browser, "the question is left", GET_QUESTION, "")
-    verdict("and the texts are as they were", browser.script(GET_TEXTS), texts_before)
+    verdict("and the texts are unchanged", browser.script(GET_TEXTS), texts_before)
 
 
 def check_undo(browser):
@@ -103,9 +103,9 @@ def check_undo(browser):
     texts_before = browser.script(GET_TEXTS)
     show_text(browser, "program")
     browser.click("#from-rom")
-    eventually(browser, "to replace a source is asked for", GET_QUESTION, "Replace the source?")
+    eventually(browser, "to replace a source is confirmed first", GET_QUESTION, "Replace the source?")
     browser.click("#ask .bar button:last-child")
-    verdict("what is refused is not done", browser.script(GET_TEXTS), texts_before)
+    verdict("what is rejected is not done", browser.script(GET_TEXTS), texts_before)
     browser.click("#from-rom")
     browser.until(GET_QUESTION, re.compile("."))
     browser.click("#ask .bar button:first-child")
@@ -166,7 +166,7 @@ def check_deleting(browser, count):
     browser.click("#choose-all")
     browser.click("#delete-chosen")
     eventually(browser, "all are deleted at once", COUNT_SAVED, 0)
-    verdict("the keyboard goes on in the dialog", browser.script("return document.activeElement.closest('#sessions') !== null"), True)
+    verdict("the keyboard continues in the dialog", browser.script("return document.activeElement.closest('#sessions') !== null"), True)
     browser.click(UNDO_BUTTON)
     eventually(browser, "and brought back", COUNT_SAVED, count)
     browser.click("#kept li button[aria-label^='delete']")
@@ -268,8 +268,8 @@ def check_link(browser, page):
     for description, broken_link in (("a cut link", link[:-9]), ("a link that is made by hand", "link=1.aGVsbG8"), ("another one", "link=hello")):
         texts_before = browser.script(GET_TEXTS)
         open_link(browser, page, broken_link)
-        eventually(browser, f"{description} is refused in words", GET_NOTICE, re.compile("Cannot open the link: it is cut off or was changed"))
-        verdict("and the bench is as it was", browser.script(GET_TEXTS), texts_before)
+        eventually(browser, f"{description} is rejected with a message", GET_NOTICE, re.compile("Cannot open the link: it is cut off or was changed"))
+        verdict("and the bench is unchanged", browser.script(GET_TEXTS), texts_before)
 
 
 def link_of(name, board, program):
@@ -287,16 +287,16 @@ def check_foreign_links(browser, page):
     hanging = f"# lamp 0: {' '.join(names)}\n# grid 0: {' '.join(f'-{name}' for name in names)}\n"
     texts_before = browser.script(GET_TEXTS)
     open_link(browser, page, link_of("a clock", hanging, ""))
-    eventually(browser, "a link with a text that is too long is refused in words", GET_NOTICE, re.compile(
+    eventually(browser, "a link with a text that is too long is rejected with a message", GET_NOTICE, re.compile(
         rf"^Cannot open the link: the board's text has {len(hanging):,} characters; at most 65,536 are accepted\. Nothing was changed\.$"))
-    verdict("and the bench is as it was", browser.script(GET_TEXTS), texts_before)
+    verdict("and the bench is unchanged", browser.script(GET_TEXTS), texts_before)
     board = f"# title: {'long words ' * 20}\n# lamp 0: {' '.join(names[:400])}\n# grid 0: {' '.join(f'-{number}' for number in range(600))}\n"
     open_link(browser, page, link_of("\u202etxe\u2066\t" + "name " * 900, board, ""))
     eventually(browser, "a long name is cut, and no letter turns it round", GET_QUESTION, f'Open "txe {"name " * 10}name…" from a link?')
     verdict("and so is the title", browser.text("#ask"), re.compile("link\\?(long words ){5}long…The board's text has 3 lines"))
     browser.click("#ask .bar button:first-child")
     eventually(browser, "it is opened", GET_NAME, re.compile("^txe name"))
-    eventually(browser, "and of its faults the first ones are reported", "return [...document.querySelectorAll('#face-faults li')].slice(20)"
+    eventually(browser, "and of its errors the first ones are reported", "return [...document.querySelectorAll('#face-faults li')].slice(20)"
                ".map((each) => each.textContent).join()", re.compile("^And [0-9,]+ more\\.$"))
     browser.go("about:blank")
     browser.go(f"{page.as_uri()}#example=%E2%80%AEhacked%2C%20go%20to%20evil.example%20{'x' * 100}")
@@ -324,7 +324,7 @@ document.body.dispatchEvent(new DragEvent("drop", { dataTransfer: data, bubbles:
     eventually(browser, "what is wrong in it is reported with its line", GET_NOTICE, re.compile(
         r"^Cannot open the folder: mcs4\.toml: line 4: a project has no key lamps; .*The session shown is unchanged"))
     browser.script(drop_files, files[2:])
-    eventually(browser, "alone it is refused", GET_NOTICE, re.compile(r"^Cannot open mcs4\.toml: it names files of a project: drop its folder"))
+    eventually(browser, "alone it is rejected", GET_NOTICE, re.compile(r"^Cannot open mcs4\.toml: it names files of a project: drop its folder"))
     browser.script("document.getElementById('speed').value = 'real'; document.getElementById('speed').dispatchEvent(new Event('change'))")
 
 
@@ -355,7 +355,7 @@ def check_files(browser, folder, mcs4):
     prose_file = folder / "notes"
     prose_file.write_text("hello there\nthis is no program\n")
     browser.type_into("#file", str(prose_file))
-    eventually(browser, "a text with an error in each line is asked for", GET_QUESTION, "Replace the source by notes?")
+    eventually(browser, "a text with an error in each line is confirmed first", GET_QUESTION, "Replace the source by notes?")
     browser.click("#ask .bar button:last-child")
     eventually(browser, "their texts are in the editors", GET_TEXTS, [(example / "board.toml").read_text(), (example / "three_lamps.asm").read_text()])
     browser.click("#board-tab")
@@ -389,7 +389,7 @@ def check_image(browser, folder, image):
     large = folder / "large.hex"
     large.write_text(":010F0000D11F\n:00000001FF\n")
     browser.type_into("#file", str(large))
-    eventually(browser, "an image for a ROM that is not there is refused in words", GET_NOTICE, re.compile("^Cannot open large.hex: the board has no ROM 15"))
+    eventually(browser, "an image for a ROM that is not there is rejected with a message", GET_NOTICE, re.compile("^Cannot open large.hex: the board has no ROM 15"))
     browser.script("for (const each of document.querySelectorAll('#notice .dismiss')) each.click()")
 
 

@@ -162,7 +162,7 @@ def check_many_steps(browser, program):
     eventually(browser, "50 instructions", GET_STATUS, f"50 instructions were done, after {cycles_text(int(lines[50].split()[0]))}.")
     browser.script(CHANGE_FIELD, "#step-count", "many")
     browser.click("#step-many")
-    eventually(browser, "what is no number is refused in words", GET_STATUS, re.compile("^Nothing was done: give a number"))
+    eventually(browser, "a text that is not a number is rejected with a message", GET_STATUS, re.compile("^Nothing was done: give a number"))
 
 
 def check_delay(browser):
@@ -214,7 +214,7 @@ def check_stopwatch(browser):
     eventually(browser, "a line that the board lacks", GET_STATUS, "Nothing was done: this board has no chain2.0.")
     browser.script(CHANGE_FIELD, "#change-place", "r99")
     browser.click("#back-change")
-    eventually(browser, "a name that is none", GET_STATUS, "Nothing was done: r99: no such place; the registers are r0 to r15 (column 1).")
+    eventually(browser, "an unknown name", GET_STATUS, "Nothing was done: r99: no such place; the registers are r0 to r15 (column 1).")
 
 
 def check_going_back(browser):
@@ -254,7 +254,7 @@ def check_going_back(browser):
     until_ready(browser)
     verdict("the present is what is kept", re.search("r [0-9A-F]{5}9", send_lines(browser, "regs")) is not None, True)
     browser.click("#back-stop")
-    eventually(browser, "a page that was loaded anew goes back through the reload", GET_STATUS, re.compile("^Back at the stop at 000"))
+    eventually(browser, "a page that was reloaded goes back through the reload", GET_STATUS, re.compile("^Back at the stop at 000"))
     verdict("to what was then", re.search("r [0-9A-F]{5}9", send_lines(browser, "regs")), None)
 
 
@@ -264,7 +264,7 @@ def check_unreachable_goal(browser):
     send_lines(browser, 'wire\n[[rom]]\nchip = 0\nport = "0000"\n.\nasm\nJMS round\nround: JUN round\n.\nstep')
     for action, stop in {"F8": lambda: browser.script(PRESS_KEY, "F8", False), "Stop": lambda: browser.click("#run")}.items():
         browser.click("#out")
-        eventually(browser, f"what never comes is time that runs, before {action}", GET_STATUS, "Running to the return from the subroutine.")
+        eventually(browser, f"what never comes is running time, before {action}", GET_STATUS, "Running to the return from the subroutine.")
         browser.until(GET_RATE, re.compile("^[0-9,]+ cycles"))
         stop()
         eventually(browser, f"{action} ends it", GET_STATUS,
@@ -308,7 +308,7 @@ def check_wait_for_key(browser):
     browser.until("return document.querySelectorAll('#keys button').length", 2)
     send_lines(browser, f"{WAITING_PROGRAM}\nrun 8")
     browser.script(PRESS_KEY, "F10", False)
-    eventually(browser, "Over a subroutine that waits for a key is time that runs", GET_STATUS, "Running to the return from the subroutine.")
+    eventually(browser, "Over a subroutine that waits for a key is running time", GET_STATUS, "Running to the return from the subroutine.")
     browser.until(GET_RATE, re.compile("^9[0-4],"))
     browser.touch_together([key("right")], 60)
     eventually(browser, "it returns once the key is pressed", GET_STATUS, re.compile("^Returned to 00A, after [0-9,]+ cycles, "))

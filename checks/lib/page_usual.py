@@ -7,7 +7,7 @@ import time
 from page_in_browser import GET_STATUS, choose_example, reopen_page, show_text, status_of, stop_time, until_ready
 from verdicts import eventually, verdict
 
-GET_ROWS = "return [...document.querySelectorAll('#usual-list li .words')].map((each) => each.textContent)"
+GET_ROWS = "return [...document.querySelectorAll('#usual-list li .words')].map((node) => node.textContent)"
 IS_PANEL_SHOWN = "return isShown(document.getElementById('usual'))"
 BOARD = """rom = [{ chip = 0, port = "0000" }, { chip = 1, port = "iiii" }]
 ram = [{ bank = 0, chips = 1 }]
@@ -31,16 +31,16 @@ def check(browser, page, _folder, _mcs4):
     choose_example(browser, "empty bench")
     status_of(browser, "#board-editor", BOARD)
     status_of(browser, "#program-editor", PROGRAM)
-    eventually(browser, "a fault is reported with its line", GET_ROWS, [f"004 (keys + 4, line 4) {MISTAKE}"])
+    eventually(browser, "an error is reported with its line", GET_ROWS, [f"004 (keys + 4, line 4) {MISTAKE}"])
     verdict("the tab counts it", browser.text("#problems-tab .mark"), "1")
-    verdict("while time goes on", browser.script(GET_STATUS), re.compile("^Running"))
+    verdict("while time continues", browser.script(GET_STATUS), re.compile("^Running"))
     browser.click("#usual-list input")
     stop_time(browser)
     browser.click("#run")
     eventually(browser, "with its switch time stops before it", GET_STATUS, "Paused at 004, before a mistake that is reported.")
     verdict("and it is reported again", browser.script(GET_ROWS), [f"004 (keys + 4, line 4) {MISTAKE}"])
     browser.click("#run")
-    eventually(browser, "it goes on with it, up to the next time", GET_STATUS, re.compile("^Paused at 004"))
+    eventually(browser, "it continues with it, up to the next time", GET_STATUS, re.compile("^Paused at 004"))
     browser.reload()
     until_ready(browser)
     browser.click("#run")

@@ -35,7 +35,7 @@ editor.setCursor({ line: arguments[0] - 1, ch: editor.getLine(arguments[0] - 1).
 GET_NEXT_LINE = "return document.querySelector('#program-editor .next').textContent"
 # The instruction or label at which each step stops, starting at ADD. The list was worked out manually.
 STEPS = ("BBL", "JUN turn", "turn:", "SRC", "LDM", "WRM", "INC", "JMS", "JUN turn")
-GET_LINE_VALUES = "return [...document.querySelectorAll('#program-editor .line-values')].map((each) => each.textContent)"
+GET_LINE_VALUES = "return [...document.querySelectorAll('#program-editor .line-values')].map((node) => node.textContent)"
 GET_WATCHES = """return [...document.querySelectorAll("#watched-list li")].map((row) =>
   `${row.querySelector("b").textContent} ${row.querySelector(".values").textContent}`)"""
 CELL = "#program-editor .meaning button.value"
@@ -63,7 +63,7 @@ def run_to_add(browser):
     status_of(browser, "#program-editor", PROGRAM)
     eventually(browser, "the status says what runs, and what stops it", GET_STATUS, 'Running "my board". F5 pauses it.')
     point_until_shown(browser, line_of("INC R5"), "R5", GET_EXPLANATION, "R5: the lower half of P2.")
-    eventually(browser, "while time runs a register has no value", GET_EXPLANATION, "R5: the lower half of P2.")
+    eventually(browser, "while time is running a register has no value", GET_EXPLANATION, "R5: the lower half of P2.")
     stop_time(browser)
     send_lines(browser, "reset")
     send_lines(browser, "poke ram.0.0x12 0")
@@ -93,7 +93,7 @@ def check_editing(browser):
     browser.script(f"document.querySelector('{CELL}').focus()")
     browser.keys([ENTER])
     browser.type_into("#cell-editor input", "g" + ENTER)
-    eventually(browser, "no digit is refused in words", "return document.querySelector('#cell-status').textContent", re.compile("^Type hexadec"))
+    eventually(browser, "a character that is not a digit is rejected with a message", "return document.querySelector('#cell-status').textContent", re.compile("^Type hexadec"))
     browser.type_into("#cell-editor input", ESCAPE)
     browser.keys([ENTER])
     browser.type_into("#cell-editor input", "c" + ENTER)
@@ -109,7 +109,7 @@ def check_line_values(browser):
         browser.until(GET_NEXT_LINE, re.compile(STEPS[step]))
     eventually(browser, "behind the lines that were done stands what they changed", GET_LINE_VALUES, ["acc 7", "R5 D", "acc 0", "acc 0"])
     browser.click("#run")
-    eventually(browser, "none while time runs", GET_LINE_VALUES, [])
+    eventually(browser, "none while time is running", GET_LINE_VALUES, [])
 
 
 def check_watched(browser):
@@ -179,7 +179,7 @@ def check_heat(browser):
     cell = f"5 digit, bank 0, chip 0, register 1, character 2: SRC byte 12; changed {CHANGE_DESCRIPTION}"
     eventually(browser, "and its cell is warm, and reports it", GET_WARM_CELLS, [cell])
     browser.click("#run")
-    eventually(browser, "what changes is counted while time runs", GET_HEAT_STATUS, "Counted while running.")
+    eventually(browser, "what changes is counted while time is running", GET_HEAT_STATUS, "Counted while running.")
     eventually(browser, "and is warm for as long as is wanted", GET_WARM_CELLS, [])
     browser.script(CHOOSE_OPTION, "heat-cycles", "1,000,000")
     send_lines(browser, "poke ram.0.0x12 3")
@@ -187,7 +187,7 @@ def check_heat(browser):
     browser.script(CHOOSE_OPTION, "heat-cycles", "100")
     eventually(browser, "and others where another stretch is chosen", GET_WARM_CELLS, [])
     browser.click("#run")
-    eventually(browser, "and it is counted anew once it stops", GET_HEAT_STATUS, re.compile("^In the last 100 cycles, 1.080 ms, no character"))
+    eventually(browser, "and it is counted again once it stops", GET_HEAT_STATUS, re.compile("^In the last 100 cycles, 1.080 ms, no character"))
     send_lines(browser, "poke st.0.1.2 4\nstep")
     eventually(browser, "also what a line did", GET_WARM_CELLS, re.compile("status character 2; changed once by the line poke st.0.1.2 4"))
     browser.script(CHOOSE_OPTION, "heat", "")

@@ -17,7 +17,7 @@ GET_SCOPE_STATUS = "return document.getElementById('scope-status').textContent"
 GET_CURSOR_DISTANCE = "return document.getElementById('wave-between').textContent"
 GET_FIRST_CYCLE = "return document.getElementById('wave-first').textContent"
 GET_SPOKEN_VALUE = "return document.getElementById('wave-canvas').getAttribute('aria-valuetext')"
-GET_NAMES = "return [...document.querySelectorAll('#wave-table th')].map((each) => each.textContent).join(' ')"
+GET_NAMES = "return [...document.querySelectorAll('#wave-table th')].map((node) => node.textContent).join(' ')"
 LEFT, RIGHT, DOWN, HOME, END, ENTER = "\ue012", "\ue014", "\ue015", "\ue011", "\ue010", "\ue007"
 
 # Selects only the given lines.
@@ -81,7 +81,7 @@ def check_stopwatch(browser):
     choose_example(browser, "stopwatch")
     send_lines(browser, "test 0")
     verdict("a recording", record(browser, 30000), "30,000 cycles recorded, 324.000 ms.")
-    verdict("time stands still then", browser.text("#run"), "Continue")
+    verdict("time is paused then", browser.text("#run"), "Continue")
     browser.script(CHOOSE_LINES, ["lamp15"])
     eventually(browser, "the lamp of the last digit", GET_NAMES, "lamp15")
     browser.script(FOCUS_CANVAS)
@@ -160,7 +160,7 @@ def check_file(browser, folder, mcs4):
     browser.script(CHOOSE_LINES, chosen_lines)
     saved_bytes = save_file(browser, folder, "#save-waves", "calculator.vcd")
     verdict("the same for some lines", saved_bytes == wave_file(mcs4, "--board", board, session, "3000", *chosen_lines), True)
-    verdict("the session is as it was", save_file(browser, folder, "#save-session-button", "calculator.mcs") == session.read_bytes(), True)
+    verdict("the session is unchanged", save_file(browser, folder, "#save-session-button", "calculator.mcs") == session.read_bytes(), True)
 
 
 def check_past_cycles(browser):
@@ -194,11 +194,11 @@ def check_live(browser, folder, mcs4):
     session = folder / "live.mcs"
     session.write_bytes(save_file(browser, folder, "#save-session-button", "calculator.mcs"))
     browser.script(FILL_FIELDS, {"trigger": "", "behind": "500"})
-    verdict("before time runs", record(browser, 1000000, "live"), "Records as soon as the machine runs.")
+    verdict("before time is running", record(browser, 1000000, "live"), "Records as soon as the machine runs.")
     browser.click("#run")
     eventually(browser, "it records", GET_SCOPE_STATUS, "Recording.")
     eventually(browser, "and counts what it has", GET_COUNT, re.compile(r"^[0-9,]{4,} cycles, [0-9.]+ m?s$"))
-    eventually(browser, "time runs on", GET_STATUS, re.compile("^Running \""))
+    eventually(browser, "time continues", GET_STATUS, re.compile("^Running \""))
     eventually(browser, "the tab says so", "return document.getElementById('waves-tab').textContent", "Wavesrecords")
     browser.click("#keys button")
     eventually(browser, "keys work", "return document.getElementById('digits').textContent", re.compile("7"))
@@ -267,7 +267,7 @@ def check_triggers(browser):
     browser.script(CHOOSE_LINES, ["lamp15"])
     trigger_cycle = re.search(r"at cycle ([0-9,]+)", status)[1]
     eventually(browser, "the cursor stands at the trigger", GET_FIRST_CYCLE, re.compile(f"^A: cycle {trigger_cycle}, "))
-    eventually(browser, "where the lamp has become lit", GET_SPOKEN_VALUE, re.compile(f"^lamp15 is 1, cycle {trigger_cycle}, "))
+    eventually(browser, "where the lamp has turned on", GET_SPOKEN_VALUE, re.compile(f"^lamp15 is 1, cycle {trigger_cycle}, "))
     browser.script(FOCUS_CANVAS)
     browser.keys(["b", END], 1, 1)
     eventually(browser, "a thousand cycles before the end", GET_CURSOR_DISTANCE, "A to B: 1,000 cycles, 10.800 ms")
@@ -423,11 +423,11 @@ def check_pictures(browser, folder):
 
 def check_refusals(browser):
     for text in ("0", "10000001", "many", ""):
-        verdict(f"{text or 'nothing'} cycles are refused", record(browser, text), "Enter a number of cycles, from 1 to 10,000,000.")
+        verdict(f"{text or 'nothing'} cycles are rejected", record(browser, text), "Enter a number of cycles, from 1 to 10,000,000.")
     browser.script("document.getElementById('waves-none').click()")
     browser.click("#wave-files summary")
     browser.click("#save-waves")
-    eventually(browser, "a file of no line is refused", GET_SCOPE_STATUS, "No line is chosen: choose the lines for the file.")
+    eventually(browser, "a file of no line is rejected", GET_SCOPE_STATUS, "No line is chosen: choose the lines for the file.")
     browser.script("document.getElementById('record-cycles').value = '10000000'; document.getElementById('scope-status').firstChild.data = ''")
     browser.script("document.getElementById('record-where').value = 'after'")
     browser.click("#record")

@@ -181,7 +181,7 @@ def check_first_glance(browser, page, at_size):
 FIND_HIDDEN_FIELDS = """
 const { left, top, right, bottom } = document.getElementById("chosen").getBoundingClientRect();
 const isIn = (box) => box.left >= left && box.right <= right + 1 && box.top >= top && box.bottom <= bottom + 1;
-return [...document.querySelectorAll("#chosen :is(button, input, select)")].filter((each) => !isIn(each.getBoundingClientRect()))
+return [...document.querySelectorAll("#chosen :is(button, input, select)")].filter((node) => !isIn(node.getBoundingClientRect()))
   .map((each) => each.getAttribute("aria-label"))"""
 GET_DIGIT_FILL = """
 return getComputedStyle(document.querySelector(`#examples button[aria-label='new session: ${arguments[0]}'] .digits`)).fill"""
@@ -189,10 +189,10 @@ GET_OFFERS = """
 return ["board-offer", "hello"].filter((id) => isShown(document.getElementById(id)))"""
 COUNT_BUTTONS_AT_EDGE = """
 const { left, right } = document.getElementById("history").getBoundingClientRect();
-return [...document.querySelectorAll("#history button")].map((each) => each.getBoundingClientRect())
+return [...document.querySelectorAll("#history button")].map((node) => node.getBoundingClientRect())
   .filter((box) => box.left < left + 8 || box.right > right - 8).length"""
 GET_TOP = "return Math.round(document.querySelector(arguments[0]).getBoundingClientRect().top)"
-COUNT_WATCHES = "return [...document.querySelectorAll('#watched-list .values')].filter((each) => each.querySelector('button')).length"
+COUNT_WATCHES = "return [...document.querySelectorAll('#watched-list .values')].filter((node) => node.querySelector('button')).length"
 GET_HELP_WIDTH = "return document.getElementById('help').getBoundingClientRect().width / innerWidth"
 
 

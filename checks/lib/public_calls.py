@@ -43,7 +43,8 @@ def call_of(signature):
     """Converts a function's signature to the format of public_calls.txt: the name, the types of the parameters, and the type of the result."""
     signature = re.sub(r"\s+", " ", signature).strip()
     name, _, parameters_and_result = re.sub(r"^(?:pub )?(?:const )?fn ", "", signature).partition("(")
-    end = next(at for at in range(len(parameters_and_result)) if parameters_and_result[:at + 1].count(")") > parameters_and_result[:at + 1].count("("))
+    prefixes = (parameters_and_result[:length] for length in range(1, len(parameters_and_result) + 1))
+    end = next(len(prefix) - 1 for prefix in prefixes if prefix.count(")") > prefix.count("("))
     return f"{name}({', '.join(type_of(parameter) for parameter in parts_of(parameters_and_result[:end]))}){parameters_and_result[end + 1:]}"
 
 
@@ -66,7 +67,7 @@ def block_at(lines, index):
 
 
 def calls_in(lines, index, pattern):
-    """Returns the functions in a block. `form` is a pattern for the words before `fn`."""
+    """Returns the functions in a block. `pattern` matches the words before `fn`."""
     block = block_at(lines, index)
     return [call_of(signature_at(block, number)) for number, line in enumerate(block) if re.match(rf"    {pattern}fn ", line)]
 
@@ -142,7 +143,7 @@ def missing_calls():
 
 
 if __name__ == "__main__":
-    for each in sys.argv[1:]:
-        print(each)
-        for said in calls_of(each):
-            print(f"    {said}")
+    for crate_name in sys.argv[1:]:
+        print(crate_name)
+        for line in calls_of(crate_name):
+            print(f"    {line}")

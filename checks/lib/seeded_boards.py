@@ -50,8 +50,8 @@ class Wiring:
     def chain(self) -> tuple[str, str, int]:
         """Returns the clock and the data of a chain, usually on the same port, and its number of chips."""
         lines = self.rng.choice(self.outputs)
-        others = lines if self.rng.random() < 0.8 else self.rng.choice(self.outputs)
-        return self.rng.choice(lines), self.rng.choice(others), self.rng.choice([1, 2, 3, 8, 8])
+        data_lines = lines if self.rng.random() < 0.8 else self.rng.choice(self.outputs)
+        return self.rng.choice(lines), self.rng.choice(data_lines), self.rng.choice([1, 2, 3, 8, 8])
 
     def text(self) -> list[str]:
         """Returns the text of the board."""
@@ -84,29 +84,29 @@ class Program:
                 self.put_part(256 * page + word, rng.randrange(4, 30))
             if rng.random() < 0.5:
                 self.put_end_of_page(256 * page)
-        self.begins = [at for at, statement in self.statements.items() if not statement.startswith("DB")]
+        self.begins = [address for address, statement in self.statements.items() if not statement.startswith("DB")]
         self.names = self.some_names()
 
-    def put_part(self, at: int, phrases: int) -> None:
+    def put_part(self, address: int, phrases: int) -> None:
         """Adds phrases (short sequences of instructions) from an address on, as far as there is room. Usually ends them by a jump, or by a code that
         is not an instruction."""
         statement = [word for _n in range(phrases) for word in self.phrase()]
-        self.put(at, statement + self.rng.choice([["JUN"], ["JUN"], ["BBL 3"], [f"DB 0x{self.rng.choice(INVALID_CODES):02X}"], []]))
+        self.put(address, statement + self.rng.choice([["JUN"], ["JUN"], ["BBL 3"], [f"DB 0x{self.rng.choice(INVALID_CODES):02X}"], []]))
 
-    def put(self, at: int, statements: list[str]) -> None:
+    def put(self, address: int, statements: list[str]) -> None:
         """Adds statements from an address on, as far as there is room. `^4` in a jump is the target four statements before it."""
         put: list[int] = []
         for statement in statements:
             statement, _sign, back = statement.partition(" ^")
             size = 2 if statement.split()[0] in (*JUMPS, "FIM") else 1
-            if not {at, at + size - 1} <= self.free or any(there >> 8 not in self.wiring.pages for there in (at, at + size - 1)):
+            if not {address, address + size - 1} <= self.free or any(word >> 8 not in self.wiring.pages for word in (address, address + size - 1)):
                 return
-            self.free -= {at, at + size - 1}
-            self.statements[at] = statement
-            put.append(at)
-            if back and put[-int(back)] >> 8 == (at + 2) >> 8:
-                self.loops[at] = put[-int(back)]
-            at += size
+            self.free -= {address, address + size - 1}
+            self.statements[address] = statement
+            put.append(address)
+            if back and put[-int(back)] >> 8 == (address + 2) >> 8:
+                self.loops[address] = put[-int(back)]
+            address += size
 
     def put_end_of_page(self, page: int) -> None:
         """Adds NOPs and one more instruction in the last words of a page. The page to which this instruction refers is usually the next one."""
@@ -158,35 +158,35 @@ class Program:
 
     def some_names(self) -> dict[int, str]:
         """Returns labels for some of the addresses. Some of the labels look like numbers."""
-        there = self.rng.sample(self.begins, min(len(self.begins), self.rng.choice([0, 2, 12])))
-        return {at: NAMES[i] if i < len(NAMES) else f"l{at:03X}" for i, at in enumerate(there)}
+        labelled = self.rng.sample(self.begins, min(len(self.begins), self.rng.choice([0, 2, 12])))
+        return {address: NAMES[i] if i < len(NAMES) else f"l{address:03X}" for i, address in enumerate(labelled)}
 
-    def target(self, at: int, name: str) -> str:
+    def target(self, address: int, name: str) -> str:
         """Returns the target of a jump, usually an instruction."""
-        if at in self.loops:
-            return self.names.get(self.loops[at], f"0x{self.loops[at]:03X}")
-        page = (at + 2) % ADDRESS_COUNT >> 8 if name in ("JCN", "ISZ") else self.rng.choice(self.wiring.pages)
-        there = [other for other in self.begins if other >> 8 == page]
+        if address in self.loops:
+            return self.names.get(self.loops[address], f"0x{self.loops[address]:03X}")
+        page = (address + 2) % ADDRESS_COUNT >> 8 if name in ("JCN", "ISZ") else self.rng.choice(self.wiring.pages)
+        candidates = [begin for begin in self.begins if begin >> 8 == page]
         # The targets up to 12 bytes before the jump, which make a short loop.
-        near = [other for other in there if at - 12 < other <= at]
+        near = [begin for begin in candidates if address - 12 < begin <= address]
         if name == "ISZ" and near and self.rng.random() < 0.7:
-            there = near
-        goal = self.rng.choice(there) if there and self.rng.random() < 0.95 else 256 * page + self.rng.randrange(256)
+            candidates = near
+        goal = self.rng.choice(candidates) if candidates and self.rng.random() < 0.95 else 256 * page + self.rng.randrange(256)
         return self.names.get(goal, f"0x{goal:03X}")
 
     def text(self) -> list[str]:
         """Returns the text of the program."""
-        lines, here = [], 0
-        for at in sorted(self.statements):
-            statement = self.statements[at]
+        lines, next_address = [], 0
+        for address in sorted(self.statements):
+            statement = self.statements[address]
             name = statement.split()[0]
             if name in JUMPS:
-                statement += (", " if name in ("JCN", "ISZ") else " ") + self.target(at, name)
-            if at != here:
-                lines.append(f"        ORG 0x{at:03X}")
-            label = f"{self.names[at]}:" if at in self.names else ""
+                statement += (", " if name in ("JCN", "ISZ") else " ") + self.target(address, name)
+            if address != next_address:
+                lines.append(f"        ORG 0x{address:03X}")
+            label = f"{self.names[address]}:" if address in self.names else ""
             lines.append(f"{label:<10}{statement}" + ("" if self.rng.random() < 0.9 else " ; a comment"))
-            here = at + (2 if name in (*JUMPS, "FIM") else 1)
+            next_address = address + (2 if name in (*JUMPS, "FIM") else 1)
         return lines
 
 
@@ -209,7 +209,7 @@ class Seeded:
         loops = [goal - 3 for goal in self.program.loops.values()]
         if loops and self.rng.random() < 0.3:
             return self.rng.choice(loops)
-        ends = [at for at in self.program.begins if at & 0xFC == 0xFC]
+        ends = [address for address in self.program.begins if address & 0xFC == 0xFC]
         if ends and self.rng.random() < 0.2:
             return self.rng.choice(ends)
         return self.rng.choice(self.program.begins) if self.rng.random() < 0.95 else self.rng.randrange(ADDRESS_COUNT)
@@ -237,23 +237,23 @@ class Seeded:
         ahead, visited, written = board.copy(), [board.pc], [self.character()]
         ahead.breaks = set()
 
-        def begun(_done: int, at: int) -> None:
-            visited.append(at)
-            written.extend([(ahead.dcl, ahead.chips.bank_src[ahead.dcl])] if ahead.rom[at] == 0xE0 else [])
+        def begun(_done: int, address: int) -> None:
+            visited.append(address)
+            written.extend([(ahead.dcl, ahead.chips.bank_src[ahead.dcl])] if ahead.rom[address] == 0xE0 else [])
 
         ahead.run(300, begun)
-        at, (bank, src) = self.rng.choice([board.pc, self.somewhere(), *visited[-20:]]), self.rng.choice(written)
-        return self.rng.choice([f"break {at}"] * 2 + [f"unbreak {at}"] + [f"watch {bank} {src}"] * 2 + [f"unwatch {bank} {src}"])
+        address, (bank, src) = self.rng.choice([board.pc, self.somewhere(), *visited[-20:]]), self.rng.choice(written)
+        return self.rng.choice([f"break {address}"] * 2 + [f"unbreak {address}"] + [f"watch {bank} {src}"] * 2 + [f"unwatch {bank} {src}"])
 
     def place(self) -> str:
         """Returns a place for a trace."""
         rng = self.rng
         bank, src = self.character()
         line = rng.choice(self.wiring.lines + self.wiring.inputs + [f"chain{rng.randrange(4)}.{rng.randrange(80)}"])
-        other = f"ram{rng.randrange(8)}.{rng.randrange(4)}.{rng.randrange(4)}"
+        ram_line = f"ram{rng.randrange(8)}.{rng.randrange(4)}.{rng.randrange(4)}"
         return rng.choice(["acc", "cy", "pc", "dcl", f"r{rng.randrange(16)}", f"rom.0x{self.somewhere():x}", f"ram.{bank}.{src}",
-                              f"st.{bank}.{src >> 4}.{rng.randrange(4)}", "ret", "lamps", "src", line, line, line, other,
-                              line.rpartition(".")[0], line.rpartition(".")[0], other.rpartition(".")[0], f"rom{rng.randrange(16)}",
+                              f"st.{bank}.{src >> 4}.{rng.randrange(4)}", "ret", "lamps", "src", line, line, line, ram_line,
+                              line.rpartition(".")[0], line.rpartition(".")[0], ram_line.rpartition(".")[0], f"rom{rng.randrange(16)}",
                               f"chain{rng.randrange(4)}"])
 
     def cycles(self) -> int:

@@ -20,20 +20,20 @@ def examples():
         yield path.name, path.read_text().splitlines()
     for path in sorted(TOP.glob("examples/**/*.txt")):
         lines = path.read_text().splitlines()
-        for begin in [i + 1 for i, line in enumerate(lines) if line.strip() == "asm"]:
-            yield path.name, lines[begin:lines.index(".", begin)]
+        for start in [i + 1 for i, line in enumerate(lines) if line.strip() == "asm"]:
+            yield path.name, lines[start:lines.index(".", start)]
 
 
 def seeded(number):
     """Returns a random program. Most have no error, and some have one or more."""
     rng = random.Random(number)
     names = [f"n{i}" for i in range(8)]
-    # The names that no line has defined so far. The names that are left are defined at the end, so that most programs are accepted.
-    free = list(names)
-    rng.shuffle(free)
+    # The names that no line has defined so far. The remaining names are defined at the end, so that most programs are accepted.
+    undefined = list(names)
+    rng.shuffle(undefined)
 
-    def value(most):
-        return rng.choice([str(rng.randrange(most + 1)), f"0x{rng.randrange(most + 1):x}"])
+    def value(maximum):
+        return rng.choice([str(rng.randrange(maximum + 1)), f"0x{rng.randrange(maximum + 1):x}"])
 
     def target():
         return rng.choice([*names, value(300)]) if rng.random() < 0.7 else value(300)
@@ -46,13 +46,13 @@ def seeded(number):
             statement = rng.choice(["ORG 4096", "LDM 16", "DB 256", "DB", "NOP NOP", "ORG 4095", "JUN nowhere", "ORG 0", "n0 = 4096", "R1: NOP"])
         if rng.random() < 0.06:
             statement = f"ORG {rng.randrange(0, 4000)}"
-        if free and rng.random() < 0.15:
-            name = free.pop()
+        if undefined and rng.random() < 0.15:
+            name = undefined.pop()
             statement = f"{name}: {statement}" if rng.random() < 0.8 else f"{name} = {value(4095)}"
         return rng.choice(["", " ", "\t"]) + statement + rng.choice(["", "", " ; a comment", "\t;"])
 
     lines = [line() for _ in range(rng.randrange(1, 60))]
-    return lines + [f"{name}:" for name in free if rng.random() < 0.98]
+    return lines + [f"{name}:" for name in undefined if rng.random() < 0.98]
 
 
 # Lines with each kind of error. Some are always wrong, and others only in most programs.
@@ -73,15 +73,15 @@ def wrong(number):
 
 
 def main():
-    folder, left = pathlib.Path(sys.argv[1]), {True: int(sys.argv[2]), False: int(sys.argv[3])}
+    folder, missing_counts = pathlib.Path(sys.argv[1]), {True: int(sys.argv[2]), False: int(sys.argv[3])}
     number = 0
     for seed in itertools.count():
-        if max(left.values()) == 0:
+        if max(missing_counts.values()) == 0:
             break
         lines = seeded(seed)
         is_accepted = not map_of(lines)[0].startswith("no ")
-        if left[is_accepted] > 0:
-            left[is_accepted] -= 1
+        if missing_counts[is_accepted] > 0:
+            missing_counts[is_accepted] -= 1
             (folder / f"{number}.asm").write_text("".join(f"{line}\n" for line in lines))
             number += 1
 

@@ -1,4 +1,4 @@
-"""Writes and reads session files as docs/FORMAT.md specifies, without the program. Implements only the commands that the checks put into the files.
+"""Writes and reads session files as docs/FORMAT.md specifies, without the program. Implements only the commands and instructions that the checks use.
 
 `ExpectedSession` computes the expected bytes of a session's file after each accepted command: its snapshot, its records, and all other bytes, except
 the unused part of each snapshot area.
@@ -53,36 +53,36 @@ class Board:
     lamps: list = dataclasses.field(default_factory=list)
 
     def bytes(self):
-        found = "".join(self.roms.get(chip, "----") for chip in range(16)).encode()
-        found += bytes(self.banks.get(bank, 0) for bank in range(8))
-        found += bytes([len(self.chains)])
+        encoded = "".join(self.roms.get(chip, "----") for chip in range(16)).encode()
+        encoded += bytes(self.banks.get(bank, 0) for bank in range(8))
+        encoded += bytes([len(self.chains)])
         for clock, data, chips in self.chains:
-            found += clock + data + bytes([chips])
+            encoded += clock + data + bytes([chips])
         if self.keys is None:
-            found += bytes([0])
+            encoded += bytes([0])
         else:
             chain, first, rows, columns = self.keys
-            found += bytes([1, chain, first, rows, len(columns)]) + b"".join(columns)
-        return found + bytes([len(self.lamps)]) + b"".join(self.lamps)
+            encoded += bytes([1, chain, first, rows, len(columns)]) + b"".join(columns)
+        return encoded + bytes([len(self.lamps)]) + b"".join(self.lamps)
 
-    def count_of_keys(self):
+    def key_count(self):
         return self.keys[2] * len(self.keys[3]) if self.keys else 0
 
     def tables(self):
         """Returns the tables of the board's text, each with the name of its section: ROMs and banks by number, then chains, keys and lamps."""
-        found = [("rom", {"chip": chip, "port": self.roms[chip]}) for chip in sorted(self.roms)]
-        found += [("ram", {"bank": bank, "chips": self.banks[bank]}) for bank in sorted(self.banks)]
-        found += [("chain", {"clock": name_of(clock), "data": name_of(data), "chips": chips}) for clock, data, chips in self.chains]
+        tables = [("rom", {"chip": chip, "port": self.roms[chip]}) for chip in sorted(self.roms)]
+        tables += [("ram", {"bank": bank, "chips": self.banks[bank]}) for bank in sorted(self.banks)]
+        tables += [("chain", {"clock": name_of(clock), "data": name_of(data), "chips": chips}) for clock, data, chips in self.chains]
         if self.keys:
             chain, first, rows, columns = self.keys
-            found.append(("keys", {"chain": chain, "first": first, "rows": rows, "columns": [name_of(line) for line in columns]}))
-        return found + [("lamp", {"line": name_of(line)}) for line in self.lamps]
+            tables.append(("keys", {"chain": chain, "first": first, "rows": rows, "columns": [name_of(line) for line in columns]}))
+        return tables + [("lamp", {"line": name_of(line)}) for line in self.lamps]
 
     def text(self):
         """Returns the board's text as `board` prints it, in the form of the board in the manual's first hour."""
         lines = []
-        for below, table in self.tables():
-            lines.append(f"[{below}]" if below == "keys" else f"[[{below}]]")
+        for section, table in self.tables():
+            lines.append(f"[{section}]" if section == "keys" else f"[[{section}]]")
             # In this form, TOML writes numbers, strings and lists in the same way as JSON.
             lines += [f"{key} = {json.dumps(value)}" for key, value in table.items()]
         return "".join(f"{line}\n" for line in lines)
@@ -115,16 +115,16 @@ class State:
     def bytes(self, version=2):
         """Returns the bytes of the state. Version 1 has no byte for the version, no watches and no number of watches."""
         assert version == 2 or not self.watches
-        found = number(self.seq, 4) + (b"\x02" if version == 2 else b"") + self.board.bytes()
-        found += self.rom + self.ram + self.status + self.ram_ports + self.rom_ports
-        found += bytes([self.accumulator, self.carry]) + self.registers
-        found += b"".join(number(address, 2) for address in [self.counter, *self.returns])
-        found += bytes([self.bank, self.rom_source]) + self.bank_sources + bytes([self.owed])
-        found += b"".join(self.chains) + self.keys + bytes([self.test])
-        found += bytes([len(self.breakpoints)]) + b"".join(number(address, 2) for address in self.breakpoints)
+        encoded = number(self.seq, 4) + (b"\x02" if version == 2 else b"") + self.board.bytes()
+        encoded += self.rom + self.ram + self.status + self.ram_ports + self.rom_ports
+        encoded += bytes([self.accumulator, self.carry]) + self.registers
+        encoded += b"".join(number(address, 2) for address in [self.counter, *self.returns])
+        encoded += bytes([self.bank, self.rom_source]) + self.bank_sources + bytes([self.owed])
+        encoded += b"".join(self.chains) + self.keys + bytes([self.test])
+        encoded += bytes([len(self.breakpoints)]) + b"".join(number(address, 2) for address in self.breakpoints)
         if version == 2:
-            found += bytes([len(self.watches)]) + b"".join(bytes(watch) for watch in self.watches)
-        return bytes(found)
+            encoded += bytes([len(self.watches)]) + b"".join(bytes(watch) for watch in self.watches)
+        return bytes(encoded)
 
     def regs_answer(self):
         """Returns the answer to `regs`."""
@@ -153,19 +153,20 @@ class State:
 
     def run(self, cycles):
         """Runs a number of cycles, or up to a breakpoint. Returns the part of the answer with the number of cycles and the reason for the stop."""
-        start = self.place()
-        done = left_out = 0
-        while done + left_out < cycles:
+        start = self.loop_key()
+        done = skipped = 0
+        while done + skipped < cycles:
             self.cycle()
             done += 1
             if not self.owed and self.counter in self.breakpoints:
                 return f" ran {done} break"
-            if self.place() == start and left_out == 0:
+            if self.loop_key() == start and skipped == 0:
                 # The program loops, so whole iterations are skipped.
-                left_out = (cycles - done) // done * done
+                skipped = (cycles - done) // done * done
         return f" ran {cycles} end"
 
-    def place(self):
+    def loop_key(self):
+        """Returns the parts of the state that the instructions of the checks can change."""
         return self.counter, self.owed, self.accumulator, self.carry, bytes(self.registers)
 
     def step(self):
@@ -202,7 +203,7 @@ def wire(text, board):
     def do(state):
         state.board = board
         state.chains = [bytearray(10 * chips) for _, _, chips in board.chains]
-        state.keys = bytearray(board.count_of_keys())
+        state.keys = bytearray(board.key_count())
         state.reset()
         for chip in range(16):
             if chip not in board.roms:
@@ -213,10 +214,10 @@ def wire(text, board):
 def load(text, image):
     """Returns the command that loads a program with these bytes."""
     addresses = sorted(image)
-    there = bytearray(512)
+    bitmap = bytearray(512)
     for address in addresses:
-        there[address // 8] |= 1 << address % 8
-    record = bytes([2]) + there + bytes(image[address] for address in addresses)
+        bitmap[address // 8] |= 1 << address % 8
+    record = bytes([2]) + bitmap + bytes(image[address] for address in addresses)
 
     def do(state):
         for address in addresses:
@@ -278,27 +279,27 @@ def read(file):
     snapshot = bytes(file[slot + LENGTH_BYTES:slot + LENGTH_BYTES + length])
     log = file[slot + SNAPSHOT_AREA:slot + SNAPSHOT_AREA + LOG_BYTES]
     records = []
-    at = 0
-    while log[at] == 1:
-        size = int.from_bytes(log[at + 1:at + 3], "big")
-        if not 1 <= size <= MAX_RECORD or at + 3 + size + 1 > LOG_BYTES:
+    offset = 0
+    while log[offset] == 1:
+        size = int.from_bytes(log[offset + 1:offset + 3], "big")
+        if not 1 <= size <= MAX_RECORD or offset + 3 + size + 1 > LOG_BYTES:
             return None
-        records.append(bytes(log[at + 3:at + 3 + size]))
-        at += 3 + size
+        records.append(bytes(log[offset + 3:offset + 3 + size]))
+        offset += 3 + size
     return snapshot, records
 
 
-def file_of(snapshot):
+def file_with_snapshot(snapshot):
     """Returns a file with a snapshot in its first slot, and no records."""
-    begin = SLOTS[0]
+    start = SLOTS[0]
     file = bytearray(NAME + bytes(SIZE - len(NAME)))
-    file[begin:begin + LENGTH_BYTES + len(snapshot)] = number(len(snapshot), LENGTH_BYTES) + snapshot
+    file[start:start + LENGTH_BYTES + len(snapshot)] = number(len(snapshot), LENGTH_BYTES) + snapshot
     return file
 
 
-def put_record(file, at, record):
+def put_record(file, offset, record):
     """Writes a record to a log, and the end of the log after it."""
-    file[at:at + 3 + len(record) + 1] = b"\x01" + number(len(record), 2) + record + b"\x00"
+    file[offset:offset + 3 + len(record) + 1] = b"\x01" + number(len(record), 2) + record + b"\x00"
 
 
 class ExpectedSession:
@@ -309,7 +310,7 @@ class ExpectedSession:
         self.state = state or State()
         self.version = version
         self.file = bytearray(SIZE)
-        self.rests = [None, None]
+        self.unused_ranges = [None, None]
         self.slot = slot
         self.checkpoints = 0
         self._put_snapshot(slot, version)
@@ -317,14 +318,14 @@ class ExpectedSession:
 
     def _put_snapshot(self, slot, version):
         snapshot = self.state.bytes(version)
-        begin = SLOTS[slot]
-        end = begin + LENGTH_BYTES + len(snapshot)
-        self.file[begin:end] = number(len(snapshot), LENGTH_BYTES) + snapshot
-        self.rests[slot] = (end, begin + SNAPSHOT_AREA)
-        self.file[begin + SNAPSHOT_AREA] = 0
+        start = SLOTS[slot]
+        end = start + LENGTH_BYTES + len(snapshot)
+        self.file[start:end] = number(len(snapshot), LENGTH_BYTES) + snapshot
+        self.unused_ranges[slot] = (end, start + SNAPSHOT_AREA)
+        self.file[start + SNAPSHOT_AREA] = 0
         self.slot = slot
-        self.used = self.cycles = 0
-        self.held = (snapshot, [])
+        self.log_size = self.cycles = 0
+        self.contents = (snapshot, [])
 
     def checkpoint(self):
         """Writes a snapshot with an empty log to the other slot, and makes this slot the active one."""
@@ -336,12 +337,12 @@ class ExpectedSession:
     def accept(self, command):
         """Accepts a command, and returns its answer."""
         record = command.record
-        if self.used + 3 + len(record) + 1 > LOG_BYTES or self.cycles + command.cycles > MAX_CYCLES:
+        if self.log_size + 3 + len(record) + 1 > LOG_BYTES or self.cycles + command.cycles > MAX_CYCLES:
             self.checkpoint()
-        put_record(self.file, SLOTS[self.slot] + SNAPSHOT_AREA + self.used, record)
-        self.used += 3 + len(record)
+        put_record(self.file, SLOTS[self.slot] + SNAPSHOT_AREA + self.log_size, record)
+        self.log_size += 3 + len(record)
         self.cycles += command.cycles
-        self.held[1].append(record)
+        self.contents[1].append(record)
         answer = command.do(self.state) or ""
         self.state.seq += 1
         return f"ok {self.state.seq}{answer}\n"
@@ -349,18 +350,18 @@ class ExpectedSession:
     def accept_all(self, commands):
         return "".join(self.accept(command) for command in commands)
 
-    def fault(self, file):
+    def difference_from(self, file):
         """Returns a description of the error if a file differs from this one, or "" if it does not."""
         if len(file) != SIZE:
             return f"it has {len(file)} bytes"
-        wanted = bytearray(self.file)
-        for rest in self.rests:
-            if rest:
-                wanted[rest[0]:rest[1]] = file[rest[0]:rest[1]]
-        if wanted == file:
+        expected = bytearray(self.file)
+        for unused_range in self.unused_ranges:
+            if unused_range:
+                expected[unused_range[0]:unused_range[1]] = file[unused_range[0]:unused_range[1]]
+        if expected == file:
             return ""
-        at = next(at for at in range(SIZE) if wanted[at] != file[at])
-        return f"from {at} on it has {bytes(file[at:at + 12]).hex(' ')}, and not {bytes(wanted[at:at + 12]).hex(' ')}"
+        offset = next(offset for offset in range(SIZE) if expected[offset] != file[offset])
+        return f"from {offset} on it has {bytes(file[offset:offset + 12]).hex(' ')}, and not {bytes(expected[offset:offset + 12]).hex(' ')}"
 
     def copy(self):
         return copy.deepcopy(self)

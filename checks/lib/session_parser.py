@@ -1,4 +1,4 @@
-"""A second reader of session files, written from docs/FORMAT.md alone: it parses the bytes of states and commands. bench4004.py then executes the
+"""A second parser of session files, written only from docs/FORMAT.md. It parses the bytes of states and commands. bench4004.py then executes the
 commands and answers lines.
 """
 
@@ -19,41 +19,43 @@ COMMANDS = {3: ("press", 255, 255), 4: ("release", 255, 255), 5: ("run", 2**32 -
             10: ("break", 4095), 11: ("unbreak", 4095), 12: ("watch", 7, 255), 13: ("unwatch", 7, 255)}
 
 
-class Refused(Exception):
+class RejectedFile(Exception):
     """Raised for a file that the program must reject, with the number of the error."""
 
 
-def require(holds):
+def require(condition):
     """Raises the error about a damaged file if a condition is false."""
-    if not holds:
-        raise Refused(51)
+    if not condition:
+        raise RejectedFile(51)
 
 
 class Reader:
-    """Reads bytes from the beginning to the end."""
+    """Reads numbers and bytes from data, in order."""
 
-    def __init__(self, given):
-        self.given, self.at = bytes(given), 0
+    def __init__(self, data):
+        self.data, self.offset = bytes(data), 0
 
     def take(self, count):
-        self.at += count
-        require(self.at <= len(self.given))
-        return self.given[self.at - count:self.at]
+        """Reads `count` bytes."""
+        self.offset += count
+        require(self.offset <= len(self.data))
+        return self.data[self.offset - count:self.offset]
 
-    def numbers(self, count, most):
-        """Reads `count` numbers of one byte each. None may be larger than `most`."""
-        found = self.take(count)
-        require(all(byte <= most for byte in {*found}))
-        return bytearray(found)
+    def numbers(self, count, maximum):
+        """Reads `count` numbers of one byte each. None may be larger than `maximum`."""
+        values = self.take(count)
+        require(all(byte <= maximum for byte in {*values}))
+        return bytearray(values)
 
-    def number(self, most):
+    def number(self, maximum):
         """Reads a number of 1, 2 or 4 bytes, depending on its maximum."""
-        found = int.from_bytes(self.take(1 if most < 256 else 2 if most < 65536 else 4), "big")
-        require(found <= most)
-        return found
+        value = int.from_bytes(self.take(1 if maximum < 256 else 2 if maximum < 65536 else 4), "big")
+        require(value <= maximum)
+        return value
 
     def end(self):
-        require(self.at == len(self.given))
+        """Rejects the file if some of the data was not read."""
+        require(self.offset == len(self.data))
 
 
 # --- boards
@@ -118,12 +120,12 @@ def read_state(snapshot):
     state.counter, *state.returns = [reader.number(4095) for _n in range(4)]
     state.bank, state.rom_source, state.bank_sources, state.owed = reader.number(7), reader.number(255), reader.take(8), reader.number(1)
     state.chains = [reader.numbers(10 * chips, 1) for _clock, _data, chips in board.chains]
-    state.keys, state.test = reader.numbers(board.count_of_keys(), 1), reader.number(1)
+    state.keys, state.test = reader.numbers(board.key_count(), 1), reader.number(1)
     state.breakpoints = [reader.number(4095) for _n in range(reader.number(32))]
     if version == 2:
         state.watches = [(reader.number(7), reader.number(255)) for _n in range(reader.number(8))]
     reader.end()
-    require(all(found == sorted({*found}) for found in (state.breakpoints, state.watches)))
+    require(all(items == sorted({*items}) for items in (state.breakpoints, state.watches)))
     require(not any(any(part) for part in absent_parts(state)))
     return state, version
 
@@ -133,7 +135,7 @@ def absent_parts(state):
     for chip in range(16):
         port = state.board.roms.get(chip, "iiii")
         yield b"" if chip in state.board.roms else state.rom[256 * chip:256 * chip + 256]
-        yield [state.rom_ports[chip] & sum(8 >> at for at, mark in enumerate(port) if mark == "i")]
+        yield [state.rom_ports[chip] & sum(8 >> index for index, mark in enumerate(port) if mark == "i")]
     for bank in range(8):
         chips = state.board.banks.get(bank, 0)
         yield state.ram[256 * bank + 64 * chips:256 * bank + 256]
@@ -157,7 +159,7 @@ def bench_of(state):
     chips.ram_latch = {(bank, chip): state.ram_ports[4 * bank + chip] for bank, chip in chips.ram_latch}
     chips.rom_latch = {chip: state.rom_ports[chip] for chip in chips.rom_latch}
     chips.rom_src, chips.bank_src, chips.chains = state.rom_source, list(state.bank_sources), [list(chain) for chain in state.chains]
-    chips.pressed_keys = {divmod(at, len(chips.columns)) for at, is_down in enumerate(state.keys) if is_down}
+    chips.pressed_keys = {divmod(index, len(chips.columns)) for index, is_down in enumerate(state.keys) if is_down}
     return bench
 
 
@@ -171,17 +173,17 @@ def read_command(record, version):
     if tag == 1:
         words = ["wire", read_board(reader, version).text().splitlines()]
     elif tag == 2:
-        marks = reader.take(512)
-        addresses = [at for at in range(4096) if marks[at // 8] >> at % 8 & 1]
-        words = ["asm", [line for at in addresses for line in (f"ORG {at}", f"DB {reader.number(255)}")]]
+        bitmap = reader.take(512)
+        addresses = [address for address in range(4096) if bitmap[address // 8] >> address % 8 & 1]
+        words = ["asm", [line for address in addresses for line in (f"ORG {address}", f"DB {reader.number(255)}")]]
     elif tag == 7:
-        name, *mosts = PLACES[reader.number(7)]
-        numbers = [reader.number(most) for most in mosts]
+        name, *maxima = PLACES[reader.number(7)]
+        numbers = [reader.number(maximum) for maximum in maxima]
         words = ["poke", name.format(*numbers[:-1]), str(numbers[-1])]
     else:
         require(tag in COMMANDS)
-        name, *mosts = COMMANDS[tag]
-        words = [name, *(str(reader.number(most)) for most in mosts)]
+        name, *maxima = COMMANDS[tag]
+        words = [name, *(str(reader.number(maximum)) for maximum in maxima)]
     reader.end()
     return words, {"run": lambda: int(words[1]), "step": lambda: 2}.get(words[0], lambda: 0)()
 
@@ -190,14 +192,14 @@ class ParsedFile:
     """The contents of a session file: a bench in its state, the text of its board, and the version of the format."""
 
     def __init__(self, file):
-        """Reads a file. Raises `Refused` if the program must reject the file."""
+        """Reads a file. Raises `RejectedFile` if the program must reject the file."""
         if len(file) != SIZE or file[:8] != NAME:
-            raise Refused(50)
-        held = read(file)
-        require(held is not None)
-        state, self.version = read_state(held[0])
+            raise RejectedFile(50)
+        contents = read(file)
+        require(contents is not None)
+        state, self.version = read_state(contents[0])
         self.bench, self.board = bench_of(state), state.board.text().splitlines()
-        commands = [read_command(record, self.version) for record in held[1]]
+        commands = [read_command(record, self.version) for record in contents[1]]
         require(sum(cycles for _words, cycles in commands) <= MAX_CYCLES)
         for words, _cycles in commands:
             self.accept(words)
@@ -212,9 +214,9 @@ class ParsedFile:
         if words[0] == "wire":
             self.board = words[1]
 
-    def answers_to(self, questions):
+    def answers_to(self, queries):
         """Returns the first line of a session and the answers to questions."""
         answers = [f"session {self.bench.seq}"]
-        for question in questions:
-            answers += ["board", *self.board] if question == "board" else self.bench.answer(*question.split())
+        for query in queries:
+            answers += ["board", *self.board] if query == "board" else self.bench.answer(*query.split())
         return "".join(f"{line}\n" for line in answers)

@@ -13,9 +13,9 @@ def put(part, value):
     return lambda state: setattr(state, part, value)
 
 
-def put_at(part, place, value):
+def put_at(part, index, value):
     """Returns a function that sets an element of a part of a state to a value."""
-    return lambda state: getattr(state, part).__setitem__(place, value)
+    return lambda state: getattr(state, part).__setitem__(index, value)
 
 
 def written(text, record, do):
@@ -28,8 +28,8 @@ def wired(board, record):
     return Command(wire(board.text(), board).text, record, wire("", board).do)
 
 
-# Boards with their records: an empty one; one that shows the order of a port's characters (lines 3, 2, 1, 0); one with each part; and one with the
-# maximum of each part.
+# Boards with their records: an empty one; one in which the order of a port's characters matters (lines 3, 2, 1, 0); one with each part; and one with
+# the maximum of each part.
 BOARDS = [
     wired(Board(), b"\1" + NO_ROMS + bytes(11)),
     wired(TWO_KEYS, b"\1" + b"0000" + b"1i0i" + NO_ROMS[:56]
@@ -67,7 +67,7 @@ COMMANDS = [
     written("poke ram.1.0xFF 3", [7, 6, 1, 0xFF, 3], put_at("ram", 256 + 0xFF, 3)),
     written("poke st.7.15.3 8", [7, 7, 7, 15, 3, 8], put_at("status", 511, 8)),
 ]
-# Invalid records. On the largest board, a reader that does not reject them takes them for a command that the bench accepts.
+# Invalid records. On the largest board, a parser that does not reject them would read a command that the bench accepts.
 NEW_BOARD = b"\1" + Board().bytes()
 LOAD = bytes([2, 3, *bytes(513)])
 WRONG_RECORDS = [

@@ -14,10 +14,10 @@ ENDS = {"rom": (0, 4_095), "ram": (0, 2_047), "status": (0, 511), "ram_ports": (
 
 def zeros_but(size, values):
     """Returns `size` bytes that are 0 except at the offsets in `values`."""
-    found = bytearray(size)
-    for place, value in values.items():
-        found[place] = value
-    return found
+    data = bytearray(size)
+    for offset, value in values.items():
+        data[offset] = value
+    return data
 
 
 def registers(values):
@@ -41,9 +41,9 @@ def in_rom_0(port):
 
 # States that both versions can store. Each has a name, queries to a session in this state, and the answers to them.
 STATES = [
-    ("a new one", State(), "", ""),
+    ("a new state", State(), "", ""),
     ("a count of commands of four bytes", State(seq=0xFF00_0000), "seq\n", "seq 4278190080\n"),
-    ("the last count of commands", State(seq=0xFFFF_FFFF), "reset\nrun 0\nseq\n", "no 46\nno 46\nseq 4294967295\n"),
+    ("the maximum count of commands", State(seq=0xFFFF_FFFF), "reset\nrun 0\nseq\n", "no 46\nno 46\nseq 4294967295\n"),
     ("an accumulator of 15, and a carry", State(accumulator=15, carry=1), "", ""),
     ("registers of 15", State(registers=registers({7: 15, 15: 15})), "", ""),
     ("the last counter", State(counter=0xFFF), "", ""),
@@ -51,15 +51,15 @@ STATES = [
     ("return addresses", State(returns=[0xFFF, 0x123, 0xFFE]), "", ""),
     ("bank 7", State(bank=7), "", ""),
     ("an SRC byte of the ROMs", State(rom_source=0xFF), "trace 1 src\n", "trace ran 1 end lines 0 FF\n"),
-    ("a cycle that is owed", State(owed=1), "", ""),
-    ("a cycle that a jump owes", State(seq=4, board=Board({0: "0000"}), rom=zeros_but(4_096, {0: 0x41, 1: 0x23}), counter=0x123, owed=1),
+    ("a pending cycle", State(owed=1), "", ""),
+    ("a pending cycle of a jump", State(seq=4, board=Board({0: "0000"}), rom=zeros_but(4_096, {0: 0x41, 1: 0x23}), counter=0x123, owed=1),
      "list 0 1\n", "000 41 23 JUN 0x123\n"),
     ("TEST at 0", State(test=0), "", ""),
     ("two breakpoints", State(breakpoints=[9, 300]), "breaks\n", "breaks 009 12C\n"),
     ("two other breakpoints", State(breakpoints=[3, 0x123]), "breaks\n", "breaks 003 123\n"),
     *((f"a ROM of {port}", in_rom_0(port), "board\n", f'board\n[[rom]]\nchip = 0\nport = "{port}"\n') for port in ("iiii", "0000", "1111")),
     ("the worked board", on_worked_board(rom_ports=zeros_but(16, {0: 8})), "", ""),
-    ("all of the worked board",
+    ("the worked board, with all its parts set",
      on_worked_board(rom_ports=zeros_but(16, {0: 8}), ram=zeros_but(2_048, {256 + 63: 15}), status=zeros_but(512, {64 + 15: 14}), bank=7,
                      test=0, returns=[0, 0x123, 0]), "state\nram 1\n",
      "state seq 0 acc 0 cy 0 pc 000 owed 0 dcl 7 test 0 r 0000000000000000 ret 000,123,000 src 00 banks 0.00,1.00 roms 0.8.0,1.0.0,2.0.8 "
@@ -92,16 +92,16 @@ WRONG_STATES = [
     ("the newest return address at 4,096", State(returns=[0x1000, 0, 0])),
     ("the oldest return address at 4,096", State(returns=[0, 0, 0x1000])),
     ("bank 8", State(bank=8)),
-    ("two cycles owed", State(owed=2)),
+    ("two pending cycles", State(owed=2)),
     ("TEST at 2", State(test=2)),
     ("a ROM byte without a ROM", State(rom=zeros_but(4_096, {5: 1}))),
     ("an SRC byte of a bank without chips", State(bank_sources=zeros_but(8, {3: 1}))),
-    *((f"place {place} of {part} without its chip", State(**{part: zeros_but(last + 1, {place: 1})}))
-      for part, (first, last) in ENDS.items() for place in (first, last)),
-    ("an input line that keeps a bit", on_worked_board(rom_ports=zeros_but(16, {1: 8}))),
+    *((f"byte {offset} of {part} without its chip", State(**{part: zeros_but(last + 1, {offset: 1})}))
+      for part, (first, last) in ENDS.items() for offset in (first, last)),
+    ("an input line that stores a bit", on_worked_board(rom_ports=zeros_but(16, {1: 8}))),
     ("a breakpoint twice", State(breakpoints=[9, 300, 300])),
     ("a breakpoint of one byte twice", State(breakpoints=[3, 3])),
-    ("breakpoints that fall", State(breakpoints=[3, 2])),
+    ("breakpoints in descending order", State(breakpoints=[3, 2])),
     ("33 breakpoints", State(breakpoints=list(range(33)))),
     ("a bank of five chips", State(board=Board(banks={0: 5}))),
     ("65 lamps", State(board=Board({0: "0000"}, lamps=[rom_line(0, 0)] * 65))),
@@ -113,17 +113,17 @@ WRONG_STATES = [
 # Invalid watches, which only version 2 has.
 WRONG_WATCHES = [
     ("a watch twice", [(0, 1), (5, 0x3F), (5, 0x3F)]),
-    ("two watches that are one", [(5, 0x3F), (5, 0x3F)]),
-    ("watches that fall", [(5, 0x40), (5, 0x3F)]),
-    ("banks of watches that fall", [(8, 0), (5, 0x3F)]),
+    ("two equal watches", [(5, 0x3F), (5, 0x3F)]),
+    ("watches in descending order", [(5, 0x40), (5, 0x3F)]),
+    ("banks of watches in descending order", [(8, 0), (5, 0x3F)]),
     ("a watch of bank 8", [(8, 0)]),
     ("a watch of bank 8 after others", [(0, 1), (5, 0x3F), (8, 0)]),
     ("nine watches", [(0, source) for source in range(9)]),
 ]
 
 
-def with_byte(snapshot, place, byte):
-    return snapshot[:place] + bytes([byte]) + snapshot[place + 1:]
+def with_byte(snapshot, offset, byte):
+    return snapshot[:offset] + bytes([byte]) + snapshot[offset + 1:]
 
 
 NEW, NEW_OF_VERSION_1 = State().bytes(), State().bytes(1)
@@ -139,7 +139,7 @@ WRONG_SNAPSHOTS = [
     *((f"version {byte:02X}", with_byte(NEW, 4, byte)) for byte in (0, 1, 3, ord("-"), ord("i"))),
     *((f"version 01 and a ROM of {port}", with_byte(in_rom_0(port).bytes(), 4, 1)) for port in ("iiii", "0000", "1111")),
     ("a port of one character", with_byte(NEW, 5, ord("i"))),
-    *((f"{what} without its bytes", with_byte(NEW, place, byte)) for what, place, byte in (
+    *((f"{description} without its bytes", with_byte(NEW, offset, byte)) for description, offset, byte in (
         ("a chain", 77, 1), ("five chains", 77, 5), ("keys", 78, 1), ("keys twice", 78, 2), ("65 lamps", 79, 65),
         ("a breakpoint", 6_822, 1), ("33 breakpoints", 6_822, 33), ("a watch", 6_823, 1), ("nine watches", 6_823, 9))),
 ]

@@ -62,7 +62,7 @@ class Check:
     name: str
     needs: str = ""
     seconds: int = 10
-    words: str = ""
+    arguments: str = ""
     long: str | None = None
     quick: str | None = None
     alone: bool = False
@@ -77,9 +77,9 @@ class Check:
         return f"{self.name} {self.part}".rstrip()
 
     def command(self, mode):
-        words = self.long if mode == "long" and self.long is not None else self.quick if mode == "quick" else self.words
+        arguments = self.long if mode == "long" and self.long is not None else self.quick if mode == "quick" else self.arguments
         # The page's module is compiled again if the kit is installed.
-        return [f"checks/{self.name}", *(word for word in shlex.split(words or "") if word != "--anew" or shutil.which("rt"))]
+        return [f"checks/{self.name}", *(word for word in shlex.split(arguments or "") if word != "--anew" or shutil.which("rt"))]
 
     def title(self, mode):
         return " ".join(self.command(mode))
@@ -142,10 +142,10 @@ class Running:
     process: subprocess.Popen
     output: pathlib.Path
     mark: str
-    begun: float = field(default_factory=time.monotonic)
+    start_time: float = field(default_factory=time.monotonic)
 
     def seconds(self):
-        return time.monotonic() - self.begun
+        return time.monotonic() - self.start_time
 
     def is_late(self):
         return self.check is not GATE and self.seconds() > self.check.limit()
@@ -158,26 +158,26 @@ def is_there(need):
 
 def install(checks):
     """As root, installs the missing packages of these checks, with a single apt-get."""
-    lacking = sorted({PACKAGES.get(need, need) for check in checks for need in f"{check.needs} {check.parts_need}".split() if not is_there(need)})
-    if not lacking or os.geteuid() != 0 or not shutil.which("apt-get"):
+    missing = sorted({PACKAGES.get(need, need) for check in checks for need in f"{check.needs} {check.parts_need}".split() if not is_there(need)})
+    if not missing or os.geteuid() != 0 or not shutil.which("apt-get"):
         return
-    print(f"test: apt-get installs {' '.join(lacking)}", flush=True)
+    print(f"test: apt-get installs {' '.join(missing)}", flush=True)
     quiet = {"stdin": subprocess.DEVNULL, "stdout": subprocess.DEVNULL, "stderr": subprocess.DEVNULL, "check": False}
     subprocess.run(["apt-get", "update"], **quiet)
-    for packages in lacking:
+    for packages in missing:
         subprocess.run(["apt-get", "install", "-y", "--no-install-recommends", *packages.split()], **quiet)
 
 
 def processes_with(mark):
     """Returns the processes that have this mark in their environment."""
-    found = []
+    processes = []
     for folder in pathlib.Path("/proc").glob("[0-9]*"):
         try:
             if f"CHECK_MARK={mark}".encode() in (folder / "environ").read_bytes().split(b"\0"):
-                found.append(int(folder.name))
+                processes.append(int(folder.name))
         except OSError:
             continue
-    return found
+    return processes
 
 
 def command_of(process):
@@ -192,16 +192,16 @@ def end_processes(mark):
     """Ends the processes that a check has left running. Sends them two signals, so that they can clean up, and then kills them."""
     for number in (signal.SIGINT, signal.SIGTERM, signal.SIGKILL):
         end = time.monotonic() + END_TIMEOUT
-        found = processes_with(mark)
-        for process in found:
+        processes = processes_with(mark)
+        for process in processes:
             try:
                 os.kill(process, number)
             except OSError:
                 continue
-        while found and time.monotonic() < end:
-            found = processes_with(mark)
+        while processes and time.monotonic() < end:
+            processes = processes_with(mark)
             time.sleep(0.05)
-        if not found:
+        if not processes:
             return
 
 
@@ -212,14 +212,14 @@ class Run:
         self.mode = mode
         self.folder = folder
         self.checks = [] if mode == "gate" else [check for check in CHECKS if mode != "quick" or check.quick is not None]
-        self.usual = {**{check.label: check.usual() for check in [*CHECKS, GATE]}, **times_before(mode)}
+        self.usual = {**{check.label: check.usual() for check in [*CHECKS, GATE]}, **last_times(mode)}
         self.waiting = sorted(self.checks, key=lambda check: -self.usual[check.label])
         self.gate = None
         self.processors = len(os.sched_getaffinity(0))
         self.running, self.ended, self.times = [], [], {}
         self.passed = self.failed = 0
         self.left_out = []
-        self.begun = time.monotonic()
+        self.start_time = time.monotonic()
 
     def program(self):
         """Returns the program that a check uses if it starts now."""
@@ -227,7 +227,7 @@ class Run:
             return os.environ["MCS4"]
         return os.environ["SHIPPED_PROGRAM"] if self.gate and not self.gate.is_over else os.environ["BUILT_PROGRAM"]
 
-    def begin(self, check, words):
+    def begin(self, check, arguments):
         """Starts a check, or the gate, with its output in a file."""
         output = self.folder / f"output.{check.label.replace('/', '.')}"
         mark = f"{os.getpid()}.{check.label}"
@@ -236,36 +236,36 @@ class Run:
             environment["MCS4"] = self.program()
         with output.open("wb") as file:
             # A check must receive the signals that this process ignores, for example in the background. `env` restores them.
-            process = subprocess.Popen(["env", "--default-signal=INT,QUIT", *words], cwd=TOP, env=environment, stdin=subprocess.DEVNULL, stdout=file,
-                                       stderr=subprocess.STDOUT)
+            process = subprocess.Popen(["env", "--default-signal=INT,QUIT", *arguments], cwd=TOP, env=environment, stdin=subprocess.DEVNULL,
+                                       stdout=file, stderr=subprocess.STDOUT)
         self.running.append(Running(check, process, output, mark))
         return self.running[-1]
 
     def start(self, check):
         """Starts a check, or records that it is not run."""
-        lacking = [PACKAGES.get(need, need) for need in check.needs.split() if not is_there(need)]
-        if lacking:
-            self.left_out.append(f"not run: checks/{check.name} (Debian's packages: {' '.join(lacking)})")
+        missing = [PACKAGES.get(need, need) for need in check.needs.split() if not is_there(need)]
+        if missing:
+            self.left_out.append(f"not run: checks/{check.name} (Debian's packages: {' '.join(missing)})")
             self.ended.append(check)
             self.show(f"== {check.title(self.mode)}\n{self.left_out[-1]}")
             return
         self.begin(check, check.command(self.mode))
 
-    def end(self, each):
+    def end(self, running):
         """Counts the results of a check, or of the gate, and prints the output of a check."""
-        self.running.remove(each)
-        end_processes(each.mark)
-        self.ended.append(each.check)
-        status, seconds = each.process.returncode, each.seconds()
-        text = each.output.read_text(errors="replace")
+        self.running.remove(running)
+        end_processes(running.mark)
+        self.ended.append(running.check)
+        status, seconds = running.process.returncode, running.seconds()
+        text = running.output.read_text(errors="replace")
         sums = SUMMED.findall(text)
         passed, failed = map(int, sums[-1]) if sums else (0, 1)
         self.passed += passed
         self.failed += failed if status == 0 or failed else 1
         self.left_out += [line for line in re.findall(r"^not run: .*$", text, re.M) if line not in self.left_out]
         if sums:
-            self.times[each.check.label] = seconds
-        if each.check is GATE:
+            self.times[running.check.label] = seconds
+        if running.check is GATE:
             self.gate.end()
             if self.waiting and not pathlib.Path(os.environ["BUILT_PROGRAM"]).exists():
                 self.waiting.clear()
@@ -275,9 +275,9 @@ class Run:
             if self.checks:
                 self.show(f"the checks run on {self.program()}")
         else:
-            self.show(f"== {each.check.title(self.mode)}\n{text}checks/{each.check.label} took {seconds:.0f} s")
+            self.show(f"== {running.check.title(self.mode)}\n{text}checks/{running.check.label} took {seconds:.0f} s")
 
-    def most(self):
+    def max_running(self):
         """Returns the number of checks that may run now, including the gate."""
         if self.gate is None or self.gate.is_over:
             return self.processors
@@ -288,7 +288,7 @@ class Run:
     def next(self):
         """Removes and returns the next waiting check that can start now."""
         is_gate_over = self.gate is None or self.gate.is_over
-        if len(self.running) >= self.most():
+        if len(self.running) >= self.max_running():
             return None
         for check in self.waiting:
             if not check.alone and (is_gate_over or not check.reads_built):
@@ -300,22 +300,22 @@ class Run:
 
     def turn(self):
         """Ends checks that exceed their time limit, counts the checks that have ended, and starts the next one."""
-        for each in list(self.running):
-            if each.process.poll() is None and each.is_late():
-                with each.output.open("a") as file:
-                    file.write(f"checks/{each.check.label}: not done after {each.check.limit()} s. It was running:\n")
-                    file.writelines(f"  {command_of(process)}\n" for process in processes_with(each.mark))
-                end_processes(each.mark)
-                each.process.wait()
-            is_over = each.process.poll() is not None
-            if each.check is GATE:
+        for running in list(self.running):
+            if running.process.poll() is None and running.is_late():
+                with running.output.open("a") as file:
+                    file.write(f"checks/{running.check.label}: not done after {running.check.limit()} s. It was running:\n")
+                    file.writelines(f"  {command_of(process)}\n" for process in processes_with(running.mark))
+                end_processes(running.mark)
+                running.process.wait()
+            is_over = running.process.poll() is not None
+            if running.check is GATE:
                 self.gate.show(self.show)
             if is_over:
-                self.end(each)
+                self.end(running)
         if (check := self.next()) is not None:
             self.start(check)
 
-    def all(self):
+    def run_all(self):
         """Runs the gate and all checks. The checks that run alone come last."""
         if self.mode in ("all", "gate"):
             self.show("== rt ci")
@@ -334,22 +334,24 @@ class Run:
         """On a terminal, prints the progress line: the number of finished checks, the running ones, and the estimated remaining time."""
         if not sys.stdout.isatty():
             return
-        spent = {each.check.label: each.seconds() for each in self.running}
-        left = {check: max(self.usual[check.label] - spent.get(check.label, 0), 5) for check in [*self.checks, GATE] if check in self.waiting or check.label in spent}
-        beside = sum(seconds for check, seconds in left.items() if check is not GATE) / min(self.processors, max(len(left), 1))
+        spent = {running.check.label: running.seconds() for running in self.running}
+        remaining = {check: max(self.usual[check.label] - spent.get(check.label, 0), 5)
+                     for check in [*self.checks, GATE] if check in self.waiting or check.label in spent}
+        check_seconds = sum(seconds for check, seconds in remaining.items() if check is not GATE) / min(self.processors, max(len(remaining), 1))
         names = ", ".join(name for name in spent if name != GATE.label)
         gate = f"gate {self.gate.passed} of {self.gate.crates} crates, " if self.gate and not self.gate.is_over else ""
         done = sum(check is not GATE for check in self.ended)
-        line = f"{gate}checks {done} of {len(self.checks)} done, running: {names or 'none'}, about {max(beside, left.get(GATE, 0)) / 60:.0f} min left"
+        minutes = max(check_seconds, remaining.get(GATE, 0)) / 60
+        line = f"{gate}checks {done} of {len(self.checks)} done, running: {names or 'none'}, about {minutes:.0f} min left"
         print(f"\r\033[K{line[: shutil.get_terminal_size().columns - 1]}", end="", flush=True)
 
-    def sum_up(self):
+    def write_totals(self):
         """Writes the totals for ./test, and prints the longest checks."""
         (self.folder / "summed").write_text(f"{self.passed} {self.failed}\n")
         (self.folder / "left_out").write_text("".join(f"{line}\n" for line in self.left_out))
         longest = sorted(self.times.items(), key=lambda pair: -pair[1])[:10]
         self.show("longest: " + ", ".join(f"{name} {seconds:.0f} s" for name, seconds in longest))
-        self.show(f"all took {(time.monotonic() - self.begun) / 60:.0f} min on {self.processors} processors")
+        self.show(f"all took {(time.monotonic() - self.start_time) / 60:.0f} min on {self.processors} processors")
 
 
 class Gate:
@@ -380,7 +382,7 @@ class Gate:
         self.is_over = True
 
 
-def times_before(mode):
+def last_times(mode):
     """Returns the number of seconds that each check took last time, by their names."""
     try:
         times = json.loads(CACHE.read_text())[mode]
@@ -389,14 +391,14 @@ def times_before(mode):
         return {}
 
 
-def keep_times(mode, times):
+def store_times(mode, times):
     """Stores the times for the next run, if the cache folder is writable."""
     try:
         stored = json.loads(CACHE.read_text()) if CACHE.exists() else {}
         CACHE.parent.mkdir(parents=True, exist_ok=True)
-        other = CACHE.with_name(f"{CACHE.name}.{os.getpid()}")
-        other.write_text(json.dumps({**stored, mode: {**stored.get(mode, {}), **times}}))
-        other.replace(CACHE)
+        temporary = CACHE.with_name(f"{CACHE.name}.{os.getpid()}")
+        temporary.write_text(json.dumps({**stored, mode: {**stored.get(mode, {}), **times}}))
+        temporary.replace(CACHE)
     except (OSError, ValueError, TypeError, AttributeError):
         return
 
@@ -405,23 +407,23 @@ def main():
     parser = argparse.ArgumentParser()
     parser.add_argument("mode", choices=("all", "gate", "checks", "long", "quick"))
     parser.add_argument("folder", type=pathlib.Path)
-    words = parser.parse_args()
+    arguments = parser.parse_args()
     signal.signal(signal.SIGTERM, signal.default_int_handler)
     signal.signal(signal.SIGINT, signal.default_int_handler)
-    run = Run(words.mode, words.folder)
+    run = Run(arguments.mode, arguments.folder)
     try:
-        run.all()
+        run.run_all()
     except KeyboardInterrupt:
         for number in (signal.SIGINT, signal.SIGTERM):
             signal.signal(number, signal.SIG_IGN)
-        for each in run.running:
-            end_processes(each.mark)
+        for running in run.running:
+            end_processes(running.mark)
         ended = sum(check is not GATE for check in run.ended)
         gate = f", and the gate {run.gate.passed} of {run.gate.crates} crates" if run.gate else ""
         print(f"test: stopped. {ended} of {len(run.checks)} checks had ended{gate}: {run.passed} passed, {run.failed} failed so far", flush=True)
         return 130
-    run.sum_up()
-    keep_times(words.mode, run.times)
+    run.write_totals()
+    store_times(arguments.mode, run.times)
     return 0
 
 

@@ -1,4 +1,4 @@
-# The common part of the checks in shell: functions that count the passed and failed verdicts, report the failed ones, and run all or some parts of a
+# The common functions of the checks in shell. They count the passed and failed verdicts, report the failed ones, and run all or some parts of a
 # check. A check reads this file by `.`, after it has set `top`, the folder of the repository.
 # shellcheck shell=sh disable=SC1090,SC2154
 
@@ -12,51 +12,52 @@ begin_check() {
     cd "$top"
     mcs4=$(checks/lib/program)
     export MCS4="$mcs4"
-    place=${TMPDIR:-/tmp}
-    if [ -z "${TMPDIR:-}" ] && [ -d /dev/shm ] && [ -w /dev/shm ]; then place=/dev/shm; fi
-    folder=$(mktemp -d "$place/checks_${0##*/}.XXXXXX")
+    parent=${TMPDIR:-/tmp}
+    if [ -z "${TMPDIR:-}" ] && [ -d /dev/shm ] && [ -w /dev/shm ]; then parent=/dev/shm; fi
+    folder=$(mktemp -d "$parent/checks_${0##*/}.XXXXXX")
     trap 'rm -rf -- "$folder"' EXIT
     trap 'exit 1' HUP INT TERM
     exec < /dev/null
 }
 
-fault() {
+# Counts a failed verdict, and prints it. Argument: the message.
+count_failure() {
     failed=$((failed + 1))
     echo "$check: $1" >&2
 }
 
-# Compares a value with the expected one, and counts the check. Arguments: the value, the expected value, and a description.
+# Compares a value with the expected one, and counts the verdict. Arguments: the value, the expected value, and a description.
 verdict() {
     if [ "$1" = "$2" ]; then
         passed=$((passed + 1))
     else
-        fault "$3: < as it is, > as it must be"
-        is=$(mktemp)
-        printf '%s\n' "$1" > "$is"
-        printf '%s\n' "$2" | diff "$is" - | sed 30q >&2
-        rm -f -- "$is"
+        count_failure "$3: < actual, > expected"
+        actual=$(mktemp)
+        printf '%s\n' "$1" > "$actual"
+        printf '%s\n' "$2" | diff "$actual" - | sed 30q >&2
+        rm -f -- "$actual"
     fi
 }
 
-# Compares two files, and counts the check. Arguments: the file, the expected file, and a description.
+# Compares two files, and counts the verdict. Arguments: the file, the expected file, and a description.
 verdict_of_files() {
     if cmp -s -- "$1" "$2"; then
         passed=$((passed + 1))
     else
-        fault "$3: < as it is, > as it must be"
+        count_failure "$3: < actual, > expected"
         diff -- "$1" "$2" | sed 30q >&2
     fi
 }
 
-# Runs a client that prints lines `ok ..` and `fault: ..`, and counts them as checks. Arguments: a file for the client's output, and the command.
+# Runs a client that prints lines `ok ..` and `failed: ..`, and counts them as verdicts. Arguments: a file for the client's output, and the command.
 run_client() {
     report=$1
     shift
     status=0
     "$@" > "$report" || status=$?
-    sed -n '/^fault: /p' "$report" >&2
+    sed -n '/^failed: /p' "$report" >&2
     passed=$((passed + $(grep -c '^ok ' "$report" || :)))
-    failed=$((failed + $(grep -c '^fault: ' "$report" || :)))
+    failed=$((failed + $(grep -c '^failed: ' "$report" || :)))
     if [ "$status" -ne 0 ]; then failed=$((failed + 1)); fi
 }
 
@@ -68,35 +69,35 @@ outcome() {
 }
 
 # Checks that a command is rejected. Arguments: its status and its message, then the command.
-refuses() {
-    wanted="$2
+check_rejected() {
+    expected="$2
 status $1"
     shift 2
-    verdict "$(outcome "$@")" "$wanted" "$*"
+    verdict "$(outcome "$@")" "$expected" "$*"
 }
 
 # Checks that a command with wrong arguments prints a message and its usage, with status 2. Arguments: the message, and the command `./mcs4 NAME ..`.
-misuses() {
-    wanted="$3: $1
+check_usage_error() {
+    expected="$3: $1
 usage: mcs4 $3
 status 2"
     shift
-    verdict "$(outcome "$@" | short_use)" "$wanted" "$*"
+    verdict "$(outcome "$@" | shorten_usage)" "$expected" "$*"
 }
 
 # Shortens a usage message to the name of the command.
-short_use() {
+shorten_usage() {
     sed '/^       mcs4 /d; s/^\(usage: mcs4 [a-z]*\).*/\1/'
 }
 
-# Serves the lines from standard input in a new session (`begins`) or in an existing one (`goes_on`). Argument: the name of the session's file in the
-# folder, without .mcs. The answers are written to the file `answers`.
-begins() {
+# Serves the lines from standard input in a new session (`new_session`) or in an existing one (`continue_session`). Argument: the name of the
+# session's file in the folder, without .mcs. The answers are written to the file `answers`.
+new_session() {
     rm -f -- "$folder/$1.mcs"
     "$mcs4" new "$folder/$1.mcs" > "$folder/answers"
 }
 
-goes_on() {
+continue_session() {
     "$mcs4" open "$folder/$1.mcs" > "$folder/answers"
 }
 
@@ -119,6 +120,7 @@ run_parts() {
     for part in "$@"; do run_part; done
 }
 
+# Runs one part, `part`, and adds its verdicts.
 run_part() {
     set +e
     (
@@ -134,16 +136,16 @@ run_part() {
     status=$?
     set -e
     if [ -e "$whole/$part.counted" ]; then
-        read -r right wrong < "$whole/$part.counted"
-        passed=$((passed + right))
-        failed=$((failed + wrong))
+        read -r part_passed part_failed < "$whole/$part.counted"
+        passed=$((passed + part_passed))
+        failed=$((failed + part_failed))
     else
-        fault "the part $part ended with status $status"
+        count_failure "the part $part ended with status $status"
     fi
     rm -rf -- "${whole:?}/$part"
 }
 
-# Prints the numbers of passed and failed checks, and exits.
+# Prints the numbers of passed and failed verdicts, and exits.
 end_check() {
     echo "$passed passed, $failed failed"
     exit $((failed > 0))

@@ -14,12 +14,12 @@ BOARD = [(0, b"0000iiiiiiii", 1), (12, b"-", 52), (64, bytes.fromhex(
 KEYS_PROGRAM = bytes.fromhex("d3e2 d2e2 d3e2 2010 21 ea fc")
 
 
-def file_with(stretches, boards=()):
+def file_with(ranges, boards=()):
     """Returns a file with these ranges, and with the bytes of the worked board at each offset in `boards`."""
     file = bytearray(SIZE)
-    on_boards = [(board + place, more, times) for board in boards for place, more, times in BOARD]
-    for place, more, times in [*NEW_BENCH, *on_boards, *stretches]:
-        file[place:place + len(more) * times] = more * times
+    on_boards = [(board + offset, data, times) for board in boards for offset, data, times in BOARD]
+    for offset, data, times in [*NEW_BENCH, *on_boards, *ranges]:
+        file[offset:offset + len(data) * times] = data * times
     return file
 
 
@@ -36,7 +36,7 @@ READ_KEYS = {"chain": (0, 1), "down": ((0, 1), (1, 2)), "rom_source": 0x10, "ban
 FILES = [
     ("poke r5 9", 0, file_with([(16_400, POKE, 1)]), State(seq=1, registers=zeros_but(16, {5: 9})),
      [poke_register(5, 3)], "", ""),
-    ("a sum: the worked board, ADD R2 and DAA, poke acc 9, poke r2 8, run 2", 0,
+    ("an addition: the worked board, ADD R2 and DAA, poke acc 9, poke r2 8, run 2", 0,
      file_with([(16_400, b"\1\0\x85\1", 1), (16_536, b"\1\2\3\2\3", 1),
                 (17_052, bytes.fromhex("82fb 010003070009 01000407030208 0100050500000002"), 1)], [16_404]),
      worked_state(b"\x82\xFB", seq=5, accumulator=7, carry=1, counter=2, registers=zeros_but(16, {2: 8})),
@@ -46,7 +46,7 @@ FILES = [
                 (17_052, KEYS_PROGRAM + bytes.fromhex("010003030001 010003030102 010005050000000a"), 1)], [16_404]),
      worked_state(KEYS_PROGRAM, **READ_KEYS, seq=5, accumulator=6, counter=0x00A, registers=zeros_but(16, {0: 1})),
      [], "lamps\nrun 1\nregs\n", "lamps **.\nok 6 ran 1 end\nacc F cy 0 pc 00B owed 0 dcl 0 test 1 r 1000000000000000 ret 000 000 000\n"),
-    ("half a jump: the worked board, JUN 0x123, run 1", 0,
+    ("a jump with a pending cycle: the worked board, JUN 0x123, run 1", 0,
      file_with([(16_400, b"\1\0\x85\1", 1), (16_536, b"\1\2\3\2\3", 1), (17_052, bytes.fromhex("4123 0100050500000001"), 1)], [16_404]),
      worked_state(b"\x41\x23", seq=3, counter=0x123, owed=1),
      [], "run 1\nregs\n", "ok 4 ran 1 end\nacc 0 cy 0 pc 123 owed 0 dcl 0 test 1 r 0000000000000000 ret 000 000 000\n"),

@@ -17,19 +17,19 @@ CHARACTERS = "\"'[]{}=.,#\\ \t0123456789abcdeiorxINF_-+:"
 
 def other_line(rng, tables):
     """Returns the name of a line, usually one of a part that the board has."""
-    there = [table.get("chip") for table in tables["rom"]] if rng.random() < 0.7 else []
-    chip = rng.choice([*there, rng.randrange(16)])
+    present_chips = [table.get("chip") for table in tables["rom"]] if rng.random() < 0.7 else []
+    chip = rng.choice([*present_chips, rng.randrange(16)])
     return rng.choice([f"rom{chip}.{rng.randrange(4)}", f"rom{chip}.{rng.randrange(4)}", f"chain0.{rng.randrange(20)}",
                           f"ram{rng.randrange(8)}.{rng.randrange(4)}.{rng.randrange(4)}", f"chain{rng.randrange(4)}.{rng.randrange(80)}"])
 
 
 def table_of(rng, tables):
     """Returns one of the tables at random, or None if there is none."""
-    below = rng.choice([kind for kind in KINDS if tables[kind]] or [None])
-    return rng.choice(tables[below]) if below else None
+    section = rng.choice([kind for kind in KINDS if tables[kind]] or [None])
+    return rng.choice(tables[section]) if section else None
 
 
-def lack_key(rng, tables):
+def remove_key(rng, tables):
     if table := table_of(rng, tables):
         table.pop(rng.choice(list(table)), None)
 
@@ -39,12 +39,12 @@ def add_key(rng, tables):
         table[rng.choice(UNKNOWN_KEYS)] = rng.choice([1, "a", INVALID_VALUES[0]])
 
 
-def put_wrong(rng, tables):
+def set_wrong_value(rng, tables):
     if (table := table_of(rng, tables)) and (key := rng.choice([*table])) in WRONG:
         table[key] = rng.choice([*WRONG[key], rng.choice(INVALID_VALUES)])
 
 
-def put_line(rng, tables):
+def replace_line(rng, tables):
     """Replaces the name of a line with another one. The board can lack that line, or the line can have the wrong direction."""
     if table := table_of(rng, tables):
         for key in {"clock", "data", "line"} & {*table}:
@@ -53,7 +53,7 @@ def put_line(rng, tables):
             table["columns"] = [*table["columns"][:rng.randrange(8)], other_line(rng, tables)] if isinstance(table["columns"], list) else []
 
 
-def lack_table(rng, tables):
+def remove_table(rng, tables):
     kind = rng.choice(KINDS)
     tables[kind] = tables[kind][1:]
 
@@ -64,7 +64,7 @@ def repeat_table(rng, tables):
         tables[kind].append(dict(rng.choice(tables[kind])))
 
 
-def too_many(rng, tables):
+def exceed_limit(rng, tables):
     kind = rng.choice(["rom", "ram", "chain", "lamp", "keys"])
     if kind == "keys" and tables["keys"]:
         columns = tables["keys"][0].get("columns", [])
@@ -78,23 +78,24 @@ def move_keys(rng, tables):
         tables["keys"][0][rng.choice(["chain", "first", "rows"])] = rng.choice([0, 1, 3, 9, 10, 70, 79])
 
 
-CHANGES = (lack_key, add_key, put_wrong, put_wrong, put_line, put_line, lack_table, repeat_table, too_many, move_keys)
+CHANGES = (remove_key, add_key, set_wrong_value, set_wrong_value, replace_line, replace_line, remove_table, repeat_table, exceed_limit, move_keys)
 
 
 def spoil_text(rng, text):
     """Returns a text with characters added, removed or replaced, or with one line more or fewer."""
     for _n in range(rng.choice([1, 1, 2, 5])):
-        at = rng.randrange(len(text) + 1)
+        index = rng.randrange(len(text) + 1)
         lines = text.split("\n")
         row = rng.randrange(len(lines))
         text = rng.choice([
-            text[:at] + rng.choice(CHARACTERS) + text[at:], text[:at] + text[at + 1:], text[:at] + rng.choice(CHARACTERS) + text[at + 1:],
-            text[:at], "\n".join(lines[:row] + lines[row + 1:]), "\n".join(lines[:row] + lines[row:row + 1] * 2 + lines[row + 1:]),
+            text[:index] + rng.choice(CHARACTERS) + text[index:], text[:index] + text[index + 1:],
+            text[:index] + rng.choice(CHARACTERS) + text[index + 1:],
+            text[:index], "\n".join(lines[:row] + lines[row + 1:]), "\n".join(lines[:row] + lines[row:row + 1] * 2 + lines[row + 1:]),
         ])
     return text
 
 
-def top_of(rng):
+def top_line(rng):
     """Returns a line to insert at the top of a board's text, which is usually an error there."""
     section, value = rng.choice([*KINDS, *UNKNOWN_KEYS[:6]]), rng.choice(["1", "[1]", "[{}, 2]", "{}", "{ chip = 1 }", '"a"', "[\n]"])
     return f"{section}{rng.choice(EQUALS)}{value}{rng.choice(TEXT_ENDS)}"
@@ -104,14 +105,14 @@ def wrong_board(number):
     """Returns the lines of a random board's text, usually with an error in it."""
     rng = random.Random(number)
     board = seeded_board(rng)
-    tables = {below: [dict(table) for kind, table in board.tables() if kind == below] for below in KINDS}
+    tables = {section: [dict(table) for kind, table in board.tables() if kind == section] for section in KINDS}
     tables["lamp"] = tables["lamp"][:rng.choice([1, 4, 12])]
     tables["rom"] = tables["rom"] if rng.random() < 0.3 else tables["rom"][-6:]
     for _n in range(rng.choice([1, 1, 1, 2, 4])):
         rng.choice(CHANGES)(rng, tables)
     text = random_tables_text(rng, tables)
     if rng.random() < 0.1:
-        text = top_of(rng) + text
+        text = top_line(rng) + text
     if rng.random() < 0.25:
         text = spoil_text(rng, text)
     return text.split("\n")

@@ -25,30 +25,30 @@ class BenchCommand {
   }
 
   /** The program to start, its arguments before the command's name, and the variables to add to its environment. */
-  get launchForm() {
+  get launchCommand() {
     const { configuredCommand, ownScript } = this;
-    if (configuredCommand !== "") return { program: configuredCommand, words: [], env: {} };
-    return { program: process.execPath, words: [ownScript], env: RUN_AS_NODE_ENVIRONMENT };
+    if (configuredCommand !== "") return { program: configuredCommand, prefix: [], env: {} };
+    return { program: process.execPath, prefix: [ownScript], env: RUN_AS_NODE_ENVIRONMENT };
   }
 
   /**
    * Starts a command. Returns the process.
-   * @param {string[]} words the name of the command and its arguments
+   * @param {string[]} args the name of the command and its arguments
    * @param {"pipe" | "ignore"} errors whether the command's standard error is read or ignored
    */
-  start(words, errors) {
-    const { program, words: before, env } = this.launchForm;
-    return spawn(program, [...before, ...words], { env: { ...process.env, ...env }, stdio: ["pipe", "pipe", errors], windowsHide: true });
+  start(args, errors) {
+    const { program, prefix, env } = this.launchCommand;
+    return spawn(program, [...prefix, ...args], { env: { ...process.env, ...env }, stdio: ["pipe", "pipe", errors], windowsHide: true });
   }
 
   /**
    * Runs a command to its end. Resolves to its exit status and its output.
-   * @param {string[]} words the name of the command and its arguments
+   * @param {string[]} args the name of the command and its arguments
    * @param token the cancellation token
    */
-  run(words, token) {
+  run(args, token) {
     return new Promise((settle) => {
-      const child = this.start(words, "pipe");
+      const child = this.start(args, "pipe");
       const printed = { output: "", errors: "" };
       child.stdout.setEncoding("utf8").on("data", (text) => {
         printed.output += text;
@@ -58,9 +58,9 @@ class BenchCommand {
       });
       child.stdin.on("error", () => {});
       child.stdin.end();
-      const ending = token && token.onCancellationRequested(() => child.kill());
+      const cancellation = token && token.onCancellationRequested(() => child.kill());
       const finish = (status, startError) => {
-        if (ending) ending.dispose();
+        if (cancellation) cancellation.dispose();
         settle({ status, output: printed.output, errors: printed.errors + startError });
       };
       child.on("error", ({ message }) => finish(null, message));
@@ -70,21 +70,21 @@ class BenchCommand {
 
   /**
    * Returns the editor's description of a debug adapter.
-   * @param {string[]} words the name of the command and its arguments
+   * @param {string[]} args the name of the command and its arguments
    */
-  debugAdapter(words) {
-    const { program, words: before, env } = this.launchForm;
-    return new this.vscode.DebugAdapterExecutable(program, [...before, ...words], { env });
+  debugAdapter(args) {
+    const { program, prefix, env } = this.launchCommand;
+    return new this.vscode.DebugAdapterExecutable(program, [...prefix, ...args], { env });
   }
 
   /**
    * Returns the editor's description of a command that a task runs.
-   * @param {string[]} words the name of the command and its arguments
+   * @param {string[]} args the name of the command and its arguments
    * @param {string} cwd the working directory
    */
-  execution(words, cwd) {
-    const { program, words: before, env } = this.launchForm;
-    return new this.vscode.ProcessExecution(program, [...before, ...words], { cwd, env });
+  execution(args, cwd) {
+    const { program, prefix, env } = this.launchCommand;
+    return new this.vscode.ProcessExecution(program, [...prefix, ...args], { cwd, env });
   }
 }
 

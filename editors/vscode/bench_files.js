@@ -47,8 +47,8 @@ function testArguments(file) {
     const index = tests.indexOf(file);
     return ["test", "-C", folder, ...(index < 0 ? [file] : tests.slice(0, index + 1))];
   }
-  const programs = [".asm", ".4004"].map((ending) => file.replace(/\.[^.\\/]*$/, ending));
-  return ["test", join(dirname(file), "board.toml"), programs.find((each) => existsSync(each)) || programs[0], file];
+  const programs = [".asm", ".4004"].map((extension) => file.replace(/\.[^.\\/]*$/, extension));
+  return ["test", join(dirname(file), "board.toml"), programs.find((program) => existsSync(program)) || programs[0], file];
 }
 
 module.exports = { PROJECT, belongsToBench, projectFolder, testArguments };

@@ -54,14 +54,14 @@ class BoardView {
   /** Resolves to the launch configuration with which a new panel starts debugging; null if there is no program. */
   async launchConfiguration() {
     const { window, workspace } = this.vscode;
-    const form = { type: "mcs4", request: "launch", name: TITLE, realTime: true, stopOnEntry: false };
+    const base = { type: "mcs4", request: "launch", name: TITLE, realTime: true, stopOnEntry: false };
     const editor = window.activeTextEditor;
     const file = editor && editor.document.uri.scheme === "file" ? editor.document.uri.fsPath : "";
     const folder = file === "" ? "" : projectFolder(file);
-    if (folder !== "") return { ...form, project: folder };
-    if (file !== "" && editor.document.languageId === "mcs4") return { ...form, program: file };
+    if (folder !== "") return { ...base, project: folder };
+    if (file !== "" && editor.document.languageId === "mcs4") return { ...base, program: file };
     const [first] = await workspace.findFiles("**/mcs4.toml", "**/node_modules/**", 1);
-    return first ? { ...form, project: first.fsPath } : null;
+    return first ? { ...base, project: first.fsPath } : null;
   }
 
   /** Handles a message of a web view: the view is ready, or the user has pressed or released a key or cleared the printout. */
@@ -74,11 +74,12 @@ class BoardView {
     try {
       if (message.isTorn) await this.session.customRequest("clearPrintout");
       else await this.session.customRequest("changeKey", { place: message.place, isDown: message.isDown });
-    } catch (fault) {
-      this.vscode.window.showErrorMessage(fault.message);
+    } catch (error) {
+      this.vscode.window.showErrorMessage(error.message);
     }
   }
 
+  /** Sends values of the board to all web views. */
   post(news) {
     for (const webview of this.pages) webview.postMessage({ kind: "boardShown", news });
   }
@@ -90,13 +91,13 @@ class BoardView {
       this.session = session;
       this.shown = news;
       this.post(news);
-    } catch (fault) {
-      this.vscode.window.showErrorMessage(fault.message);
+    } catch (error) {
+      this.vscode.window.showErrorMessage(error.message);
     }
   }
 
   /** Sends the changes of the board that the debug session has reported to the web views. */
-  news({ session, event, body }) {
+  handleEvent({ session, event, body }) {
     if (event !== "boardShown" || session !== this.session) return;
     this.shown = { ...this.shown, ...body };
     this.post(body);
@@ -115,7 +116,7 @@ class BoardView {
     return [
       commands.registerCommand("mcs4.openPanel", () => this.open()),
       window.registerWebviewViewProvider("mcs4.board", this),
-      debug.onDidReceiveDebugSessionCustomEvent((event) => this.news(event)),
+      debug.onDidReceiveDebugSessionCustomEvent((event) => this.handleEvent(event)),
       debug.onDidTerminateDebugSession((session) => this.end(session)),
       debug.registerDebugAdapterTrackerFactory("mcs4", {
         createDebugAdapterTracker: (session) => ({

@@ -24,15 +24,15 @@ function resolveConfiguration(folder, configuration) {
 async function pressKey() {
   const session = vscode.debug.activeDebugSession;
   if (!session || session.type !== "mcs4") {
-    vscode.window.showInformationMessage("No program is debugged.");
+    vscode.window.showInformationMessage("No program is being debugged.");
     return;
   }
-  const key = await vscode.window.showInputBox({ prompt: "The key's name, as the board's text has it" });
+  const key = await vscode.window.showInputBox({ prompt: "The name of the key in the board's text" });
   if (!key) return;
   try {
     await session.customRequest("pressKey", { key });
-  } catch (fault) {
-    vscode.window.showErrorMessage(fault.message);
+  } catch (error) {
+    vscode.window.showErrorMessage(error.message);
   }
 }
 

@@ -30,14 +30,15 @@ class LanguageClient {
 
   // --- the server
 
+  /** Starts the server, and registers the providers of the language features. */
   async begin() {
     const { vscode } = this;
     this.diagnostics = vscode.languages.createDiagnosticCollection("mcs4");
     this.disposables.push(this.diagnostics);
     await this.start();
     const workspaceFolders = (vscode.workspace.workspaceFolders || []).map(({ uri, name }) => ({ uri: uri.toString(), name }));
-    const about = { processId: process.pid, rootUri: null, workspaceFolders, capabilities: CAPABILITIES };
-    const { capabilities } = await this.ask("initialize", about);
+    const params = { processId: process.pid, rootUri: null, workspaceFolders, capabilities: CAPABILITIES };
+    const { capabilities } = await this.request("initialize", params);
     this.notify("initialized", {});
     this.listen();
     this.provide(capabilities);
@@ -70,23 +71,26 @@ class LanguageClient {
     return true;
   }
 
+  /** Rejects all pending requests. */
   handleServerEnd() {
     for (const { reject } of this.pendingRequests.values()) reject(new Error("the language server has ended"));
     this.pendingRequests.clear();
     this.child = null;
   }
 
+  /** Ends the server. */
   async end() {
     if (!this.child) return;
-    await this.ask("shutdown").catch(() => {});
+    await this.request("shutdown").catch(() => {});
     this.notify("exit");
   }
 
   dispose() {
     this.end();
-    for (const each of this.disposables) each.dispose();
+    for (const disposable of this.disposables) disposable.dispose();
   }
 
+  /** Adds received bytes, and handles the messages that are complete. */
   receive(bytes) {
     this.input = Buffer.concat([this.input, bytes]);
     for (;;) {
@@ -96,7 +100,7 @@ class LanguageClient {
       if (this.input.length < end + 4 + size) return;
       const message = JSON.parse(this.input.subarray(end + 4, end + 4 + size).toString());
       this.input = this.input.subarray(end + 4 + size);
-      if (message.method === "textDocument/publishDiagnostics") this.show(message.params);
+      if (message.method === "textDocument/publishDiagnostics") this.showDiagnostics(message.params);
       if (message.method === "window/showMessage") this.showMessage(message.params);
       const pending = message.method === undefined && this.pendingRequests.get(message.id);
       if (!pending) continue;
@@ -112,6 +116,7 @@ class LanguageClient {
     else window.showInformationMessage(message);
   }
 
+  /** Sends a message with its header. Does nothing if the server has ended. */
   send(message) {
     if (!this.child) return;
     const body = Buffer.from(JSON.stringify({ jsonrpc: "2.0", ...message }));
@@ -123,7 +128,8 @@ class LanguageClient {
     this.send({ method, params });
   }
 
-  ask(method, params) {
+  /** Sends a request. Resolves to its result. */
+  request(method, params) {
     this.id += 1;
     const { id } = this;
     if (!this.child) return Promise.reject(new Error("the language server has ended"));
@@ -135,20 +141,22 @@ class LanguageClient {
 
   // --- texts
 
+  /** Returns true if the server handles a document. */
   isServed(document) {
     return this.languages.includes(document.languageId) || /(^|[\\/])mcs4\.toml$/.test(document.fileName);
   }
 
+  /** Sends the server the documents that are opened, changed and closed. */
   listen() {
     const { workspace } = this.vscode;
     const serverIdOf = ({ languageId }) => SERVER_LANGUAGE_IDS[languageId] || languageId;
-    const reportOpened = (document) => {
+    const sendOpened = (document) => {
       if (!this.isServed(document)) return;
       const textDocument = { uri: document.uri.toString(), languageId: serverIdOf(document), version: document.version, text: document.getText() };
       this.notify("textDocument/didOpen", { textDocument });
     };
     this.disposables.push(
-      workspace.onDidOpenTextDocument(reportOpened),
+      workspace.onDidOpenTextDocument(sendOpened),
       workspace.onDidCloseTextDocument((document) => {
         if (this.isServed(document)) this.notify("textDocument/didClose", { textDocument: { uri: document.uri.toString() } });
       }),
@@ -159,10 +167,11 @@ class LanguageClient {
         this.notify("textDocument/didChange", { textDocument, contentChanges: changes });
       }),
     );
-    workspace.textDocuments.forEach(reportOpened);
+    workspace.textDocuments.forEach(sendOpened);
   }
 
-  show({ uri, diagnostics }) {
+  /** Shows the diagnostics of a document. */
+  showDiagnostics({ uri, diagnostics }) {
     const { vscode } = this;
     const levels = [0, vscode.DiagnosticSeverity.Error, vscode.DiagnosticSeverity.Warning, vscode.DiagnosticSeverity.Information];
     this.diagnostics.set(vscode.Uri.parse(uri), diagnostics.map(({ range, message, severity }) => (
@@ -198,6 +207,7 @@ class LanguageClient {
 
   // --- requests of the editor
 
+  /** Registers the providers of the language features. */
   provide(capabilities) {
     const { languages } = this.vscode;
     const selector = this.languages.map((language) => ({ language }));
@@ -205,19 +215,19 @@ class LanguageClient {
       languages.registerHoverProvider(selector, { provideHover: (document, position) => this.hover(document, position) }),
       languages.registerDefinitionProvider(selector, {
         provideDefinition: async (document, position) => {
-          const found = await this.ask("textDocument/definition", this.positionParams(document, position));
-          return found && this.toEditorLocation(found);
+          const location = await this.request("textDocument/definition", this.positionParams(document, position));
+          return location && this.toEditorLocation(location);
         },
       }),
       languages.registerReferenceProvider(selector, {
         provideReferences: async (document, position, context) => {
-          const found = await this.ask("textDocument/references", { ...this.positionParams(document, position), context });
-          return (found || []).map((each) => this.toEditorLocation(each));
+          const locations = await this.request("textDocument/references", { ...this.positionParams(document, position), context });
+          return (locations || []).map((location) => this.toEditorLocation(location));
         },
       }),
       languages.registerRenameProvider(selector, {
         provideRenameEdits: async (document, position, newName) => (
-          this.toWorkspaceEdit(await this.ask("textDocument/rename", { ...this.positionParams(document, position), newName }))),
+          this.toWorkspaceEdit(await this.request("textDocument/rename", { ...this.positionParams(document, position), newName }))),
       }),
       languages.registerCompletionItemProvider(selector, {
         provideCompletionItems: (document, position, _, context) => this.completion(document, position, context),
@@ -233,11 +243,11 @@ class LanguageClient {
     const { vscode } = this;
     const legend = new vscode.SemanticTokensLegend(tokenTypes, tokenModifiers);
     const toTokens = (tokens) => new vscode.SemanticTokens(new Uint32Array(tokens ? tokens.data : []), tokens ? tokens.resultId : undefined);
-    const documentParams = (document, more) => ({ textDocument: { uri: document.uri.toString() }, ...more });
+    const documentParams = (document, params) => ({ textDocument: { uri: document.uri.toString() }, ...params });
     this.disposables.push(vscode.languages.registerDocumentSemanticTokensProvider(selector, {
-      provideDocumentSemanticTokens: async (document) => toTokens(await this.ask("textDocument/semanticTokens/full", documentParams(document))),
+      provideDocumentSemanticTokens: async (document) => toTokens(await this.request("textDocument/semanticTokens/full", documentParams(document))),
       provideDocumentSemanticTokensEdits: async (document, previousResultId) => {
-        const tokens = await this.ask("textDocument/semanticTokens/full/delta", documentParams(document, { previousResultId }));
+        const tokens = await this.request("textDocument/semanticTokens/full/delta", documentParams(document, { previousResultId }));
         if (!tokens || !tokens.edits) return toTokens(tokens);
         const edits = tokens.edits.map(({ start, deleteCount, data }) => (
           new vscode.SemanticTokensEdit(start, deleteCount, new Uint32Array(data))));
@@ -245,21 +255,21 @@ class LanguageClient {
       },
     }, legend), vscode.languages.registerDocumentRangeSemanticTokensProvider(selector, {
       provideDocumentRangeSemanticTokens: async (document, range) => (
-        toTokens(await this.ask("textDocument/semanticTokens/range", documentParams(document, { range: this.toProtocolRange(range) })))),
+        toTokens(await this.request("textDocument/semanticTokens/range", documentParams(document, { range: this.toProtocolRange(range) })))),
     }, legend));
   }
 
   async hover(document, position) {
-    const found = await this.ask("textDocument/hover", this.positionParams(document, position));
-    if (!found) return null;
-    const markdown = new this.vscode.MarkdownString(found.contents.value);
-    return new this.vscode.Hover(markdown, found.range && this.toEditorRange(found.range));
+    const hover = await this.request("textDocument/hover", this.positionParams(document, position));
+    if (!hover) return null;
+    const markdown = new this.vscode.MarkdownString(hover.contents.value);
+    return new this.vscode.Hover(markdown, hover.range && this.toEditorRange(hover.range));
   }
 
   async completion(document, position, { triggerKind = 0, triggerCharacter } = {}) {
     // The editor numbers trigger kinds from 0, the protocol from 1.
     const context = { triggerKind: triggerKind + 1, triggerCharacter };
-    const list = (await this.ask("textDocument/completion", { ...this.positionParams(document, position), context })) || [];
+    const list = (await this.request("textDocument/completion", { ...this.positionParams(document, position), context })) || [];
     return list.map(({ label, kind, detail, documentation, textEdit, insertTextFormat }) => {
       // The editor numbers item kinds from 0, the protocol from 1.
       const item = new this.vscode.CompletionItem(label, kind - 1);
@@ -272,7 +282,7 @@ class LanguageClient {
   }
 
   async symbols(document) {
-    const list = (await this.ask("textDocument/documentSymbol", { textDocument: { uri: document.uri.toString() } })) || [];
+    const list = (await this.request("textDocument/documentSymbol", { textDocument: { uri: document.uri.toString() } })) || [];
     return list.map(({ name, detail, kind, range, selectionRange }) => (
       new this.vscode.DocumentSymbol(name, detail || "", kind - 1, this.toEditorRange(range), this.toEditorRange(selectionRange))));
   }
@@ -280,7 +290,7 @@ class LanguageClient {
   async actions(document, range) {
     const context = { diagnostics: [] };
     const params = { textDocument: { uri: document.uri.toString() }, range: this.toProtocolRange(range), context };
-    return ((await this.ask("textDocument/codeAction", params)) || []).map(({ title, edit }) => {
+    return ((await this.request("textDocument/codeAction", params)) || []).map(({ title, edit }) => {
       const action = new this.vscode.CodeAction(title, this.vscode.CodeActionKind.QuickFix);
       action.edit = this.toWorkspaceEdit(edit);
       return action;

@@ -42,21 +42,21 @@ class LanguageFeatures {
         provideCallHierarchyOutgoingCalls: (item) => this.calls("callHierarchy/outgoingCalls", item, "to"),
       }),
       commands.registerCommand("mcs4.runTest", (...commandArguments) => (
-        this.client.ask("workspace/executeCommand", { command: "mcs4.runTest", arguments: commandArguments }))),
+        this.client.request("workspace/executeCommand", { command: "mcs4.runTest", arguments: commandArguments }))),
     ];
   }
 
   /** Sends a request about a document. Resolves to the answer, or to an empty list if there is none. */
-  async request(method, document, more = {}) {
-    return (await this.client.ask(method, { textDocument: { uri: document.uri.toString() }, ...more })) || [];
+  async request(method, document, params = {}) {
+    return (await this.client.request(method, { textDocument: { uri: document.uri.toString() }, ...params })) || [];
   }
 
   position({ line, character }) {
     return new this.vscode.Position(line, character);
   }
 
-  async edits(method, document, more) {
-    return (await this.request(method, document, more)).map(({ range, newText }) => new this.vscode.TextEdit(this.client.toEditorRange(range), newText));
+  async edits(method, document, params) {
+    return (await this.request(method, document, params)).map(({ range, newText }) => new this.vscode.TextEdit(this.client.toEditorRange(range), newText));
   }
 
   async hints(document, range) {
@@ -77,14 +77,14 @@ class LanguageFeatures {
   }
 
   async signature(document, position) {
-    const found = await this.client.ask("textDocument/signatureHelp", this.client.positionParams(document, position));
-    if (!found) return null;
+    const help = await this.client.request("textDocument/signatureHelp", this.client.positionParams(document, position));
+    if (!help) return null;
     const { vscode } = this;
-    const signatures = found.signatures.map(({ label, documentation, parameters }) => (
+    const signatures = help.signatures.map(({ label, documentation, parameters }) => (
       Object.assign(new vscode.SignatureInformation(label, documentation), {
-        parameters: parameters.map((each) => new vscode.ParameterInformation(each.label, each.documentation)),
+        parameters: parameters.map((parameter) => new vscode.ParameterInformation(parameter.label, parameter.documentation)),
       })));
-    return Object.assign(new vscode.SignatureHelp(), { ...found, signatures });
+    return Object.assign(new vscode.SignatureHelp(), { ...help, signatures });
   }
 
   async lenses(document) {
@@ -95,8 +95,8 @@ class LanguageFeatures {
   /** Converts a command of the server to a command of the editor. The arguments of the editor's own commands must have the editor's classes. */
   command({ title, command, arguments: serverArguments = [] }) {
     if (command !== "editor.action.showReferences") return { title, command, arguments: serverArguments };
-    const [uri, position, places] = serverArguments;
-    const editorArguments = [this.vscode.Uri.parse(uri), this.position(position), places.map((each) => this.client.toEditorLocation(each))];
+    const [uri, position, locations] = serverArguments;
+    const editorArguments = [this.vscode.Uri.parse(uri), this.position(position), locations.map((location) => this.client.toEditorLocation(location))];
     return { title, command, arguments: editorArguments };
   }
 
@@ -106,7 +106,7 @@ class LanguageFeatures {
   }
 
   async workspaceSymbols(query) {
-    return ((await this.client.ask("workspace/symbol", { query })) || []).map(({ name, kind, containerName, location }) => (
+    return ((await this.client.request("workspace/symbol", { query })) || []).map(({ name, kind, containerName, location }) => (
       new this.vscode.SymbolInformation(name, kind - 1, containerName, this.client.toEditorLocation(location))));
   }
 
@@ -118,16 +118,16 @@ class LanguageFeatures {
   }
 
   async routines(document, position) {
-    const found = await this.client.ask("textDocument/prepareCallHierarchy", this.client.positionParams(document, position));
-    return (found || []).map((each) => this.toHierarchyItem(each));
+    const items = await this.client.request("textDocument/prepareCallHierarchy", this.client.positionParams(document, position));
+    return (items || []).map((item) => this.toHierarchyItem(item));
   }
 
   async calls(method, { uri, range, selectionRange }, end) {
     const { vscode, client } = this;
     const item = { uri: uri.toString(), range: client.toProtocolRange(range), selectionRange: client.toProtocolRange(selectionRange) };
     const Call = end === "from" ? vscode.CallHierarchyIncomingCall : vscode.CallHierarchyOutgoingCall;
-    const found = (await client.ask(method, { item })) || [];
-    return found.map((each) => new Call(this.toHierarchyItem(each[end]), each.fromRanges.map((range_) => client.toEditorRange(range_))));
+    const calls = (await client.request(method, { item })) || [];
+    return calls.map((call) => new Call(this.toHierarchyItem(call[end]), call.fromRanges.map((callRange) => client.toEditorRange(callRange))));
   }
 }
 

@@ -19,18 +19,18 @@ function parseLocation(text) {
 /**
  * Parses test results.
  * @param {string} text
- * @returns {{ name: string, hasPassed: boolean, words: string, at: { file: string, line: number } | null, details: string[] }[]}
+ * @returns {{ name: string, hasPassed: boolean, message: string, location: { file: string, line: number } | null, details: string[] }[]}
  */
 function parseResults(text) {
   const results = [];
   for (const line of text.split(/\r?\n/)) {
-    const [whole, not, name] = RESULT_LINE.exec(line) || [];
-    if (whole) results.push({ name: name.replace(/\\([\\#])/g, "$1"), hasPassed: !not, words: "", at: null, details: [] });
+    const [isResult, not, name] = RESULT_LINE.exec(line) || [];
+    if (isResult) results.push({ name: name.replace(/\\([\\#])/g, "$1"), hasPassed: !not, message: "", location: null, details: [] });
     const last = results[results.length - 1];
-    if (whole || !last || !line.startsWith("  ")) continue;
+    if (isResult || !last || !line.startsWith("  ")) continue;
     const [, key, value] = DETAIL_LINE.exec(line) || [];
-    if (key === "message") last.words = unquote(value);
-    else if (key === "at") last.at = parseLocation(unquote(value));
+    if (key === "message") last.message = unquote(value);
+    else if (key === "at") last.location = parseLocation(unquote(value));
     else if (key) last.details.push(`${key}: ${unquote(value)}`);
     else if (!/^ {2}(---|\.\.\.)$/.test(line)) last.details.push(line.slice(2));
   }

@@ -14,9 +14,9 @@ const TEST_HEADING = /^([ \t]*test[ \t]+)(\S.*?)[ \t]*$/;
  * @param {string} text
  */
 function findTests(text) {
-  return text.split(/\r?\n/).flatMap((line, at) => {
+  return text.split(/\r?\n/).flatMap((line, index) => {
     const [, before, name] = TEST_HEADING.exec(line) || [];
-    return name ? [{ name, line: at, from: before.length, to: before.length + name.length }] : [];
+    return name ? [{ name, line: index, from: before.length, to: before.length + name.length }] : [];
   });
 }
 
@@ -54,8 +54,8 @@ class TestExplorer {
   // --- finding tests
 
   async findAll() {
-    const found = await this.vscode.workspace.findFiles(TEST_FILE_PATTERN, "**/node_modules/**");
-    for (const uri of found) this.read(uri);
+    const files = await this.vscode.workspace.findFiles(TEST_FILE_PATTERN, "**/node_modules/**");
+    for (const uri of files) this.read(uri);
   }
 
   /** Reads a test file and shows its tests. Removes the tests of a file that cannot be read. */
@@ -71,9 +71,9 @@ class TestExplorer {
   show(uri, text) {
     if (!belongsToBench(uri.fsPath)) return;
     const { controller, vscode } = this;
-    const found = findTests(text);
+    const tests = findTests(text);
     const file = controller.items.get(uri.toString()) || controller.createTestItem(uri.toString(), basename(uri.fsPath), uri);
-    file.children.replace(found.map(({ name, line, from, to }) => {
+    file.children.replace(tests.map(({ name, line, from, to }) => {
       const item = controller.createTestItem(`${uri}#${name}`, name, uri);
       item.range = new vscode.Range(line, from, line, to);
       return item;
@@ -85,10 +85,10 @@ class TestExplorer {
 
   /** Returns the tests that a request selects: a map from the item of each test file to the items of its selected tests. */
   selectedTests({ include, exclude = [] }) {
-    const wanted = new Map();
+    const selected = new Map();
     const add = (file, tests) => {
       const included = tests.filter((test) => !exclude.includes(test) && !exclude.includes(file));
-      wanted.set(file, [...(wanted.get(file) || []), ...included]);
+      selected.set(file, [...(selected.get(file) || []), ...included]);
     };
     const childrenOf = (item) => {
       const children = [];
@@ -101,7 +101,7 @@ class TestExplorer {
       if (item.parent) add(item.parent, [item]);
       else add(item, childrenOf(item));
     }
-    return wanted;
+    return selected;
   }
 
   async run(request, token) {
@@ -131,11 +131,11 @@ class TestExplorer {
     }
   }
 
-  createMessage({ words, at, details }) {
+  createMessage({ message, location, details }) {
     const { vscode } = this;
-    const message = new vscode.TestMessage([words, ...details].join("\n"));
-    if (at) message.location = new vscode.Location(vscode.Uri.file(at.file), new vscode.Position(at.line - 1, 0));
-    return message;
+    const testMessage = new vscode.TestMessage([message, ...details].join("\n"));
+    if (location) testMessage.location = new vscode.Location(vscode.Uri.file(location.file), new vscode.Position(location.line - 1, 0));
+    return testMessage;
   }
 
   /** Debugs the first test that a request selects. Time pauses at the failure or at the end of the test. From there, the user can go back in time. */

@@ -23,8 +23,8 @@ import {
 
 const SIGNAL_STATUSES = /** @type {const} */ ({ SIGHUP: 129, SIGINT: 130, SIGTERM: 143 });
 const STARTER_SCRIPT = 'top=$0; . "$top/tools/lib/start.sh"; ';
-const FIND_PROGRAM = `${STARTER_SCRIPT}find_or_build >&2; printf "%s\\n%s" "$program" "$fault"`;
-const FIND_PROVER = `${STARTER_SCRIPT}find_prover; printf "%s\\n%s\\n" "$program" "$fault"; if is_without_program; then echo 1; fi`;
+const FIND_PROGRAM = `${STARTER_SCRIPT}find_or_build >&2; printf "%s\\n%s" "$program" "$reason"`;
+const FIND_PROVER = `${STARTER_SCRIPT}find_prover; printf "%s\\n%s\\n" "$program" "$reason"; if is_without_program; then echo 1; fi`;
 
 const IS_WINDOWS = process.platform === "win32";
 const hasStarter = existsSync(join(TOP, "tools/lib/start.sh"));

@@ -4,11 +4,11 @@
 
 # The path of the program that was proved and built here.
 built=$top/crates/mcs4/out/mcs4
-# The shipped programs: the usual one, the static one for systems with another or an older C library, and the one for aarch64.
+# The shipped programs: the usual one, a static one for systems with another or an older C library, and one for aarch64.
 shipped=$top/shipped/mcs4
 static=$top/shipped/mcs4-static
 aarch64=$top/shipped/mcs4-aarch64
-# The program that `mcs4 prove` starts: the one that was proved and built here, and the shipped one, for Linux on x86-64 with any C library.
+# The programs that `mcs4 prove` starts: the one that was proved and built here, and the shipped one, for Linux on x86-64 with any C library.
 built_prover=$top/crates/mcs4_prove/out/mcs4_prove
 prover=$top/shipped/mcs4-prove
 # The checksums of the shipped files.
@@ -16,8 +16,8 @@ sums=$top/shipped/SUMS
 
 # Comparing all sources takes a tenth of a second. So the program that was found is cached, with the sizes and times of all files that were
 # read, and of all folders in which new files could appear. While these are unchanged, the sources are not compared again. The cache is a
-# private folder of the user. It has two files for each tree: `NAME.names` lists the program and the files and folders, `NAME.seen` has
-# their sizes and times. If the folder is not writable, each start compares again.
+# private folder of the user. It has two files for each tree: `NAME.names` lists the program, the files and the folders; `NAME.seen` has
+# their sizes and times. If the folder is not writable, each start compares the sources again.
 case ${XDG_CACHE_HOME:-} in
     /*) cache=$XDG_CACHE_HOME/fethsaim ;;
     *) case ${HOME:-} in
@@ -42,8 +42,8 @@ file_stamps() {
     (CDPATH='' cd -- "$top" && read -r _ && LC_ALL=C exec xargs -0 stat -L -c '%a %i %s %Y %.9Z' -- "$cache") < "$1" 2> /dev/null || :
 }
 
-# Sets `program` to the program that an earlier start has cached, if nothing has changed since. Ignores cache files that another user could have
-# written.
+# Sets `program` to the program that an earlier start has cached, if nothing has changed since. Otherwise fails. Ignores cache files that another
+# user could have written.
 read_cache() {
     if [ -z "$cache" ] || [ ! -O "$cache" ]; then return 1; fi
     for each in "$names" "$seen"; do
@@ -57,7 +57,7 @@ read_cache() {
     program=$top/$program
 }
 
-# Makes the cache folder if necessary; fails if it would not belong to the user. So root makes no folder in another user's home.
+# Creates the cache folder if necessary. Fails if it would not belong to the user, so that root creates no folder in another user's home.
 make_cache() {
     if [ -z "$cache" ]; then return 1; fi
     above=${cache%/*}
@@ -65,8 +65,8 @@ make_cache() {
     [ -O "$above" ] && (umask 077 && mkdir -p -- "$cache") 2> /dev/null && [ -O "$cache" ] && [ -w "$cache" ]
 }
 
-# Writes the program that was found, and the sizes and times, to the cache. Does nothing if a file has just changed, because a clock that
-# ticks by seconds might not show its next change. The old `seen` file is removed first, so that files of two starts are never mixed.
+# Writes the program that was found, and the sizes and times, to the cache. Does nothing if a file has just changed, because a clock with
+# a resolution of seconds might not show its next change. Removes the old `seen` file first, so that files of two starts are never mixed.
 write_cache() {
     {
         echo "${program#"$top/"}"
@@ -76,11 +76,11 @@ write_cache() {
         rm -f -- "$seen" && mv -f "$names.$$" "$names" && mv -f "$seen.$$" "$seen"
 }
 
-# Succeeds if a program runs on this system: without arguments it prints its usage, with status 2. Sets `said` to its output, or to the
+# Succeeds if a program runs on this system: without arguments it prints its usage, with status 2. Sets `output` to its output, or to the
 # system's error.
 runs_here() {
     status=0
-    said=$({ "$1" < /dev/null; } 2>&1) || status=$?
+    output=$({ "$1" < /dev/null; } 2>&1) || status=$?
     [ "$status" -eq 2 ]
 }
 
@@ -94,57 +94,57 @@ is_installed() {
 is_for="it is for Linux on"
 does_not_run="it does not run on this system"
 
-# Succeeds if no program is built for this system, and sets `fault` to the message. (It uses only `uname`, because such a system can lack
-# everything else.)
+# Succeeds if no program can be built for this system, and sets `reason` to the message. Uses only `uname`, because such a system can lack all
+# other commands.
 is_other_system() {
     case "$(uname -s) $(uname -m)" in
     "Linux x86_64" | "Linux aarch64") return 1 ;;
     esac
-    fault="$is_for x86-64, and this is $(uname -s) on $(uname -m)"
+    reason="$is_for x86-64, and this is $(uname -s) on $(uname -m)"
 }
 
-# Succeeds if `fault` says that the program is for another system, so that no program can be built here. Commands then run on the proved module.
+# Succeeds if `reason` says that the program is for another system, so that no program can be built here. Commands then run on the proved module.
 is_without_program() {
-    case $fault in
+    case $reason in
     "$is_for"*) ;;
     "$does_not_run"*) is_installed || ! command -v rt > /dev/null ;;
     *) return 1 ;;
     esac
 }
 
-# Finds an installed program. Arguments: its file, and the name of its checksum.
+# Sets `program` to an installed program, or `reason` to the reason why it cannot be started. Arguments: its file, and the name of its checksum.
 find_installed() {
     if { [ ! -x "$1" ] || [ ! -e /lib64/ld-linux-x86-64.so.2 ]; } && is_other_system; then
         return
     elif [ ! -x "$1" ]; then
-        fault="it is not there; install it again"
+        reason="it is not there; install it again"
     elif ! command -v sha256sum > /dev/null; then
-        fault="there is no sha256sum (Debian's package coreutils) to compare its checksum with"
+        reason="there is no sha256sum (Debian's package coreutils) to compare its checksum with"
     elif [ "$(sha256sum < "$1")" != "$(sed -n "s/^$2 //p" "$top/installed")  -" ]; then
-        fault="it is damaged: its checksum is not the one in $top/installed; install it again"
+        reason="it is damaged: its checksum is not the one in $top/installed; install it again"
     elif [ ! -e /lib64/ld-linux-x86-64.so.2 ] && ! runs_here "$1"; then
-        fault="$does_not_run, $(uname -s) on $(uname -m); install it again"
+        reason="$does_not_run, $(uname -s) on $(uname -m); install it again"
     else
         program=$1
     fi
 }
 
-# Finds the program that was built from these sources, either here or before it was shipped.
+# Sets `program` to the program that was built from these sources, either here or before it was shipped, or sets `reason`.
 find_by_sources() {
     sources=$(sum_of_crate mcs4)
     if is_built "$sources"; then
         program=$built
     elif [ -f "$aarch64" ] && [ "$(uname -s) $(uname -m)" = "Linux aarch64" ]; then
-        fault=$(fault_of_shipped "$(sum_of_aarch64 "$sources")" "$aarch64" aarch64 aarch64)
-        if [ -z "$fault" ]; then program=$aarch64; fi
+        reason=$(shipped_problem "$(sum_of_aarch64 "$sources")" "$aarch64" aarch64 aarch64)
+        if [ -z "$reason" ]; then program=$aarch64; fi
     else
-        fault=$(fault_of_shipped "$sources" "$shipped" program x86_64)
-        case $fault in
+        reason=$(shipped_problem "$sources" "$shipped" program x86_64)
+        case $reason in
         '') program=$shipped ;;
         "$does_not_run"*)
-            if [ -f "$static" ] && [ -z "$(fault_of_shipped "$sources" "$static" static x86_64)" ]; then
+            if [ -f "$static" ] && [ -z "$(shipped_problem "$sources" "$static" static x86_64)" ]; then
                 program=$static
-                fault=
+                reason=
             fi
             ;;
         esac
@@ -152,35 +152,35 @@ find_by_sources() {
 }
 
 # Sets `program` to the program that was proved and built here, if its sources are unchanged. Otherwise sets it to the program in shipped/,
-# if that was built from these sources and runs on this system. Otherwise `program` is empty, and `fault` is the reason.
+# if that was built from these sources and runs on this system. Otherwise `program` is empty, and `reason` says why.
 find_program() {
     program=
-    fault=
+    reason=
     if is_installed; then
         find_installed "$shipped" program
         return
     fi
     if read_cache || is_other_system; then return; fi
     . "$top/tools/lib/sums.sh"
-    kept=
+    can_cache=
     if make_cache; then
-        kept=1
+        can_cache=1
         (umask 077 && {
             echo
             names_of_start
-        } > "$names.$$" && file_stamps "$names.$$" | sed 1d > "$seen.$$.before") 2> /dev/null || kept=
+        } > "$names.$$" && file_stamps "$names.$$" | sed 1d > "$seen.$$.before") 2> /dev/null || can_cache=
     fi
     find_by_sources
-    if [ -n "$kept" ]; then
+    if [ -n "$can_cache" ]; then
         if [ -n "$program" ]; then (umask 077 && write_cache) 2> /dev/null || :; fi
         rm -f -- "$names.$$" "$seen.$$" "$seen.$$.before"
     fi
 }
 
-# Sets `program` without comparing sources and without a message, which is possible if the program is installed or an earlier start has cached it.
+# Sets `program` without comparing sources and without a message. Fails if the program is neither installed nor cached by an earlier start.
 find_known() {
     program=
-    fault=
+    reason=
     if is_installed; then
         find_installed "$shipped" program
         [ -n "$program" ]
@@ -192,7 +192,7 @@ find_known() {
 # Finds the program that `mcs4 prove` starts, as find_program does. It is not cached: a search takes longer than the comparison of sources.
 find_prover() {
     program=
-    fault=
+    reason=
     if is_installed; then
         find_installed "$prover" prover
         return
@@ -203,22 +203,22 @@ find_prover() {
     if is_built "$sources" "$built_prover"; then
         program=$built_prover
     else
-        fault=$(fault_of_shipped "$sources" "$prover" prover x86_64)
-        if [ -z "$fault" ]; then program=$prover; fi
+        reason=$(shipped_problem "$sources" "$prover" prover x86_64)
+        if [ -z "$reason" ]; then program=$prover; fi
     fi
 }
 
 # Finds the program to start. If there is none, prints the reason, and proves and builds it. `program` is empty if no program is for this
-# system. A message reports the use of the shipped program once to each user.
+# system. A message informs each user once that the shipped program is used.
 find_or_build() {
     find_program
-    if [ -n "$fault" ] && is_without_program; then
+    if [ -n "$reason" ] && is_without_program; then
         program=
-    elif [ -n "$fault" ] && is_installed; then
-        echo "mcs4: $shipped is not started: $fault" >&2 || :
+    elif [ -n "$reason" ] && is_installed; then
+        echo "mcs4: $shipped is not started: $reason" >&2 || :
         exit 126
-    elif [ -n "$fault" ]; then
-        echo "mcs4: the program in shipped/ is not started: $fault. It is proved and built here first" >&2 || :
+    elif [ -n "$reason" ]; then
+        echo "mcs4: the program in shipped/ is not started: $reason. It is proved and built here first" >&2 || :
         "$top/tools/build" >&2
         program=$built
     elif [ "$program" != "$built" ] && ! is_installed && [ -n "$cache" ] && [ ! -e "$cache/reported" ] && make_cache && { : > "$cache/reported"; } 2> /dev/null; then
@@ -231,6 +231,6 @@ find_or_build() {
 need_program() {
     find_or_build
     if [ -n "$program" ]; then return; fi
-    echo "mcs4: a session file needs the native program, which is not started: $fault. Commands without a session file run here" >&2 || :
+    echo "mcs4: a session file needs the native program, which is not started: $reason. Commands without a session file run here" >&2 || :
     exit 1
 }

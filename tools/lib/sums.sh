@@ -3,7 +3,7 @@
 # shellcheck shell=sh disable=SC2034
 
 if ! command -v sha256sum > /dev/null; then
-    echo "${0##*/}: there is no sha256sum (Debian's package coreutils), so it cannot be known what the program was built from" >&2
+    echo "${0##*/}: there is no sha256sum (Debian's package coreutils), so the sources of the program cannot be compared" >&2
     exit 1
 fi
 
@@ -20,22 +20,22 @@ lines_of() {
         { sub(/ *#.*/, "") }
         split($0, halves, ":") == 2 {
             split(halves[1], head, " ")
-            names[++lines] = head[1]
-            whole[head[1]] = $0
+            names[++name_count] = head[1]
+            line_of[head[1]] = $0
             uses[head[1]] = halves[2]
         }
         END {
             needed[wanted] = 1
             do {
-                found = 0
-                for (i = lines; i > 0; i--) {
+                is_growing = 0
+                for (i = name_count; i > 0; i--) {
                     if (!(names[i] in needed) || names[i] in followed) continue
-                    followed[names[i]] = found = 1
-                    count = split(uses[names[i]], below, " ")
-                    for (j = 1; j <= count; j++) needed[below[j]] = 1
+                    followed[names[i]] = is_growing = 1
+                    count = split(uses[names[i]], dependencies, " ")
+                    for (j = 1; j <= count; j++) needed[dependencies[j]] = 1
                 }
-            } while (found)
-            for (i = 1; i <= lines; i++) if (names[i] in needed) print whole[names[i]]
+            } while (is_growing)
+            for (i = 1; i <= name_count; i++) if (names[i] in needed) print line_of[names[i]]
         }
     ' < "$top/crates.txt"
 }
@@ -67,13 +67,13 @@ names_of_crates() {
     (cd "$top" && find crates -name out -prune -o -type "$2" -print) | crates=$(echo "$1" | crates_of_lines) awk -F / '
         BEGIN {
             count = split(ENVIRON["crates"], crates, "\n")
-            for (i = 1; i <= count; i++) taken[crates[i]] = 1
+            for (i = 1; i <= count; i++) wanted[crates[i]] = 1
         }
-        $2 in taken && $3 ~ /^(src|specs|proofs)$/
+        $2 in wanted && $3 ~ /^(src|specs|proofs)$/
     '
 }
 
-# The files that make the program for aarch64 from the crate mcs4.
+# The files that build the program for aarch64 from the crate mcs4.
 made_for_aarch64='tools/aarch64 tools/lib/aarch64.c tools/lib/compile.sh'
 
 # Prints the checksum of the sources of a crate and of the crates on which it depends: their lines in crates.txt, and their code, definitions and
@@ -120,14 +120,14 @@ shipped_sum() {
 }
 
 # Records that a program was just built here. Arguments: the checksum of its sources, and the program (by default the one of ./mcs4). If
-# that cannot be recorded, later starts do not use the program.
+# that fails, a message says so, and later starts do not use the program.
 note_built() {
     line="$1 $(sum_of_input < "${2:-$built}")"
     if make_cache && (umask 077 && {
         if is_own_note; then grep -vxF -- "$line" "$built_from" | tail -n 99; fi
         echo "$line"
     } > "$built_from.$$" && mv -f -- "$built_from.$$" "$built_from") 2> /dev/null; then return; fi
-    echo "mcs4: cannot note in ${cache:-a home} that this program was built here; the next start does not take it" >&2 || :
+    echo "mcs4: cannot record in ${cache:-a home folder} that this program was built here; the next start does not use it" >&2 || :
 }
 
 # Succeeds if the record of built programs belongs to this user.
@@ -141,9 +141,9 @@ is_built() {
     [ -x "${2:-$built}" ] && is_own_note && grep -qxF -- "$1 $(sum_of_input < "${2:-$built}")" "$built_from"
 }
 
-# Prints the reason why a shipped program cannot be started on this system; nothing if it can. Arguments: the checksum of the sources, the
+# Prints the reason why a shipped program cannot be started on this system, or nothing if it can. Arguments: the checksum of the sources, the
 # program's file, its name in shipped/SUMS, and its machine, as `uname -m` names it.
-fault_of_shipped() {
+shipped_problem() {
     if [ "$(uname -s) $(uname -m)" != "Linux $4" ]; then
         echo "$is_for $(echo "$4" | tr _ -), and this is $(uname -s) on $(uname -m)"
     elif [ ! -f "$2" ] || [ ! -f "$sums" ]; then
@@ -153,7 +153,7 @@ fault_of_shipped() {
     elif [ "$(sum_of_input < "$2")" != "$(shipped_sum "$3")" ]; then
         echo "it is damaged, since its checksum is not the one in shipped/SUMS"
     elif ! runs_here "$2"; then
-        echo "$does_not_run ($(echo "$said" | tail -n 1))"
+        echo "$does_not_run ($(echo "$output" | tail -n 1))"
     fi
 }
 
@@ -179,7 +179,7 @@ sum_of_commands() {
     (cd "$top" && find shipped/commands -type f) | sums_of_files | sum_of_input
 }
 
-# Prints the checksum of the sources of shipped/commands, which are all modules in js/core, js/words and js/node.
+# Prints the checksum of the sources of shipped/commands: all files in js/core, js/words and js/node.
 sum_of_command_sources() {
     (cd "$top" && find js/core js/words js/node -type f) | sums_of_files | sum_of_input
 }

@@ -62,14 +62,14 @@ FILE_SYSTEMS = {kind.name: kind for kind in (
 
 
 class Case(NamedTuple):
-    """What happens on a file system before and while a session is served: shell commands whose effects are synced, shell commands after these whose
+    """A scenario for a session on a file system: shell commands whose effects are synced, shell commands after these whose
     effects are not synced, the program's arguments, and the name of the session file after the cut. `initial_commands` is the number of commands in
     the session at the beginning. `is_durable` is true if the session is already durable then. If `gets_all_commands` is true, the trial sends it
     ALL_COMMANDS commands."""
     name: str
     setup: str
     before: str
-    words: str
+    arguments: str
     file: str
     initial_commands: int = 0
     is_durable: bool = False
@@ -109,8 +109,8 @@ OPEN_CASES = ("linked", "copied", "moved", "replaced", "long-copied", "long-move
 
 # --- the trials of a run of the check
 
-# The numbers of commands to send: to the session of a case with `gets_all_commands`, to a session that is already durable or is opened again, and to any
-# other session.
+# The numbers of commands to send: to the session of a case with `gets_all_commands`, to a session that is already durable or is opened again, and to
+# any other session.
 ALL_COMMANDS, MORE_COMMANDS, FEW_COMMANDS = 110, 24, 12
 
 

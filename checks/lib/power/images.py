@@ -31,29 +31,30 @@ Part = tuple[int, int] | None
 
 @dataclasses.dataclass
 class Image:
-    """Possible contents of the disk after a power cut. Cuts after the event with the number `place`, or after some later event up to `last`, can leave
-    this image. After each of these cuts, at least `least` and at most `most` commands must be found. `least` is None before the first answer if no
-    session existed at the beginning. `durable` is the number of durable writes, and `kept` has the parts of the pending writes."""
-    place: int
+    """Possible contents of the disk after a power cut. Cuts after the event with the number `first`, or after a later event up to `last`, can leave
+    this image. After each of these cuts, at least `min_commands` and at most `max_commands` commands must be found. `min_commands` is None before the
+    first answer if no session existed at the beginning. `durable` is the number of durable writes, and `parts` has the parts of the pending writes
+    that are on the disk. `selection` names how the parts were selected: none, all or some."""
+    first: int
     last: int
     phase: Phase
-    how: str
+    selection: str
     durable: int
-    kept: dict[int, Part]
-    least: int | None
-    most: int
+    parts: dict[int, Part]
+    min_commands: int | None
+    max_commands: int
 
     @property
     def is_torn(self) -> bool:
         """Returns true if a block of the file system can be half old and half new, which the file system need not tolerate."""
-        return any(part is not None and part[0] < BLOCK for part in self.kept.values())
+        return any(part is not None and part[0] < BLOCK for part in self.parts.values())
 
-    def add_cut(self, place: int, least: int | None, most: int) -> None:
+    def add_cut(self, event_number: int, min_commands: int | None, max_commands: int) -> None:
         """Adds a cut after another event that leaves the same image."""
-        self.last = place
-        if least is not None:
-            self.least = least if self.least is None else max(self.least, least)
-        self.most = min(self.most, most)
+        self.last = event_number
+        if min_commands is not None:
+            self.min_commands = min_commands if self.min_commands is None else max(self.min_commands, min_commands)
+        self.max_commands = min(self.max_commands, max_commands)
 
 
 class History:
@@ -112,7 +113,7 @@ class History:
                     pending.remove(self.by_durability[durable])
                     durable += 1
             phase = self.phase(event_number, first_answer, answered, sent)
-            for selection, parts in self.ways(event, pending):
+            for selection, parts in self.selections_after(event, pending):
                 key = hashlib.sha256(repr((durable, sorted(parts.items()))).encode()).digest()
                 image = images.setdefault(key, Image(event_number, event_number, phase, selection, durable, parts, answered, sent))
                 image.add_cut(event_number, answered, sent)
@@ -126,14 +127,14 @@ class History:
             return "snapshot"
         return "beginning" if event_number < first_answer + BEGINNING else "serving"
 
-    def ways(self, event: Event, pending: list[int]) -> list[tuple[str, dict[int, Part]]]:
+    def selections_after(self, event: Event, pending: list[int]) -> list[tuple[str, dict[int, Part]]]:
         """Returns some of the ways in which the pending writes can be on the disk after an event: for each its name, and the part of each write."""
         selections: list[tuple[str, dict[int, Part]]] = [("none", {}), ("all", dict.fromkeys(pending))]
         if event.kind in ("write", "flushed"):
-            selections += [("some", self.part_of(pending)) for _ in range(PARTS * min(len(pending), MAX_PENDING))]
+            selections += [("some", self.random_parts(pending)) for _ in range(PARTS * min(len(pending), MAX_PENDING))]
         return selections
 
-    def part_of(self, pending: list[int]) -> dict[int, Part]:
+    def random_parts(self, pending: list[int]) -> dict[int, Part]:
         """Returns a random selection from these writes: all, none or some of the sectors of each one."""
         unit = BLOCK if self.whole_blocks else self.rng.choice((SECTOR, BLOCK))
         parts: dict[int, Part] = {}
@@ -151,7 +152,7 @@ class History:
         chosen_images: list[Image] = []
         for index, group in enumerate(groups):
             chosen_images += self.rng.sample(group, min(len(group), (count - len(chosen_images)) // (len(groups) - index)))
-        return sorted(chosen_images, key=lambda image: image.place)
+        return sorted(chosen_images, key=lambda image: image.first)
 
 
 class Builder:
@@ -176,8 +177,8 @@ class Builder:
         for write in self.order[self.placed:]:
             if rank[write.number] < image.durable:
                 self.disk.write(write.offset, write.data)
-            elif write.number in image.kept:
-                self.write_part(write, image.kept[write.number])
+            elif write.number in image.parts:
+                self.write_part(write, image.parts[write.number])
 
     def write_part(self, write: Event, part: Part) -> None:
         """Writes a part of a write to the disk."""

@@ -67,9 +67,9 @@ def writes_at_one_place() -> bool:
     """Checks two writes to the same sector. An image has the later write, or only the earlier one. When both are durable, it has the later one."""
     events = [write_event(1, 0, A), event_of("wrote", 1), write_event(2, 0, B), event_of("wrote", 2)]
     pending_images = images_of(history_of(events), SECTOR)
-    contents_with_both = {data for data, image in pending_images if image.kept == {1: None, 2: None}}
+    contents_with_both = {data for data, image in pending_images if image.parts == {1: None, 2: None}}
     last_image = history_of([*events, event_of("flush", 3), event_of("flushed", 3)]).all_images()[-1]
-    return {data for data, _ in pending_images} == {OLD, A, B} and contents_with_both == {B} and last_image.durable == 2 and not last_image.kept
+    return {data for data, _ in pending_images} == {OLD, A, B} and contents_with_both == {B} and last_image.durable == 2 and not last_image.parts
 
 
 def bounds() -> bool:
@@ -77,14 +77,15 @@ def bounds() -> bool:
     answer, there is no lower bound."""
     events = history_of([write_event(1, 0, A), event_of("answered", 0), event_of("sent", 1), write_event(2, 0, B), event_of("wrote", 2), event_of("flush", 3),
                     event_of("flushed", 3), event_of("answered", 1)])
-    bounds_by_image = {(image.durable, len(image.kept)): (image.least, image.most) for image in events.all_images() if image.how != "some"}
+    bounds_by_image = {(image.durable, len(image.parts)): (image.min_commands, image.max_commands)
+                       for image in events.all_images() if image.selection != "some"}
     return bounds_by_image == {(0, 0): (0, 0), (0, 1): (0, 0), (0, 2): (0, 1), (1, 0): (1, 1), (1, 1): (1, 1)}
 
 
 def bounds_of_a_copy() -> bool:
     """Checks that a copied session has its commands even before its first answer."""
     images = history_of([write_event(1, 0, A), event_of("answered", 7)], initial_commands=7).all_images()
-    return {(image.least, image.most) for image in images if image.how != "some"} == {(7, 7)}
+    return {(image.min_commands, image.max_commands) for image in images if image.selection != "some"} == {(7, 7)}
 
 
 def permanent_images() -> bool:
@@ -97,7 +98,7 @@ def permanent_images() -> bool:
     disk.undo_writes()
     builder.write_permanently(images[0])
     is_old = disk.bytes[:SECTOR] == OLD
-    builder.write_permanently(next(image for image in images if image.durable and image.how == "all" and image.kept))
+    builder.write_permanently(next(image for image in images if image.durable and image.selection == "all" and image.parts))
     return is_old and disk.bytes[:SECTOR] == B and disk.undo is None
 
 

@@ -105,9 +105,9 @@ def create_initramfs(folder: pathlib.Path, kernel: Kernel, names: list[str], fil
     for name, data in modules.items():
         (root / "modules" / f"{name}.ko").write_bytes(data)
     (root / "modules/order").write_text(" ".join(modules))
-    for place, file in files.items():
-        (root / place).parent.mkdir(parents=True, exist_ok=True)
-        shutil.copy(file, root / place)
+    for path, file in files.items():
+        (root / path).parent.mkdir(parents=True, exist_ok=True)
+        shutil.copy(file, root / path)
     (root / "init").write_text(INIT_SCRIPT)
     (root / "init").chmod(0o755)
     names_in_archive = "\n".join(sorted(str(path.relative_to(root)) for path in root.rglob("*")))

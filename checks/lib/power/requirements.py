@@ -41,7 +41,7 @@ def kernels_in(folder: pathlib.Path) -> list[Kernel]:
     kernels = []
     for image in sorted(folder.glob("boot/vmlinuz-*")):
         release = image.name.removeprefix("vmlinuz-")
-        modules = [place for top in ("lib", "usr/lib") if (place := folder / top / "modules" / release).is_dir()]
+        modules = [path for top in ("lib", "usr/lib") if (path := folder / top / "modules" / release).is_dir()]
         if modules and os.access(image, os.R_OK):
             kernels.append(Kernel(image, modules[0]))
     return kernels

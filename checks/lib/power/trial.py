@@ -29,7 +29,7 @@ MEGA = 1 << 20
 START_OTHER_WRITER = "(cd /; n=/mnt/noise; while :; do echo noise >> $n/a; mv $n/a $n/b; sleep 0.3; mv $n/b $n/a; done) & busy=$!"
 # Shell lines. START_PROGRAM starts the program with its serial line as input and output, and reports if the program ends unexpectedly.
 # STOP_AND_UNMOUNT ends all processes that use the file system, and unmounts it, with a second attempt because a process can live for a moment longer.
-START_PROGRAM = "{{ {wrong} mcs4 {words} <&3 >&3; reported=$?; [ -e /tmp/end ] || echo ended with status $reported >&3; }} &"
+START_PROGRAM = "{{ {wrong} mcs4 {arguments} <&3 >&3; reported=$?; [ -e /tmp/end ] || echo ended with status $reported >&3; }} &"
 STOP_AND_UNMOUNT = "cd /; : > /tmp/end; kill $busy; killall mcs4; wait; rm /tmp/end; umount /mnt || { sleep 1; umount /mnt; }"
 # The allowed results if the power is cut before the first answer of `new`, on a file system that shows only written data.
 ALLOWED_BEFORE_NEW = ("absent", "size 0", "blank", 0)
@@ -43,7 +43,7 @@ Contents = int | str
 class ExaminedImage(NamedTuple):
     """The result of examining an image. `is_old` is true if the file has version 1."""
     image: Image
-    found: Contents
+    contents: Contents
     is_old: bool
 
 
@@ -51,21 +51,21 @@ class ExaminedImage(NamedTuple):
 class Outcome:
     """The result of a trial: the number of images and of errors, and descriptions of the first errors."""
     images: int = 0
-    faults: int = 0
-    first: str = ""
+    error_count: int = 0
+    first_error: str = ""
 
     def add(self, other: Outcome) -> None:
         """Adds another result."""
         self.images += other.images
-        self.faults += other.faults
-        self.first = self.first or other.first
+        self.error_count += other.error_count
+        self.first_error = self.first_error or other.first_error
 
 
 @dataclasses.dataclass
 class Stage:
-    """How a session is served: the arguments of the program, the shell command just before it, the number in the first answer, the last command, and
+    """The serving of a session: the arguments of the program, the shell command just before it, the number in the first answer, the last command, and
     whether the session was already durable before."""
-    words: str
+    arguments: str
     before: str
     first: int
     last: int
@@ -76,9 +76,10 @@ class Stage:
 class Runner:
     """Runs trials on a machine with two disks. Images are written to `disk`. The machine copies the session files that it finds to `out`."""
 
-    def __init__(self, machine: Machine, sessions: Sessions, keep: pathlib.Path, show: str, seed: int) -> None:
-        """Images with errors are stored in `keep`. `show` is the command line that examines a stored image again, without the name of the image."""
-        self.machine, self.sessions, self.keep, self.show = machine, sessions, keep, show
+    def __init__(self, machine: Machine, sessions: Sessions, keep: pathlib.Path, show_command: str, seed: int) -> None:
+        """Images with errors are stored in `keep`. `show_command` is the command line that examines a stored image again, without the name of the
+        image."""
+        self.machine, self.sessions, self.keep, self.show_command = machine, sessions, keep, show_command
         self.disk, self.out = machine.disks["disk"], machine.disks["out"]
         self.rng = random.Random(seed)
         self.junk = random.Random(1).randbytes(MEGA)
@@ -89,22 +90,22 @@ class Runner:
         kind, case = FILE_SYSTEMS[trial.kind], CASES[trial.case]
         self.create_file_system(kind, trial, case)
         last = ALL_COMMANDS if case.gets_all_commands else case.initial_commands + (MORE_COMMANDS if case.is_durable else FEW_COMMANDS)
-        stage = Stage(case.words, case.before, case.initial_commands, last, case.is_durable, trial.images)
+        stage = Stage(case.arguments, case.before, case.initial_commands, last, case.is_durable, trial.images)
         outcome = Outcome()
         for generation in range(trial.generations + 1):
-            began = time.monotonic()
+            start_time = time.monotonic()
             history = self.record(kind, trial, case, stage)
             builder = Builder(self.disk, history)
-            drawn = history.draw(history.all_images(), stage.images)
+            images = history.draw(history.all_images(), stage.images)
             with self.examining():
-                examined = [self.examine(builder, kind, trial, case, image) for image in drawn]
-            results = self.report_results(trial, generation, history, examined, builder, time.monotonic() - began)
+                examined = [self.examine(builder, kind, trial, case, image) for image in images]
+            results = self.report_results(trial, generation, history, examined, builder, time.monotonic() - start_time)
             outcome.add(results)
-            if results.faults or generation == trial.generations:
+            if results.error_count or generation == trial.generations:
                 break
             next_image = self.choose_next_disk(trial, generation, examined)
             builder.write_permanently(next_image.image)
-            stage = self.next_stage(case, next_image.found, max(15, trial.images // 4))
+            stage = self.next_stage(case, next_image.contents, max(15, trial.images // 4))
         return outcome
 
     # --- serving a session
@@ -147,7 +148,7 @@ class Runner:
         if stage.before:
             self.machine.run_successfully(stage.before)
         environment = f"LD_PRELOAD=/omit.so WRONG='{trial.wrong}'" if trial.wrong not in ("", NO_BARRIER) else ""
-        self.machine.run_successfully(START_PROGRAM.format(wrong=environment, words=stage.words))
+        self.machine.run_successfully(START_PROGRAM.format(wrong=environment, arguments=stage.arguments))
         self.serve(events, stage)
         self.disk.events = None
         self.disk.is_late = False
@@ -174,7 +175,7 @@ class Runner:
     # --- looking at images
 
     def examine(self, builder: Builder, kind: FileSystem, trial: Trial, case: Case, image: Image) -> ExaminedImage:
-        """Returns what is found on an image."""
+        """Examines an image, and returns the result."""
         builder.build(image)
         contents = self.contents_of_disk(kind, self.options(kind, trial), case.file)
         self.disk.undo_writes()
@@ -196,22 +197,22 @@ class Runner:
         self.machine.shell.send("")
         end = self.machine.receive(self.machine.shell)
         if end != "done 0":
-            raise PowerCheckError(f"the machine cannot look at disks: {end}; its last lines:\n{self.machine.last_lines()}")
+            raise PowerCheckError(f"the machine cannot examine disks: {end}; its last lines:\n{self.machine.last_lines()}")
 
     @staticmethod
-    def verdict(trial: Trial, seen: ExaminedImage) -> str:
-        """Judges what was found on an image. Returns `good`, a note if other contents are allowed there, or "" for an error."""
+    def verdict(trial: Trial, examined: ExaminedImage) -> str:
+        """Judges the contents of an image. Returns `good`, a note if other contents are allowed there, or "" for an error."""
         kind, case = FILE_SYSTEMS[trial.kind], CASES[trial.case]
-        image, contents = seen.image, seen.found
+        image, contents = examined.image, examined.contents
         if contents == "not mounted" and image.is_torn:
             return "not mounted, with a torn block"
-        if image.least is None:
-            is_good = contents in ALLOWED_BEFORE_NEW if case.words.startswith("new") and not kind.shows_stale else contents != "not mounted"
+        if image.min_commands is None:
+            is_good = contents in ALLOWED_BEFORE_NEW if case.arguments.startswith("new") and not kind.shows_stale else contents != "not mounted"
             return f"before the first answer {contents}" if is_good else ""
-        return "good" if isinstance(contents, int) and image.least <= contents <= image.most else ""
+        return "good" if isinstance(contents, int) and image.min_commands <= contents <= image.max_commands else ""
 
     def report_results(self, trial: Trial, generation: int, history: History, examined: list[ExaminedImage], builder: Builder, seconds: float) -> Outcome:
-        """Prints what was found on the images of a history, and stores some of the images with errors."""
+        """Prints the results for the images of a history, and stores some of the images with errors."""
         notes: collections.Counter[str] = collections.Counter()
         with_errors = []
         for examined_image in examined:
@@ -223,29 +224,29 @@ class Runner:
         phases = collections.Counter(examined_image.image.phase for examined_image in examined)
         name = f"{trial.name}{f', opened again ({generation})' if generation else ''}"
         print(f"{name}: {history.count('sent')} commands, {history.count('write')} writes, {history.count('flush')} flushes; "
-              f"{len(examined)} images ({', '.join(f'{number} {phase}' for phase, number in phases.items())}), {len(with_errors)} faults; "
+              f"{len(examined)} images ({', '.join(f'{number} {phase}' for phase, number in phases.items())}), {len(with_errors)} errors; "
               f"{seconds:.1f} s", flush=True)
         del notes["good"]
         if notes:
             print("    " + "; ".join(f"{number} {note}" for note, number in sorted(notes.items())), flush=True)
-        faults = [self.error_message(examined_image, len(history.events)) for examined_image in with_errors[:MAX_REPORTED]]
-        for message, examined_image in zip(faults, with_errors):
+        messages = [self.error_message(examined_image, len(history.events)) for examined_image in with_errors[:MAX_REPORTED]]
+        for message, examined_image in zip(messages, with_errors):
             if not trial.wrong:
-                print(f"FAULT in {name}: {message}", flush=True)
-                if examined_image.found == "not mounted":
+                print(f"ERROR in {name}: {message}", flush=True)
+                if examined_image.contents == "not mounted":
                     print(f"    the machine's last lines:\n{self.machine.last_lines()}", flush=True)
                 self.store_image(trial, generation, builder, examined_image.image)
-        return Outcome(len(examined), len(with_errors), faults[0] if faults else "")
+        return Outcome(len(examined), len(with_errors), messages[0] if messages else "")
 
     @staticmethod
     def error_message(examined: ExaminedImage, event_count: int) -> str:
-        """Describes an error."""
+        """Returns the description of an error."""
         image = examined.image
-        acknowledged = "nothing" if image.least is None else f"command {image.least}"
-        contents = f"{examined.found} commands" if isinstance(examined.found, int) else examined.found
-        range_end = f" to {image.last}" if image.last > image.place else ""
-        return (f"cut at {image.place}{range_end} of {event_count} ({image.phase}): {acknowledged} acknowledged{' in the end' * bool(range_end)}, "
-                f"command {image.most} sent, found: {contents}; {image.durable} writes durable, of {len(image.kept)} others {image.how}")
+        acknowledged = "nothing" if image.min_commands is None else f"command {image.min_commands}"
+        contents = f"{examined.contents} commands" if isinstance(examined.contents, int) else examined.contents
+        range_end = f" to {image.last}" if image.last > image.first else ""
+        return (f"cut at {image.first}{range_end} of {event_count} ({image.phase}): {acknowledged} acknowledged{' in the end' * bool(range_end)}, "
+                f"command {image.max_commands} sent, found: {contents}; {image.durable} writes durable, of {len(image.parts)} others {image.selection}")
 
     # --- stored images, and the next disk
 
@@ -256,17 +257,18 @@ class Runner:
             return
         self.stored_count += 1
         self.keep.mkdir(parents=True, exist_ok=True)
-        name = self.keep / f"{trial.kind}-{trial.case}-{generation}-{image.place}.image"
+        name = self.keep / f"{trial.kind}-{trial.case}-{generation}-{image.first}.image"
         builder.undo_all()
         builder.build(image)
         name.write_bytes(self.disk.bytes[:kind.size * MEGA])
         self.disk.undo_writes()
-        description = {"kind": trial.kind, "options": self.options(kind, trial), "file": case.file, "least": image.least, "most": image.most}
+        description = {"kind": trial.kind, "options": self.options(kind, trial), "file": case.file, "least": image.min_commands,
+                       "most": image.max_commands}
         name.with_suffix(".json").write_text(json.dumps(description))
-        print(f"    look at it again: {self.show} --show {name}", flush=True)
+        print(f"    examine it again: {self.show_command} --show {name}", flush=True)
 
     def examine_stored(self, name: pathlib.Path) -> bool:
-        """Reports what is found on a stored image. Returns true if it is right."""
+        """Prints the contents of a stored image. Returns true if they are right."""
         description = json.loads(name.with_suffix(".json").read_text())
         kind, image = FILE_SYSTEMS[description["kind"]], name.read_bytes()
         self.disk.bytes[:len(image)] = image
@@ -285,20 +287,20 @@ class Runner:
         is_carried = case.name.startswith("carried")
         preferred_phase: Phase = "opening" if is_carried or generation % 2 else "snapshot"
         valid = [candidate for candidate in examined if self.verdict(trial, candidate) == "good"]
-        if case.words.startswith("new") and generation == 0:
-            valid = [candidate for candidate in examined if candidate.found == "blank"] or valid
+        if case.arguments.startswith("new") and generation == 0:
+            valid = [candidate for candidate in examined if candidate.contents == "blank"] or valid
         if not valid:
             raise PowerCheckError(f"{trial.name}: no image holds a session")
 
         def rank(candidate: ExaminedImage) -> tuple[bool, bool, bool]:
-            return candidate.is_old, candidate.image.phase == preferred_phase, candidate.image.how == "some"
+            return candidate.is_old, candidate.image.phase == preferred_phase, candidate.image.selection == "some"
 
         best = max(map(rank, valid))
         return self.rng.choice([candidate for candidate in valid if rank(candidate) == best])
 
     @staticmethod
     def next_stage(case: Case, contents: Contents, images: int) -> Stage:
-        """Returns how the session is served in the next generation: it continues, or is created if the file is blank."""
+        """Returns the stage of the next generation: the session continues, or is created if the file is blank."""
         if not isinstance(contents, int):
-            return Stage(case.words, "", 0, MORE_COMMANDS, False, images)
+            return Stage(case.arguments, "", 0, MORE_COMMANDS, False, images)
         return Stage(f"open {case.file}", "", contents, contents + MORE_COMMANDS, True, images)

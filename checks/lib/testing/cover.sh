@@ -21,9 +21,9 @@ only one way: line 5 (never taken)
 status 0
 covered
 # The cycles: FIM (2), twice JMS (2), CLC (1), BBL (1) and ISZ (2), then JCN (2) and JUN (2) are 18. With 11 more JUN of 2 cycles, they are 40.
-sed 's/^        10 /        11 /' < "$folder/covered" > "$folder/covered_by_hand"
+sed 's/^        10 /        11 /' < "$folder/covered" > "$folder/expected"
 verdict "$(outcome ./mcs4 cover --lcov "$folder/count.info" $three/board.toml "$folder/count.asm" "$folder/count.test")" \
-    "$(cat "$folder/covered_by_hand")" "coverage by hand"
+    "$(cat "$folder/expected")" "coverage, worked out manually"
 verdict "$(cat "$folder/count.info")" "TN:
 SF:$folder/count.asm
 FN:9,part
@@ -47,7 +47,7 @@ DA:10,2
 DA:11,11
 LF:9
 LH:8
-end_of_record" "LCOV's format by hand"
+end_of_record" "the LCOV file, worked out manually"
 
 # A jump that is always taken: eight iterations of CLC (1 cycle), JCN (2) and JUN (2) are 40 cycles.
 cat > "$folder/always.asm" <<'program'
@@ -66,20 +66,20 @@ verdict "$(outcome ./mcs4 cover --lcov "$folder/always.info" $three/board.toml "
 never run: line 3
 only one way: line 2 (always taken)
 status 0" "coverage of a jump that is always taken"
-verdict "$(sed -n '/^BR/p' "$folder/always.info" | tr '\n' ' ')" "BRDA:2,0,0,8 BRDA:2,0,1,0 BRF:2 BRH:1 " "LCOV's format of a jump that is always taken"
+verdict "$(sed -n '/^BR/p' "$folder/always.info" | tr '\n' ' ')" "BRDA:2,0,0,8 BRDA:2,0,1,0 BRF:2 BRH:1 " "the LCOV file of a jump that is always taken"
 
 # Compares the counts in 6,000 cycles of the calculator with a key down: by `cover`, and by `step` and `regs`.
 ./mcs4 script $calculator/board.toml $calculator/calculator.asm > "$folder/script"
 {
     cat "$folder/script"
     echo 'press 1 2'
-} | begins calc
+} | new_session calc
 cp "$folder/calc.mcs" "$folder/copy.mcs"
 outcome ./mcs4 cover --lcov "$folder/calc.info" --session "$folder/calc.mcs" 6000 $calculator/calculator.asm > "$folder/report"
 verdict "$(tail -n 1 "$folder/report"; cmp "$folder/calc.mcs" "$folder/copy.mcs" && echo same)" "status 0
 same" "the coverage of a session"
 ./mcs4 listing $calculator/calculator.asm > "$folder/listing"
-awk 'BEGIN { for (i = 0; i < 6000; i++) print "regs\nstep" }' | goes_on calc
+awk 'BEGIN { for (i = 0; i < 6000; i++) print "regs\nstep" }' | continue_session calc
 verdict "$(sed -n 's/^DA://p' "$folder/calc.info")" "$(awk '
     FNR == 1 { file++ }
     file == 1 && $1 == "acc" { pc = $6; second = $8 }
@@ -91,12 +91,12 @@ verdict "$(sed -n 's/^DA://p' "$folder/calc.info")" "$(awk '
         sub(/^[A-Za-z_0-9]*[ \t]*:/, "", text)
         if (text ~ /^[ \t]*[A-Za-z]/ && text !~ /=|ORG|DB/) print FNR "," runs[at[++k]] + 0
     }
-' "$folder/answers" "$folder/listing" $calculator/calculator.asm)" "counts by \`count\` and by steps"
-refuses 1 "cover: the session has another program than $lock/lock.asm: 001 has 24, and line 16 makes 2C" \
+' "$folder/answers" "$folder/listing" $calculator/calculator.asm)" "counts of \`cover\`, and of steps"
+check_rejected 1 "cover: the session has another program than $lock/lock.asm: 001 has 24, and line 16 makes 2C" \
     ./mcs4 cover --session "$folder/calc.mcs" 100 $lock/lock.asm
-refuses 1 "cover: cannot write $folder/none/x.info: its folder does not exist or cannot be written" ./mcs4 cover --lcov "$folder/none/x.info" --session "$folder/calc.mcs" 10 $calculator/calculator.asm
-misuses "CYCLES: '0' is not a decimal number from 1 to 100000000" ./mcs4 cover --session "$folder/calc.mcs" 0 $calculator/calculator.asm
-refuses 2 "cover: PROGRAM is missing
+check_rejected 1 "cover: cannot write $folder/none/x.info: its folder does not exist or cannot be written" ./mcs4 cover --lcov "$folder/none/x.info" --session "$folder/calc.mcs" 10 $calculator/calculator.asm
+check_usage_error "CYCLES: '0' is not a decimal number from 1 to 100000000" ./mcs4 cover --session "$folder/calc.mcs" 0 $calculator/calculator.asm
+check_rejected 2 "cover: PROGRAM is missing
 usage: mcs4 cover [-C FOLDER] [--lcov FILE] [BOARD PROGRAM] [TEST ..]
        mcs4 cover [--lcov FILE] --session SESSION CYCLES PROGRAM" \
     ./mcs4 cover --session "$folder/calc.mcs" 100
@@ -111,28 +111,28 @@ else
     echo "not run: genhtml (Debian's package lcov)"
 fi
 
-# Checks that a file that is not in the LCOV format stays unchanged. (The LCOV file is written last, and may replace only such a file.)
-stays() {
-    cp "$1" "$folder/stayed"
+# Checks that a file that is not in the LCOV format stays unchanged. (`cover` may replace only such a file.)
+check_unchanged() {
+    cp "$1" "$folder/before"
     file=$1
     shift
-    refuses "$@"
-    verdict "$(cmp "$file" "$folder/stayed" 2>&1; ls "$folder" | grep -F "${file##*/}.")" "" "$file, which is not written"
+    check_rejected "$@"
+    verdict "$(cmp "$file" "$folder/before" 2>&1; ls "$folder" | grep -F "${file##*/}.")" "" "$file is not overwritten"
 }
 cp $three/board.toml "$folder/mine.toml"
 cp "$folder/count.asm" "$folder/mine.asm"
 cover_usage="usage: mcs4 cover [-C FOLDER] [--lcov FILE] [BOARD PROGRAM] [TEST ..]
        mcs4 cover [--lcov FILE] --session SESSION CYCLES PROGRAM"
-stays "$folder/mine.toml" 2 "cover: TEST is missing
+check_unchanged "$folder/mine.toml" 2 "cover: TEST is missing
 $cover_usage" ./mcs4 cover --lcov "$folder/mine.toml" "$folder/count.asm" "$folder/count.test"
-stays "$folder/mine.toml" 1 "cover: $folder/mine.toml exists, and does not begin like an LCOV file (TN:); name another file, or move it away" \
+check_unchanged "$folder/mine.toml" 1 "cover: $folder/mine.toml exists, and does not begin like an LCOV file (TN:); name another file, or move it away" \
     ./mcs4 cover --lcov "$folder/mine.toml" $three/board.toml "$folder/count.asm" "$folder/count.test"
-stays "$folder/mine.asm" 1 "cover: $folder/mine.asm is an input of this command, so it is not written; name another file" \
+check_unchanged "$folder/mine.asm" 1 "cover: $folder/mine.asm is an input of this command, so it is not written; name another file" \
     ./mcs4 cover --lcov "$folder/mine.asm" $three/board.toml "$folder/mine.asm" "$folder/count.test"
 printf ' LDX 5\n' > "$folder/wrong.asm"
-stays "$folder/count.info" 1 "cover: $folder/wrong.asm: line 1: no 30: LDX is not an instruction; LD or LDM?
+check_unchanged "$folder/count.info" 1 "cover: $folder/wrong.asm: line 1: no 30: LDX is not an instruction; LD or LDM?
 cover:      LDX 5" ./mcs4 cover --lcov "$folder/count.info" $three/board.toml "$folder/wrong.asm" "$folder/count.test"
-stays "$folder/calc.mcs" 1 "cover: $folder/calc.mcs is an input of this command, so it is not written; name another file" \
+check_unchanged "$folder/calc.mcs" 1 "cover: $folder/calc.mcs is an input of this command, so it is not written; name another file" \
     ./mcs4 cover --lcov "$folder/calc.mcs" --session "$folder/calc.mcs" 10 $calculator/calculator.asm
 verdict "$(outcome ./mcs4 cover --lcov /dev/stdout $three/board.toml "$folder/count.asm" "$folder/count.test" | sed -n '/^TN:/,$p' | tail -n 2)" "end_of_record
-status 0" "LCOV's format to a pipe"
+status 0" "the LCOV file to a pipe"

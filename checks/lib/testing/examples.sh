@@ -20,7 +20,7 @@ verdict "$(./mcs4 keys --down 9 --up 8 examples/traffic_light.txt WALK)" "test 0
 run 9
 test 1
 run 8
-lamps" "what is at TEST, by its name"
+lamps" "a button at TEST, by its name"
 
 # Puts a bug into a copy of a program: replaces a text in the N-th line that contains it. Arguments: the program, N, the text, the new text.
 plant() {
@@ -28,30 +28,30 @@ plant() {
         at = index($0, old)
         if (at && ++count == n) $0 = substr($0, 1, at - 1) new substr($0, at + length(old))
         print
-    }' < "$1" > "$folder/planted"
-    verdict "$(cmp -s "$1" "$folder/planted" || echo another)" another "a bug planted in $1"
+    }' < "$1" > "$folder/buggy"
+    verdict "$(cmp -s "$1" "$folder/buggy" || echo changed)" changed "a bug planted in $1"
 }
 
 # Checks that some tests fail with the bug. Arguments: the board, the text of tests, the names of the tests.
-finds() {
-    verdict "$(outcome ./mcs4 test "$1" "$folder/planted" "$2" | sed -n 's/^not ok [0-9]* - //p; /^status/p')" "$3
+check_tests_fail() {
+    verdict "$(outcome ./mcs4 test "$1" "$folder/buggy" "$2" | sed -n 's/^not ok [0-9]* - //p; /^status/p')" "$3
 status 1" "a bug found by $2"
 }
 # The following bugs are tried. A division by zero is reported as an overflow.
 plant $calculator/calculator.asm 1 "LDM 2		; division by zero" "LDM 1		; division by zero"
-finds $calculator/board.toml $calculator/calculator.test "division by zero"
+check_tests_fail $calculator/board.toml $calculator/calculator.test "division by zero"
 # After several keys at once, four scans are enough.
 plant $calculator/calculator.asm 1 "after_several = 11" "after_several = 12"
-finds $calculator/board.toml $calculator/calculator.test "a press of 520 cycles after a press of two other keys is not accepted"
+check_tests_fail $calculator/board.toml $calculator/calculator.test "a press of 520 cycles after a press of two other keys is not accepted"
 # A correct code does not reset the count of wrong codes.
 plant $lock/lock.asm 2 "LDM 13" "LD R12"
-finds $lock/board.toml $lock/lock.test "a right code resets the count of wrong codes"
+check_tests_fail $lock/board.toml $lock/lock.test "a right code resets the count of wrong codes"
 # Several keys down in one row count as none, so a key that stays down counts again.
 plant $lock/lock.asm 1 "several: LDM 14" "several: LDM 15"
-finds $lock/board.toml $lock/lock.test "a key that is held counts once even if its neighbour is pressed"
+check_tests_fail $lock/board.toml $lock/lock.test "a key that is held counts once even if its neighbour is pressed"
 # The time for pedestrians is two seconds.
 plant examples/traffic_light.txt 1 "FIM P7, 0xD0" "FIM P7, 0xE0"
-finds "$folder/planted" examples/traffic_light.test "the phases after amber"
+check_tests_fail "$folder/buggy" examples/traffic_light.test "the phases after amber"
 # A hundredth of a second takes one more cycle.
 plant examples/stopwatch.txt 1 "NOP             ; the last" "FIM P0, 0x00    ; the last"
-finds "$folder/planted" examples/stopwatch.test "a hundredth of a second takes 926 cycles"
+check_tests_fail "$folder/buggy" examples/stopwatch.test "a hundredth of a second takes 926 cycles"

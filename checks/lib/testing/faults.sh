@@ -26,7 +26,7 @@ test
   expect cycles about 3
   pace 10
 end_of_tests
-refuses 1 "test: $folder/bad.test:2: the board has no key x; it has: 1 2 3 4 5 6 7 8 9 * 0 #
+check_rejected 1 "test: $folder/bad.test:2: the board has no key x; it has: 1 2 3 4 5 6 7 8 9 * 0 #
 test: $folder/bad.test:3: the board has no lamp blue; it has: locked open alarm (column 10)
 test: $folder/bad.test:4: the program has no label nowhere (column 9)
 test: $folder/bad.test:5: write \`run TIME\`, as in: run 500, run 20 ms, run 1.5 s
@@ -75,7 +75,7 @@ test a
     end
     save y
 end_of_tests
-refuses 1 "test: $folder/bad_steps.test:1: shared steps have a name of one word: steps NAME
+check_rejected 1 "test: $folder/bad_steps.test:1: shared steps have a name of one word: steps NAME
 test: $folder/bad_steps.test:4: the steps one cannot run themselves
 test: $folder/bad_steps.test:5: shared steps have no states: \`save\` belongs in a test
 test: $folder/bad_steps.test:6: there are no steps two before this line; \`steps two\` starts them
@@ -96,7 +96,7 @@ test: $folder/bad_steps.test:27: a state is saved once: \`save\` cannot be in a 
 test: $folder/bad_steps.test:22: this \`repeat\` has no \`end\`" \
     ./mcs4 test $lock/board.toml $lock/lock.asm "$folder/bad_steps.test"
 printf 'test b\n do one more\n end 3\n repeat 100001\n from a\n repeat 9\ntest c\n press {r4:1,,2}\n keys {r1 4}\n keys {}\n' > "$folder/no.test"
-refuses 1 "test: $folder/no.test:2: write \`do STEPS\`, the name of shared steps
+check_rejected 1 "test: $folder/no.test:2: write \`do STEPS\`, the name of shared steps
 test: $folder/no.test:3: \`end\` takes no argument
 test: $folder/no.test:4: write \`repeat COUNT\`, 1 to 100,000: the lines down to its \`end\` are run COUNT times
 test: $folder/no.test:5: \`from\` must be right below \`test\`
@@ -107,44 +107,44 @@ test: $folder/no.test:9: the board has no key {, nor {r1; it has: 1 2 3 4 5 6 7 
 test: $folder/no.test:10: the board has no key {, nor {}; it has: 1 2 3 4 5 6 7 8 9 * 0 #" \
     ./mcs4 test $lock/board.toml $lock/lock.asm "$folder/no.test"
 printf 'hello\n' > "$folder/no.test"
-refuses 1 "test: $folder/no.test:1: a text of tests begins with \`test NAME\`, and this is: hello" \
+check_rejected 1 "test: $folder/no.test:1: a text of tests begins with \`test NAME\`, and this is: hello" \
     ./mcs4 test $lock/board.toml $lock/lock.asm "$folder/no.test"
 printf '# nothing\n' > "$folder/no.test"
-refuses 1 "test: $folder/no.test:1: there is no line \`test NAME\`" ./mcs4 test $lock/board.toml $lock/lock.asm "$folder/no.test"
+check_rejected 1 "test: $folder/no.test:1: there is no line \`test NAME\`" ./mcs4 test $lock/board.toml $lock/lock.asm "$folder/no.test"
 printf 'test t\nexpect display 3\n' > "$folder/no.test"
-refuses 1 "test: $folder/no.test:2: the board's text names no display (\`# display 0: 4 digits\`) (column 8)" \
+check_rejected 1 "test: $folder/no.test:2: the board's text names no display (\`# display 0: 4 digits\`) (column 8)" \
     ./mcs4 test $lock/board.toml $lock/lock.asm "$folder/no.test"
 printf 'test t\nexpect printed 3\n' > "$folder/no.test"
-refuses 1 "test: $folder/no.test:2: the board's text names no printer (\`# printer rom0.2: ram0.2 0 1 2 + feed\`) (column 8)" \
+check_rejected 1 "test: $folder/no.test:2: the board's text names no printer (\`# printer rom0.2: ram0.2 0 1 2 + feed\`) (column 8)" \
     ./mcs4 test $lock/board.toml $lock/lock.asm "$folder/no.test"
 printing=examples/printing_calculator
 printf 'test t\nexpect printed\ntest u\nuntil not printed within 9\n' > "$folder/no.test"
-refuses 1 "test: $folder/no.test:2: write \`printed TEXT\`, the last lines of the printout, as in: printed 12+ 30= 42 (column 8)
+check_rejected 1 "test: $folder/no.test:2: write \`printed TEXT\`, the last lines of the printout, as in: printed 12+ 30= 42 (column 8)
 test: $folder/no.test:4: write \`printed TEXT\`, the last lines of the printout, as in: printed 12+ 30= 42 (column 11)" \
     ./mcs4 test $printing/board.toml $printing/printing_calculator.asm "$folder/no.test"
 printf 'test \303\244\n' > "$folder/no.test"
-refuses 1 "test: $folder/no.test:1: a byte that is neither a tab nor a printable ASCII character" \
+check_rejected 1 "test: $folder/no.test:1: a byte that is neither a tab nor a printable ASCII character" \
     ./mcs4 test $lock/board.toml $lock/lock.asm "$folder/no.test"
 : > "$folder/empty"
-refuses 1 "test: $folder/empty is empty" ./mcs4 test $lock/board.toml $lock/lock.asm "$folder/empty"
-refuses 1 "test: cannot read none: there is no such file" ./mcs4 test $lock/board.toml $lock/lock.asm none
-refuses 1 "test: cannot read none: there is no such file" ./mcs4 test none $lock/lock.asm "$folder/one.test"
-refuses 2 "test: TEST is missing
+check_rejected 1 "test: $folder/empty is empty" ./mcs4 test $lock/board.toml $lock/lock.asm "$folder/empty"
+check_rejected 1 "test: cannot read none: there is no such file" ./mcs4 test $lock/board.toml $lock/lock.asm none
+check_rejected 1 "test: cannot read none: there is no such file" ./mcs4 test none $lock/lock.asm "$folder/one.test"
+check_rejected 2 "test: TEST is missing
 usage: mcs4 test [-C FOLDER] [BOARD PROGRAM] [TEST ..]" ./mcs4 test $lock/board.toml $lock/lock.asm
 sed 's/JMS key/JMS kez/' < $lock/lock.asm > "$folder/faulty.asm"
-refuses 1 "test: $folder/faulty.asm: line 31: no 32: kez is not defined; key?
+check_rejected 1 "test: $folder/faulty.asm: line 31: no 32: kez is not defined; key?
 test:     digit:  JMS kez" ./mcs4 test $lock/board.toml "$folder/faulty.asm" "$folder/one.test"
 sed 's/ISZ R4, digit/ISZ R4, digits/' < examples/stopwatch.txt > "$folder/faulty.txt"
 line=$(grep -n 'ISZ R4, digits' "$folder/faulty.txt" | sed 's/:.*//')
-refuses 1 "test: $folder/faulty.txt: line $line: no 32: digits is not defined; digit?
+check_rejected 1 "test: $folder/faulty.txt: line $line: no 32: digits is not defined; digit?
 test:             ISZ R4, digits" ./mcs4 test "$folder/faulty.txt" "$folder/faulty.txt" "$folder/one.test"
 printf '#!/bin/sh\necho no such thing\n' > "$folder/no_bench"
 chmod +x "$folder/no_bench"
 verdict "$(MCS4=$folder/no_bench outcome ./mcs4 test $lock/board.toml $lock/lock.asm "$folder/one.test")" \
     "test: $folder/no_bench does not answer; MCS4 names the program where it is not the mcs4 at the top
-status 1" "a program that is none"
+status 1" "a program that is not mcs4"
 verdict "$(MCS4=$folder/none outcome ./mcs4 names $lock/lock.asm)" "names: $folder/none does not answer; MCS4 names the program where it is not the mcs4 at the top
-status 1" "a program that is not there"
+status 1" "a missing program"
 # If a clone must first build its program, the output of tools/build appears while it builds. (In this check, it builds nothing.)
 if [ -e tools/lib/sums.sh ]; then
     tree=$folder/tree

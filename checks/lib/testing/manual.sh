@@ -2,4 +2,4 @@
 # shellcheck shell=sh
 
 . "$top/checks/lib/manual.sh"
-as_shown "Testing a program" 8
+check_chapter "Testing a program" 8

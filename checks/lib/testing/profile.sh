@@ -10,7 +10,7 @@ end               00F          22   55.0
 turn              002          12   30.0
 part              00D           4   10.0         2          4          2
 (no label)                      2    5.0
-status 0" "a profile by hand"
+status 0" "a profile, worked out manually"
 cat > "$folder/key.toml" <<'board'
 # row 0: a
 rom = [{ chip = 0, port = "0000" }, { chip = 1, port = "iiii" }]
@@ -38,4 +38,4 @@ printf 'test t\nrun 9\npress a\nrun 100\nrelease a\nrun 100\n' > "$folder/key.te
 verdict "$(outcome ./mcs4 profile "$folder/key.toml" "$folder/key.asm" "$folder/key.test" | tail -n 3)" \
     "key                 presses  answered        longest to a lamp         to the last lamp
 a                         1         1          4,       0.0 ms        106,       1.1 ms
-status 0" "from a key to a lamp by hand"
+status 0" "from a key to a lamp, worked out manually"

@@ -41,15 +41,15 @@ broken, 0 steps
 broken, 0 steps
 status 1" "times that are a cycle too short"
     sed -n 's/^    //p' "$folder/out" > "$folder/found.test"
-    verdict "$(outcome ./mcs4 test examples/die.txt examples/die.txt "$folder/found.test" | grep -c '^not ok')" 3 "their tests"
+    verdict "$(outcome ./mcs4 test examples/die.txt examples/die.txt "$folder/found.test" | grep -c '^not ok')" 3 "the tests of times that are a cycle too short"
     grep '^never not' examples/die.props > "$folder/faces.props"
     verdict "$(outcome ./mcs4 prove examples/die.txt examples/die.txt "$folder/faces.props" | remarks)" \
         "proved for all inputs (13 states)
-status 0" "all is proved"
+status 0" "everything is proved"
     verdict "$(outcome ./mcs4 prove examples/die.txt examples/die.txt "$folder/faces.props" --most 12 | remarks)" \
         "TODO not decided: more than 12 states; --most allows more
-status 3" "one state too few"
-    # Puts a wrong face into the die. The printed test must fail on this program, and pass on the right one.
+status 3" "a limit of one state too few"
+    # Puts a wrong face into the die's program. The printed test must fail on this program, and pass on the right one.
     sed 's/DB 8, 1, 9, 3, 11, 7/DB 8, 1, 9, 2, 11, 7/' examples/die.txt > "$folder/wrong.txt"
     verdict "$(cmp -s examples/die.txt "$folder/wrong.txt" && echo the same)" "" "a program with a wrong face"
     verdict "$(outcome ./mcs4 prove "$folder/wrong.txt" "$folder/wrong.txt" "$folder/faces.props" > "$folder/out"; remarks "$folder/out")" \
@@ -60,7 +60,7 @@ status 1" "a wrong face"
 $(outcome ./mcs4 test examples/die.txt examples/die.txt "$folder/found.test" | sed -n 's/^\(ok 1\).*/\1/p; /^status/p')" "not ok 1
 status 1
 ok 1
-status 0" "its test"
+status 0" "the test of a wrong face"
     # Checks a property that only key presses can break that the text excludes.
     printf 'press THROW\nheld at most 1\nnever lamps ***.***\n' > "$folder/held.props"
     verdict "$(outcome ./mcs4 prove examples/die.txt examples/die.txt "$folder/held.props" | remarks)" \
@@ -70,7 +70,7 @@ status 3" "a key that is held for too long"
     printf '[[rom]]\nchip = 0\nport = "0000"\n' > "$folder/board.toml"
     printf '; nothing\n' > "$folder/empty.asm"
     printf 'never acc > 0\nalways pc < 0x800\nat @no r1 = 0\n' > "$folder/empty.props"
-    refuses 1 "prove: $folder/empty.props:3: the program has no label no" \
+    check_rejected 1 "prove: $folder/empty.props:3: the program has no label no" \
         ./mcs4 prove "$folder/board.toml" "$folder/empty.asm" "$folder/empty.props"
     sed -i 3d "$folder/empty.props"
     verdict "$(outcome ./mcs4 prove "$folder/board.toml" "$folder/empty.asm" "$folder/empty.props" | remarks)" \
@@ -128,7 +128,7 @@ not pc 0x009
 not pc 0x2F0
 not @fourth
 not @here
-status 1" "mistakes"
+status 1" "a program with mistakes"
     # Checks wrong provers: one that gives an invalid counterexample, one with invalid output, and one that does not end.
     prover_that() {
         printf '#!/bin/sh\ncat > /dev/null\n%s\n' "$1" > "$folder/prover"
@@ -137,23 +137,23 @@ status 1" "mistakes"
     prover_that 'echo may fail 0 0'
     verdict "$(outcome env MCS4_PROVE="$folder/prover" ./mcs4 prove examples/die.txt examples/die.txt "$folder/faces.props" | remarks)" \
         "TODO not decided: the bench does not confirm the counterexample that was found
-status 3" "a way that is none"
+status 3" "an invalid counterexample"
     prover_that 'echo no 90; exit 3'
     verdict "$(outcome env MCS4_PROVE="$folder/prover" ./mcs4 prove examples/die.txt examples/die.txt "$folder/faces.props" | remarks)" \
         "TODO not decided: memory is full
 status 3" "no memory"
     prover_that 'echo no 25; exit 3'
-    refuses 1 "prove: the prover ended without an answer: no 25" \
+    check_rejected 1 "prove: the prover ended without an answer: no 25" \
         env MCS4_PROVE="$folder/prover" ./mcs4 prove examples/die.txt examples/die.txt "$folder/faces.props"
-    refuses 1 "prove: MCS4_PROVE names $folder/none, which is not there; unset it, or name another program" \
+    check_rejected 1 "prove: MCS4_PROVE names $folder/none, which is not there; unset it, or name another program" \
         env MCS4_PROVE="$folder/none" ./mcs4 prove examples/die.txt examples/die.txt "$folder/faces.props"
     prover_that "exec sleep 61.$$"
     MCS4_PROVE="$folder/prover" timeout -s INT 30 node js/node/mcs4.cjs prove examples/die.txt examples/die.txt "$folder/faces.props" &
-    proving=$!
-    while ! pgrep -f "^sleep 61.$$\$" > /dev/null && kill -0 "$proving" 2> /dev/null; do sleep 0.1; done
-    kill -INT "$(pgrep -P "$proving" node)"
+    prove_process=$!
+    while ! pgrep -f "^sleep 61.$$\$" > /dev/null && kill -0 "$prove_process" 2> /dev/null; do sleep 0.1; done
+    kill -INT "$(pgrep -P "$prove_process" node)"
     status=0
-    wait "$proving" || status=$?
+    wait "$prove_process" || status=$?
     tenths=50
     while pgrep -f "^sleep 61.$$\$" > /dev/null && [ "$tenths" -gt 0 ]; do
         sleep 0.1
@@ -161,5 +161,5 @@ status 3" "no memory"
     done
     verdict "$status $(pgrep -f "^sleep 61.$$\$" || echo ended)" "130 ended" "Ctrl-C"
 fi
-misuses "N: '0' is not a decimal number from 1 to 999999999" ./mcs4 prove a b c --most 0
-misuses "MB: '0' is not a decimal number from 1 to 1000000" ./mcs4 prove a b c --memory 0
+check_usage_error "N: '0' is not a decimal number from 1 to 999999999" ./mcs4 prove a b c --most 0
+check_usage_error "MB: '0' is not a decimal number from 1 to 1000000" ./mcs4 prove a b c --memory 0

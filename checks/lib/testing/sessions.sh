@@ -2,7 +2,7 @@
 # shellcheck shell=sh
 
 # FIM, SRC, LDM, XCH, LD and WMP are 7 cycles, and JMS and FIM 4 more. After 12 cycles, the first ISZ R3 has jumped, and its second cycle is pending.
-./mcs4 script $three/board.toml $three/three_lamps.asm | sed 's/^run 2000$/run 12/' | begins inside
+./mcs4 script $three/board.toml $three/three_lamps.asm | sed 's/^run 2000$/run 12/' | new_session inside
 verdict "$(outcome ./mcs4 cover --session "$folder/inside.mcs" 4 $three/three_lamps.asm | sed -n '/[0-9] .*ISZ/p; /^status/p')" \
     "         2 2/0            turn:   ISZ R3, turn
      never 0/0                    ISZ R2, turn
@@ -25,9 +25,9 @@ status 0" "the cycles of a test that ends within an instruction"
 printf 'here: JMS here\n' > "$folder/odd.asm"
 verdict "$(outcome ./mcs4 profile $three/board.toml "$folder/odd.asm" "$folder/odd.test" | sed -n '4p; $p')" "here              000           9  100.0         5          3          3
 status 0" "calls that change no return address"
-./mcs4 script $three/board.toml $three/three_lamps.asm | begins free
+./mcs4 script $three/board.toml $three/three_lamps.asm | new_session free
 cp "$folder/free.mcs" "$folder/stopped.mcs"
-printf 'break 0x014\nbreak 0x016\nbreak 0x005\nwatch 0 0\nwatch 7 0xFF\n' | goes_on stopped
+printf 'break 0x014\nbreak 0x016\nbreak 0x005\nwatch 0 0\nwatch 7 0xFF\n' | continue_session stopped
 for words in "cover --session SESSION 5000 $three/three_lamps.asm" "profile --session SESSION 5000 $three/three_lamps.asm" \
     "trace SESSION 1200" "wave SESSION 3000 lamps pc"; do
     before=${words%%SESSION*}

@@ -12,7 +12,7 @@ ok 3 - c
 ok 4 - d
 status 0" "two texts that save a state of one name"
 printf 'test e\n from begun\n' > "$folder/third.test"
-refuses 1 "test: $folder/third.test:2: no earlier test saves a state begun" ./mcs4 test $lock/board.toml $lock/lock.asm "$folder/first.test" "$folder/third.test"
+check_rejected 1 "test: $folder/third.test:2: no earlier test saves a state begun" ./mcs4 test $lock/board.toml $lock/lock.asm "$folder/first.test" "$folder/third.test"
 
 # Checks that a test fails if the state from which it begins was not saved, even if it is the last test.
 printf 'test a\n expect acc 1\n save begun\ntest b\n from begun\n' > "$folder/unsaved.test"
@@ -36,15 +36,15 @@ not ok 2 - it does not
   message: \"lamps are *.., but must be .*.; lit: locked; in the steps opened of line 5, in the steps enter of $folder/opens.test:7\"
   at: \"$folder/steps.test:2\"
 status 1" "shared steps of another text"
-refuses 1 "test: $folder/steps.test:1: there is no line \`test NAME\`" ./mcs4 test $lock/board.toml $lock/lock.asm "$folder/steps.test"
-refuses 1 "test: $folder/opens.test:3: there are no steps enter before this line; \`steps enter\` starts them
+check_rejected 1 "test: $folder/steps.test:1: there is no line \`test NAME\`" ./mcs4 test $lock/board.toml $lock/lock.asm "$folder/steps.test"
+check_rejected 1 "test: $folder/opens.test:3: there are no steps enter before this line; \`steps enter\` starts them
 test: $folder/opens.test:7: there are no steps enter before this line; \`steps enter\` starts them" \
     ./mcs4 test $lock/board.toml $lock/lock.asm "$folder/opens.test" "$folder/steps.test"
 verdict "$(outcome ./mcs4 cover $lock/board.toml $lock/lock.asm "$folder/steps.test" "$folder/opens.test" | sed -n '/^status/p; /instructions were run/s/ (.*//p')" \
     "$(cat "$folder/steps.test" "$folder/opens.test" > "$folder/joined.test"
     outcome ./mcs4 cover $lock/board.toml $lock/lock.asm "$folder/joined.test" | sed -n '/^status/p; /instructions were run/s/ (.*//p')" "what two texts cover"
 cp "$folder/steps.test" "$folder/again.test"
-refuses 1 "test: $folder/again.test:1: the steps opened are already at $folder/steps.test:1
+check_rejected 1 "test: $folder/again.test:1: the steps opened are already at $folder/steps.test:1
 test: $folder/again.test:3: the steps enter are already at $folder/steps.test:3" \
     ./mcs4 test $lock/board.toml $lock/lock.asm "$folder/steps.test" "$folder/again.test" "$folder/opens.test"
 
@@ -67,7 +67,7 @@ cat "$folder/first.pipe.test" > "$folder/test.pipe" &
 verdict "$(outcome ./mcs4 test $lock/board.toml $lock/lock.asm "$folder/test.pipe")" \
     "test: $folder/test.pipe:1: a text of tests begins with \`test NAME\`, and this is: first line
 status 1" "a fault in a pipe"
-refuses 1 "test: - is empty" ./mcs4 test $lock/board.toml - "$folder/first.test"
+check_rejected 1 "test: - is empty" ./mcs4 test $lock/board.toml - "$folder/first.test"
 
 # Checks that if a board has a display, patterns of lamps ignore the lamps of the display, unless they have a name.
 cat > "$folder/display.toml" <<'board'

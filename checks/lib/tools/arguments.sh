@@ -1,7 +1,7 @@
 # Wrong arguments: each command exits with status 2, and prints its usage. Also: -h means --help.
 # shellcheck shell=sh
 
-begins session < $calculator/quotient.txt
+new_session session < $calculator/quotient.txt
 session=$folder/session.mcs
 program=$calculator/calculator.asm
 commands=$(./mcs4 help | sed -n 's/^  \([a-z]\{3,9\}\) .*/\1/p')
@@ -12,38 +12,38 @@ done
 # Tries a word, a number with a sign, one with an exponent, and numbers just outside of the range.
 for wrong in "" x -1 1e3 0 100000001; do
     case $wrong in
-    -1) for tool in trace wave; do misuses "there is no option -1" ./mcs4 "$tool" "$session" "$wrong"; done ;;
+    -1) for tool in trace wave; do check_usage_error "there is no option -1" ./mcs4 "$tool" "$session" "$wrong"; done ;;
     *)
-        misuses "CYCLES: '$wrong' is not a decimal number from 1 to 100000" ./mcs4 trace "$session" "$wrong"
-        misuses "CYCLES: '$wrong' is not a decimal number from 1 to 10000000" ./mcs4 wave "$session" "$wrong"
+        check_usage_error "CYCLES: '$wrong' is not a decimal number from 1 to 100000" ./mcs4 trace "$session" "$wrong"
+        check_usage_error "CYCLES: '$wrong' is not a decimal number from 1 to 10000000" ./mcs4 wave "$session" "$wrong"
         ;;
     esac
-    case $wrong in '' | -1) ;; *) misuses "N: '$wrong' is not a decimal number from 1 to 10000" ./mcs4 trace --last "$wrong" "$session" 5 ;; esac
+    case $wrong in '' | -1) ;; *) check_usage_error "N: '$wrong' is not a decimal number from 1 to 10000" ./mcs4 trace --last "$wrong" "$session" 5 ;; esac
     case $wrong in -1) continue ;; esac
-    misuses "N: '$wrong' is not a decimal number from 1 to 99999" ./mcs4 back "$session" "$wrong"
-    misuses "CYCLES: '$wrong' is not a decimal number from 1 to 100000000" ./mcs4 cover --session "$session" "$wrong" "$program"
-    misuses "CYCLES: '$wrong' is not a decimal number from 1 to 100000000" ./mcs4 profile --session "$session" "$wrong" "$program"
+    check_usage_error "N: '$wrong' is not a decimal number from 1 to 99999" ./mcs4 back "$session" "$wrong"
+    check_usage_error "CYCLES: '$wrong' is not a decimal number from 1 to 100000000" ./mcs4 cover --session "$session" "$wrong" "$program"
+    check_usage_error "CYCLES: '$wrong' is not a decimal number from 1 to 100000000" ./mcs4 profile --session "$session" "$wrong" "$program"
     case $wrong in '') continue ;; esac
-    misuses "CYCLES of --down: '$wrong' is not a decimal number from 1 to 100000" ./mcs4 keys --down "$wrong" $lock/board.toml 1
-    misuses "CYCLES of --up: '$wrong' is not a decimal number from 1 to 100000" ./mcs4 keys --up "$wrong" $lock/board.toml 1
+    check_usage_error "CYCLES of --down: '$wrong' is not a decimal number from 1 to 100000" ./mcs4 keys --down "$wrong" $lock/board.toml 1
+    check_usage_error "CYCLES of --up: '$wrong' is not a decimal number from 1 to 100000" ./mcs4 keys --up "$wrong" $lock/board.toml 1
 done
 for option in seconds:86400 jobs:64 seed:99999999; do
     name=$(printf '%s' "${option%:*}" | tr a-z A-Z)
     for wrong in x 0 100000000; do
-        misuses "$name: '$wrong' is not a decimal number from 1 to ${option#*:}" ./mcs4 explore $lock/board.toml $lock/lock.asm $lock/lock.props "--${option%:*}" "$wrong"
+        check_usage_error "$name: '$wrong' is not a decimal number from 1 to ${option#*:}" ./mcs4 explore $lock/board.toml $lock/lock.asm $lock/lock.props "--${option%:*}" "$wrong"
     done
 done
-misuses "ADDRESS is 0 to 4095, decimal or with 0x" ./mcs4 rom load none.bin 4096
-misuses "ADDRESS is 0 to 4095, decimal or with 0x" ./mcs4 rom load none.bin 12H
+check_usage_error "ADDRESS is 0 to 4095, decimal or with 0x" ./mcs4 rom load none.bin 4096
+check_usage_error "ADDRESS is 0 to 4095, decimal or with 0x" ./mcs4 rom load none.bin 12H
 for wrong in "x 1" "0 1x"; do
     # shellcheck disable=SC2086
-    misuses "FIRST and COUNT are numbers, decimal or with 0x" ./mcs4 rom ask $wrong
+    check_usage_error "FIRST and COUNT are numbers, decimal or with 0x" ./mcs4 rom ask $wrong
 done
 for wrong in "0 0" "4096 1" "4000 97"; do
     # shellcheck disable=SC2086
-    misuses "FIRST is 0 to 4095, COUNT is at least 1, and 4096 is the address after the last one" ./mcs4 rom save $wrong
+    check_usage_error "FIRST is 0 to 4095, COUNT is at least 1, and 4096 is the address after the last one" ./mcs4 rom save $wrong
 done
-misuses "FIRST is at least 1, and LAST is not before it" ./mcs4 cycles 3 2
+check_usage_error "FIRST is at least 1, and LAST is not before it" ./mcs4 cycles 3 2
 for words in "trace::10" "wave::10" "back:" "import:" "listing:" "explain:" "resume::$session" "test::$program:$lock/lock.test"; do
     tool=${words%%:*}
     (
@@ -51,7 +51,7 @@ for words in "trace::10" "wave::10" "back:" "import:" "listing:" "explain:" "res
         # shellcheck disable=SC2086
         set -- ${words#*:}
         if [ $# -eq 0 ]; then set -- ''; fi
-        outcome ./mcs4 "$tool" "$@" | short_use
+        outcome ./mcs4 "$tool" "$@" | shorten_usage
     ) > "$folder/printed"
     verdict "$(cat "$folder/printed")" "$tool: an argument is empty; it names a file
 usage: mcs4 $tool
@@ -60,28 +60,28 @@ done
 # Tries mistyped commands, with and without `help`: one letter is wrong, missing or extra, or two letters are exchanged.
 for pair in TEST:test tesst1:test tset:test tes:test testt:test tast:test lisitng:listing hlep:help opne:open ls:lsp; do
     word=${pair%:*}
-    refuses 2 "mcs4: there is no command $word; did you mean ${pair#*:}? mcs4 help lists the commands" ./mcs4 "$word"
-    refuses 2 "mcs4: there is no command $word; did you mean ${pair#*:}? mcs4 help lists the commands" ./mcs4 help "$word"
+    check_rejected 2 "mcs4: there is no command $word; did you mean ${pair#*:}? mcs4 help lists the commands" ./mcs4 "$word"
+    check_rejected 2 "mcs4: there is no command $word; did you mean ${pair#*:}? mcs4 help lists the commands" ./mcs4 help "$word"
 done
 for word in frobnicate tt -x; do
-    refuses 2 "mcs4: there is no command $word; mcs4 help lists the commands" ./mcs4 "$word"
+    check_rejected 2 "mcs4: there is no command $word; mcs4 help lists the commands" ./mcs4 "$word"
 done
 # Checks options: they can be anywhere, and `--` ends them. A missing value and an extra one are errors. For a mistyped option, one is suggested.
-verdict "$(outcome ./mcs4 listing $lock/lock.asm --names)" "$(outcome ./mcs4 listing --names $lock/lock.asm)" "an option behind the arguments"
+verdict "$(outcome ./mcs4 listing $lock/lock.asm --names)" "$(outcome ./mcs4 listing --names $lock/lock.asm)" "an option after the arguments"
 verdict "$(outcome ./mcs4 listing --folder $lock --labels)" "$(outcome ./mcs4 listing -C $lock --labels)" "a long option and a short one"
 verdict "$(outcome ./mcs4 listing "-C$lock" --labels)" "$(outcome ./mcs4 listing "--folder=$lock" --labels)" "options with their values"
-refuses 1 "listing: cannot read --names: there is no such file" ./mcs4 listing -- --names
+check_rejected 1 "listing: cannot read --names: there is no such file" ./mcs4 listing -- --names
 cp $lock/lock.asm "$folder/--names"
-verdict "$(cd "$folder" && outcome "$top/mcs4" listing --labels -- --names)" "$(outcome ./mcs4 listing --labels $lock/lock.asm)" "a file whose name begins as an option"
-misuses "there is no option --nmaes; did you mean --names?" ./mcs4 listing --nmaes $lock/lock.asm
-misuses "there is no option --frobnicate" ./mcs4 listing --frobnicate $lock/lock.asm
-misuses "there is no option -n" ./mcs4 listing -n $lock/lock.asm
-misuses "--names takes no value" ./mcs4 listing --names=3 $lock/lock.asm
-misuses "--names is given twice" ./mcs4 listing --names --names $lock/lock.asm
-misuses "--names and --labels exclude each other" ./mcs4 listing --names --labels $lock/lock.asm
-for words in "-C $lock" "--seconds 3" "--jobs 2" "--seed 4" --allow-model; do misuses "--merge and ${words%% *} exclude each other" ./mcs4 explore $words --merge x; done
-misuses "FOLDER is missing after -C" ./mcs4 listing -C
-misuses "FOLDER is missing after --folder" ./mcs4 listing --folder --names
-misuses "SEED: '-1' is not a decimal number from 1 to 99999999" ./mcs4 explore --seed -1
-misuses "'x' is one argument too many" ./mcs4 listing $lock/lock.asm x
-for name in lsp dap; do misuses "'x' is one argument too many" ./mcs4 $name --stdio x; done
+verdict "$(cd "$folder" && outcome "$top/mcs4" listing --labels -- --names)" "$(outcome ./mcs4 listing --labels $lock/lock.asm)" "a file whose name looks like an option"
+check_usage_error "there is no option --nmaes; did you mean --names?" ./mcs4 listing --nmaes $lock/lock.asm
+check_usage_error "there is no option --frobnicate" ./mcs4 listing --frobnicate $lock/lock.asm
+check_usage_error "there is no option -n" ./mcs4 listing -n $lock/lock.asm
+check_usage_error "--names takes no value" ./mcs4 listing --names=3 $lock/lock.asm
+check_usage_error "--names is given twice" ./mcs4 listing --names --names $lock/lock.asm
+check_usage_error "--names and --labels exclude each other" ./mcs4 listing --names --labels $lock/lock.asm
+for words in "-C $lock" "--seconds 3" "--jobs 2" "--seed 4" --allow-model; do check_usage_error "--merge and ${words%% *} exclude each other" ./mcs4 explore $words --merge x; done
+check_usage_error "FOLDER is missing after -C" ./mcs4 listing -C
+check_usage_error "FOLDER is missing after --folder" ./mcs4 listing --folder --names
+check_usage_error "SEED: '-1' is not a decimal number from 1 to 99999999" ./mcs4 explore --seed -1
+check_usage_error "'x' is one argument too many" ./mcs4 listing $lock/lock.asm x
+for name in lsp dap; do check_usage_error "'x' is one argument too many" ./mcs4 $name --stdio x; done

@@ -3,8 +3,8 @@
 
 cp $lock/lock.asm "$folder/program.asm"
 
-# Prints the standard output, the standard error and the exit status of a command.
-apart() {
+# Runs a command with its standard output in the file `output` and its standard error in `errors`. Prints their line counts, and the exit status.
+count_lines() {
     status=0
     "$@" > "$folder/output" 2> "$folder/errors" || status=$?
     echo "$(wc -l < "$folder/output") $(wc -l < "$folder/errors") $status" | tr -s ' '
@@ -15,10 +15,10 @@ commands=$(./mcs4 help | sed -n 's/^  \([a-z]\{3,9\}\) .*/\1/p' | LC_ALL=C sort)
 verdict "$(ls js/node/commands | sed 's/\.mjs//; /^table$/d' | LC_ALL=C sort)" "$commands" "mcs4 help"
 node js/node/command_pages.mjs "$folder/pages" > /dev/null
 for each in $commands; do
-    verdict "$(apart ./mcs4 help "$each" | sed 's/^[0-9]*/some/')" "some 0 0" "mcs4 help $each"
+    verdict "$(count_lines ./mcs4 help "$each" | sed 's/^[0-9]*/some/')" "some 0 0" "mcs4 help $each"
     verdict "$(head -n 1 "$folder/output" | cut -d ' ' -f 1-3); $(awk 'length > 79' "$folder/output" | grep -c '^[^ u]\|^ \{6\}[^ ]' || :)" "usage: mcs4 $each; 0" "the output of mcs4 help $each"
-    verdict "$(apart ./mcs4 "$each" --none --none --none --none --none --none --none | sed 's/^0 [0-9]* /0 some /'): $(sed 's/^\(usage: mcs4 \).*/\1/; 2q' "$folder/errors")" "0 some 2: $each: there is no option --none
-usage: mcs4 " "mcs4 $each with words that are none"
+    verdict "$(count_lines ./mcs4 "$each" --none --none --none --none --none --none --none | sed 's/^0 [0-9]* /0 some /'): $(sed 's/^\(usage: mcs4 \).*/\1/; 2q' "$folder/errors")" "0 some 2: $each: there is no option --none
+usage: mcs4 " "mcs4 $each with an unknown option"
     if command -v man > /dev/null; then
         verdict "$(man --warnings -l "$folder/pages/man/mcs4-$each.1" 2>&1 > "$folder/page.txt")" "" "the manual page of $each"
         verdict "$(grep -cE '^(NAME|SYNOPSIS|DESCRIPTION|EXIT STATUS|SEE ALSO)$' "$folder/page.txt")" 5 "the headings of the manual page of $each"
@@ -26,21 +26,21 @@ usage: mcs4 " "mcs4 $each with words that are none"
 done
 for word in help --help -h "help version"; do
     # shellcheck disable=SC2086
-    verdict "$(apart ./mcs4 $word)" "$(./mcs4 help | wc -l | tr -d ' ') 0 0" "mcs4 $word"
+    verdict "$(count_lines ./mcs4 $word)" "$(./mcs4 help | wc -l | tr -d ' ') 0 0" "mcs4 $word"
 done
-verdict "$(apart ./mcs4 help refusals): $(sed -n '1p; $p' "$folder/output")" "$(grep -c '^[0-9]' tools/lib/refusals.txt) 0 0: $(sed -n '/^10 /p; /^90 /p' tools/lib/refusals.txt)" "mcs4 help refusals"
-for word in version --version -V; do verdict "$(apart ./mcs4 $word | sed 's/^[34] /some /')" "some 0 0" "mcs4 $word"; done
-verdict "$(apart ./mcs4 2> /dev/null; cat "$folder/errors")" "0 5 2
+verdict "$(count_lines ./mcs4 help refusals): $(sed -n '1p; $p' "$folder/output")" "$(grep -c '^[0-9]' tools/lib/refusals.txt) 0 0: $(sed -n '/^10 /p; /^90 /p' tools/lib/refusals.txt)" "mcs4 help refusals"
+for word in version --version -V; do verdict "$(count_lines ./mcs4 $word | sed 's/^[34] /some /')" "some 0 0" "mcs4 $word"; done
+verdict "$(count_lines ./mcs4 2> /dev/null; cat "$folder/errors")" "0 5 2
 usage: mcs4 new FILE
        mcs4 open FILE
        mcs4 COMMAND ..
        mcs4 help [COMMAND]
-       mcs4 version" "mcs4 without words"
+       mcs4 version" "mcs4 without arguments"
 for word in frob build lib ../mcs4 "" speed table constructor; do
-    refuses 2 "mcs4: there is no command $word; mcs4 help lists the commands" ./mcs4 help "$word"
-    if [ -n "$word" ]; then refuses 2 "mcs4: there is no command $word; mcs4 help lists the commands" ./mcs4 "$word" x; fi
+    check_rejected 2 "mcs4: there is no command $word; mcs4 help lists the commands" ./mcs4 help "$word"
+    if [ -n "$word" ]; then check_rejected 2 "mcs4: there is no command $word; mcs4 help lists the commands" ./mcs4 "$word" x; fi
 done
-# Checks that mcs4 reports a full standard output. Wrong arguments must have status 2 even if standard error is full.
+# Checks that mcs4 reports a full or closed standard output. Wrong arguments must have status 2 even if standard error is full.
 for stream in "> /dev/full" ">&-"; do
     for words in help --help "help refusals" "help new" "help open" "help help" "help version" "help cover" version --version; do
         verdict "$(outcome sh -c "./mcs4 $words $stream" | sed 's/standard output is closed/not all was written; is there room where it goes to?/')" "mcs4: not all was written; is there room where it goes to?
@@ -59,9 +59,9 @@ ln -s "../linked/command" "$folder/links/command"
 for name in more/command links/command; do
     verdict "$(cd "$folder" && outcome $name listing --names program.asm)" "$(outcome ./mcs4 listing --names "$folder/program.asm")" "a listing by the link $name"
 done
-refuses 2 "mcs4: '4' is one argument too many
+check_rejected 2 "mcs4: '4' is one argument too many
 $(./mcs4 2>&1 || :)" ./mcs4 version 4
-refuses 2 "mcs4: 'rom' is one argument too many
+check_rejected 2 "mcs4: 'rom' is one argument too many
 $(./mcs4 2>&1 || :)" ./mcs4 help listing rom
 
 # Checks that without Node, help, version, new and open work, and other commands report that they need Node.

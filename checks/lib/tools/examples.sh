@@ -2,8 +2,8 @@
 # calculations.)
 # shellcheck shell=sh
 
-# Presses keys, and checks what the calculator shows after them.
-calculates() {
+# Presses keys, and checks the number that the calculator shows after them.
+check_calculation() {
     verdict "$(outcome examples/calculator/run "$1")" "$2
 status 0" "keys $1"
 }
@@ -26,28 +26,28 @@ done
 board=$calculator/board.toml
 
 # Presses keys of the calculator, also in a session that is closed and continued, and compares the numbers that it shows.
-calculates "12*30=" 360
-calculates "22/7=" 3.1428571
-calculates "1 2 + 3 0 =" 42
-calculates "12-30=" -18
-calculates "2+3*4=" 20
-calculates "2+3===" 11
-calculates "5+3 CE 4=" 9
-calculates "3/12 S =" 4
-calculates "1.5.~*0=" 0
-calculates ".12345678" 0.1234567
-calculates "99999999 + 1 =" "0 overflow"
-calculates "99999999*99999999=5" "0 overflow"
-calculates "1/0=" "0 division by zero"
-calculates "1/0=C7" 7
+check_calculation "12*30=" 360
+check_calculation "22/7=" 3.1428571
+check_calculation "1 2 + 3 0 =" 42
+check_calculation "12-30=" -18
+check_calculation "2+3*4=" 20
+check_calculation "2+3===" 11
+check_calculation "5+3 CE 4=" 9
+check_calculation "3/12 S =" 4
+check_calculation "1.5.~*0=" 0
+check_calculation ".12345678" 0.1234567
+check_calculation "99999999 + 1 =" "0 overflow"
+check_calculation "99999999*99999999=5" "0 overflow"
+check_calculation "1/0=" "0 division by zero"
+check_calculation "1/0=C7" 7
 # Checks the division that takes longest, and a key press after it.
-calculates "99/9.9099100=+1=" 10.989999
-calculates "" 0
-begins session < $calculator/quotient.txt
-verdict "$(./mcs4 keys "$board" '*7=' | "$mcs4" open "$folder/session.mcs" | ./mcs4 display "$board")" 21.999999 "keys of a session that is taken up"
+check_calculation "99/9.9099100=+1=" 10.989999
+check_calculation "" 0
+new_session session < $calculator/quotient.txt
+verdict "$(./mcs4 keys "$board" '*7=' | "$mcs4" open "$folder/session.mcs" | ./mcs4 display "$board")" 21.999999 "keys in a continued session"
 
-refuses 1 "script: $top/$board has no key x" examples/calculator/run "12x"
-refuses 2 "usage: run KEYS" examples/calculator/run
+check_rejected 1 "script: $top/$board has no key x" examples/calculator/run "12x"
+check_rejected 2 "usage: run KEYS" examples/calculator/run
 
 # Checks the calculator's script `run` on a copy with an error in its program: the error is reported, and nothing is run.
 mkdir "$folder/copy" "$folder/copy/examples"
@@ -59,4 +59,4 @@ for program in "$folder"/copy/examples/calculator/*.asm; do
 done
 verdict "$(outcome "$folder/copy/examples/calculator/run" 1 | sed 's/.*calculator\.asm: //')" "line 1: no 32: nowhere is not defined
 script:      JUN nowhere
-status 1" "the calculator with a fault in its program"
+status 1" "the calculator with an error in its program"

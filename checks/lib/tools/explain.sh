@@ -5,7 +5,7 @@
 make_source
 cp "$folder/source.mcs" "$folder/ran.mcs"
 printf 'break 0x003\npoke pc 4097\nlist 1 257\npoke rom.5 256\nlist 0x300 0\npress 0 0\nbreak\n' > "$folder/wrong.txt"
-goes_on ran < "$folder/wrong.txt"
+continue_session ran < "$folder/wrong.txt"
 verdict "$(outcome ./mcs4 explain --source "$folder/source.asm" "$folder/ran.mcs" "$folder/wrong.txt" < "$folder/answers")" \
     "line 2: no 11: a word that must be a number is not one, or the number is out of its range
     poke pc 4097
@@ -22,9 +22,9 @@ line 6: no 41: the board has no such key
     press 0 0
 line 7: no 10: not a command: an unknown first word, a wrong number of words, or an unknown place
     break
-status 1" "addresses of refused lines, by the source"
-refuses_sources "explain --source PROGRAM $folder/ran.mcs $folder/wrong.txt"
-refuses 2 "explain: SCRIPT is missing
+status 1" "addresses of rejected lines, by the source"
+check_rejected_sources "explain --source PROGRAM $folder/ran.mcs $folder/wrong.txt"
+check_rejected 2 "explain: SCRIPT is missing
 usage: mcs4 explain [--source PROGRAM SESSION] SCRIPT < ANSWERS" ./mcs4 explain --source "$folder/source.asm" "$folder/ran.mcs"
 
 # Tries rejected lines, wrong lines of programs, and boards in which the wrong part depends on other parts, or other parts depend on it.
@@ -96,7 +96,7 @@ asm now
 asm
 LDM 1
 script
-begins explain < "$folder/explain.txt" || true
+new_session explain < "$folder/explain.txt" || true
 cat > "$folder/explained" <<'explained'
 line 1: no 21, line 10 of the text: lamp is not a key of chain, which has clock, data, chips
     lamp = 3
@@ -117,63 +117,63 @@ line 65: no 15: input ended inside a text: the line '.' after it is missing
 status 1
 explained
 verdict "$(outcome ./mcs4 explain "$folder/explain.txt" < "$folder/answers")" "$(cat "$folder/explained")" \
-    "refusals explained"
+    "explanations of rejected lines"
 printf 'session 0\nok 1\nacc 0\n' > "$folder/answers"
 printf '\nreset\n\nregs\n' > "$folder/two.txt"
 verdict "$(outcome ./mcs4 explain "$folder/two.txt" < "$folder/answers")" "status 0" "nothing to explain"
 printf 'reset\nseq\n' > "$folder/two.txt"
 printf 'session 0\nok 1\nok 2\n' > "$folder/answers"
-refuses 1 "explain: these are not the answers to this script: line 3 of the answers, \`ok 2\`, does not answer line 2 of the script, \`seq\`" \
+check_rejected 1 "explain: these are not the answers to this script: line 3 of the answers, \`ok 2\`, does not answer line 2 of the script, \`seq\`" \
     ./mcs4 explain "$folder/two.txt" < "$folder/answers"
 printf 'session 0\nok 1\nseq 1\nok 2\n' > "$folder/answers"
-refuses 1 "explain: these are not the answers to this script: line 4 of the answers, \`ok 2\`, comes after the answer to the last line of the script" \
+check_rejected 1 "explain: these are not the answers to this script: line 4 of the answers, \`ok 2\`, comes after the answer to the last line of the script" \
     ./mcs4 explain "$folder/two.txt" < "$folder/answers"
-refuses 2 "explain: SCRIPT is missing
+check_rejected 2 "explain: SCRIPT is missing
 usage: mcs4 explain [--source PROGRAM SESSION] SCRIPT < ANSWERS" ./mcs4 explain
 
 # Tries answers that do not belong to the script, and texts that are not answers.
-explains() {
+check_explain() {
     printf "$1" > "$folder/script"
     printf "$2" > "$folder/answers"
-    verdict "$(outcome ./mcs4 explain "$folder/script" < "$folder/answers")" "$3" "explained: $1"
+    verdict "$(outcome ./mcs4 explain "$folder/script" < "$folder/answers")" "$3" "explain: $1"
 }
-explains 'poke r1 1\nwatch 0 0\n' 'session 0\n' "line 1 and those after it were not answered
+check_explain 'poke r1 1\nwatch 0 0\n' 'session 0\n' "line 1 and those after it were not answered
     poke r1 1
 status 1"
-explains 'poke r1 1\nwatch 0 0\n' 'session 0\nok 1\nok' "line 2 was not answered
+check_explain 'poke r1 1\nwatch 0 0\n' 'session 0\nok 1\nok' "line 2 was not answered
     watch 0 0
 status 1"
 not_fitting="explain: these are not the answers to this script: line"
-explains 'press 0 0\n' 'session 0\nok 1 ran 10 end\n' "$not_fitting 2 of the answers, \`ok 1 ran 10 end\`, does not answer line 1 of the script, \`press 0 0\`
+check_explain 'press 0 0\n' 'session 0\nok 1 ran 10 end\n' "$not_fitting 2 of the answers, \`ok 1 ran 10 end\`, does not answer line 1 of the script, \`press 0 0\`
 status 1"
-explains 'run 5\n' 'session 0\nok 1\n' "$not_fitting 2 of the answers, \`ok 1\`, does not answer line 1 of the script, \`run 5\`
+check_explain 'run 5\n' 'session 0\nok 1\n' "$not_fitting 2 of the answers, \`ok 1\`, does not answer line 1 of the script, \`run 5\`
 status 1"
-explains 'reset\nreset\n' 'session 0\nok 9\nok 3\n' "$not_fitting 2 of the answers, \`ok 9\`, does not answer line 1 of the script, \`reset\`: 0 commands were accepted before it
+check_explain 'reset\nreset\n' 'session 0\nok 9\nok 3\n' "$not_fitting 2 of the answers, \`ok 9\`, does not answer line 1 of the script, \`reset\`: 0 commands were accepted before it
 status 1"
-explains 'watches\nreset\n' 'session 0\nwatches -\njunk\n' "$not_fitting 3 of the answers, \`junk\`, does not answer line 2 of the script, \`reset\`
+check_explain 'watches\nreset\n' 'session 0\nwatches -\njunk\n' "$not_fitting 3 of the answers, \`junk\`, does not answer line 2 of the script, \`reset\`
 status 1"
 {
     printf 'wire\nrom = [{ chip = 0, port = "0000" }]\n.\nasm\n NOP\n NOP ; \303\244\n.\nasm\n NOP\n ORG 0x3FF\n FIM P0, 0\n.\nasm\n; '
     awk 'BEGIN { for (i = 0; i < 300; i++) printf "x"; print "\n." }'
 } > "$folder/script"
-begins explain < "$folder/script"
+new_session explain < "$folder/script"
 verdict "$(outcome ./mcs4 explain "$folder/script" < "$folder/answers" | sed 's/xxx*/x/')" "line 4: no 14, line 2 of the text: a byte that is neither a tab nor a printable ASCII character: \`$(printf '\303\244')\`
      NOP ; $(printf '\303\244')
 line 8: no 42, line 3 of the text: this line is at 3FF, and the board has no ROM 3: wire a [[rom]] with chip = 3
      FIM P0, 0
 line 13: no 12, line 1 of the text: a line of more than 255 bytes
     ; x
-status 1" "lines of texts that no refusal names"
+status 1" "lines of texts that the answer does not name"
 printf ' NOP\n NO\303\244P ; \303\244\n' > "$folder/faulty.asm"
-refuses 1 "script: $folder/faulty.asm: line 2: no 14: $(printf '\303\244') is not an ASCII character; it can be only in comments
+check_rejected 1 "script: $folder/faulty.asm: line 2: no 14: $(printf '\303\244') is not an ASCII character; it can be only in comments
 script:      NO$(printf '\303\244')P ; $(printf '\303\244')" ./mcs4 script $three/board.toml "$folder/faulty.asm"
 printf ' NOP\n ORG 0x100\n NOP\n' > "$folder/faulty.asm"
-refuses 1 "script: $folder/faulty.asm: line 3: no 42: this line is at 100, and the board has no ROM 1: wire a [[rom]] with chip = 1
+check_rejected 1 "script: $folder/faulty.asm: line 3: no 42: this line is at 100, and the board has no ROM 1: wire a [[rom]] with chip = 1
 script:      NOP" ./mcs4 script $three/board.toml "$folder/faulty.asm"
 
 # A listing ends after address FFF, even if more bytes are requested.
 printf 'wire\nrom = [{ chip = 15, port = "0000" }]\n.\npoke rom.0xFFE 0x40\nlist 0xFFE 4\nlist 0xFFF 1\npoke r1 1\npoke r99 1\n' > "$folder/script"
-begins other < "$folder/script"
+new_session other < "$folder/script"
 verdict "$(outcome ./mcs4 explain "$folder/script" < "$folder/answers")" "line 8: no 11: a word that must be a number is not one, or the number is out of its range
     poke r99 1
 status 1" "listings up to the last address"

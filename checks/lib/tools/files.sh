@@ -1,7 +1,7 @@
 # Files that tools use: no space for temporary files, wrong files, sessions in use, and files that remain after Ctrl-C.
 # shellcheck shell=sh
 
-begins session < $calculator/quotient.txt
+new_session session < $calculator/quotient.txt
 
 # Checks that tools report a folder for temporary files that is full.
 small=$folder/small
@@ -26,15 +26,15 @@ fi
 ln -s loop "$folder/loop"
 longest=$(printf '%256s' | tr ' ' x)
 dd if=/dev/null of="$folder/huge" bs=1 seek=100000000 2> /dev/null
-wrong_files() {
-    most=$1
+check_wrong_files() {
+    max_bytes=$1
     shift
     for file in empty none huge . loop $longest; do
         path=$folder/$file
         case $file in
         empty) words="$path is empty" ;;
         none) words="cannot read $path: there is no such file" ;;
-        huge) words="cannot read $path: it has more than $most bytes" ;;
+        huge) words="cannot read $path: it has more than $max_bytes bytes" ;;
         .) words="cannot read $path: it is a folder" ;;
         loop) words="cannot read $path: too many symbolic links" ;;
         *) words="cannot read $path: its name is too long" ;;
@@ -45,35 +45,35 @@ status 1" "$* with $file"
 }
 printf 'reset\nseq\n' > "$folder/two.txt"
 last_word=
-wrong_files 1048576 ./mcs4 rom load
-wrong_files 16777216 ./mcs4 listing
-wrong_files 16777216 ./mcs4 explain
-wrong_files 1048576 ./mcs4 resume "$folder/two.txt"
-wrong_files 1048576 ./mcs4 panel $lock/board.toml
+check_wrong_files 1048576 ./mcs4 rom load
+check_wrong_files 16777216 ./mcs4 listing
+check_wrong_files 16777216 ./mcs4 explain
+check_wrong_files 1048576 ./mcs4 resume "$folder/two.txt"
+check_wrong_files 1048576 ./mcs4 panel $lock/board.toml
 last_word="$folder/session.mcs"
-wrong_files 16777216 ./mcs4 resume
-wrong_files 16777216 ./mcs4 panel
+check_wrong_files 16777216 ./mcs4 resume
+check_wrong_files 16777216 ./mcs4 panel
 last_word=10
-wrong_files 1048576 ./mcs4 trace
-refuses 1 "cover: cannot read $folder/loop: too many symbolic links" ./mcs4 cover --lcov "$folder/lcov" $lock/board.toml $lock/lock.asm "$folder/loop"
-refuses 1 "project: cannot read $folder/loop: too many symbolic links" ./mcs4 project join "$folder/loop" "$folder/joined.mcsp"
-refuses 1 "project: there is no folder $folder/none" ./mcs4 project join "$folder/none" "$folder/joined.mcsp"
-refuses 1 "project: cannot write in $folder/loop: too many symbolic links" ./mcs4 project split examples/a_fault_to_find.mcsp "$folder/loop"
-refuses 1 "debug: there is no file $folder/none; mcs4 debug BOARD PROGRAM $folder/none begins a session in it" ./mcs4 debug "$folder/none"
-refuses 1 "test: cannot read $folder/loop/mcs4.toml: too many symbolic links" ./mcs4 test -C "$folder/loop"
+check_wrong_files 1048576 ./mcs4 trace
+check_rejected 1 "cover: cannot read $folder/loop: too many symbolic links" ./mcs4 cover --lcov "$folder/lcov" $lock/board.toml $lock/lock.asm "$folder/loop"
+check_rejected 1 "project: cannot read $folder/loop: too many symbolic links" ./mcs4 project join "$folder/loop" "$folder/joined.mcsp"
+check_rejected 1 "project: there is no folder $folder/none" ./mcs4 project join "$folder/none" "$folder/joined.mcsp"
+check_rejected 1 "project: cannot write in $folder/loop: too many symbolic links" ./mcs4 project split examples/a_fault_to_find.mcsp "$folder/loop"
+check_rejected 1 "debug: there is no file $folder/none; mcs4 debug BOARD PROGRAM $folder/none begins a session in it" ./mcs4 debug "$folder/none"
+check_rejected 1 "test: cannot read $folder/loop/mcs4.toml: too many symbolic links" ./mcs4 test -C "$folder/loop"
 mkfifo "$folder/pipe"
-refuses 1 "back: cannot read $folder/pipe: it is not a regular file" timeout 20 ./mcs4 back "$folder/pipe"
-refuses 1 "trace: cannot read $folder/pipe: it is not a regular file" timeout -s KILL 20 ./mcs4 trace "$folder/pipe" 10
+check_rejected 1 "back: cannot read $folder/pipe: it is not a regular file" timeout 20 ./mcs4 back "$folder/pipe"
+check_rejected 1 "trace: cannot read $folder/pipe: it is not a regular file" timeout -s KILL 20 ./mcs4 trace "$folder/pipe" 10
 ln -s none "$folder/dangling"
-refuses 1 "project: cannot make $folder/dangling: something else has its name" ./mcs4 project split examples/a_fault_to_find.mcsp "$folder/dangling"
-refuses 1 "rom: no answers on standard input; it reads what mcs4 has answered, as in: mcs4 rom save FIRST COUNT < ANSWERS" ./mcs4 rom save 0 1
-refuses 1 "cycles: no answers on standard input; it reads what mcs4 has answered, as in: mcs4 cycles .. < ANSWERS" ./mcs4 cycles
-refuses 1 "explain: no answers on standard input; it reads what mcs4 has answered, as in: mcs4 explain .. < ANSWERS" ./mcs4 explain "$folder/two.txt"
-refuses 1 "panel: standard input and output must be a terminal" ./mcs4 panel $lock/board.toml "$folder/session.mcs"
-refuses 2 "panel: SESSION is missing
+check_rejected 1 "project: cannot make $folder/dangling: something else has its name" ./mcs4 project split examples/a_fault_to_find.mcsp "$folder/dangling"
+check_rejected 1 "rom: no answers on standard input; it reads what mcs4 has answered, as in: mcs4 rom save FIRST COUNT < ANSWERS" ./mcs4 rom save 0 1
+check_rejected 1 "cycles: no answers on standard input; it reads what mcs4 has answered, as in: mcs4 cycles .. < ANSWERS" ./mcs4 cycles
+check_rejected 1 "explain: no answers on standard input; it reads what mcs4 has answered, as in: mcs4 explain .. < ANSWERS" ./mcs4 explain "$folder/two.txt"
+check_rejected 1 "panel: standard input and output must be a terminal" ./mcs4 panel $lock/board.toml "$folder/session.mcs"
+check_rejected 2 "panel: SESSION is missing
 usage: mcs4 panel [-C FOLDER] [--stopped] [--source PROGRAM] [BOARD] SESSION" ./mcs4 panel $lock/board.toml
-refuses 1 "rom: cannot read -: it has more than 67108864 bytes" ./mcs4 rom save 0 1 < "$folder/huge"
-refuses 1 "cycles: cannot read -: it has more than 67108864 bytes" ./mcs4 cycles < "$folder/huge"
+check_rejected 1 "rom: cannot read -: it has more than 67108864 bytes" ./mcs4 rom save 0 1 < "$folder/huge"
+check_rejected 1 "cycles: cannot read -: it has more than 67108864 bytes" ./mcs4 cycles < "$folder/huge"
 printf '#!/bin/sh\necho "no 53"\necho "mcs4: s.mcs: in use by another program" >&2\nexit 3\n' > "$folder/refusing"
 chmod +x "$folder/refusing"
 for words in "resume $folder/two.txt $folder/session.mcs" "trace $folder/session.mcs 1"; do
@@ -83,7 +83,7 @@ status 1" "a session in use: $words"
 done
 
 # Checks a session that another program has open: `resume` reports that, and prints no answers.
-echo reset | begins held
+echo reset | new_session held
 if command -v flock > /dev/null; then
     verdict "$(outcome flock "$folder/held.mcs" ./mcs4 resume "$folder/two.txt" "$folder/held.mcs")" \
         "mcs4: $folder/held.mcs: in use by another program; wait until that has ended
@@ -92,7 +92,7 @@ status 1" "a session in use"
 fi
 verdict "$(outcome ./mcs4 resume "$folder/two.txt" "$folder/held.mcs")" "session 1
 seq 1
-status 0" "a session that is in use no more"
+status 0" "a session that is no longer in use"
 
 # Checks that Ctrl-C ends a tool with the status that shells use for it, and that no files are left behind.
 awk 'BEGIN { print "test long"; for (i = 0; i < 400; i++) print " run 5 s" }' > "$folder/long.test"
@@ -105,7 +105,7 @@ for each in INT:130 TERM:143 HUP:129; do
     kill -s "${each%:*}" -- "-$child"
     status=0
     wait "$child" || status=$?
-    verdict "$status, $(ls "$folder/interrupted" | wc -l | tr -d ' ') left" "${each#*:}, 0 left" "a tool that gets SIG${each%:*}"
+    verdict "$status, $(ls "$folder/interrupted" | wc -l | tr -d ' ') left" "${each#*:}, 0 left" "a tool that receives SIG${each%:*}"
 done
 
 # Checks that a signal has the same effect at any moment while a tool starts. The shell that starts the program gets it, too.
@@ -125,16 +125,16 @@ for wait in 60 70 80 90 100 105 110 115 120 125 130 135 140 150 160 170 180 200 
         fi
     done
 done > "$folder/started"
-verdict "$(cat "$folder/started")" "" "signals to a tool that starts"
+verdict "$(cat "$folder/started")" "" "signals while a tool starts"
 
 # Checks that SIGTERM to a tool alone ends it at once, together with all processes that it has started. Tries a tool that runs tests, one that serves
 # a script, and one that waits for input.
 awk 'BEGIN { print "test longer\nrepeat 100000\nrun 100000\nend" }' > "$folder/longer.test"
 { cat $calculator/quotient.txt && awk 'BEGIN { for (i = 0; i < 300000; i++) print "run 100000" }'; } > "$folder/longer.txt"
 mkfifo "$folder/silent"
-begins session < $calculator/quotient.txt
+new_session session < $calculator/quotient.txt
 # Prints the processes that use this folder for temporary files.
-started_here() {
+count_started() {
     grep -lzsx "TMPDIR=$folder/interrupted" /proc/[0-9]*/environ | wc -l | tr -d ' '
 }
 for words in "1.mcs test $lock/board.toml $lock/lock.asm $folder/longer.test" \
@@ -152,6 +152,6 @@ for words in "1.mcs test $lock/board.toml $lock/lock.asm $folder/longer.test" \
     kill -s TERM "$tool"
     status=0
     wait $! 2> /dev/null || status=$?
-    for turn in 1 2 3 4 5 6 7 8 9 10; do if [ "$(started_here)" -eq 0 ]; then break; fi; sleep 0.2; done
-    verdict "$status, $(started_here) at work, $(ls "$folder/interrupted" | wc -l | tr -d ' ') left" "143, 0 at work, 0 left" "TERM to ${words%% *} alone"
+    for turn in 1 2 3 4 5 6 7 8 9 10; do if [ "$(count_started)" -eq 0 ]; then break; fi; sleep 0.2; done
+    verdict "$status, $(count_started) running, $(ls "$folder/interrupted" | wc -l | tr -d ' ') left" "143, 0 running, 0 left" "TERM to ${words%% *} only"
 done

@@ -1,7 +1,7 @@
 # Standard output that is full or closed: each command reports it, and exits with status 1.
 # shellcheck shell=sh
 
-begins session < $calculator/quotient.txt
+new_session session < $calculator/quotient.txt
 cp "$folder/answers" "$folder/lamps"
 cat > "$folder/commands" <<commands
 test -C $lock

@@ -67,10 +67,10 @@ ADD_:   NOP
 ;anything
 source
 verdict "$(outcome ./mcs4 import "$folder/intel.src")" "$(cat "$folder/imported")
-status 0" "a program that is imported"
-verdict "$(./mcs4 import - < "$folder/intel.src")" "$(cat "$folder/imported")" "a program that is imported from standard input"
+status 0" "an imported program"
+verdict "$(./mcs4 import - < "$folder/intel.src")" "$(cat "$folder/imported")" "a program imported from standard input"
 verdict "$(outcome ./mcs4 import "$folder/imported" | sed 's/ *;.*//' | tr -d ' ' | sed '/^$/d')" "$(sed 's/ *;.*//' "$folder/imported" | tr -d ' ' | sed '/^$/d; s/,12,/,12,/')
-status0" "what was imported, imported once more"
+status0" "an imported program, imported again"
 # Compares the output with bytes that were assembled manually. The programs have the style of Intel's first manuals: a loop that clears a RAM
 # register, a loop that adds two numbers of sixteen decimal digits, and the AND of two registers.
 cat > "$folder/clear.src" <<'source'
@@ -113,7 +113,7 @@ cat > "$folder/clear.bytes" <<'bytes'
 24 C0 B0 F5 B0 12 21 D0 40 22 A1 B6 75 19 40 15
 bytes
 ./mcs4 import "$folder/clear.src" > "$folder/clear.asm"
-verdict "$(rom_of "$folder/clear.asm" | awk '{ print $2; if (substr($0, 8, 1) != " ") print $3 }' | head -n 39 | tr '\n' ' ')" "$(tr '\n' ' ' < "$folder/clear.bytes")" "programs as Intel writes them, by hand"
+verdict "$(rom_of "$folder/clear.asm" | awk '{ print $2; if (substr($0, 8, 1) != " ") print $3 }' | head -n 39 | tr '\n' ' ')" "$(tr '\n' ' ' < "$folder/clear.bytes")" "the bytes of programs in Intel's style, assembled manually"
 verdict "$(sed -n 's/.*; //p' "$folder/clear.asm" | grep -v '^AND-2')" "$(sed -n 's/.*\/ //p' "$folder/clear.src")" "their comments are kept"
 # Checks that the examples have the same bytes in Intel's spelling as in the bench's spelling.
 for example in examples/*/*.asm; do
@@ -124,12 +124,12 @@ for example in examples/*/*.asm; do
     verdict "$(outcome ./mcs4 import "$folder/example.src" > "$folder/example.asm"; tail -n 1 "$folder/example.asm")" "status 0" "$example in Intel's spelling"
     sed -i '$d' "$folder/example.asm"
     verdict "$(rom_of "$folder/example.asm" | cksum)" "$(rom_of "$example" | cksum)" "the bytes of $example in Intel's spelling"
-    verdict "$(grep -c , "$folder/example.src" | awk '{ print ($1 > 3) }')" 1 "$example is spelled otherwise there"
+    verdict "$(grep -c , "$folder/example.src" | awk '{ print ($1 > 3) }')" 1 "$example has another spelling"
 done
 # Checks that the other tools print a hint if a line has Intel's or AS's spelling.
 while IFS='|' read -r line words; do
     echo "$line" > "$folder/spelled.asm"
-    refuses 1 "listing: $folder/spelled.asm: line 1: no 30: $words
+    check_rejected 1 "listing: $folder/spelled.asm: line 1: no 30: $words
 listing:     $line" ./mcs4 listing "$folder/spelled.asm" < /dev/null
 done <<'lines'
 zero EQU 4 ; none|define a name with =: zero = 4
@@ -163,8 +163,8 @@ START, NOP
        DB
 source
 sed '12s/START, //' "$folder/bad.src" > "$folder/bad2.src"
-refuses 1 "import: $folder/bad.src:12: the name START is also defined in line 11" ./mcs4 import "$folder/bad.src"
-refuses 1 "import: $folder/bad2.src:1: \`JMP\` is neither an instruction nor a directive that is supported
+check_rejected 1 "import: $folder/bad.src:12: the name START is also defined in line 11" ./mcs4 import "$folder/bad.src"
+check_rejected 1 "import: $folder/bad2.src:1: \`JMP\` is neither an instruction nor a directive that is supported
 import: $folder/bad2.src:2: the value of \`Y\` depends on itself
 import: $folder/bad2.src:3: the value of \`X\` depends on itself
 import: $folder/bad2.src:4: \`16\` is 16; it must be 0 to 15
@@ -182,9 +182,9 @@ import: $folder/bad2.src:17: NOP has no operand
 import: $folder/bad2.src:18: ISZ is written with two operands
 import: $folder/bad2.src:19: DB has no values" ./mcs4 import "$folder/bad2.src"
 printf ' NOP\n JCN AZ, FAR / too far\n ORG 300H\nFAR, NOP\n' > "$folder/far.src"
-refuses 1 "import: $folder/far.src: line 2: no 34: an address on another page; JCN and ISZ reach the page of the address after their two words
+check_rejected 1 "import: $folder/far.src: line 2: no 34: an address on another page; JCN and ISZ reach the page of the address after their two words
 import:      JCN AZ, FAR / too far" ./mcs4 import "$folder/far.src"
-refuses 1 "import: cannot read none.src: there is no such file" ./mcs4 import none.src
+check_rejected 1 "import: cannot read none.src: there is no such file" ./mcs4 import none.src
 # Checks that a line that is too long for any assembler, and brackets that are nested too deeply, are rejected at once.
 awk 'BEGIN { printf " LDM 1"; for (i = 0; i < 300000; i++) printf "+1"; print "" }' > "$folder/long.src"
 awk 'BEGIN { printf " LDM 1 ; "; for (i = 0; i < 300000; i++) printf "+1"; print "" }' > "$folder/remark.src"
@@ -211,7 +211,7 @@ status 0
 import: $folder/blank.src:1: the line has more than 1024 bytes before its comment
 status 1
  ; so far
-status 0" "long lines, and deep brackets"
+status 0" "long lines, and deeply nested brackets"
 # Checks that the time grows only linearly with the numbers of names and lines: tries many names whose first 16 letters are the same, and 1 MiB of
 # short lines.
 awk 'BEGIN { for (i = 0; i < 400; i++) printf "SAME_FIRST_LETTERS_%d EQU %d\n", i, i % 16 }' > "$folder/names.src"
@@ -221,6 +221,6 @@ for many in names lines; do
 done
 # Checks that a non-ASCII character never becomes a byte of the program, and that comments keep their bytes.
 printf " DB 'a\\344b' ; a\\344b\n" > "$folder/byte.src"
-refuses 1 "import: $folder/byte.src:1: 'a$(printf '\303\244')b' has a character that is not ASCII" ./mcs4 import "$folder/byte.src"
+check_rejected 1 "import: $folder/byte.src:1: 'a$(printf '\303\244')b' has a character that is not ASCII" ./mcs4 import "$folder/byte.src"
 printf " NOP ; a\\344b\n" > "$folder/byte.src"
 verdict "$(./mcs4 import "$folder/byte.src" | od -An -tx1 | tr -d ' \n')" "$(printf '        NOP             ; a\344b\n' | od -An -tx1 | tr -d ' \n')" "bytes of a comment"

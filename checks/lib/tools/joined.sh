@@ -20,10 +20,10 @@ status 2" "node $words"
     cp -R mcs4 js examples "$tree"
     cp -R tools/lib tools/join_commands.mjs "$tree/tools"
     node "$tree/tools/join_commands.mjs" "$tree/shipped/commands" listing keys
-    joined() {
+    print_loader() {
         node --input-type=module -e "import { joinedCommand } from '$tree/js/node/joined_loader.cjs'; console.log(joinedCommand('$1') ? 'joined' : 'modules')"
     }
-    verdict "$(joined listing) $(joined keys) $(joined test) $(joined ../keys)" "joined joined modules modules" "which commands are joined"
+    verdict "$(print_loader listing) $(print_loader keys) $(print_loader test) $(print_loader ../keys)" "joined joined modules modules" "which commands are joined"
     for words in "listing $lock/lock.asm" "listing -h" "listing --none" "keys $lock/board.toml 1" "keys $lock/board.toml x" "listing none"; do
         # shellcheck disable=SC2086
         verdict "$(outcome "$tree/mcs4" $words)" "$(outcome ./mcs4 $words)" "joined: $words"
@@ -31,14 +31,14 @@ status 2" "node $words"
     # Checks that the result of the comparison is cached in a private folder of the user, as soon as the files have not changed for a moment.
     export XDG_CACHE_HOME="$folder/cache"
     sleep 4
-    verdict "$(joined listing); $(ls "$XDG_CACHE_HOME/fethsaim" | grep -c '\.listing\.joined$'); $(ls -ld "$XDG_CACHE_HOME/fethsaim" | cut -c 1-10)" "joined; 1; drwx------" \
-        "what is remembered of a joined file"
-    verdict "$(joined listing)" joined "a joined file that is remembered"
+    verdict "$(print_loader listing); $(ls "$XDG_CACHE_HOME/fethsaim" | grep -c '\.listing\.joined$'); $(ls -ld "$XDG_CACHE_HOME/fethsaim" | cut -c 1-10)" "joined; 1; drwx------" \
+        "the cache of a joined file"
+    verdict "$(print_loader listing)" joined "a joined file in the cache"
     chmod 755 "$XDG_CACHE_HOME/fethsaim"
     : > "$XDG_CACHE_HOME/fethsaim/$(ls "$XDG_CACHE_HOME/fethsaim" | grep '\.listing\.joined$')"
-    verdict "$(joined listing); $(cat "$XDG_CACHE_HOME/fethsaim"/*.joined | wc -c | tr -d ' ')" "joined; 0" "a folder that others can read"
+    verdict "$(print_loader listing); $(cat "$XDG_CACHE_HOME/fethsaim"/*.joined | wc -c | tr -d ' ')" "joined; 0" "a folder that others can read"
     chmod 700 "$XDG_CACHE_HOME/fethsaim"
-    verdict "$(joined listing); $(joined listing)" "joined; joined" "a joined file that is remembered again"
+    verdict "$(print_loader listing); $(print_loader listing)" "joined; joined" "a joined file in the cache again"
     # Checks that the compiled code is also cached in that folder: first the code for the help, then all code of the command. If the cached code is
     # truncated, zeroed or of another version, it is compiled again.
     code=$XDG_CACHE_HOME/fethsaim/listing.code
@@ -48,7 +48,7 @@ status 2" "node $words"
     }
     rm -f "$code"
     verdict "$(kind_of_code -h); $(kind_of_code); $(kind_of_code "$lock/lock.asm"); $(kind_of_code -h)" \
-        "asked -rw-------; asked -rw-------; done -rw-------; done -rw-------" "compiled code is remembered"
+        "asked -rw-------; asked -rw-------; done -rw-------; done -rw-------" "compiled code is cached"
     cp "$code" "$folder/code"
     for damage in cut zeroed other; do
         case $damage in
@@ -60,16 +60,16 @@ status 2" "node $words"
             "compiled code that is $damage"
     done
     echo "// damaged" >> "$tree/js/core/text/control_escapes.js"
-    verdict "$(joined listing)" modules "a joined file that is remembered, of other sources"
+    verdict "$(print_loader listing)" modules "a joined file in the cache, from other sources"
     cp -p js/core/text/control_escapes.js "$tree/js/core/text"
-    verdict "$(joined listing)" joined "a joined file that is remembered, of the same sources again"
+    verdict "$(print_loader listing)" joined "a joined file in the cache, from the same sources again"
     # Changes a text in the modules, so that the output shows whether the modules or the joined file were used.
     sed 's/Prints this help/Shows this help/' js/words/commands.js > "$tree/js/words/commands.js"
-    verdict "$(joined listing); $("$tree/mcs4" listing -h | grep -c 'Shows this help')" "modules; 1" "a joined file of other sources"
+    verdict "$(print_loader listing); $("$tree/mcs4" listing -h | grep -c 'Shows this help')" "modules; 1" "a joined file from other sources"
     cp js/words/commands.js "$tree/js/words"
-    verdict "$(joined listing)" joined "a joined file of the same sources again"
+    verdict "$(print_loader listing)" joined "a joined file from the same sources again"
     echo "// damaged" >> "$tree/shipped/commands/listing.cjs"
-    verdict "$(joined listing)" modules "a joined file that is damaged"
+    verdict "$(print_loader listing)" modules "a joined file that is damaged"
     rm -r "$tree/js/core"
-    verdict "$(outcome "$tree/mcs4" keys $lock/board.toml 1)" "$(outcome ./mcs4 keys $lock/board.toml 1)" "a joined file where no sources are"
+    verdict "$(outcome "$tree/mcs4" keys $lock/board.toml 1)" "$(outcome ./mcs4 keys $lock/board.toml 1)" "a joined file in a tree without sources"
 fi

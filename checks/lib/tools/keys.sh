@@ -1,8 +1,8 @@
 # mcs4 keys: the names of keys in a board's comments, and key presses up to a stop.
 # shellcheck shell=sh
 
-refuses 1 "keys: cannot read none.toml: there is no such file" ./mcs4 keys none.toml "1"
-refuses 2 "keys: KEYS is missing
+check_rejected 1 "keys: cannot read none.toml: there is no such file" ./mcs4 keys none.toml "1"
+check_rejected 2 "keys: KEYS is missing
 usage: mcs4 keys [-C FOLDER] [--down CYCLES] [--up CYCLES] [--until-stop SESSION] [BOARD] KEYS" ./mcs4 keys $calculator/board.toml
 
 # Checks that on a board whose lines end with CRLF, the last key of a row has the right name.
@@ -16,23 +16,23 @@ run 10
 release 0 1
 run 5
 lamps
-status 0" "keys of a comment in another spelling"
+status 0" "keys in a comment with another spelling"
 sed 's/# row 0: 1 2 3/# row 0: 1 2 3 A/' < $lock/board.toml > "$folder/board.toml"
-refuses 1 "keys: $folder/board.toml: line 8: the key A is in row 0, column 3, but the board has 4 rows and 3 columns" ./mcs4 keys "$folder/board.toml" 1
+check_rejected 1 "keys: $folder/board.toml: line 8: the key A is in row 0, column 3, but the board has 4 rows and 3 columns" ./mcs4 keys "$folder/board.toml" 1
 sed 's/# row 1: 4 5 6/# row 1: 4 1 6/' < $lock/board.toml > "$folder/board.toml"
-refuses 1 "keys: $folder/board.toml: line 9: the key 1 is named in line 8, too" ./mcs4 keys "$folder/board.toml" 1
+check_rejected 1 "keys: $folder/board.toml: line 9: the key 1 is named in line 8, too" ./mcs4 keys "$folder/board.toml" 1
 sed 's/# row 1: 4 5 6/# row 0: 4 5 6/' < $lock/board.toml > "$folder/board.toml"
-refuses 1 "keys: $folder/board.toml: line 9: row 0 has its names in line 8" ./mcs4 keys "$folder/board.toml" 1
+check_rejected 1 "keys: $folder/board.toml: line 9: row 0 has its names in line 8" ./mcs4 keys "$folder/board.toml" 1
 grep -v '^# row' < $lock/board.toml > "$folder/board.toml"
-refuses 1 "keys: $folder/board.toml has no comments \`# row R: NAME ..\` that name its keys" ./mcs4 keys "$folder/board.toml" 1
-misuses "CYCLES of --down: '0' is not a decimal number from 1 to 100000" ./mcs4 keys --down 0 $lock/board.toml 1
-refuses 2 "keys: KEYS is missing
+check_rejected 1 "keys: $folder/board.toml has no comments \`# row R: NAME ..\` that name its keys" ./mcs4 keys "$folder/board.toml" 1
+check_usage_error "CYCLES of --down: '0' is not a decimal number from 1 to 100000" ./mcs4 keys --down 0 $lock/board.toml 1
+check_rejected 2 "keys: KEYS is missing
 usage: mcs4 keys [-C FOLDER] [--down CYCLES] [--up CYCLES] [--until-stop SESSION] [BOARD] KEYS" ./mcs4 keys $lock/board.toml
 # Sets a breakpoint where the program reads a digit. The key must still be down there, and no later key may be pressed.
 {
     ./mcs4 script $lock/board.toml $lock/lock.asm | sed '$d'
     echo 'break @right' | ./mcs4 names $lock/lock.asm
-} | begins lock
+} | new_session lock
 verdict "$(outcome ./mcs4 keys --until-stop "$folder/lock.mcs" $lock/board.toml 47 | sed 's/ran [0-9]* break/ran .. break/')" "session 4
 ok 5
 ok 6 ran .. break

@@ -46,11 +46,11 @@ verdict "$(./mcs4 listing $calculator/calculator.asm | grep -c '^[0-9A-F][0-9A-F
     "$(./mcs4 listing $calculator/calculator.asm | sed -n 's/^[0-9A-F][0-9A-F][0-9A-F] [0-9A-F][0-9A-F]/&/p' | sort -u | wc -l | tr -d ' ')" \
     "no address twice in the listing of the calculator"
 printf 'NOP\n\tJCN 4, far\n ORG 0x300\nfar: NOP\n' > "$folder/bad.asm"
-refuses 1 "listing: $folder/bad.asm: line 2: no 34: far is on another page; JCN reaches the page of the address after its two words
+check_rejected 1 "listing: $folder/bad.asm: line 2: no 34: far is on another page; JCN reaches the page of the address after its two words
 listing:     	JCN 4, far" ./mcs4 listing "$folder/bad.asm"
 verdict "$(./mcs4 listing --labels "$folder/program.asm")" "add_it 103
 alone 003
 start 000
 table 0FE" "labels"
-refuses 2 "listing: there is no option --name; did you mean --names?
+check_rejected 2 "listing: there is no option --name; did you mean --names?
 usage: mcs4 listing [-C FOLDER] [--names | --labels] [PROGRAM]" ./mcs4 listing --name "$folder/bad.asm"

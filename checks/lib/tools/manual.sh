@@ -1,12 +1,12 @@
-# The manual's chapters about lines and about the workbench show the output of the program and the tools.
+# The manual's chapters about lines and about the workbench: they show the output of the program and the commands.
 # shellcheck shell=sh
 
 . "$top/checks/lib/manual.sh"
-as_shown "Lines" 3
+check_chapter "Lines" 3
 rm -rf "$folder/manual"
-as_shown "The workbench" 12
+check_chapter "The workbench" 12
 
-# Checks that the descriptions of lines are the same in the tools' table and in the manual.
+# Checks that the descriptions of lines are the same in tools/lib/answers.txt and in the manual.
 verdict "$(awk -F ' [|] ' '
     /^### / { inside = /^### (Commands|Queries)$/ }
     inside && /^[|] `/ {

@@ -10,7 +10,7 @@ make_board_with_buzzer() {
 again: IAC
  WRR
  JUN again' > "$folder/buzzer.asm"
-    ./mcs4 script "$folder/buzzer.toml" "$folder/buzzer.asm" | begins buzzer
+    ./mcs4 script "$folder/buzzer.toml" "$folder/buzzer.asm" | new_session buzzer
 }
 make_board_with_buzzer
 ./mcs4 project split examples/a_fault_to_find.mcsp "$folder/taken_apart"
@@ -18,50 +18,50 @@ writes_project() { ./mcs4 project join "$folder/taken_apart" "$1"; }
 writes_sound() { ./mcs4 wave --wav "$1" "$folder/buzzer.mcs" 100000 rom0.0; }
 writes_record() { ./mcs4 cover --lcov "$1" $lock/board.toml $lock/lock.asm $lock/lock.test > "$folder/covered"; }
 
-for what in project sound record; do
-    mkdir "$folder/$what" "$folder/$what/real"
-    good=$folder/$what/whole
-    "writes_$what" "$good"
-    verdict "$(stat -c %a "$good")" "$(touch "$folder/usual" && stat -c %a "$folder/usual")" "the mode of a new file: $what"
-    file=$folder/$what/file
+for kind in project sound record; do
+    mkdir "$folder/$kind" "$folder/$kind/real"
+    complete=$folder/$kind/whole
+    "writes_$kind" "$complete"
+    verdict "$(stat -c %a "$complete")" "$(touch "$folder/usual" && stat -c %a "$folder/usual")" "the mode of a new file: $kind"
+    file=$folder/$kind/file
     for mode in 600 640 664; do
-        head -c 100 "$good" > "$file"
+        head -c 100 "$complete" > "$file"
         chmod "$mode" "$file"
-        "writes_$what" "$file"
-        verdict "$(stat -c %a "$file"); $(cmp "$file" "$good" 2>&1)" "$mode; " "the mode of a file that is replaced: $what"
+        "writes_$kind" "$file"
+        verdict "$(stat -c %a "$file"); $(cmp "$file" "$complete" 2>&1)" "$mode; " "the mode of a file that is replaced: $kind"
     done
     if [ "$(id -u)" -eq 0 ]; then
-        head -c 100 "$good" > "$file"
+        head -c 100 "$complete" > "$file"
         chown 4321:1234 "$file"
         chmod 620 "$file"
-        "writes_$what" "$file"
-        verdict "$(stat -c '%u:%g %a' "$file"); $(cmp "$file" "$good" 2>&1)" "4321:1234 620; " "the owner of a file that is replaced: $what"
+        "writes_$kind" "$file"
+        verdict "$(stat -c '%u:%g %a' "$file"); $(cmp "$file" "$complete" 2>&1)" "4321:1234 620; " "the owner of a file that is replaced: $kind"
     fi
     # Writes through a link, a link to a link, a link to a missing file, and a link to itself.
-    head -c 100 "$good" > "$folder/$what/real/file"
-    ln -s real/file "$folder/$what/link"
-    ln -s link "$folder/$what/second"
-    ln -s real/new "$folder/$what/dangling"
-    ln -s nowhere "$folder/$what/nowhere"
+    head -c 100 "$complete" > "$folder/$kind/real/file"
+    ln -s real/file "$folder/$kind/link"
+    ln -s link "$folder/$kind/second"
+    ln -s real/new "$folder/$kind/dangling"
+    ln -s nowhere "$folder/$kind/nowhere"
     for pair in link:file second:file dangling:new; do
-        "writes_$what" "$folder/$what/${pair%:*}"
-        verdict "$(test -h "$folder/$what/${pair%:*}" && cmp "$folder/$what/real/${pair#*:}" "$good" 2>&1 && echo followed)" followed "the ${pair%:*}: $what"
-        head -c 100 "$good" > "$folder/$what/real/${pair#*:}"
+        "writes_$kind" "$folder/$kind/${pair%:*}"
+        verdict "$(test -h "$folder/$kind/${pair%:*}" && cmp "$folder/$kind/real/${pair#*:}" "$complete" 2>&1 && echo followed)" followed "the ${pair%:*}: $kind"
+        head -c 100 "$complete" > "$folder/$kind/real/${pair#*:}"
     done
-    verdict "$(outcome "writes_$what" "$folder/$what/nowhere" | sed 's/^[a-z]*: //; s/it is a link that leads nowhere$/too many symbolic links/')" \
-        "cannot write $folder/$what/nowhere: too many symbolic links
-status 1" "a link that leads nowhere: $what"
-    head -c 100 "$good" > "$file"
+    verdict "$(outcome "writes_$kind" "$folder/$kind/nowhere" | sed 's/^[a-z]*: //; s/it is a link that leads nowhere$/too many symbolic links/')" \
+        "cannot write $folder/$kind/nowhere: too many symbolic links
+status 1" "a link that leads nowhere: $kind"
+    head -c 100 "$complete" > "$file"
     chmod 444 "$file"
     cp -f "$file" "$folder/before"
-    verdict "$(outcome "writes_$what" "$file" | sed 's/^[a-z]*: //'); $(stat -c %a "$file"); $(cmp "$file" "$folder/before" 2>&1)" "cannot write $file: it is read-only
-status 1; 444; " "a file that is read-only: $what"
-    verdict "$(find "$folder/$what" -mindepth 1 | LC_ALL=C sort | sed "s|$folder/$what/||" | tr '\n' ' ')" "dangling file link nowhere real real/file real/new second whole " "nothing is left behind: $what"
+    verdict "$(outcome "writes_$kind" "$file" | sed 's/^[a-z]*: //'); $(stat -c %a "$file"); $(cmp "$file" "$folder/before" 2>&1)" "cannot write $file: it is read-only
+status 1; 444; " "a file that is read-only: $kind"
+    verdict "$(find "$folder/$kind" -mindepth 1 | LC_ALL=C sort | sed "s|$folder/$kind/||" | tr '\n' ' ')" "dangling file link nowhere real real/file real/new second whole " "no other files are left: $kind"
 done
 ln -s nothing "$folder/taken_apart.link"
 mkdir "$folder/has_link"
 ln -s "$folder/victim" "$folder/has_link/board.toml"
-refuses 1 "project: $folder/has_link/board.toml already exists; name another folder, or move it away" ./mcs4 project split examples/a_fault_to_find.mcsp "$folder/has_link"
+check_rejected 1 "project: $folder/has_link/board.toml already exists; name another folder, or move it away" ./mcs4 project split examples/a_fault_to_find.mcsp "$folder/has_link"
 
 # Checks that a file of another user stays unchanged, because a new file could not belong to that user.
 if [ "$(id -u)" -eq 0 ] && command -v setpriv > /dev/null; then
@@ -71,13 +71,13 @@ if [ "$(id -u)" -eq 0 ] && command -v setpriv > /dev/null; then
     head -c 100 "$folder/project/whole" > "$folder/shared/theirs"
     chmod 666 "$folder/shared/theirs"
     chmod a+x "$folder" "${folder%/*}"
-    as_another() { setpriv --reuid 65534 --regid 65534 --clear-groups env TMPDIR="$folder/shared" "$@"; }
-    if as_another test -r ./mcs4 && as_another test -x "$mcs4" && as_another test -r "$folder/taken_apart/mcs4.toml"; then
-        verdict "$(outcome as_another ./mcs4 project join "$folder/taken_apart" "$folder/shared/theirs"); $(wc -c < "$folder/shared/theirs" | tr -d ' '); $(ls -A "$folder/shared")" \
+    as_other_user() { setpriv --reuid 65534 --regid 65534 --clear-groups env TMPDIR="$folder/shared" "$@"; }
+    if as_other_user test -r ./mcs4 && as_other_user test -x "$mcs4" && as_other_user test -r "$folder/taken_apart/mcs4.toml"; then
+        verdict "$(outcome as_other_user ./mcs4 project join "$folder/taken_apart" "$folder/shared/theirs"); $(wc -c < "$folder/shared/theirs" | tr -d ' '); $(ls -A "$folder/shared")" \
             "project: cannot write $folder/shared/theirs: it belongs to another user or group, which a new file cannot have
 status 1; 100; theirs" "a file of another user"
         chmod 644 "$folder/shared/theirs"
-        refuses 1 "project: cannot write $folder/shared/theirs: no permission" as_another ./mcs4 project join "$folder/taken_apart" "$folder/shared/theirs"
+        check_rejected 1 "project: cannot write $folder/shared/theirs: no permission" as_other_user ./mcs4 project join "$folder/taken_apart" "$folder/shared/theirs"
     else
         echo "not run: files of another user in checks/tools (the folder $top cannot be read by others)"
     fi
@@ -94,14 +94,14 @@ verdict "$(cat "$folder/split_guessed"/board.toml.*); $(cmp "$folder/split_guess
 # Stops tools by a signal at many different moments. Then the file must be either the old or the new one, a folder must be complete or missing, and no
 # other files may be left.
 mkdir "$folder/stopped" "$folder/temporary"
-outcome_of_stop() {
+stop_command() {
     TMPDIR=$folder/temporary setsid env --default-signal=INT,TERM,HUP timeout --foreground -s KILL 60 "$@" > "$folder/printed" 2>&1 &
     child=$!
     sleep "0.$(printf '%03d' "$wait")"
-    if [ "$whom" = group ]; then kill -s "$signal" -- "-$child" 2> /dev/null || :; else kill -s "$signal" "$child" 2> /dev/null || :; fi
+    if [ "$target" = group ]; then kill -s "$signal" -- "-$child" 2> /dev/null || :; else kill -s "$signal" "$child" 2> /dev/null || :; fi
     status=0
     wait "$child" 2> /dev/null || status=$?
-    if [ "$status" -eq 137 ]; then wrong="$wrong hangs:$signal:$whom:$wait"; fi
+    if [ "$status" -eq 137 ]; then wrong="$wrong hangs:$signal:$target:$wait"; fi
     # If the signal arrives before `timeout` has recorded its child process, it ends only `timeout`, and the tool continues to its end.
     tenths=600
     while [ "$tenths" -gt 0 ] && kill -s 0 -- "-$child" 2> /dev/null; do
@@ -113,20 +113,20 @@ head -c 100 "$folder/project/whole" > "$folder/old"
 stops=0
 wrong=
 for signal in INT TERM HUP; do
-    for whom in group tool; do
+    for target in group tool; do
         for wait in 5 20 40 60 80 100 120 150 200 300; do
             cp "$folder/old" "$folder/stopped/out.mcsp"
-            outcome_of_stop ./mcs4 project join "$folder/taken_apart" "$folder/stopped/out.mcsp"
+            stop_command ./mcs4 project join "$folder/taken_apart" "$folder/stopped/out.mcsp"
             if ! cmp -s "$folder/old" "$folder/stopped/out.mcsp" && ! cmp -s "$folder/project/whole" "$folder/stopped/out.mcsp"; then wrong="$wrong join:$signal:$wait"; fi
             rm "$folder/stopped/out.mcsp"
-            outcome_of_stop ./mcs4 project split examples/a_fault_to_find.mcsp "$folder/stopped/new/inner"
+            stop_command ./mcs4 project split examples/a_fault_to_find.mcsp "$folder/stopped/new/inner"
             if [ -e "$folder/stopped/new" ] && ! diff -r "$folder/taken_apart" "$folder/stopped/new/inner" > /dev/null; then wrong="$wrong split:$signal:$wait"; fi
             rm -rf "$folder/stopped/new"
-            outcome_of_stop ./mcs4 wave --wav "$folder/stopped/out.wav" "$folder/buzzer.mcs" 100000 rom0.0
+            stop_command ./mcs4 wave --wav "$folder/stopped/out.wav" "$folder/buzzer.mcs" 100000 rom0.0
             if [ -e "$folder/stopped/out.wav" ] && ! cmp -s "$folder/sound/whole" "$folder/stopped/out.wav"; then wrong="$wrong wav:$signal:$wait"; fi
             rm -f "$folder/stopped/out.wav"
             left=$(ls -A "$folder/stopped" "$folder/temporary" | grep -v ':$' | tr -d '\n')
-            if [ -n "$left" ]; then wrong="$wrong left:$signal:$whom:$wait:$left"; fi
+            if [ -n "$left" ]; then wrong="$wrong left:$signal:$target:$wait:$left"; fi
             rm -rf "$folder/stopped" "$folder/temporary"
             mkdir "$folder/stopped" "$folder/temporary"
             stops=$((stops + 3))

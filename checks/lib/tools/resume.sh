@@ -33,22 +33,22 @@ script
 "$mcs4" new "$folder/whole.mcs" < "$folder/resume.txt" | tail -n 7 > "$folder/end"
 lines=0
 while [ "$lines" -lt 22 ]; do
-    sed -n "1,${lines}p" "$folder/resume.txt" | begins cut
+    sed -n "1,${lines}p" "$folder/resume.txt" | new_session cut
     ./mcs4 resume "$folder/resume.txt" "$folder/cut.mcs" | tail -n 7 > "$folder/answers" || true
     verdict_of_files "$folder/answers" "$folder/end" "a script resumed after line $lines"
     lines=$((lines + 3))
 done
-verdict "$(./mcs4 resume "$folder/resume.txt" "$folder/cut.mcs" | sed 1q)" "session 6" "a script of which only questions are left"
-echo 'reset' | goes_on cut
-refuses 1 "resume: $folder/cut.mcs did not begin with $folder/resume.txt: it has accepted 7 commands, but the whole script makes 6" \
+verdict "$(./mcs4 resume "$folder/resume.txt" "$folder/cut.mcs" | sed 1q)" "session 6" "a script of which only queries are left"
+echo 'reset' | continue_session cut
+check_rejected 1 "resume: $folder/cut.mcs did not begin with $folder/resume.txt: it has accepted 7 commands, but the whole script makes 6" \
     ./mcs4 resume "$folder/resume.txt" "$folder/cut.mcs"
-printf 'poke r9 8\n' | begins cut
+printf 'poke r9 8\n' | new_session cut
 cp "$folder/cut.mcs" "$folder/copy.mcs"
 verdict "$(outcome ./mcs4 resume "$folder/resume.txt" "$folder/cut.mcs" | sed '2,$d')" \
     "resume: $folder/cut.mcs did not begin with $folder/resume.txt: after 1 commands some answers differ (< $folder/cut.mcs, > what $folder/resume.txt leads to)" \
-    "a session of another script"
+    "a session from another script"
 verdict_of_files "$folder/cut.mcs" "$folder/copy.mcs" "a session that was not resumed"
-refuses 2 "resume: SESSION is missing
+check_rejected 2 "resume: SESSION is missing
 usage: mcs4 resume SCRIPT SESSION" ./mcs4 resume "$folder/resume.txt"
 rm "$folder/cut.mcs"
 awk 'BEGIN { for (i = 0; i < 400; i++) print "poke r" i % 16 " " int(i / 16) % 16 "\nrun 100000"; print "regs" }' > "$folder/long.txt"
@@ -66,37 +66,37 @@ verdict "$(./mcs4 resume "$folder/long.txt" "$folder/cut.mcs" | tail -n 1)" \
 verdict "$(echo seq | "$mcs4" open "$folder/cut.mcs" | tail -n 1)" "seq 800" "the commands of a script that was killed"
 
 # Checks that for a session that did not begin with the script, the difference is reported, and no line is sent.
-differs() {
+check_differs() {
     printf "$1" > "$folder/script"
-    printf "$2" | begins other
+    printf "$2" | new_session other
     cp "$folder/other.mcs" "$folder/copy.mcs"
     verdict "$(outcome ./mcs4 resume "$folder/script" "$folder/other.mcs" | sed '1d; s/^resume: //')" "$3
 status 1" "a session with other $4"
     verdict_of_files "$folder/other.mcs" "$folder/copy.mcs" "a session that was not resumed: $4"
 }
 keyed='wire\nrom = [{ chip = 0, port = "0000" }, { chip = 1, port = "iiii" }]\nchain = [{ clock = "rom0.0", data = "rom0.1", chips = 1 }]\nkeys = { chain = 0, first = 0, rows = 2, columns = ["rom1.0"] }\n.\nasm\nSRC P0\nWRR\nIAC\nWRR\n.\n'
-differs 'poke r1 1\nwatch 0 0\npoke r2 2\n' 'poke r1 1\nwatch 1 5\n' "< watches 1.05
+check_differs 'poke r1 1\nwatch 0 0\npoke r2 2\n' 'poke r1 1\nwatch 1 5\n' "< watches 1.05
 > watches 0.00" watches
-differs "${keyed}press 0 0\npoke r1 1\n" "${keyed}press 1 0\n" "< keys 1.0
+check_differs "${keyed}press 0 0\npoke r1 1\n" "${keyed}press 1 0\n" "< keys 1.0
 > keys 0.0" keys
-differs "${keyed}poke r0 1\nstep\npoke r0 0\nreset\n" "${keyed}poke r0 2\nstep\npoke r0 0\n" "< src 20
+check_differs "${keyed}poke r0 1\nstep\npoke r0 0\nreset\n" "${keyed}poke r0 2\nstep\npoke r0 0\n" "< src 20
 > src 10" "SRC bytes"
-differs "${keyed}poke acc 8\nrun 2\npoke acc 0\nreset\n" "${keyed}poke acc 4\nrun 2\npoke acc 0\n" "< roms 0.4.0,1.0.0
+check_differs "${keyed}poke acc 8\nrun 2\npoke acc 0\nreset\n" "${keyed}poke acc 4\nrun 2\npoke acc 0\n" "< roms 0.4.0,1.0.0
 > roms 0.8.0,1.0.0" latches
 # Two sessions that write 2 and 3, or 1 and 3, to the port. In both, the clock rises once, but the data line is 1 or 0 at that time.
-differs "${keyed}poke acc 2\nrun 4\npoke acc 3\npoke acc 3\npoke acc 3\nreset\n" "${keyed}poke acc 1\nrun 2\npoke acc 3\npoke pc 3\nstep\n" \
+check_differs "${keyed}poke acc 2\nrun 4\npoke acc 3\npoke acc 3\npoke acc 3\nreset\n" "${keyed}poke acc 1\nrun 2\npoke acc 3\npoke pc 3\nstep\n" \
     "< chains 0000000000
 > chains 1000000000" chains
 # Checks that the bytes of the script are sent unchanged: of two carriage returns at the end of a line, the bench drops only one.
 printf 'poke r1 1\r\npoke r2 2\r\r\npoke r3 3\n' > "$folder/script"
-printf 'poke r1 1\n' | begins other
+printf 'poke r1 1\n' | new_session other
 verdict "$(outcome ./mcs4 resume "$folder/script" "$folder/other.mcs")" "session 1
 no 14
 ok 2
 status 0" "a script with a carriage return too many"
 # A listing ends after address FFF, even if more bytes are requested.
 printf 'wire\nrom = [{ chip = 15, port = "0000" }]\n.\npoke rom.0xFFE 0x40\nlist 0xFFE 4\nlist 0xFFF 1\npoke r1 1\npoke r99 1\n' > "$folder/script"
-begins other < "$folder/script"
+new_session other < "$folder/script"
 verdict "$(outcome ./mcs4 resume "$folder/script" "$folder/other.mcs")" "session 3
 no 11
 status 0" "a script with listings up to the last address"

@@ -3,11 +3,11 @@
 
 # Checks that any 4,096 bytes are imported and exported unchanged, as bytes and in Intel HEX. The Intel HEX of a few bytes was written manually.
 head -c 4096 /dev/urandom > "$folder/image"
-{ roms 16 && ./mcs4 rom load --binary "$folder/image" && ./mcs4 rom ask 0 4096; } | begins rom
+{ roms 16 && ./mcs4 rom load --binary "$folder/image" && ./mcs4 rom ask 0 4096; } | new_session rom
 ./mcs4 rom save 0 4096 < "$folder/answers" > "$folder/saved"
 verdict_of_files "$folder/saved" "$folder/image" "a binary image in and out"
 ./mcs4 rom save --hex 0 4096 < "$folder/answers" > "$folder/saved.hex"
-{ roms 16 && ./mcs4 rom load "$folder/saved.hex" && ./mcs4 rom ask 0 4096; } | begins rom
+{ roms 16 && ./mcs4 rom load "$folder/saved.hex" && ./mcs4 rom ask 0 4096; } | new_session rom
 ./mcs4 rom save 0 4096 < "$folder/answers" > "$folder/saved"
 verdict_of_files "$folder/saved" "$folder/image" "an image in Intel HEX out and in"
 printf ':03002000010203D7\r\n:0000040000FC\r\n' > "$folder/bad.hex"
@@ -21,30 +21,30 @@ verdict "$(./mcs4 rom save --hex 0x20 3 < "$folder/input")" ":03002000010203D7
 :00000001FF" "Intel HEX of three bytes"
 verdict "$(./mcs4 rom save 31 4 < "$folder/input" | od -An -tx1)" " d0 01 02 03" "four bytes"
 verdict "$(./mcs4 rom ask 0x10 300)" "list 0x010 256
-list 0x110 44" "questions for 300 bytes"
-hex_fault() {
+list 0x110 44" "queries for 300 bytes"
+check_hex_error() {
     printf "$1" > "$folder/bad.hex"
-    refuses 1 "rom: $folder/bad.hex: $2" ./mcs4 rom load "$folder/bad.hex"
+    check_rejected 1 "rom: $folder/bad.hex: $2" ./mcs4 rom load "$folder/bad.hex"
 }
-hex_fault ':03002000010203D7\n:03002000010203D8\n' "line 2: the checksum is D8, and D7 would be right"
-hex_fault ':03002000010203D7\n' "it has no last record (:00000001FF), so a part of it is missing"
-hex_fault ':03002000010203D7\n:03002200010203D5\n' "line 2: the address 022, which an earlier line has"
-hex_fault ':030FFE00010203EA\n' "line 1: past the last address, FFF"
-hex_fault '\n:0300200001020\n' "line 2: a record has \`:\`, ten hexadecimal digits and two for each byte"
-hex_fault '\n:0400200001020x\n' "line 2: a record has \`:\`, ten hexadecimal digits and two for each byte"
-hex_fault '\n:04002000010203D6\n' "line 2: it announces 4 bytes and has 3"
-hex_fault '\n:020000040001F9\n' "line 2: type 04 with a value other than 0: an address past FFF"
-hex_fault '\n:0400000600000000F6\n' "line 2: type 06, which has no meaning for a 4004"
-hex_fault '\n:03000005000000F8\n' "line 2: a record of type 05 has four bytes"
-hex_fault ':00000001FF\n:00000001FF\n' "line 2: a record after the last one (type 01)"
-hex_fault ':00000001FF\n' "it has no byte"
-refuses 1 "rom: $folder/image: it has 4,096 bytes, and only 4,095 fit from the address 001" ./mcs4 rom load --binary "$folder/image" 1
-misuses "ADDRESS is 0 to 4095, decimal or with 0x" ./mcs4 rom load "$folder/image" 12H
-misuses "FIRST is 0 to 4095, COUNT is at least 1, and 4096 is the address after the last one" ./mcs4 rom ask 4000 97
+check_hex_error ':03002000010203D7\n:03002000010203D8\n' "line 2: the checksum is D8, and D7 would be right"
+check_hex_error ':03002000010203D7\n' "it has no last record (:00000001FF), so a part of it is missing"
+check_hex_error ':03002000010203D7\n:03002200010203D5\n' "line 2: the address 022, which an earlier line has"
+check_hex_error ':030FFE00010203EA\n' "line 1: past the last address, FFF"
+check_hex_error '\n:0300200001020\n' "line 2: a record has \`:\`, ten hexadecimal digits and two for each byte"
+check_hex_error '\n:0400200001020x\n' "line 2: a record has \`:\`, ten hexadecimal digits and two for each byte"
+check_hex_error '\n:04002000010203D6\n' "line 2: it announces 4 bytes and has 3"
+check_hex_error '\n:020000040001F9\n' "line 2: type 04 with a value other than 0: an address past FFF"
+check_hex_error '\n:0400000600000000F6\n' "line 2: type 06, which has no meaning for a 4004"
+check_hex_error '\n:03000005000000F8\n' "line 2: a record of type 05 has four bytes"
+check_hex_error ':00000001FF\n:00000001FF\n' "line 2: a record after the last one (type 01)"
+check_hex_error ':00000001FF\n' "it has no byte"
+check_rejected 1 "rom: $folder/image: it has 4,096 bytes, and only 4,095 fit from the address 001" ./mcs4 rom load --binary "$folder/image" 1
+check_usage_error "ADDRESS is 0 to 4095, decimal or with 0x" ./mcs4 rom load "$folder/image" 12H
+check_usage_error "FIRST is 0 to 4095, COUNT is at least 1, and 4096 is the address after the last one" ./mcs4 rom ask 4000 97
 echo "no 11" > "$folder/input"
-refuses 1 "rom: line 1 of the answers is a refusal: no 11; mcs4 explain says why" ./mcs4 rom save 0 1 < "$folder/input"
+check_rejected 1 "rom: line 1 of the answers is a refusal: no 11; mcs4 explain says why" ./mcs4 rom save 0 1 < "$folder/input"
 echo "000 D0    LDM 0" > "$folder/input"
-refuses 1 "rom: no answer shows the byte at 001; mcs4 rom ask makes the questions" ./mcs4 rom save 0 2 < "$folder/input"
+check_rejected 1 "rom: no answer shows the byte at 001; mcs4 rom ask makes the questions" ./mcs4 rom save 0 2 < "$folder/input"
 
 # S-records, written manually: a header, two data records, a count, and the end. Also addresses of three and four bytes, and errors, each of which
 # must be reported with its line.
@@ -62,17 +62,17 @@ DB 65
 .
 status 0" "S-records"
 verdict "$(outcome ./mcs4 rom load --srec - 1 < "$folder/image.srec" | sed -n 2p)" "ORG 0x011" "S-records from standard input, moved"
-srec_fault() {
+check_srec_error() {
     printf '%s\n' "$1" "$2" > "$folder/bad.srec"
-    refuses 1 "rom: $folder/bad.srec: $3" ./mcs4 rom load "$folder/bad.srec"
+    check_rejected 1 "rom: $folder/bad.srec: $3" ./mcs4 rom load "$folder/bad.srec"
 }
-srec_fault "S1$(srec_sum 050010D0E2)" "S1050012D0E200" "line 2: the checksum is 00, and $(srec_sum 050012D0E2 | sed 's/.*\(..\)$/\1/') would be right"
-srec_fault "S1$(srec_sum 050010D0E2)" "S1060012D0E236" "line 2: it announces 6 bytes and has 5"
-srec_fault "S1$(srec_sum 050010D0E2)" "S1050012D0E2X6" "line 2: a record of Motorola has \`S\`, a digit, and two hexadecimal digits for each byte"
-srec_fault "S1$(srec_sum 050010D0E2)" "S1$(srec_sum 050011D0E2)" "line 2: the address 011, which an earlier line has"
-srec_fault "S1$(srec_sum 050010D0E2)" "S1$(srec_sum 050FFFD0E2)" "line 2: past the last address, FFF"
-srec_fault "S1$(srec_sum 050010D0E2)" "" "it has no last record (S9), so a part of it is missing"
-srec_fault "S9$(srec_sum 030000)" "S1$(srec_sum 050010D0E2)" "line 2: a record after the last one (S9)"
+check_srec_error "S1$(srec_sum 050010D0E2)" "S1050012D0E200" "line 2: the checksum is 00, and $(srec_sum 050012D0E2 | sed 's/.*\(..\)$/\1/') would be right"
+check_srec_error "S1$(srec_sum 050010D0E2)" "S1060012D0E236" "line 2: it announces 6 bytes and has 5"
+check_srec_error "S1$(srec_sum 050010D0E2)" "S1050012D0E2X6" "line 2: a record of Motorola has \`S\`, a digit, and two hexadecimal digits for each byte"
+check_srec_error "S1$(srec_sum 050010D0E2)" "S1$(srec_sum 050011D0E2)" "line 2: the address 011, which an earlier line has"
+check_srec_error "S1$(srec_sum 050010D0E2)" "S1$(srec_sum 050FFFD0E2)" "line 2: past the last address, FFF"
+check_srec_error "S1$(srec_sum 050010D0E2)" "" "it has no last record (S9), so a part of it is missing"
+check_srec_error "S9$(srec_sum 030000)" "S1$(srec_sum 050010D0E2)" "line 2: a record after the last one (S9)"
 
 # BNPF, written manually, with remarks, and with words over several lines. Any ROM must be exported and imported unchanged. Each error must be
 # reported with its line.
@@ -85,25 +85,25 @@ status 0" "three words of BNPF"
 ./mcs4 rom save --bnpf 256 256 < "$folder/answers" > "$folder/saved.bnpf"
 verdict "$(sed 2q "$folder/saved.bnpf" | tr -d 'BNPF'); $(wc -l < "$folder/saved.bnpf" | tr -d ' ')" " 256    
  260    ; 64" "a ROM in BNPF"
-{ roms 16 && ./mcs4 rom load "$folder/saved.bnpf" 256 && ./mcs4 rom ask 256 256; } | begins rom
+{ roms 16 && ./mcs4 rom load "$folder/saved.bnpf" 256 && ./mcs4 rom ask 256 256; } | new_session rom
 ./mcs4 rom save 256 256 < "$folder/answers" > "$folder/saved"
 tail -c +257 "$folder/image" | head -c 256 > "$folder/page_1"
 verdict_of_files "$folder/saved" "$folder/page_1" "a ROM in BNPF out and in"
-bnpf_fault() {
+check_bnpf_error() {
     printf "$1" > "$folder/bad.bnpf"
-    refuses 1 "rom: $folder/bad.bnpf: $2" ./mcs4 rom load "$folder/bad.bnpf"
+    check_rejected 1 "rom: $folder/bad.bnpf: $2" ./mcs4 rom load "$folder/bad.bnpf"
 }
-bnpf_fault 'BNNNNNNNPF\nBNNNNNNPF\n' "line 2: a word of BNPF is B, eight of P and N, and F, as BNNNPNPNNF; this is BNNNNNNPF"
-bnpf_fault 'BNNNNNNNPF\nBNNNNNNNPPF\n' "line 2: a word of BNPF is B, eight of P and N, and F, as BNNNPNPNNF; this is BNNNNNNNPP"
-bnpf_fault 'BNNNNNNNPF\nBNNNNXNNP\n' "line 2: a word of BNPF is B, eight of P and N, and F, as BNNNPNPNNF; this is BNNNNX"
-bnpf_fault 'BNNNNNNNPF\nBNNNN' "line 2: a word without its end, \`F\`: BNNNN"
-bnpf_fault 'none\n' "it has no byte"
-refuses 1 "rom: $folder/few.bnpf: line 2: past the last address, FFF" ./mcs4 rom load "$folder/few.bnpf" 4095
+check_bnpf_error 'BNNNNNNNPF\nBNNNNNNPF\n' "line 2: a word of BNPF is B, eight of P and N, and F, as BNNNPNPNNF; this is BNNNNNNPF"
+check_bnpf_error 'BNNNNNNNPF\nBNNNNNNNPPF\n' "line 2: a word of BNPF is B, eight of P and N, and F, as BNNNPNPNNF; this is BNNNNNNNPP"
+check_bnpf_error 'BNNNNNNNPF\nBNNNNXNNP\n' "line 2: a word of BNPF is B, eight of P and N, and F, as BNNNPNPNNF; this is BNNNNX"
+check_bnpf_error 'BNNNNNNNPF\nBNNNN' "line 2: a word without its end, \`F\`: BNNNN"
+check_bnpf_error 'none\n' "it has no byte"
+check_rejected 1 "rom: $folder/few.bnpf: line 2: past the last address, FFF" ./mcs4 rom load "$folder/few.bnpf" 4095
 
 # Checks that a text is not loaded as a binary image, unless an option requests that.
 for text in $calculator/calculator.asm "$folder/z.asm"; do
     printf ' NOP ; z\303\244hler\n' > "$folder/z.asm"
-    refuses 1 "rom: $text is a text, but not Intel HEX, S-records or BNPF; if its characters are the bytes of an image: rom load --binary" ./mcs4 rom load "$text"
+    check_rejected 1 "rom: $text is a text, but not Intel HEX, S-records or BNPF; if its characters are the bytes of an image: rom load --binary" ./mcs4 rom load "$text"
 done
 printf 'S0' > "$folder/letters.bin"
 verdict "$(outcome ./mcs4 rom load --binary "$folder/letters.bin")" "asm
@@ -122,7 +122,7 @@ for chips in 12 16; do
         ./mcs4 rom load --binary "$folder/image"
         ./mcs4 rom ask 0 4096
     } > "$folder/script"
-    begins rom < "$folder/script"
+    new_session rom < "$folder/script"
     if [ "$chips" -eq 12 ]; then
         verdict "$(sed -n '3,4p' "$folder/answers")" "no 42
 no 42" "an image for ROMs that the board lacks"

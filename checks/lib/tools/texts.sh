@@ -19,7 +19,7 @@ asm
 .
 run 2000
 lamps
-status 0" "texts as they are sent"
+status 0" "the texts that are sent"
 verdict "$(outcome ./mcs4 test "$folder/marked.toml" "$folder/marked.asm" "$folder/marked.test")" "TAP version 13
 1..1
 ok 1 - t
@@ -27,10 +27,10 @@ status 0" "texts with a byte order mark"
 verdict "$(outcome ./mcs4 listing "$folder/marked.asm" | sed 1q)" "                 ; z$(printf '\303\244')hle" "a listing with letters beyond ASCII"
 # Lines can end with a carriage return alone. A line with a byte that cannot be sent to the bench is reported, and the line is printed.
 printf ' LDM 1\r FOO\r' > "$folder/returns.asm"
-refuses 1 "listing: $folder/returns.asm: line 2: no 30: FOO is not an instruction; a label has a colon: FOO:
+check_rejected 1 "listing: $folder/returns.asm: line 2: no 30: FOO is not an instruction; a label has a colon: FOO:
 listing:      FOO" ./mcs4 listing "$folder/returns.asm"
 printf ' LDM 1\r LDM 2\r\001' > "$folder/returns.asm"
-refuses 1 "listing: $folder/returns.asm: line 3: no 14: a control character; only tabs and printable ASCII characters can be sent
+check_rejected 1 "listing: $folder/returns.asm: line 3: no 14: a control character; only tabs and printable ASCII characters can be sent
 listing:     \x01" ./mcs4 listing "$folder/returns.asm"
 printf '# one\rtest t\r run 5\r' > "$folder/returns.test"
 verdict "$(outcome ./mcs4 test "$folder/marked.toml" "$folder/marked.asm" "$folder/returns.test" | sed -n 3p)" "ok 1 - t" "tests whose lines end with carriage returns alone"
@@ -53,15 +53,15 @@ verdict "$(wc -c < "$folder/long.asm" | tr -d ' '), $(outcome ./mcs4 listing --n
 verdict "$(./mcs4 script "$board" "$folder/long.asm" | sed -n '/^asm$/{n;p;}')" NOP "a script of a text that is long by its comments"
 verdict "$(./mcs4 script "$board" "$folder/long.asm" | grep -c '^# row')" "$(grep -c '^# row' "$board")" "the comments of its board"
 sed 's/JUN here/JUN there ; not here/' "$folder/long.asm" > "$folder/wrong.asm"
-refuses 1 "listing: $folder/wrong.asm: line 201: no 32: there is not defined; here?
+check_rejected 1 "listing: $folder/wrong.asm: line 201: no 32: there is not defined; here?
 listing:     here: JUN there ; not here" ./mcs4 listing "$folder/wrong.asm"
 awk 'BEGIN { for (i = 0; i < 1100; i++) print " DB 1, 2, 3, 4 ; four" }' > "$folder/wrong.asm"
 awk 'BEGIN { for (i = 0; i < 100; i++) print "DB 1, 2, 3, 4" }' >> "$folder/wrong.asm"
-refuses 1 "test: $folder/wrong.asm: line 1171: no 13: a text has at most 16,384 bytes without its comments; this one has 16,800 and passes the limit here
+check_rejected 1 "test: $folder/wrong.asm: line 1171: no 13: a text has at most 16,384 bytes without its comments; this one has 16,800 and passes the limit here
 test:     DB 1, 2, 3, 4" \
     ./mcs4 test "$board" "$folder/wrong.asm" "$folder/marked.test"
 printf ' NOP\n L\303\204M 1 ; \303\244\n' > "$folder/bad.asm"
-refuses 1 "listing: $folder/bad.asm: line 2: no 14: $(printf '\303\204') is not an ASCII character; it can be only in comments
+check_rejected 1 "listing: $folder/bad.asm: line 2: no 14: $(printf '\303\204') is not an ASCII character; it can be only in comments
 listing:      L$(printf '\303\204')M 1 ; $(printf '\303\244')" ./mcs4 listing "$folder/bad.asm"
 printf ' NOP\n \007 ; \007\n' > "$folder/bad.asm"
 verdict "$(outcome ./mcs4 listing "$folder/bad.asm" | sed 1q)" "listing: $folder/bad.asm: line 2: no 14: a control character; only tabs and printable ASCII characters can be sent" "a control character"

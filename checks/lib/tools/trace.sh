@@ -49,16 +49,16 @@ cat > "$folder/trace" <<'trace'
       15  011 C3    BBL 3            acc 3 cy 0  ret 000 000 012
       16  00F FF    DB 0xFF          stops before it: no instruction
 trace
-begins trace < "$folder/trace.txt"
+new_session trace < "$folder/trace.txt"
 cp "$folder/trace.mcs" "$folder/copy.mcs"
 verdict "$(./mcs4 trace "$folder/trace.mcs" 100)" "$(cat "$folder/trace")" "a trace"
 verdict "$(./mcs4 trace "$folder/trace.mcs" 4)" "$(sed 3q "$folder/trace")" "a trace of four cycles"
 verdict "$(./mcs4 trace --last 2 "$folder/trace.mcs" 1000000)" "$(tail -n 3 "$folder/trace")" "the last two instructions before the stop"
-verdict_of_files "$folder/trace.mcs" "$folder/copy.mcs" "a traced session"
-echo 'break 0x004' | goes_on trace
+verdict_of_files "$folder/trace.mcs" "$folder/copy.mcs" "a session is unchanged after a trace"
+echo 'break 0x004' | continue_session trace
 verdict "$(./mcs4 trace --last 1 "$folder/trace.mcs" 1000)" "       1  002 20 65 FIM P0, 0x65     acc 1 cy 0  r0 6 r1 5
        3  004 21    SRC P0           stops before it: break" "the last instruction before a breakpoint"
-echo 'run 2' | goes_on trace
+echo 'run 2' | continue_session trace
 verdict "$(./mcs4 trace "$folder/trace.mcs" 2)" "       0  (the second cycle)         acc 1 cy 0
        1  004 21    SRC P0           acc 1 cy 0" "a trace from the middle of an instruction"
 
@@ -82,33 +82,33 @@ status 0" "a trace with the lines of a script"
 sed 's/$/\r/' < "$folder/source.asm" > "$folder/source_crlf.asm"
 verdict "$(outcome ./mcs4 trace --source "$folder/source_crlf.asm" "$folder/source.mcs" 7)" \
     "$(outcome ./mcs4 trace --source "$folder/source.asm" "$folder/source.mcs" 7)" "a trace with the lines of a source with CRLF"
-verdict_of_files "$folder/source.mcs" "$folder/copy.mcs" "a session that was traced with its source"
-refuses_sources "trace --source PROGRAM $folder/source.mcs 1"
+verdict_of_files "$folder/source.mcs" "$folder/copy.mcs" "a session is unchanged after a trace with its source"
+check_rejected_sources "trace --source PROGRAM $folder/source.mcs 1"
 
 # The error in the arguments is printed before the usage.
 usage="usage: mcs4 trace [-C FOLDER] [--names PROGRAM | --source PROGRAM] [--last N] SESSION CYCLES"
-refuses 2 "trace: --names and --source exclude each other
+check_rejected 2 "trace: --names and --source exclude each other
 $usage" \
     ./mcs4 trace --names "$folder/source.asm" --source "$folder/source.asm" "$folder/source.mcs" 1
 
-misuses "CYCLES: '100001' is not a decimal number from 1 to 100000" ./mcs4 trace "$folder/trace.mcs" 100001
-misuses "N: '0' is not a decimal number from 1 to 10000" ./mcs4 trace --last 0 "$folder/trace.mcs" 10
-refuses 2 "trace: CYCLES is missing
+check_usage_error "CYCLES: '100001' is not a decimal number from 1 to 100000" ./mcs4 trace "$folder/trace.mcs" 100001
+check_usage_error "N: '0' is not a decimal number from 1 to 10000" ./mcs4 trace --last 0 "$folder/trace.mcs" 10
+check_rejected 2 "trace: CYCLES is missing
 $usage" ./mcs4 trace "$folder/trace.mcs"
-refuses 2 "trace: SESSION and CYCLES are missing
+check_rejected 2 "trace: SESSION and CYCLES are missing
 $usage" ./mcs4 trace
-verdict "$(./mcs4 trace "$folder/source.mcs" 40 --source "$folder/source.asm")" "$(./mcs4 trace --source "$folder/source.asm" "$folder/source.mcs" 40)" "an option behind the arguments"
-refuses 2 "trace: CYCLES is missing
+verdict "$(./mcs4 trace "$folder/source.mcs" 40 --source "$folder/source.asm")" "$(./mcs4 trace --source "$folder/source.asm" "$folder/source.mcs" 40)" "an option after the arguments"
+check_rejected 2 "trace: CYCLES is missing
 $usage" ./mcs4 trace --last 3 "$folder/trace.mcs"
-refuses 2 "trace: --last is given twice
+check_rejected 2 "trace: --last is given twice
 $usage" ./mcs4 trace --last 3 --last 4 "$folder/trace.mcs" 40
-refuses 2 "trace: N is missing after --last
+check_rejected 2 "trace: N is missing after --last
 $usage" ./mcs4 trace --last
-refuses 2 "trace: there is no option --first
+check_rejected 2 "trace: there is no option --first
 $usage" ./mcs4 trace --first 3 "$folder/trace.mcs" 40
-refuses 2 "trace: '50' is one argument too many
+check_rejected 2 "trace: '50' is one argument too many
 $usage" ./mcs4 trace "$folder/trace.mcs" 40 50
-refuses 1 "trace: the session $folder/trace.txt was rejected: no 50: not a session file: its size or the name inside it is wrong" ./mcs4 trace "$folder/trace.txt" 1
+check_rejected 1 "trace: the session $folder/trace.txt was rejected: no 50: not a session file: its size or the name inside it is wrong" ./mcs4 trace "$folder/trace.txt" 1
 
 cat > "$folder/trace.txt" <<'script'
 wire
@@ -129,7 +129,7 @@ last:   XCH R11
 .
 script
 sed '1,/^asm$/d; /^\.$/d' < "$folder/trace.txt" > "$folder/trace.asm"
-begins trace < "$folder/trace.txt"
+new_session trace < "$folder/trace.txt"
 verdict "$(outcome ./mcs4 trace --names "$folder/trace.asm" "$folder/trace.mcs" 12)" \
     "       0  000 20 00 FIM P0, 0x00     acc 0 cy 0
        2  002 21    SRC P0           acc 0 cy 0
@@ -142,16 +142,16 @@ verdict "$(outcome ./mcs4 trace --names "$folder/trace.asm" "$folder/trace.mcs" 
        9  FFE BB    XCH R11          acc 0 cy 0  r11 3
       10  FFF 40 20 JUN 0x020        acc 0 cy 0
 status 0" "a trace of ports, a chain, and the last address"
-refuses 1 "trace: the session has another program than $three/three_lamps.asm: 003 has D2, and line 6 makes D1" \
+check_rejected 1 "trace: the session has another program than $three/three_lamps.asm: 003 has D2, and line 6 makes D1" \
     ./mcs4 trace --names $three/three_lamps.asm "$folder/trace.mcs" 12
 
 # Traces a chain whose clock is a line of a RAM chip's port.
 printf 'wire\nrom = [{ chip = 0, port = "0000" }]\nram = [{ bank = 0, chips = 1 }]\nchain = [{ clock = "ram0.0.0", data = "ram0.0.1", chips = 1 }]\n.\nasm\n FIM P0, 0\n SRC P0\n LDM 3\n WMP\n.\n' > "$folder/clocked.txt"
-begins clocked < "$folder/clocked.txt"
+new_session clocked < "$folder/clocked.txt"
 verdict "$(./mcs4 trace "$folder/clocked.mcs" 5 | tail -n 1)" "       4  004 E1    WMP              acc 3 cy 0  out 0.0 3 chain0 1000000000" "a chain that a RAM chip's port clocks"
 # Traces ISZ instructions that jump to themselves, with several registers.
 printf 'wire\nrom = [{ chip = 0, port = "0000" }]\n.\nasm\n FIM P7, 0xE0\none: ISZ R14, one\n FIM P6, 0xE0\ntwo: ISZ R12, two\nend: JUN end\n.\n' > "$folder/stand.txt"
-begins stand < "$folder/stand.txt"
+new_session stand < "$folder/stand.txt"
 verdict "$(./mcs4 trace "$folder/stand.mcs" 15 | cut -c 1-13,36-)" "       0  000  acc 0 cy 0  r14 E
        2  002  acc 0 cy 0  r14 F
        4  002  acc 0 cy 0  r14 0
@@ -162,12 +162,12 @@ verdict "$(./mcs4 trace "$folder/stand.mcs" 15 | cut -c 1-13,36-)" "       0  00
       14  008  acc 0 cy 0" "instructions that jump to themselves"
 # Compares a trace of the calculator with `step` and `state`: the cycles before each instruction, its address, and then accumulator, carry, registers,
 # return addresses, chains and lamps.
-begins steps < $calculator/quotient.txt
+new_session steps < $calculator/quotient.txt
 ./mcs4 keys --until-stop "$folder/steps.mcs" $calculator/board.toml "3*" > "$folder/answers"
-printf 'press 4 3\nrun 899\n' | goes_on steps
+printf 'press 4 3\nrun 899\n' | continue_session steps
 ./mcs4 trace "$folder/steps.mcs" 3000 > "$folder/traced"
-awk 'BEGIN { for (i = 0; i < 3000; i++) print "state\nstep"; print "state" }' | goes_on steps
-cat > "$folder/beside.awk" <<'program'
+awk 'BEGIN { for (i = 0; i < 3000; i++) print "state\nstep"; print "state" }' | continue_session steps
+cat > "$folder/compare.awk" <<'program'
 function row() {
     return now["acc"] " " now["cy"] " " now["r"] " " now["ret"] " " now["chain0"] " " now["chain1"] " " now["lamps"]
 }
@@ -199,5 +199,5 @@ FNR < NR && $2 ~ /^([0-9A-F][0-9A-F][0-9A-F]|\(the)$/ {
 }
 END { printf "%s", (traced == stepped ? "same\n" : "TRACED\n" traced "STEPPED\n" stepped) }
 program
-verdict "$(awk -f "$folder/beside.awk" "$folder/answers" "$folder/traced")" same "a trace beside steps"
+verdict "$(awk -f "$folder/compare.awk" "$folder/answers" "$folder/traced")" same "a trace, compared with steps"
 verdict "$(wc -l < "$folder/traced" | awk '{ print ($1 > 1500) }')" 1 "many instructions in a trace"
