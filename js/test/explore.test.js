@@ -211,7 +211,7 @@ test("a model determines what the display must show, and its errors are reported
 
 test("a model whose command is not allowed is reported as not run, which is not the expected result", () => {
   const createProperty = (text, isSkipped) => (
-    { text, line: 2, isGoal: false, isSkipped, applied: true, states: 0, leftOut: "", chains: 0, found: null });
+    { text, line: 2, isGoal: false, isSkipped, applied: true, states: 0, limits: [], leftOut: "", chains: 0, found: null });
   const createReport = (isSkipped) => ({
     form: "explore 1", names: { properties: "x.props" }, sums: "",
     properties: [createProperty("model ./says", isSkipped), createProperty("never lamp 1 on", false)],
@@ -464,7 +464,8 @@ test("the same seed gives the same counterexample for each slice length", async 
 });
 
 test("the results of a search are described", () => {
-  const property = { text: "never lamp 0 on", line: 1, isGoal: false, applied: true, states: 0, leftOut: "", chains: 0, found: null };
+  const property = { text: "never lamp 0 on", line: 1, isGoal: false, applied: true, states: 0, limits: [], leftOut: "", chains: 0,
+    found: null };
   const found = { test: "", steps: 2, cycles: 1200, seed: 1 };
   const createReport = (...properties) => ({ properties, steps: 2000, states: 3, seconds: 0.5, seeds: [7] });
   const goal = { ...property, isGoal: true };

@@ -99,7 +99,7 @@ test("a question is repeated with a larger bound while there are more states, an
   assert.deepEqual(engine.asked, [[10000, 1], [20000, 1], [40000, 1]]);
   // The question that uses sets of states comes first, the questions about mistakes last.
   assert.deepEqual(seen, [0, 10000, 20000, 0, 0]);
-  const verdict = { kind: "proved", states: 23456, bySets: false, leftOut: "" };
+  const verdict = { kind: "proved", states: 23456, bySets: false, limits: [], leftOut: "" };
   assert.deepEqual(all, [{ text: "never lamp 1 on", line: 2, isGoal: false, verdict }]);
 });
 
@@ -122,7 +122,7 @@ test("seven mistakes are checked for each program: together first, and separatel
   const { made, engine } = await runProofs(() => "", noProperties);
   assert.deepEqual(engine.mistakes, ["code call return ram rom rdr wrr"]);
   assert.deepEqual(kindsOf(made), Array.from({ length: 7 }, () => "proved"));
-  const verdict = { kind: "proved", states: 9, bySets: false, leftOut: "" };
+  const verdict = { kind: "proved", states: 9, bySets: false, limits: [], leftOut: "" };
   assert.deepEqual(made[0], { text: "no code outside the instruction table", line: 0, isGoal: false, verdict });
   // The program jumps into ROM that the board lacks.
   const programWithMistake = { ...noProperties, programText: "        JUN 256\n" };
@@ -138,7 +138,7 @@ test("seven mistakes are checked for each program: together first, and separatel
 
 test("sets of states prove the absence of mistakes, and properties that the search does not decide", async () => {
   const words = "code call return ram rom rdr wrr";
-  const proved = { kind: "proved", states: 5, bySets: true, leftOut: "" };
+  const proved = { kind: "proved", states: 5, bySets: true, limits: [], leftOut: "" };
   const allResult = await runProofs(() => "too many\n", { answerSets: () => "holds 5\n" });
   assert.deepEqual(allResult.engine.mistakes, []);
   assert.deepEqual(allResult.made.map(({ verdict }) => verdict), Array.from({ length: 7 }, () => proved));
@@ -159,7 +159,7 @@ test("each property with a stopwatch is proved separately, and never with sets o
   assert.deepEqual(engine.times, [9, 93, 5, 5]);
   assert.deepEqual(engine.asked, [[10000, 1]]);
   assert.deepEqual(kindsOf(all), ["proved", "found", "proved", "open"]);
-  assert.deepEqual(all[2].verdict, { kind: "proved", states: 7, bySets: false, leftOut: "" });
+  assert.deepEqual(all[2].verdict, { kind: "proved", states: 7, bySets: false, limits: [], leftOut: "" });
   const { text } = all[1].verdict.counterexample;
   assert.match(text, /^test never lamp lit on for 9\n {2}press WALK\n {2}run \d+\n {2}until not lamp lit on within 9\n$/);
 });
@@ -184,7 +184,8 @@ test("an unconfirmed counterexample leaves a property undecided, and an unexpect
 });
 
 test("a verdict remains valid while its property, the program and the board are unchanged", () => {
-  const proved = { text: "never lamp 1 on", line: 2, isGoal: false, verdict: { kind: "proved", states: 3, bySets: false, leftOut: "" } };
+  const proved = { text: "never lamp 1 on", line: 2, isGoal: false,
+    verdict: { kind: "proved", states: 3, bySets: false, limits: [], leftOut: "" } };
   const open = { ...proved, verdict: { kind: "open", reason: "why" } };
   const changeTexts = (change) => ({ ...texts, ...change });
   const changeProperties = (text) => changeTexts({ propertiesText: text });
@@ -270,8 +271,8 @@ test("cancelling ends the worker at once; a silent worker is not ended", async (
 
 test("verdicts are described", () => {
   const found = { steps: 2, cycles: 1204, isAllowed: true, isTest: true, text: "", linesBefore: "" };
-  const proved = { kind: "proved", states: 96937, bySets: false, leftOut: '"once"' };
-  const verdicts = [{ ...proved, states: 1, bySets: true, leftOut: "" }, proved, { kind: "found", counterexample: found },
+  const proved = { kind: "proved", states: 96937, bySets: false, limits: [], leftOut: '"once"' };
+  const verdicts = [{ ...proved, states: 1, bySets: true, limits: [], leftOut: "" }, proved, { kind: "found", counterexample: found },
     { kind: "open", reason: "why" }];
   const all = verdicts.map((verdict, at) => ({ text: `p${at}`, line: at + 1, isGoal: false, verdict }));
   const goals = all.map((propertyVerdict) => ({ ...propertyVerdict, isGoal: true }));

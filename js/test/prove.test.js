@@ -393,8 +393,8 @@ test("mistakes are detected before the instruction that makes them", () => {
 test("verdicts are printed as TAP, and determine the exit status", () => {
   const property = { text: "never # on", isGoal: false, line: 3 };
   const goal = { ...property, text: "reach it", isGoal: true };
-  const provedVerdict = { kind: "proved", states: 96937, bySets: false, leftOut: "" };
-  const setVerdict = { kind: "proved", states: 23, bySets: true, leftOut: '"once" and "after press"' };
+  const provedVerdict = { kind: "proved", states: 96937, bySets: false, limits: [], leftOut: "" };
+  const setVerdict = { kind: "proved", states: 23, bySets: true, limits: [], leftOut: '"once" and "after press"' };
   const openVerdict = { kind: "open", reason: "why" };
   const foundVerdict = { kind: "found",
     counterexample: { steps: 1, cycles: 1200, isAllowed: true, isTest: true, text: "test x\n  run 1\n" } };

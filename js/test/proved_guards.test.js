@@ -146,7 +146,7 @@ test("presses that no read detects are not a counterexample", async () => {
   const [open] = await findVerdicts(text, new FixedAnswerEngine("may fail 0 8\n"));
   assert.deepEqual(open, { kind: "open", reason: "it can become true before the program has read each key up and then down" });
   const [proved] = await findVerdicts(text, new FixedAnswerEngine("holds 12\n"));
-  assert.deepEqual(proved, { kind: "proved", states: 12, bySets: false, leftOut: "" });
+  assert.deepEqual(proved, { kind: "proved", states: 12, bySets: false, limits: [], leftOut: "" });
   const [found] = await findVerdicts("lamp go on only after press START, press START\n",
     new FixedAnswerEngine(`may fail 0 8${" 1".repeat(16)}\n`));
   assert.equal(found.kind, "found");

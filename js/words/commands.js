@@ -178,7 +178,7 @@ export const COMMAND_WORDS = {
       that \`mcs4 test\` has seen fail. The output is TAP, a line for each property, and then which parts of the program were run and
       which were not.
 
-      A proof first gets a tenth of the time: "# proved for all inputs" says that a property needs no search.
+      A proof first gets a tenth of the time: "# proved for .." says that a property needs no search.
 
       Ctrl-C ends the search early, and reports what was found so far. Each job is a separate search, with the seeds SEED, SEED + 1 and so
       on. The same seed gives the same walks.
@@ -397,9 +397,10 @@ ${SERVES_LINES}`,
     summary: "proves that properties of a program hold for all inputs",
     text: `
       Searches all states that the program can reach from power-on, whatever its keys and its TEST pin do, at any moments. If no state
-      breaks a property, the property is proved: for all inputs, at every moment. A counterexample is minimised, and printed as a test
-      that \`mcs4 test\` has seen fail. The output is TAP, a line for each property. PROPERTIES is a text like that of \`mcs4 explore\`;
-      the manual's chapter "Proving it for all inputs" says which of its lines can be proved.
+      breaks a property, the property is proved: for all inputs, at every moment. If this decides nothing, searches again with only the
+      inputs that \`press\`, \`test\` and \`together\` allow. A counterexample is minimised, and printed as a test that \`mcs4 test\` has
+      seen fail. The output is TAP, a line for each property. PROPERTIES is a text like that of \`mcs4 explore\`; the manual's chapter
+      "Proving it for all inputs" says which of its lines can be proved.
 
       The search stops at N states. It needs some 100 bytes for each, and more for boards with more chips. Ctrl-C ends it.
 

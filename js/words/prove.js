@@ -5,6 +5,10 @@ export const READS_TOO_MUCH = "its condition uses too many places at once";
 /** @type {(place: string) => string} */
 export const dependsOnInput = (place) => `its condition uses ${place}, an input`;
 
+// --- prove/input_limits.js ---
+/** @type {(count: number) => string} */
+export const togetherLine = (count) => `together ${count}`;
+
 // --- prove/question.js ---
 /** @type {(form: string) => string} */
 export const unprovableForm = (form) => `a property of the form "${form}" cannot be proved yet`;
@@ -56,10 +60,19 @@ export const SETS = "sets of states";
 export const notDecided = (reason) => `TODO not decided: ${reason}`;
 /** @type {(guards: string) => string} */
 const evenWithout = (guards) => (guards ? `, even without ${guards}` : "");
-/** @type {(states: string, leftOut: string) => string} `leftOut` are the guards that the proof leaves out, "" for none */
-export const proved = (states, leftOut) => `proved for all inputs (${states})${evenWithout(leftOut)}`;
-/** @type {(states: string, leftOut: string) => string} */
-export const neverReached = (states, leftOut) => `never reached, for all inputs (${states})${evenWithout(leftOut)}`;
+/** @type {(words: string[]) => string} returns `"a"`, `"a" and "b"` or `"a", "b" and "c"` */
+const quotedList = (words) => words.map((word) => `"${word}"`).join(", ").replace(/, (?=[^,]*$)/, " and ");
+/** @type {(limits: string[]) => string} `limits` are the lines of the text whose limits a proof needs, [] for none */
+const forInputs = (limits) => (limits.length > 0 ? `for the inputs of ${quotedList(limits)}` : "for all inputs");
+/**
+ * What a proof covers: `limits` as above; `leftOut` are the guards that the proof leaves out, "" for none.
+ * @typedef {{ limits: string[], leftOut: string }} Scope
+ */
+/** @type {(states: string, scope: Scope) => string} */
+export const proved = (states, { limits, leftOut }) => `proved ${forInputs(limits)} (${states})${evenWithout(leftOut)}`;
+/** @type {(states: string, scope: Scope) => string} */
+export const neverReached = (states, { limits, leftOut }) =>
+  `never reached, ${forInputs(limits)} (${states})${evenWithout(leftOut)}`;
 /** @type {(steps: string) => string} */
 export const brokenBy = (steps) => `broken, ${steps}`;
 /** @type {(steps: string) => string} */
@@ -105,8 +118,8 @@ export const AT_END = "at the end of Tests";
 // --- words/prove_results.js ---
 /** The verdict on a property, in one or two words. */
 export const MARKS = { proved: "proved", never: "never reached", fails: "can fail", reached: "reached", open: "not decided" };
-/** @type {(states: string, leftOut: string) => string} */
-export const forAllInputs = (states, leftOut) => `for all inputs: ${states}${evenWithout(leftOut)}`;
+/** @type {(states: string, scope: Scope) => string} */
+export const provedFor = (states, { limits, leftOut }) => `${forInputs(limits)}: ${states}${evenWithout(leftOut)}`;
 export const CANCELLED = "Cancelled: ";
 /** @type {(count: string) => string} */
 export const countProved = (count) => `${count} proved`;

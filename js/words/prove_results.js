@@ -33,7 +33,7 @@ export function markOf({ isGoal, verdict }) {
  */
 export function describeVerdict({ isGoal, verdict }) {
   if (verdict.kind === "open") return verdict.reason;
-  if (verdict.kind === "proved") return say.forAllInputs(formatStateCount(verdict), verdict.leftOut);
+  if (verdict.kind === "proved") return say.provedFor(formatStateCount(verdict), verdict);
   const { steps, cycles } = verdict.counterexample;
   return say.foundBy(formatSteps(steps), formatNumber(cycles), isGoal);
 }

@@ -138,6 +138,15 @@ status 1" "a program with mistakes"
     verdict "$(outcome env MCS4_PROVE="$folder/prover" ./mcs4 prove examples/die.txt examples/die.txt "$folder/faces.props" | remarks)" \
         "TODO not decided: the bench does not confirm the counterexample that was found
 status 3" "an invalid counterexample"
+    # Checks that the question is repeated with the limits of the text, by a prover that decides only such questions.
+    printf '#!/bin/sh\nif [ "$(grep -c -x -e only -e "press 0 0" -e test -e "together 1")" = 3 ]; then echo holds 7; else echo gave up; fi\n' \
+        > "$folder/prover"
+    chmod +x "$folder/prover"
+    printf 'press 1\nnever lamp open on\nreach lamp open on\n' > "$folder/limited.props"
+    verdict "$(outcome env MCS4_PROVE="$folder/prover" ./mcs4 prove examples/lock/board.toml examples/lock/lock.asm "$folder/limited.props" | remarks)" \
+        'proved for the inputs of "press" (7 states)
+never reached, for the inputs of "press" (7 states)
+status 1' "the inputs that a text allows"
     prover_that 'echo no 90; exit 3'
     verdict "$(outcome env MCS4_PROVE="$folder/prover" ./mcs4 prove examples/die.txt examples/die.txt "$folder/faces.props" | remarks)" \
         "TODO not decided: memory is full

@@ -26,6 +26,7 @@ import { noKeyMessage } from "../../words/testing.js";
  * @typedef {{ line: number, column: number, words: string }} PropertyError
  *
  * A campaign: the parsed contents of a properties text. Times are in cycles.
+ * - `inputWords`: the first words of the lines that name the inputs, `press` and `test`; [] if the inputs are those of the front panel;
  * - `maxKeysDown`: the maximum number of keys that are down at the same time; `canReset`: true if the search can cut the power;
  * - `minWait`, `maxWait`: the range of waits between two changes;
  * - `maxHoldTime`, `minReleaseTime`: the maximum time for which an input stays down, and the minimum time for which it stays up;
@@ -35,9 +36,10 @@ import { noKeyMessage } from "../../words/testing.js";
  * - `notedPlaces`: the `trace` places whose values distinguish states;
  * - `from`: the start state, null for power-on; `leadingLines`: the test lines that lead to the start state; `calls`: the minimum and the
  *   maximum number of calls that have not returned in the start state.
- * @typedef {{ inputs: Input[], maxKeysDown: number, canReset: boolean, minWait: number, maxWait: number, maxHoldTime: number,
- *   minReleaseTime: number, checkStart: number, downTime: number, upTime: number, notedPlaces: string[], properties: Property[],
- *   command: string, from: StartState | null, leadingLines: string[], calls: { min: number, max: number } }} Campaign
+ * @typedef {{ inputs: Input[], inputWords: string[], maxKeysDown: number, canReset: boolean, minWait: number, maxWait: number,
+ *   maxHoldTime: number, minReleaseTime: number, checkStart: number, downTime: number, upTime: number, notedPlaces: string[],
+ *   properties: Property[], command: string, from: StartState | null, leadingLines: string[],
+ *   calls: { min: number, max: number } }} Campaign
  *
  * The start state of a search: its name, the test file that saves it ("" for the tests that belong to the program), and the number of the
  * `from` line.
@@ -74,6 +76,8 @@ class PropertiesReader {
     this.instructions = instructions;
     /** @type {Input[]} */
     this.inputs = [];
+    /** The first words of the lines that name the inputs. */
+    this.inputWords = new Set();
     /** @type {Property[]} */
     this.properties = [];
     /** @type {string[]} */
@@ -183,10 +187,12 @@ function parseTwoTimes(words, syntax) {
  */
 const SETTING_PARSERS = {
   press: (reader, words) => {
+    reader.inputWords.add("press");
     if (words.length === 0) fail(say.PRESS_SYNTAX);
     for (const word of words) reader.addInput(reader.findInput(word));
   },
   test: (reader, words) => {
+    reader.inputWords.add("test");
     if (words.length > 0) fail(say.TEST_SYNTAX);
     reader.addInput(createTestInput(reader.names.face));
   },
@@ -436,11 +442,10 @@ function hasKeysForModel({ command, inputs }) {
  * Adds all inputs of the front panel if no line names an input, and the lamps if no line names a place to note. Returns whether the search
  * can change an input or cut the power.
  * @param {PropertiesReader} reader
- * @param {string} text
  */
-function addDefaults(reader, text) {
+function addDefaults(reader) {
   const { face } = reader.names;
-  if (!/^[ \t]*(press|test)\b/m.test(text)) {
+  if (reader.inputWords.size === 0) {
     for (const input of listKeyInputs(face)) reader.addInput(input);
     if (face.test) reader.addInput(createTestInput(face));
   }
@@ -475,7 +480,7 @@ export function readCampaign(text, subject, needsInputs = true) {
     }
   });
   const last = Math.max(1, text.trimEnd().split("\n").length);
-  if (!addDefaults(reader, text) && needsInputs && errors.length === 0) {
+  if (!addDefaults(reader) && needsInputs && errors.length === 0) {
     errors.push({ line: last, column: -1, words: say.NOTHING_CHANGES });
   }
   if (errors.length === 0 && !hasKeysForModel(reader)) {
@@ -484,8 +489,8 @@ export function readCampaign(text, subject, needsInputs = true) {
   }
   const { inputs, maxKeysDown, canReset, minWait, maxWait, maxHoldTime, minReleaseTime } = reader;
   const { checkStart, downTime, upTime, notedPlaces, command } = reader;
-  const campaign = { inputs, maxKeysDown, canReset, minWait, maxWait, maxHoldTime, minReleaseTime, checkStart, downTime, upTime,
-    notedPlaces, command, from: reader.from && { ...reader.from, line: fromLine }, leadingLines: [], calls: { min: 0, max: 0 },
-    properties: [...reader.properties, ...standardProperties()] };
+  const campaign = { inputs, inputWords: [...reader.inputWords].sort(), maxKeysDown, canReset, minWait, maxWait, maxHoldTime,
+    minReleaseTime, checkStart, downTime, upTime, notedPlaces, command, from: reader.from && { ...reader.from, line: fromLine },
+    leadingLines: [], calls: { min: 0, max: 0 }, properties: [...reader.properties, ...standardProperties()] };
   return { campaign, errors };
 }

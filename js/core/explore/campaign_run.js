@@ -206,7 +206,7 @@ export class CampaignRun {
         text: property.text, line: property.line, isGoal: property.isGoal, isSkipped: property.form === "model" && this.model === null,
         applied: search.appliedProperties.has(at) || property.isGoal,
         chains: this.model && at === this.modelIndex ? this.model.sequenceCount : 0,
-        states: proof.states[at], leftOut: nameOmittedGuards(property), found: this.counterexamples[at],
+        states: proof.states[at], limits: proof.limits[at], leftOut: nameOmittedGuards(property), found: this.counterexamples[at],
       })),
     };
   }

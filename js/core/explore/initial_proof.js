@@ -1,6 +1,8 @@
-// Asks the prover before the search starts, because a property that is proved for all inputs needs no search. The prover gets a part of the
-// search time. Each round asks about all properties that are not proved yet, with twice the previous bound on the number of states.
+// Asks the prover before the search starts, because a property that is proved needs no search: for all inputs or, if this fails, for the
+// inputs of the search. The prover gets a part of the search time. Each round asks about all properties that are not proved yet, with twice
+// the previous bound on the number of states.
 
+import { findInputLimits } from "../prove/input_limits.js";
 import { listMistakes } from "../prove/mistakes.js";
 import {
   createQuestion, listBounds, combineQuestions, mistakeQuestion, needsSeparateQuestion, questionText, readAnswer,
@@ -33,6 +35,10 @@ export class InitialProof {
     this.timeLeft = subject.engine.prove ? milliseconds : 0;
     /** The number of states in the proof of each property; 0 for unproved properties. */
     this.states = campaign.properties.map(() => 0);
+    /** @type {string[][]} the lines of the text whose limits on the inputs the proof of each property needs */
+    this.limits = campaign.properties.map(() => []);
+    /** The limits that the text sets on the inputs; null if a proof cannot use its limits. */
+    this.inputLimits = findInputLimits(campaign, subject.names.board);
     const separateQuestions = this.timeLeft > 0 ? createQuestions(subject, campaign) : [];
     const combinableQuestions = separateQuestions.filter(({ properties: [at], question }) => (
       !needsSeparateQuestion(campaign.properties[at], question)));
@@ -56,14 +62,15 @@ export class InitialProof {
 
   /** Asks the next question. Returns the indices of the properties that the answer proves. */
   askNextQuestion() {
-    const { properties, question } = this.questions[this.askedCount];
+    const asked = this.questions[this.askedCount];
+    const { properties, question } = asked;
     const startTime = performance.now();
     const answer = this.askProver(question);
     this.lastDuration = performance.now() - startTime;
     this.timeLeft -= this.lastDuration;
-    if (answer.kind !== "more") this.questions.splice(this.askedCount, 1);
-    else this.askedCount += 1;
-    if (answer.kind === "holds") this.closeProved(properties, answer.states);
+    if (answer.kind === "more") this.askedCount += 1;
+    else this.questions.splice(this.askedCount, 1, ...(answer.kind === "fails" ? this.createLimitedQuestions(asked) : []));
+    if (answer.kind === "holds") this.closeProved(properties, answer.states, question.inputLimits);
     if (answer.kind === "full" || answer.kind === "lost") this.questions = [];
     if (this.askedCount >= this.questions.length) this.raiseBound();
     return answer.kind === "holds" ? properties : [];
@@ -81,12 +88,26 @@ export class InitialProof {
   }
 
   /**
-   * Removes the questions about proved properties.
+   * Returns the question about the same property with limits on the inputs; [] if there are no limits, if the question already has them, or
+   * if it combines several others.
+   * @param {PropertyQuestion} asked
+   */
+  createLimitedQuestions({ properties, question }) {
+    const { inputLimits } = this;
+    return inputLimits && !question.inputLimits && properties.length === 1 ? [{ properties, question: { ...question, inputLimits } }] : [];
+  }
+
+  /**
+   * Stores a proof and removes the questions about the proved properties.
    * @param {number[]} properties
    * @param {number} states
+   * @param {import("../prove/input_limits.js").InputLimits | null} inputLimits
    */
-  closeProved(properties, states) {
-    for (const at of properties) this.states[at] = states;
+  closeProved(properties, states, inputLimits) {
+    for (const at of properties) {
+      this.states[at] = states;
+      this.limits[at] = inputLimits ? inputLimits.words : [];
+    }
     this.questions = this.questions.filter((propertyQuestion) => propertyQuestion.properties.some((at) => this.states[at] === 0));
   }
 

@@ -16,11 +16,11 @@ import { neverReached, proved } from "../../words/prove.js";
  * @typedef {{ test: string, steps: number, cycles: number, seed: number }} Counterexample
  *
  * The result for a property. `isSkipped`: true if the property is a model whose command was not run. `applied`: true if an event in the
- * search was relevant to the property; always true for a goal. `states`: the number of states in the proof for all inputs, 0 without a
- * proof. `leftOut`: the guards that the proof does not consider. `chains`: for a model, the number of key sequences that were compared.
- * `found`: the counterexample, null for none.
- * @typedef {{ text: string, line: number, isGoal: boolean, isSkipped: boolean, applied: boolean, states: number, leftOut: string,
- *   chains: number, found: Counterexample | null }} PropertyResult
+ * search was relevant to the property; always true for a goal. `states`: the number of states in the proof, 0 without a proof. `limits`:
+ * the lines of the text whose limits on the inputs the proof needs, [] for a proof for all inputs. `leftOut`: the guards that the proof
+ * does not consider. `chains`: for a model, the number of key sequences that were compared. `found`: the counterexample, null for none.
+ * @typedef {{ text: string, line: number, isGoal: boolean, isSkipped: boolean, applied: boolean, states: number, limits: string[],
+ *   leftOut: string, chains: number, found: Counterexample | null }} PropertyResult
  *
  * A report. `names` are the names of the files, `sums` are their checksums, and `steps` and `states` are the numbers of steps and states so
  * far. `covered` is the executed code, in the text format of Coverage in search_coverage.js. `isStopped` is true if the user stopped the
@@ -50,6 +50,17 @@ function pickShorter(first, second) {
 }
 
 /**
+ * Returns the proof in one of several results: if possible, a proof for all inputs.
+ * @param {PropertyResult[]} results
+ * @returns {Pick<PropertyResult, "states" | "limits">}
+ */
+function pickProof(results) {
+  // The reports of older versions have no limits.
+  const proofs = results.filter(({ states }) => states > 0).map(({ states, limits = [] }) => ({ states, limits }));
+  return proofs.find(({ limits }) => limits.length === 0) || proofs[0] || { states: 0, limits: [] };
+}
+
+/**
  * Joins the reports of one campaign; returns null if the reports belong to different campaigns.
  * @param {Report[]} reports
  * @returns {Report | null}
@@ -69,7 +80,7 @@ export function joinReports(reports) {
       const results = reports.map(({ properties }) => properties[at]);
       return {
         ...property, isSkipped: results.every(({ isSkipped }) => isSkipped), applied: results.some(({ applied }) => applied),
-        states: Math.max(...results.map(({ states }) => states)),
+        ...pickProof(results),
         chains: results.reduce((sum, { chains }) => sum + chains, 0),
         found: results.map(({ found }) => found).reduce(pickShorter, null),
       };
@@ -90,9 +101,10 @@ export function hasExpectedResult({ isGoal, isSkipped, found }) {
  * @param {PropertyResult} property
  * @param {Report} report
  */
-export function formatRemark({ isGoal, applied, states, leftOut, chains, found }, report) {
+export function formatRemark(property, report) {
+  const { isGoal, applied, states, chains, found } = property;
   if (found) return `${isGoal ? "reached" : "broken"}, ${formatSteps(found.steps)}`;
-  if (states > 0) return (isGoal ? neverReached : proved)(formatQuantity(states, "state"), leftOut);
+  if (states > 0) return (isGoal ? neverReached : proved)(formatQuantity(states, "state"), property);
   if (chains > 0) return say.chainsOfKeys(formatNumber(chains));
   return applied ? say.stepsAndStates(formatNumber(report.steps), formatNumber(report.states)) : say.NEVER_LOOKED_AT;
 }

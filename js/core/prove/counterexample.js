@@ -134,8 +134,8 @@ class Replay {
    * @returns {Violation | null}
    */
   findViolation(values) {
-    const { subject, freeCampaign, needsFullWalk } = this;
-    const { steps, time, file, remainingCycles } = replayValues(subject, freeCampaign.inputs, values);
+    const { subject, allowedCampaign, freeCampaign, needsFullWalk } = this;
+    const { steps, time, file, remainingCycles } = replayValues(subject, freeCampaign.inputs, values, allowedCampaign);
     if (this.excludesMistake) {
       const cycles = countCyclesToMistake(subject, file, this.mistake, remainingCycles);
       return cycles < 0 ? null : { property: 0, steps, time: time + cycles };
@@ -172,18 +172,22 @@ class Replay {
   }
 
   /**
-   * Minimises a violation if this is possible. Resolves to the minimised or to the original violation.
+   * Minimises a violation if this is possible. If the properties text allows the violation, it must also allow the minimised one. Resolves
+   * to the minimised or to the original violation.
    * @param {Violation} violation
    * @param {() => Promise<void>} yieldToMessages
    */
   async minimise(violation, yieldToMessages) {
-    const { subject, freeCampaign } = this;
+    const { subject, freeCampaign, allowedCampaign: { maxKeysDown, maxHoldTime, minReleaseTime } } = this;
+    const isAllowed = this.isAllowed(violation);
+    const campaign = isAllowed ? { ...freeCampaign, maxKeysDown, maxHoldTime, minReleaseTime } : freeCampaign;
     const steps = separateSimultaneousChanges(violation.steps);
     const isLong = violation.time > MAX_MINIMISED_CYCLES && freeCampaign.properties.some((property) => listAddresses(property).length > 0);
     if (!steps || this.excludesMistake || isLong) return violation;
     const start = this.createStart(subject.file);
-    const minimiser = new Minimiser(subject, freeCampaign, start, { ...violation, steps }, MINIMISING_CYCLES, yieldToMessages);
-    return await minimiser.minimise() || violation;
+    const minimiser = new Minimiser(subject, campaign, start, { ...violation, steps }, MINIMISING_CYCLES, yieldToMessages);
+    const minimised = await minimiser.minimise();
+    return minimised && (!isAllowed || this.isAllowed(minimised)) ? minimised : violation;
   }
 
   /**

@@ -14,6 +14,7 @@ import { createInput, createTestInput, listKeyInputs } from "../explore/search_i
 import { DEFAULT_PAUSE } from "./question.js";
 
 /**
+ * @typedef {import("../explore/campaign.js").Campaign} Campaign
  * @typedef {import("../explore/search_inputs.js").Input} Input
  * @typedef {import("../explore/subject.js").Subject} Subject
  * @typedef {import("../explore/walks.js").WalkStep} WalkStep
@@ -40,15 +41,20 @@ export function listInputs({ names: { face, board } }) {
   return [...keys, createTestInput(face)];
 }
 
-/** A session whose inputs are set so that the program reads given values. */
+/** A session whose inputs are set so that the program reads given values. If possible, it presses only keys that a campaign allows. */
 class ValueReplay {
   /**
    * @param {Subject} subject
    * @param {Input[]} inputs
+   * @param {Campaign} campaign
    */
-  constructor(subject, inputs) {
+  constructor(subject, inputs, campaign) {
     this.subject = subject;
     this.inputs = inputs;
+    this.maxKeysDown = campaign.maxKeysDown;
+    const allowedLines = new Set(campaign.inputs.map(({ downLine }) => downLine));
+    /** For each input, whether the campaign allows it. */
+    this.allowedInputs = inputs.map(({ downLine }) => allowedLines.has(downLine));
     this.file = subject.file.slice();
     /** For each input, whether it is down now. */
     this.downInputs = inputs.map(({ isDown }) => isDown);
@@ -104,7 +110,8 @@ class ValueReplay {
   }
 
   /**
-   * Sets the keys so that the program reads a value at the selected port. For each 1 bit, presses a key in a driven row.
+   * Sets the keys so that the program reads a value at the selected port. For each 1 bit, presses a key in a driven row, if possible an
+   * allowed one. Releases keys before it presses others.
    * @param {number} value
    */
   setKeys(value) {
@@ -114,12 +121,31 @@ class ValueReplay {
     const port = `rom${parseInt(srcBytes[0][0], 16)}`;
     const drivenRows = indices(rows).filter((row) => chains[matrix.chain][matrix.first + row] === "1");
     const wantedLines = new Set(indices(4).filter((line) => Math.floor(value / 2 ** line) % 2 === 1));
+    /** @type {number[]} the keys that the read detects */
+    const visibleKeys = [];
+    /** @type {number[]} */
+    const wantedKeys = [];
     for (const column of indices(columns)) {
       const [chip, line] = matrix.columns[column].split(".");
       if (chip !== port) continue;
-      const isWanted = wantedLines.delete(Number(line));
-      drivenRows.forEach((row, at) => this.moveInput(row * columns + column, isWanted && at === 0));
+      const keys = drivenRows.map((row) => row * columns + column);
+      visibleKeys.push(...keys);
+      if (wantedLines.delete(Number(line))) wantedKeys.push(...(keys.filter((key) => this.allowedInputs[key]).concat(keys).slice(0, 1)));
     }
+    for (const key of visibleKeys) if (!wantedKeys.includes(key)) this.moveInput(key, false);
+    this.releaseSurplusKeys(wantedKeys);
+    for (const key of wantedKeys) this.moveInput(key, true);
+  }
+
+  /**
+   * Releases keys that the read does not detect, as long as too many keys would be down after some keys are pressed.
+   * @param {number[]} wantedKeys the keys to press
+   */
+  releaseSurplusKeys(wantedKeys) {
+    const otherKeys = indices(this.inputs.length).filter((index) => (
+      this.inputs[index].isKey && this.downInputs[index] && !wantedKeys.includes(index)));
+    const surplus = otherKeys.length + wantedKeys.length - this.maxKeysDown;
+    for (const key of otherKeys.slice(0, Math.max(0, surplus))) this.moveInput(key, false);
   }
 
   /**
@@ -159,11 +185,12 @@ class ValueReplay {
  * @param {Subject} subject
  * @param {Input[]} inputs all inputs of the board
  * @param {number[]} values
+ * @param {Campaign} campaign the campaign whose inputs the steps use, if possible
  * @returns {{ steps: WalkStep[], time: number, file: Uint8Array, remainingCycles: number }} the steps; the cycles up to the last step; the
  *   session file after the last step; and the number of cycles after the last step, in which the violation must happen
  */
-export function replayValues(subject, inputs, values) {
-  const replay = new ValueReplay(subject, inputs);
+export function replayValues(subject, inputs, values, campaign) {
+  const replay = new ValueReplay(subject, inputs, campaign);
   if (replay.readAddresses.length <= MAX_ENABLED_BREAKPOINTS) {
     replay.serve(replay.readAddresses.map((address) => `break ${address}\n`).join(""));
   }

@@ -1,10 +1,13 @@
 // Decides properties one after the other: asks the prover, and derives a verdict from its answers. The properties of the text come first.
-// After them come the common mistakes, for which every program is checked. Callbacks ask the prover and confirm counterexamples.
+// After them come the common mistakes, for which every program is checked. The prover is asked for all inputs first. If this decides
+// nothing, it is asked with the limits that the text sets on the inputs. Callbacks ask the prover and confirm counterexamples.
 
 import { formatSteps } from "../explore/report.js";
 import { replayCounterexample } from "./counterexample.js";
+import { findInputLimits } from "./input_limits.js";
+import { JointQuestion } from "./joint_question.js";
 import { listMistakes } from "./mistakes.js";
-import { createQuestion, combineQuestions, nameOmittedGuards, mistakeQuestion, needsCounting, needsSeparateQuestion } from "./question.js";
+import { createQuestion, nameOmittedGuards, mistakeQuestion, needsCounting, needsSeparateQuestion } from "./question.js";
 import * as say from "../../words/prove.js";
 
 /**
@@ -32,17 +35,25 @@ import * as say from "../../words/prove.js";
 /**
  * The answers to a combined question that also apply to each of its properties, because a search for one property visits the same states in
  * the same order.
+ * @type {Set<Answer["kind"]>}
  */
-const FINAL_ANSWERS = new Set(["more", "full"]);
+const FINAL_ANSWERS = new Set(["holds", "more", "full"]);
+/**
+ * The answers to the question about all common mistakes that also apply to each of them.
+ * @type {Set<Answer["kind"]>}
+ */
+const FINAL_MISTAKE_ANSWERS = new Set(["holds", "more", "full", "lost"]);
 
 /**
  * Returns the verdict that a property is proved.
  * @param {Property} property
  * @param {number} states
  * @param {boolean} bySets
+ * @param {string[]} limits the lines of the text whose limits on the inputs the proof needs
  * @returns {Verdict}
  */
-const createProvedVerdict = (property, states, bySets) => ({ kind: "proved", states, bySets, leftOut: nameOmittedGuards(property) });
+const createProvedVerdict = (property, states, bySets, limits) => (
+  { kind: "proved", states, bySets, limits, leftOut: nameOmittedGuards(property) });
 
 /**
  * Returns the reason why a property is not decided when the bench does not confirm its counterexample.
@@ -67,14 +78,17 @@ export class PropertyJudge {
     this.textProperties = campaign.properties.filter(({ line }) => line > 0)
       .map((property) => ({ property, propertyQuestion: createQuestion(property, campaign, subject) }));
     this.mistakes = listMistakes();
+    /** The limits that the text sets on the inputs; null if a proof cannot use its limits. */
+    this.inputLimits = findInputLimits(campaign, subject.names.board);
     /** The number of properties and common mistakes that have a verdict. */
     this.judgedCount = 0;
-    /** @type {Answer | null} the answer about all combined questions; null before the prover was asked */
-    this.jointAnswer = null;
+    /** The questions about properties that can be combined into one. */
+    this.jointQuestion = new JointQuestion(this.textProperties.flatMap(({ property, propertyQuestion: { question } }) => (
+      !question || needsSeparateQuestion(property, question) ? [] : [question])), FINAL_ANSWERS, calls.ask);
     /** @type {Verdict | null} the verdict, proved by sets of states, that the program makes no common mistake; null if it is not proved */
     this.noMistakeVerdict = null;
-    /** @type {Answer | null} the answer about all common mistakes together; null before the prover was asked */
-    this.anyMistakeAnswer = null;
+    /** The question about all common mistakes. */
+    this.anyMistakeQuestion = new JointQuestion(this.mistakes.map(({ word }) => mistakeQuestion([word])), FINAL_MISTAKE_ANSWERS, calls.ask);
   }
 
   /** The number of properties and common mistakes. */
@@ -89,12 +103,6 @@ export class PropertyJudge {
   textOf(index) {
     const { textProperties, mistakes } = this;
     return (index < textProperties.length ? textProperties[index] : mistakes[index - textProperties.length]).property.text;
-  }
-
-  /** The questions that can be combined into one. */
-  get jointQuestions() {
-    return this.textProperties.flatMap(({ property, propertyQuestion: { question } }) => (
-      !question || needsSeparateQuestion(property, question) ? [] : [question]));
   }
 
   /**
@@ -117,7 +125,9 @@ export class PropertyJudge {
    */
   async judgeProperty({ property, propertyQuestion }) {
     if (!propertyQuestion.question) return { property, verdict: { kind: "open", reason: propertyQuestion.reason } };
-    return { property, verdict: await this.judge(property, propertyQuestion.question) };
+    const verdict = await this.judge(property, propertyQuestion.question, async (question) => (
+      this.createVerdict(property, question, await this.askAbout(property, question), this.campaign, "")));
+    return { property, verdict };
   }
 
   /**
@@ -127,14 +137,15 @@ export class PropertyJudge {
    * @returns {Promise<JudgedProperty>}
    */
   async judgeMistake({ property, word }) {
-    const question = mistakeQuestion([word]);
-    const anyMistakeQuestion = mistakeQuestion(this.mistakes.map((anyMistake) => anyMistake.word));
-    if (this.judgedCount === this.textProperties.length) this.noMistakeVerdict = await this.proveBySets(property, anyMistakeQuestion);
+    const { anyMistakeQuestion } = this;
+    if (this.judgedCount === this.textProperties.length) {
+      this.noMistakeVerdict = await this.proveBySets(property, anyMistakeQuestion.question);
+    }
     if (this.noMistakeVerdict) return { property, verdict: this.noMistakeVerdict };
-    if (!this.anyMistakeAnswer) this.anyMistakeAnswer = await this.calls.ask(anyMistakeQuestion);
-    const answer = this.anyMistakeAnswer.kind === "fails" ? await this.calls.ask(question) : this.anyMistakeAnswer;
-    const verdict = await this.createVerdict(property, answer, { ...this.campaign, properties: [property] }, word);
-    return { property, verdict: await this.retryOpenVerdict(property, verdict, question) };
+    const campaign = { ...this.campaign, properties: [property] };
+    const verdict = await this.judge(property, mistakeQuestion([word]), async (question) => (
+      this.createVerdict(property, question, await anyMistakeQuestion.askAbout(question), campaign, word)));
+    return { property, verdict };
   }
 
   /**
@@ -147,7 +158,7 @@ export class PropertyJudge {
   async proveBySets(property, question) {
     if (needsCounting(question)) return null;
     const answer = await this.calls.askBySets(question);
-    return answer.kind === "holds" ? createProvedVerdict(property, answer.states, true) : null;
+    return answer.kind === "holds" ? createProvedVerdict(property, answer.states, true, []) : null;
   }
 
   /**
@@ -168,26 +179,33 @@ export class PropertyJudge {
   }
 
   /**
-   * Asks the prover about a property. Resolves to the verdict.
+   * Decides a property: for all inputs by a search, then by sets of states, and then for the inputs that the text allows. Each step is done
+   * only if the steps before it leave the property undecided.
    * @param {Property} property
-   * @param {Question} question
+   * @param {Question} question the question for all inputs
+   * @param {(question: Question) => Promise<Verdict>} search asks the prover to search, and resolves to the verdict
    * @returns {Promise<Verdict>}
    */
-  async judge(property, question) {
-    const verdict = await this.createVerdict(property, await this.askAbout(property, question), this.campaign, "");
-    return this.retryOpenVerdict(property, verdict, question);
+  async judge(property, question, search) {
+    const verdict = await this.retryOpenVerdict(property, await search(question), question);
+    const isDecided = verdict.kind === "proved" || (verdict.kind === "found" && verdict.counterexample.isAllowed);
+    if (isDecided || !this.inputLimits) return verdict;
+    const limitedVerdict = await search({ ...question, inputLimits: this.inputLimits });
+    // A goal that only excluded inputs reach is still reached if the second search decides nothing.
+    return limitedVerdict.kind === "open" && verdict.kind === "found" ? verdict : limitedVerdict;
   }
 
   /**
    * Resolves to the verdict on a property that follows from an answer.
    * @param {Property} property
+   * @param {Question} question
    * @param {Answer} answer
    * @param {Campaign} campaign a campaign that contains the property
    * @param {string} mistake the word for the common mistake that the property excludes; "" for other properties
    * @returns {Promise<Verdict>}
    */
-  async createVerdict(property, answer, campaign, mistake) {
-    if (answer.kind === "holds") return createProvedVerdict(property, answer.states, false);
+  async createVerdict(property, { inputLimits }, answer, campaign, mistake) {
+    if (answer.kind === "holds") return createProvedVerdict(property, answer.states, false, inputLimits ? inputLimits.words : []);
     if (answer.kind !== "fails") return { kind: "open", reason: this.calls.reason(answer) };
     const { subject, calls } = this;
     const index = campaign.properties.indexOf(property);
@@ -205,11 +223,6 @@ export class PropertyJudge {
    * @param {Question} question
    */
   async askAbout(property, question) {
-    if (needsSeparateQuestion(property, question)) return this.calls.ask(question);
-    const { jointQuestions } = this;
-    if (!this.jointAnswer) this.jointAnswer = await this.calls.ask(combineQuestions(jointQuestions));
-    const { jointAnswer } = this;
-    const isDecisive = jointAnswer.kind === "holds" || FINAL_ANSWERS.has(jointAnswer.kind) || jointQuestions.length === 1;
-    return isDecisive ? jointAnswer : this.calls.ask(question);
+    return needsSeparateQuestion(property, question) ? this.calls.ask(question) : this.jointQuestion.askAbout(question);
   }
 }

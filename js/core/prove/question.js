@@ -8,12 +8,14 @@ import { IMPOSSIBLE_COMPARISONS, addressComparisons } from "./cells.js";
 import { formatKey } from "../board/key_place.js";
 import { isJin, isReturn } from "../engine/rom_codes.js";
 import { listKeyInputs } from "../explore/search_inputs.js";
+import { formatInputLimits } from "./input_limits.js";
 import { formatNumber } from "../explore/report.js";
 import { sentText } from "../text/sendable_text.js";
 import * as say from "../../words/prove.js";
 
 /**
  * @typedef {import("./cells.js").Comparisons} Comparisons
+ * @typedef {import("./input_limits.js").InputLimits} InputLimits
  * @typedef {import("../conditions/condition_language.js").Condition} Condition
  * @typedef {import("../explore/campaign.js").Campaign} Campaign
  * @typedef {import("../explore/properties.js").Property} Property
@@ -31,8 +33,10 @@ import * as say from "../../words/prove.js";
  * @typedef {{ opens: Comparisons[], keys: MatrixKey[] }} Presses
  *
  * A question. `forbidden`: the condition that must never be true; `mistakes`: the words for the common mistakes that the program must never
- * make; `stopwatch` and `presses`: the time limit and the required presses, null for none.
- * @typedef {{ forbidden: Comparisons[], mistakes: string[], stopwatch: Stopwatch | null, presses: Presses | null }} Question
+ * make; `stopwatch` and `presses`: the time limit and the required presses, null for none; `inputLimits`: the limits on the inputs, null
+ * for all inputs.
+ * @typedef {{ forbidden: Comparisons[], mistakes: string[], stopwatch: Stopwatch | null, presses: Presses | null,
+ *   inputLimits: InputLimits | null }} Question
  *
  * The question about a property, or the reason why the prover does not support the property.
  * @typedef {{ question: Question, reason: "" } | { question: null, reason: string }} PropertyQuestion
@@ -68,8 +72,8 @@ export const MAX_STOPWATCH_CYCLES = 16777214;
 export const MAX_PRESSES = 100;
 /** The program counter at power-on. */
 const POWER_ON_ADDRESS = 0;
-/** @type {Question} the question that nothing violates; other questions add requirements to it */
-const EMPTY_QUESTION = { forbidden: [], mistakes: [], stopwatch: null, presses: null };
+/** @type {Question} the question for all inputs that nothing violates; other questions add requirements to it */
+const EMPTY_QUESTION = { forbidden: [], mistakes: [], stopwatch: null, presses: null, inputLimits: null };
 
 /**
  * Returns increasing limits on the number of states, for repeated tries of a question. Each limit is twice the previous one. The last one
@@ -113,7 +117,7 @@ export const needsCounting = ({ stopwatch, presses }) => stopwatch !== null || p
 export const needsSeparateQuestion = ({ isGoal, guards }, question) => isGoal || guards.length > 0 || needsCounting(question);
 
 /**
- * Combines several questions into one. The questions must have no stopwatch and no presses.
+ * Combines several questions for all inputs into one. The questions must have no stopwatch and no presses.
  * @param {Question[]} questions
  * @returns {Question}
  */
@@ -240,7 +244,7 @@ const formatKeyPress = (key) => ["up", "down"].map((level) => [level, formatKey(
  * @param {Question} question
  * @param {QuestionLimits} limits
  */
-export function questionText({ board, program }, { forbidden: nevers, mistakes, stopwatch, presses }, limits) {
+export function questionText({ board, program }, { forbidden: nevers, mistakes, stopwatch, presses, inputLimits }, limits) {
   const { maxStates, memory = 0, sets = 0, pause = DEFAULT_PAUSE } = limits;
   const optionalLimits = Object.entries({ memory, sets }).filter(([, number]) => number > 0);
   const limitLines = [["most", maxStates], ...optionalLimits, ["pause", pause]].map((words) => words.join(" "));
@@ -250,7 +254,9 @@ export function questionText({ board, program }, { forbidden: nevers, mistakes, 
     ? [`within ${stopwatch.within}`, ...formatCondition("begin", stopwatch.begins), ...formatCondition("end", stopwatch.ends)] : [];
   const pressLines = presses ? [...formatCondition("open", presses.opens), ...presses.keys.flatMap(formatKeyPress)] : [];
   const neverLines = formatCondition("never", nevers);
-  return `${[...limitLines, ...texts, ...neverLines, ...mistakeLines, ...stopwatchLines, ...pressLines, "prove"].join("\n")}\n`;
+  const lines = [...limitLines, ...formatInputLimits(inputLimits), ...texts, ...neverLines, ...mistakeLines, ...stopwatchLines,
+    ...pressLines, "prove"];
+  return `${lines.join("\n")}\n`;
 }
 
 /** @type {[RegExp, NoAnswer][]} the answers whose text is always the same, each with the pattern of its line */

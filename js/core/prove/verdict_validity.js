@@ -4,6 +4,7 @@ import { isSetting } from "../explore/campaign.js";
 
 /**
  * @typedef {import("./bounded_proof.js").PropertyVerdict} PropertyVerdict
+ * @typedef {import("./verdicts.js").Verdict} Verdict
  * @typedef {{ boardText: string, programText: string, propertiesText: string }} ProvedTexts
  */
 
@@ -15,14 +16,21 @@ function normalizeLines(text) {
   return text.replace(/^\uFEFF/, "").split(/\r?\n/).map((line) => line.trim().replace(/\s+/g, " "));
 }
 
+/** The settings on which a proof depends. A proof starts at power-on. */
+const PROOF_SETTINGS = /^from /;
+/** The settings on which a proof depends that is not for all inputs. */
+const LIMITED_PROOF_SETTINGS = /^(?:from|press|test|together)\b/;
+
 /**
- * Returns the settings in a properties text on which a verdict depends. A proof is valid for all inputs and starts at power-on, so it
- * depends only on `from` lines.
+ * Returns the settings in a properties text on which a verdict depends.
  * @param {string[]} lines
- * @param {boolean} isProof
+ * @param {Verdict} verdict
  */
-function selectSettings(lines, isProof) {
-  return lines.filter((line) => isSetting(line) && (!isProof || line.startsWith("from "))).join("\n");
+function selectSettings(lines, verdict) {
+  const settings = lines.filter(isSetting);
+  if (verdict.kind !== "proved") return settings.join("\n");
+  const pattern = verdict.limits.length > 0 ? LIMITED_PROOF_SETTINGS : PROOF_SETTINGS;
+  return settings.filter((line) => pattern.test(line)).join("\n");
 }
 
 /**
@@ -35,8 +43,7 @@ export function isStillValid({ text, line, verdict }, oldTexts, newTexts) {
   if (oldTexts.boardText !== newTexts.boardText || oldTexts.programText !== newTexts.programText) return false;
   if (oldTexts.propertiesText === newTexts.propertiesText) return true;
   const [oldLines, lines] = [normalizeLines(oldTexts.propertiesText), normalizeLines(newTexts.propertiesText)];
-  const isProof = verdict.kind === "proved";
-  return (line === 0 || lines.includes(text)) && selectSettings(oldLines, isProof) === selectSettings(lines, isProof);
+  return (line === 0 || lines.includes(text)) && selectSettings(oldLines, verdict) === selectSettings(lines, verdict);
 }
 
 /**

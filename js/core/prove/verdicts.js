@@ -10,11 +10,11 @@ import * as say from "../../words/prove.js";
  * @typedef {import("./counterexample.js").Counterexample} Counterexample
  *
  * The verdict on a property:
- * - `proved`: `states` is the number of states in the proof, or of sets of states if `bySets` is true; `leftOut` names the guards that the
- *   proof omits;
+ * - `proved`: `states` is the number of states in the proof, or of sets of states if `bySets` is true; `limits` are the lines of the text
+ *   whose limits on the inputs the proof needs, [] for a proof for all inputs; `leftOut` names the guards that the proof omits;
  * - `found`: the prover found a counterexample or, for a goal, a sequence of steps that reaches the goal;
  * - `open`: the property is not decided; `reason` says why.
- * @typedef {{ kind: "proved", states: number, bySets: boolean, leftOut: string }} ProvedVerdict
+ * @typedef {{ kind: "proved", states: number, bySets: boolean, limits: string[], leftOut: string }} ProvedVerdict
  * @typedef {ProvedVerdict | { kind: "found", counterexample: Counterexample } | { kind: "open", reason: string }} Verdict
  * @typedef {{ property: Property, verdict: Verdict }} JudgedProperty
  */
@@ -38,7 +38,7 @@ export function formatStateCount({ states, bySets }) {
 /** @type {(judgedProperty: JudgedProperty) => string} returns the verdict as text, for the end of the TAP line */
 function formatRemark({ property: { isGoal }, verdict }) {
   if (verdict.kind === "open") return say.notDecided(verdict.reason);
-  if (verdict.kind === "proved") return (isGoal ? say.neverReached : say.proved)(formatStateCount(verdict), verdict.leftOut);
+  if (verdict.kind === "proved") return (isGoal ? say.neverReached : say.proved)(formatStateCount(verdict), verdict);
   return isGoal ? say.reachedBy(formatSteps(verdict.counterexample.steps)) : say.brokenBy(formatSteps(verdict.counterexample.steps));
 }
 
