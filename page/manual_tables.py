@@ -5,7 +5,7 @@ import re
 
 PAGE = pathlib.Path(__file__).resolve().parent
 # The titles of the sections with these tables, in the order of the help.
-SECTIONS = ("The 45 instructions", "The form of a program", "The sixteen conditions of JCN", "The keys of the text", "The names of lines",
+SECTIONS = ("The 45 instructions", "The form of a program", "The sixteen conditions of JCN", "The TOML keys", "The names of lines",
             "The front panel of a board", "Commands", "Places", "Queries", "The keyboard", "What the cells show",
             "Conditions", "The lines of a test", "Inputs", "Properties")
 

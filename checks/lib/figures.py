@@ -40,7 +40,7 @@ def check_phrases():
     yield f"{len(WRONG_BOARDS) + len(WRONG_TOOLS)} wrong readings"
     yield f"{len(WRONG_SEARCHES)} wrong searches"
     boards = re.search(r"^BOARDS = (\d+)$", (TOP / "checks/runs").read_text(), re.M)
-    yield f"of {boards[1]} seeded boards in any spelling"
+    yield f"of {boards[1]} seeded boards in various TOML spellings"
     for path in sorted((TOP / "checks").iterdir()):
         if path.is_file():
             yield rf"`{path.name}`"

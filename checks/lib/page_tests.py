@@ -52,7 +52,7 @@ def check_failing(browser):
     run_tests(browser)
     eventually(browser, "a test fails", GET_TESTS_STATUS, "1 of 2 tests failed.")
     verdict("the tab says so", browser.script(GET_MARK), "1 failed")
-    verdict("with its line, and what is wrong", browser.script(GET_FAILURES), ["line 14 expect cycles 538: cycles are 536, but must be 538"])
+    verdict("with its line, and what is wrong", browser.script(GET_FAILURES), ["line 14 expect cycles 538: 536 cycles have passed, but the test expects 538"])
     browser.click("#test-list .wrong button")
     verdict("the line is shown", browser.script(GET_SELECTED), "  expect cycles 538")
     browser.click("#test-list details summary")

@@ -17,9 +17,9 @@ import { boardTables, helpForBoard, tableAt } from "../core/text/text_help.js";
 
 // The manual's tables, as page/build reads them.
 const manual = readFileSync(new URL("../../docs/MANUAL.md", import.meta.url), "utf8");
-const rows = manual.split("### The keys of the text")[1].split("###")[0].split("\n").filter((line) => /^\| [`|]/.test(line))
+const rows = manual.split("### The TOML keys")[1].split("###")[0].split("\n").filter((line) => /^\| [`|]/.test(line))
   .map((line) => line.slice(1, -1).split("|").map((cell) => cell.trim()));
-const tables = boardTables([{ title: "The keys of the text", tables: [{ caption: "", head: [], rows }] }]);
+const tables = boardTables([{ title: "The TOML keys", tables: [{ caption: "", head: [], rows }] }]);
 
 const bench = new TextBench(new Engine(new globalThis.WebAssembly.Module(pageModule)));
 const errorOf = (text) => {

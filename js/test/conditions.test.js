@@ -140,7 +140,7 @@ test("conditions in tests can use values that no trace shows", () => {
   assert.deepEqual(results, [true, false, false]);
   assert.equal(condition.holds([], extraValues), true);
   assert.equal(compileForTest("cycles at most 6 ms").condition.holds([], extraValues), true);
-  assert.equal(compileForTest("cycles 537").condition.explain([], extraValues), "cycles are 538, but must be 537");
+  assert.equal(compileForTest("cycles 537").condition.explain([], extraValues), "538 cycles have passed, but the test expects 537");
   assert.equal(compileForTest("@end").condition.explain(["00B"], extraValues), "pc is 00B (end), within an instruction, but must be @end");
   assert.equal(compileForTest("cycles").error, "write `cycles TIME`, `cycles at most TIME` or `cycles at least TIME`");
 });

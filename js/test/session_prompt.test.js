@@ -136,7 +136,7 @@ test("help about lines, places and refusals", async () => {
   assert.ok(helpLines.every((line) => line.length < 82), "a line is too long");
   assert.deepEqual(await ask("help press"),
     ["(press r c: presses or releases the key in row r and column c, even if it is already down or up)"]);
-  assert.deepEqual(await ask("help 44"), ["(no 44: a run of no cycle, or of more than 100,000)"]);
+  assert.deepEqual(await ask("help 44"), ["(no 44: a run needs 1 to 100,000 cycles)"]);
   assert.ok((await ask("help places")).includes("(  acc: the accumulator, 0 to 15)"));
   assert.ok((await ask("help poke")).includes("(  cy: the carry, 0 or 1)"));
   assert.deepEqual(await ask("help source"), ["(source FILE: serves the lines of a file, up to an error)"]);

@@ -41,7 +41,7 @@ test("a failing test reports its line and its trace, and provides the session at
   const fasterProgram = programText.replace("0x0C", "0x0D");
   const { outcomes } = await runTests(engine, texts(example("three_lamps.test"), fasterProgram), always);
   const { failure } = outcomes[1];
-  assert.deepEqual([failure.line, failure.text, failure.words], [14, "expect cycles 538", "cycles are 536, but must be 538"]);
+  assert.deepEqual([failure.line, failure.text, failure.words], [14, "expect cycles 538", "536 cycles have passed, but the test expects 538"]);
   assert.deepEqual([failure.cycles, failure.lamps], [536, ".*."]);
   assert.equal(failure.trace[0], "     522  01A C0    BBL 0            acc 0 cy 0  ret 000 000 01B");
   assert.equal(failure.trace[failure.trace.length - 1], "     536  007 50 14 JMS wait         comes next");
@@ -78,7 +78,7 @@ test("failures in `repeat` and shared steps have their iteration and the last pa
   const { outcomes } = await runTests(engine, texts(text.join("\n")), always);
   assert.deepEqual([outcomes[0].cycles, outcomes[0].failure.line], [7 + 13 * 538, 15]);
   assert.equal(outcomes[0].failure.words,
-    "cycles are 2152, but must be at most 2000; in turn 4 of 5 of line 13, in turn 1 of 2 of line 12");
+    "2152 cycles have passed, but the test expects at most 2000; in turn 4 of 5 of line 13, in turn 1 of 2 of line 12");
   assert.equal(outcomes[1].failure.words, "it did not become true within 4 cycles: pc is 016 (turn), but must be @first; "
     + "the last label passed is turn, 2 cycles ago; @first was passed last 10 cycles ago");
 });

@@ -817,8 +817,8 @@ export const cannotWriteMessage = (name) => `cannot write ${name}`;
 /** @type {(commands: number, records: number) => string} */
 export const describeRemovableCommands = (commands, records) => {
   if (records === 0) return `session ${commands}: its log has no commands, so it cannot go back`;
-  if (records === 1) return `session ${commands}: back by 1 command, to session ${commands - 1}`;
-  return `session ${commands}: back by 1 to ${records} commands, to session ${commands - 1} to ${commands - records}`;
+  if (records === 1) return `session ${commands}: can go back by 1 command, to session ${commands - 1}`;
+  return `session ${commands}: can go back by 1 to ${records} commands, to sessions ${commands - 1} to ${commands - records}`;
 };
 /** @type {(session: string, records: number, commands: number, steps: number) => string} */
 export const logIsShorter = (session, records, commands, steps) => (records === commands

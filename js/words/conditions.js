@@ -43,6 +43,9 @@ export const NO_CONDITION = "a condition is missing";
 /** @type {(subject: string, actual: string, expected: string, isMany: boolean, isNot: boolean) => string} */
 export const mustBeMessage = (subject, actual, expected, isMany, isNot) => (
   `${subject} ${isMany ? "are" : "is"} ${actual || "dark"}, but must ${isNot ? "not " : ""}be ${expected}`);
+/** @type {(passed: number, expected: string, isNot: boolean) => string} */
+export const otherCyclesPassed = (passed, expected, isNot) => (
+  `${passed} ${passed === 1 ? "cycle has" : "cycles have"} passed, but the test ${isNot ? "does not expect" : "expects"} ${expected}`);
 /** @type {(count: number, maximum: number) => string} */
 export const tooManyPlacesMessage = (count, maximum) => `it reads ${count} places; at most ${maximum} are allowed`;
 export const AT_SYNTAX = "write `at LABEL`";

@@ -319,7 +319,7 @@ export const ORG_HELP = "ORG n: the next statement is at address n, 0 to 4095.";
 export const DB_HELP = "DB v, v, ..: bytes, each 0 to 255.";
 /** @type {(name: string, line: number) => string} */
 export const definedInLine = (name, line) => `${name}: defined in line ${line}.`;
-export const KEYS_OF_TEXT = "The keys of the text";
+export const KEYS_OF_TEXT = "The TOML keys";
 /** @type {(name: string, table: string, values: string) => string} */
 export const keyIs = (name, table, values) => `${name} of ${table}: ${values}.`;
 

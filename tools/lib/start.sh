@@ -218,7 +218,7 @@ find_or_build() {
         echo "mcs4: $shipped is not started: $reason" >&2 || :
         exit 126
     elif [ -n "$reason" ]; then
-        echo "mcs4: the program in shipped/ is not started: $reason. It is proved and built here first" >&2 || :
+        echo "mcs4: the program in shipped/ is not started: $reason. Now proving and building the program" >&2 || :
         "$top/tools/build" >&2
         program=$built
     elif [ "$program" != "$built" ] && ! is_installed && [ -n "$cache" ] && [ ! -e "$cache/reported" ] && make_cache && { : > "$cache/reported"; } 2> /dev/null; then

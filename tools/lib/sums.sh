@@ -149,7 +149,7 @@ shipped_problem() {
     elif [ ! -f "$2" ] || [ ! -f "$sums" ]; then
         echo "it is not there"
     elif [ "$(shipped_sum "$(echo "$3-sources" | sed 's/^program-//')")" != "$1" ]; then
-        echo "it was built from other sources than these"
+        echo "it was built from other sources"
     elif [ "$(sum_of_input < "$2")" != "$(shipped_sum "$3")" ]; then
         echo "it is damaged, since its checksum is not the one in shipped/SUMS"
     elif ! runs_here "$2"; then

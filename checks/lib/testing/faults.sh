@@ -154,7 +154,7 @@ if [ -e tools/lib/sums.sh ]; then
     echo 'mcs4:' > "$tree/crates.txt"
     printf '#!/bin/sh\necho "mcs4: mcs_nibble is proved and built, 91 s so far"\ncp -- "%s" "%s"\n' "$mcs4" "$tree/crates/mcs4/out/mcs4" > "$tree/tools/build"
     chmod +x "$tree/tools/build"
-    verdict "$(outcome env -u MCS4 XDG_CACHE_HOME="$folder/cache" "$tree/mcs4" keys $lock/board.toml 1 | sed -n '1,2p; $p')" "mcs4: the program in shipped/ is not started: it is not there. It is proved and built here first
+    verdict "$(outcome env -u MCS4 XDG_CACHE_HOME="$folder/cache" "$tree/mcs4" keys $lock/board.toml 1 | sed -n '1,2p; $p')" "mcs4: the program in shipped/ is not started: it is not there. Now proving and building the program
 mcs4: mcs_nibble is proved and built, 91 s so far
 status 0" "a program that is built first"
 fi

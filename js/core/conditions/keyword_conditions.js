@@ -143,6 +143,7 @@ export function compilePrinted(words, { face, board }, dependencies) {
  * @param {string[]} words
  * @param {Names} names
  * @param {Dependencies} dependencies
+ * @returns {CompiledCondition}
  */
 export function compileCycles(words, names, dependencies) {
   const comparison = words[0] === "at" ? words.slice(0, 2).join(" ") : "";
@@ -151,10 +152,12 @@ export function compileCycles(words, names, dependencies) {
   dependencies.addNeed("cycles", say.onlyInTests("cycles"));
   /** @type {(actual: number) => boolean} */
   const matches = (actual) => (comparison === "" ? actual === cycles : comparison === "at most" ? actual <= cycles : actual >= cycles);
-  return createCondition({
-    subject: "cycles", isPlural: true, required: `${comparison && `${comparison} `}${cycles}`, matches: (actual) => matches(Number(actual)),
-    measure: (_, extraValues) => String(extraValues.cycles),
-  });
+  const required = `${comparison && `${comparison} `}${cycles}`;
+  return {
+    address: -1,
+    matches: (_, extraValues) => matches(extraValues.cycles),
+    explain: (_, extraValues, isNot) => say.otherCyclesPassed(extraValues.cycles, required, isNot),
+  };
 }
 
 /**
