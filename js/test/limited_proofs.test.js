@@ -127,8 +127,8 @@ class AnsweringEngine extends Engine {
 async function prove(propertiesText, answer, { programText = PROGRAM, answerMistakes = () => "holds 9\n" } = {}) {
   const engine = new AnsweringEngine((question) => (question.kind === "mistake" ? answerMistakes : answer)(question));
   const texts = { boardText: BOARD, programText, testText: "", propertiesText };
-  const { proving, faults } = beginProving(engine, texts, 10000, { seen: async () => {}, yieldToMessages: async () => {} });
-  assert.deepEqual(faults, []);
+  const { proving, errors } = beginProving(engine, texts, 10000, { seen: async () => {}, yieldToMessages: async () => {} });
+  assert.deepEqual(errors, []);
   const all = (await proving.judgeAll()).map((judged) => ({ ...createPropertyVerdict(judged), judged }));
   const verdictsOf = (judgedProperties) => judgedProperties.map(({ verdict }) => verdict);
   const isAboutMistakes = (text) => text.startsWith("mistake");
