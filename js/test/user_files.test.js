@@ -148,7 +148,7 @@ test("the debug adapter rejects a device, a FIFO and a link out of the project",
   for (const kind of ["zero", "fifo"]) {
     const folder = createFolderWithSpecialFile("board.toml", kind);
     const client = new AdapterClient(MCS4);
-    await client.ask("initialize", {});
+    await client.request("initialize", {});
     assert.match((await client.answer("launch", { program: join(folder, "p.asm") })).message, /^cannot read .*board.toml/);
     assert.equal(await client.end(), 0);
   }
@@ -159,7 +159,7 @@ test("the debug adapter rejects a device, a FIFO and a link out of the project",
   writeFileSync(join(folder, "in", "p.asm"), "NOP\n");
   writeFileSync(join(folder, "in", "mcs4.toml"), "board = \"board.toml\"\nprogram = \"p.asm\"\n");
   const client = new AdapterClient(MCS4);
-  await client.ask("initialize", {});
+  await client.request("initialize", {});
   const message = /board.toml is a link that leads out of the project's folder$/;
   for (const launchArguments of [{ project: join(folder, "in") }, { program: join(folder, "in", "p.asm") }]) {
     assert.match((await client.answer("launch", launchArguments)).message, message);
