@@ -41,7 +41,8 @@ test("a failing test reports its line and its trace, and provides the session at
   const fasterProgram = programText.replace("0x0C", "0x0D");
   const { outcomes } = await runTests(engine, texts(example("three_lamps.test"), fasterProgram), always);
   const { failure } = outcomes[1];
-  assert.deepEqual([failure.line, failure.text, failure.words], [14, "expect cycles 538", "536 cycles have passed, but the test expects 538"]);
+  const words = "536 cycles have passed, but the test expects 538";
+  assert.deepEqual([failure.line, failure.text, failure.words], [14, "expect cycles 538", words]);
   assert.deepEqual([failure.cycles, failure.lamps], [536, ".*."]);
   assert.equal(failure.trace[0], "     522  01A C0    BBL 0            acc 0 cy 0  ret 000 000 01B");
   assert.equal(failure.trace[failure.trace.length - 1], "     536  007 50 14 JMS wait         comes next");
