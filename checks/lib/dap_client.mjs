@@ -62,7 +62,7 @@ export class Client extends MessageClient {
     return (await this.request("stackTrace", { threadId: 1 })).stackFrames;
   }
 
-  /** Resolves to the variables of a scope, in the adapter's order and by name. */
+  /** Resolves to a scope's reference, the list of its variables as the adapter sent it, and an object with their values by name. */
   async scope(name) {
     const { scopes } = await this.request("scopes", { frameId: 1 });
     const { variablesReference } = scopes.find((scope) => scope.name === name);

@@ -135,8 +135,8 @@ async function openDevices(client) {
   verdict(await errorsIn("x.asm", "NOP\n", "mcs4"), [], "a program with a board that is a device, and a project that is a pipe");
   const [message] = await errorsIn("fifo.props", "never lamp a on\n", "mcs4-props");
   verdict(/^there is no board\.toml/.test(message), true, "properties of a program that is a pipe");
-  const project = await errorsIn("mcs4.toml", "board = \"board.toml\"\nprogram = \"fifo.asm\"\ntests = [\"x.test\"]\n", "toml");
-  verdict(project, ["board.toml", "fifo.asm", "x.test"].map((name, index) => `${["board", "program", "tests"][index]}: there is no file ${name}`),
+  const projectErrors = await errorsIn("mcs4.toml", "board = \"board.toml\"\nprogram = \"fifo.asm\"\ntests = [\"x.test\"]\n", "toml");
+  verdict(projectErrors, ["board.toml", "fifo.asm", "x.test"].map((name, index) => `${["board", "program", "tests"][index]}: there is no file ${name}`),
     "a project of devices");
 }
 

@@ -39,7 +39,7 @@ def check_phrases():
     """Yields the phrases about the number of wrong implementations that the checks must detect, and the name of each check."""
     yield f"{len(WRONG_BOARDS) + len(WRONG_TOOLS)} wrong readings"
     yield f"{len(WRONG_SEARCHES) + len(WRONG_LIMITS)} wrong searches"
-    boards = re.search(r"^BOARDS = (\d+)$", (TOP / "checks/runs").read_text(), re.M)
+    boards = re.search(r"^RANDOM_BOARD_COUNT = (\d+)$", (TOP / "checks/runs").read_text(), re.M)
     yield f"of {boards[1]} seeded boards in various TOML spellings"
     for path in sorted((TOP / "checks").iterdir()):
         if path.is_file():

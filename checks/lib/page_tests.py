@@ -125,7 +125,7 @@ def check_cancelling(browser):
     browser.click(f"{EDITOR} .send")
     browser.until("return isShown(document.getElementById('work'))", True)
     browser.click("#cancel")
-    eventually(browser, "a test that does not end is cancelled", GET_TESTS_STATUS, "It was cancelled; the results shown are from before.")
+    eventually(browser, "a test that does not end is cancelled", GET_TESTS_STATUS, "It was cancelled; the results shown are from the previous run.")
 
 
 def check_saving(browser, folder):

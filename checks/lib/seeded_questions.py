@@ -55,8 +55,8 @@ class ReadingProgram(Program):
         if clock.startswith("ram"):
             begin = [f"LDM {numbers[0]}", "DCL", *begin]
         write = "WRR" if clock.startswith("rom") else "WMP"
-        one = 1 << int(data[-1]) if self.rng.random() < 0.7 else 0
-        return begin + self.rng.randrange(1, 4) * [f"LDM {one}", write, f"LDM {one | 1 << numbers[-1]}", write]
+        data_bit = 1 << int(data[-1]) if self.rng.random() < 0.7 else 0
+        return begin + self.rng.randrange(1, 4) * [f"LDM {data_bit}", write, f"LDM {data_bit | 1 << numbers[-1]}", write]
 
     def selected_by(self, pair: int) -> list[str]:
         """Returns phrases that select a chip, usually one with inputs."""

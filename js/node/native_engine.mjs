@@ -213,10 +213,11 @@ class Session {
     return Number(line.slice("session ".length));
   }
 
-  /** Returns the error for a program whose first line shows that it is not the native program of mcs4. */
+  /** Returns the error for an executable whose output does not begin with an answer, so that it cannot be the native program. */
   makeNoAnswerError() {
     const { program, errorLines } = this.starter;
-    return new ProgramError([...errorLines, `${program} does not answer; MCS4 names the program where it is not the mcs4 at the top`].join("\n"));
+    const message = `${program} does not answer; set MCS4 to the path of the program if it is not the mcs4 at the top`;
+    return new ProgramError([...errorLines, message].join("\n"));
   }
 
   /** Returns the error for a program that has ended before it answered. */

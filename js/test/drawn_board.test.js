@@ -108,7 +108,7 @@ test("a text with errors cannot be edited, and the last valid drawing stays", as
   const fixture = await createDrawnBoard(boardOf("lock"));
   fixture.text = `${fixture.text}\n[[lamp]]\n`;
   await fixture.drawing.refresh();
-  assert.match(fixture.view.error, /^The bench rejects the board's text: refusal 2[02]\. Board shows where\.$/);
+  assert.match(fixture.view.error, /^The bench rejects the board's text: refusal 2[02]\. The Board tab shows where\.$/);
   assert.equal(fixture.view.board.lamps.length, 3);
   const text = fixture.text.replace("\n[[lamp]]\n", "");
   fixture.text = text.replace('"rom1.0"', '"rom1\\u002e0"');

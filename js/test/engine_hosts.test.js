@@ -224,7 +224,8 @@ if (!native) {
         engine.end();
       }
     };
-    const noAnswerMessage = (name) => `${join(folder, name)} does not answer; MCS4 names the program where it is not the mcs4 at the top`;
+    const noAnswerMessage = (name) => (
+      `${join(folder, name)} does not answer; set MCS4 to the path of the program if it is not the mcs4 at the top`);
     assertFailure(join(folder, "none"), noAnswerMessage("none"));
     assertFailure(writeProgram("echo no such thing"), noAnswerMessage("program"));
     assertFailure(writeProgram("echo bad luck >&2"), `bad luck\nbad luck\n${noAnswerMessage("program")}`);

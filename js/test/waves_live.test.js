@@ -153,7 +153,7 @@ test("an invalid trigger is reported, and nothing is recorded", async () => {
   const { calls, texts } = await openSession("calculator");
   const recordWith = (trigger) => calls.recordLive(texts, { trigger, cyclesAfterTrigger: 0, stopsMachine: false });
   const errors = {
-    "r99 rises": 'nothing here is called r99; the menu Rows lists the names',
+    "r99 rises": 'nothing here is called r99; the Rows menu lists the names',
     "rom0 rises": "rom0 is a number: write rom0 changes, or as rom0 = 5",
     "pc changes": "write a place of the program as @LABEL",
     "r9 = 16": /15/,

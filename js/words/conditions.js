@@ -34,7 +34,7 @@ const ramPortSyntax = (name) => `write \`${name} out VALUE\`, 0 to 15`;
 export const chainBits = (chain, bits) => `chain ${chain} has ${bits} bits, each 0, 1, or ? for any`;
 export const NO_RAM_FOR_LAST = "the board has no RAM chip for the last of these characters";
 /** @type {(place: string) => string} */
-export const isOneValueMessage = (place) => `${place} is one value`;
+export const isOneValueMessage = (place) => `${place} holds one value; only RAM characters can be compared with several`;
 /** @type {(place: string, maximum: number, word: string) => string} */
 export const valueRange = (place, maximum, word) => `${place} holds 0 to ${maximum}, not ${word}`;
 

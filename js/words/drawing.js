@@ -111,7 +111,7 @@ export const allLampsOf = (count) => `all ${count} lamps of its display`;
 // --- drawing/board_drawing.js ---
 export const CANNOT_READ = "The board's text is written in a way that the picture cannot change; change it in Board.";
 /** @type {(reason: string) => string} */
-export const benchRefuses = (reason) => `The bench rejects the board's text: ${reason}. Board shows where.`;
+export const benchRefuses = (reason) => `The bench rejects the board's text: ${reason}. The Board tab shows where.`;
 /** @type {(name: string) => string} */
 export const lineOfBoard = (name) => `line ${name}`;
 /** @type {(pin: string, pins: string) => string} */

@@ -55,7 +55,7 @@ export function finalSummary(report, isStopped) {
 }
 
 /**
- * Returns the mark on the tab of the search, or "" if no property is broken.
+ * Returns the mark that a search puts on the Properties tab, or "" if no property is broken.
  * @param {Report} report
  */
 export function reportTabMark(report) {

@@ -75,7 +75,7 @@ export function progressSummary({ verdicts: judged, count, states }) {
 }
 
 /**
- * Returns the mark on the tab of the proofs, or "" if no property is proved or broken.
+ * Returns the mark that the proofs put on the Properties tab, or "" if no property is proved or broken.
  * @param {PropertyVerdict[]} judged
  */
 export function proofsTabMark(judged) {

@@ -24,7 +24,7 @@ export function testsSummary(outcomes) {
 }
 
 /**
- * Returns the mark on the tab of the tests.
+ * Returns the mark on the Tests tab.
  * @param {Outcome[]} outcomes
  */
 export function testsTabMark(outcomes) {

@@ -137,7 +137,7 @@ export const CYCLES_NOT_ALLOWED = "`until` cannot ask for cycles; use `run` or `
 export const PACE_SYNTAX = "write `pace TIME TIME`: how long a key is down, and how long it is up after it";
 
 // --- testing/tests_tab.js ---
-export const WAS_CANCELLED = "It was cancelled; the results shown are from before.";
+export const WAS_CANCELLED = "It was cancelled; the results shown are from the previous run.";
 
 // --- testing/tests_view.js ---
 export const NOT_OK = "not ok";

@@ -40,7 +40,7 @@ export const NO_LINE_CHOSEN = "No line is chosen: choose the lines for the file.
 
 // --- waves/trigger.js ---
 /** @type {(name: string) => string} */
-export const noSuchNameMessage = (name) => `nothing here is called ${name}; the menu Rows lists the names`;
+export const noSuchNameMessage = (name) => `nothing here is called ${name}; the Rows menu lists the names`;
 export const LABEL_SYNTAX = "write a place of the program as @LABEL";
 /** @type {(name: string) => string} */
 export const isDecodedLineMessage = (name) => `${name} is decoded from other lines: name one of those, as in: rom0.0 rises`;

@@ -141,9 +141,9 @@ test:             ISZ R4, digits" ./mcs4 test "$folder/faulty.txt" "$folder/faul
 printf '#!/bin/sh\necho no such thing\n' > "$folder/no_bench"
 chmod +x "$folder/no_bench"
 verdict "$(MCS4=$folder/no_bench outcome ./mcs4 test $lock/board.toml $lock/lock.asm "$folder/one.test")" \
-    "test: $folder/no_bench does not answer; MCS4 names the program where it is not the mcs4 at the top
+    "test: $folder/no_bench does not answer; set MCS4 to the path of the program if it is not the mcs4 at the top
 status 1" "a program that is not mcs4"
-verdict "$(MCS4=$folder/none outcome ./mcs4 names $lock/lock.asm)" "names: $folder/none does not answer; MCS4 names the program where it is not the mcs4 at the top
+verdict "$(MCS4=$folder/none outcome ./mcs4 names $lock/lock.asm)" "names: $folder/none does not answer; set MCS4 to the path of the program if it is not the mcs4 at the top
 status 1" "a missing program"
 # If a clone must first build its program, the output of tools/build appears while it builds. (In this check, it builds nothing.)
 if [ -e tools/lib/sums.sh ]; then

@@ -90,7 +90,7 @@ class PatternTimes {
   }
 
   /**
-   * Records a change of lamps if it changes this display.
+   * Records a change in the lamps' states if it changes this display.
    * @param {string} marks
    * @param {string} marksBefore the marks before the change
    * @param {number} cycles the cycles before the change
@@ -252,7 +252,7 @@ export class BrightnessMeter {
   }
 
   /**
-   * Records a change of lamps.
+   * Records a change in the lamps' states.
    * @param {string} marks the new lamp marks
    * @param {number} cycles the time of the change, in cycles
    */

@@ -14,7 +14,7 @@ import { MAX_LISTING_LINES, PAGE_NUMBERS, listQueries } from "../bench/rom_bytes
  * @typedef {import("./engine_host.js").EngineHost} Engine
  */
 
-/** The empty tests and properties of a session whose program is not that of an example. */
+/** The test and properties texts, both empty, of a session whose board and program do not both match an example. */
 const NO_TEST_TEXTS = { testText: "", propertiesText: "" };
 /** The queries that list all ROMs. */
 const LIST_ALL_ROMS = listQueries(PAGE_NUMBERS);

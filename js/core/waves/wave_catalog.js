@@ -11,7 +11,7 @@ import * as say from "../../words/waves.js";
  * @typedef {import("./wave_recording.js").Waves} Waves
  */
 
-/** The maximum number of lines that are initially visible. */
+/** The maximum number of one-bit lines that are initially visible. Decoders, the program counter and the label do not count. */
 const MAX_FIRST_LINES = 16;
 /** The maximum number of RAM nibbles in a list. */
 const MAX_NIBBLES = 64;

@@ -39,7 +39,7 @@ import * as say from "../../words/session.js";
 const SAVE_DELAY_MS = 600;
 
 /**
- * Returns the number of lines in a text as words, for example "12 lines".
+ * Returns the number of lines in a text with its unit, for example "12 lines".
  * @param {string} text
  */
 export function formatLineCount(text) {

@@ -34,12 +34,12 @@ function styleOfToken({ kind, text }, isKey) {
 export function colourBoardLine(line) {
   const words = tomlWords([line]).filter(({ kind }) => kind !== "end");
   const lastWord = words[words.length - 1];
-  const comment = findComment(line, lastWord ? lastWord.to : 0);
+  const commentRanges = findComment(line, lastWord ? lastWord.to : 0);
   const table = /^\s*\[[^\]]*\]?\]?/.exec(line);
-  if (table) return [{ from: 0, to: table[0].length, style: "atom" }, ...comment];
+  if (table) return [{ from: 0, to: table[0].length, style: "atom" }, ...commentRanges];
   const equalsSign = words.find(({ kind, text }) => kind === "punctuation" && text === "=");
   /** @param {{ from: number }} word */
   const isKey = ({ from }) => equalsSign !== undefined && from < equalsSign.from;
   const ranges = words.map((word) => ({ from: word.from, to: word.to, style: styleOfToken(word, isKey(word)) }));
-  return [...ranges.filter(({ style }) => style !== ""), ...comment];
+  return [...ranges.filter(({ style }) => style !== ""), ...commentRanges];
 }

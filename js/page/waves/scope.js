@@ -282,7 +282,7 @@ export class Scope {
   }
 
   /**
-   * Searches for the query in the field, starting at the cursor.
+   * Searches the recording for the query in the search field, starting at the cursor of the waves.
    * @param {boolean} isForward
    */
   find(isForward) {
