@@ -22,6 +22,7 @@ import {
 import { Watcher } from "../core/explore/walk_watcher.js";
 import { Engine } from "../core/engine/engine.js";
 import { pageModule } from "./page_session.js";
+import { DRIVE_ROW_0 } from "./drive_row.js";
 
 const engine = new Engine(new globalThis.WebAssembly.Module(pageModule));
 
@@ -43,16 +44,7 @@ first = 0
 rows = 1
 columns = ["rom1.0", "rom1.1", "rom1.2", "rom1.3"]
 `;
-// The code that drives the row of the keys.
-const DRIVE = `        FIM P1, 0
-        FIM P2, 0x10
-        SRC P1
-        LDM 2
-        WRR
-        IAC
-        WRR
-`;
-const PROGRAM = `${DRIVE}look:   SRC P2
+const PROGRAM = `${DRIVE_ROW_0}look:   SRC P2
         RDR
         XCH R6
         SRC P1
@@ -276,7 +268,7 @@ test("keys that are down at the start are released in time, one after the other"
 });
 
 // After a press of A, the program counts for 99,940 cycles. After that, a press of B makes it switch the lamp named `on` on.
-const LATE = `${DRIVE}first:  SRC P2
+const LATE = `${DRIVE_ROW_0}first:  SRC P2
         RDR
         RAR
         JCN 10, first

@@ -15,6 +15,7 @@ import { isStillValid } from "../core/prove/verdict_validity.js";
 import { exitStatus, formatJudgedTap } from "../core/prove/verdicts.js";
 import { describeVerdict } from "../words/prove_results.js";
 import { pageModule } from "./page_session.js";
+import { DRIVE_ROW_0 } from "./drive_row.js";
 
 // The keys A, B and E are in row 0, C, D and F in row 1. TEST has a button.
 const BOARD = `# row 0: A B E
@@ -26,15 +27,6 @@ rom = [{ chip = 0, port = "0000" }, { chip = 1, port = "0iii" }]
 ram = [{ bank = 0, chips = 1 }]
 chain = [{ clock = "rom0.0", data = "rom0.1", chips = 1 }]
 keys = { chain = 0, first = 0, rows = 2, columns = ["rom1.0", "rom1.1", "rom1.2"] }
-`;
-/** Lines that drive row 0. */
-const DRIVE_ROW_0 = `        FIM P1, 0
-        FIM P2, 0x10
-        SRC P1
-        LDM 2
-        WRR
-        IAC
-        WRR
 `;
 const SWITCH_LAMP_ON = "        SRC P1\n        LDM 1\nlit:    WMP\nend:    JUN end\n";
 /** Returns lines that wait until a key in the first column of a driven row is down. */

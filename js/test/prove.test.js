@@ -18,6 +18,7 @@ import { exitStatus, tapHead, formatJudgedTap } from "../core/prove/verdicts.js"
 import { runTests } from "../core/testing/test_suite.js";
 import { NullRecorder } from "../core/testing/recorders.js";
 import { pageModule } from "./page_session.js";
+import { DRIVE_ROW_0 } from "./drive_row.js";
 
 const engine = new Engine(new globalThis.WebAssembly.Module(pageModule));
 
@@ -39,14 +40,7 @@ first = 0
 rows = 1
 columns = ["rom1.1", "rom1.2", "rom1.3"]
 `;
-const PROGRAM = `        FIM P1, 0
-        FIM P2, 0x10
-        SRC P1
-        LDM 2
-        WRR
-        IAC
-        WRR
-look:   SRC P2
+const PROGRAM = `${DRIVE_ROW_0}look:   SRC P2
         RDR
         XCH R6
         SRC P1

@@ -124,6 +124,13 @@ test("a prepared replacement is a new file, and is removed with its process", ()
   assert.deepEqual([readFileSync(file, "utf8"), readdirSync(folder)], ["old", ["file"]]);
 });
 
+/** Returns a client of a command. At the end of the test `context`, the command is killed if it still runs, so a failed test ends. */
+function startClient(context, Client) {
+  const client = new Client(MCS4);
+  context.after(() => client.child.kill());
+  return client;
+}
+
 /** Returns a new folder with a program and, for the kinds `fifo` and `zero`, a special file `name`: a FIFO, or a link to /dev/zero. */
 function createFolderWithSpecialFile(name, kind) {
   const folder = mkdtempSync(join(top, `${kind}.`));
@@ -133,10 +140,10 @@ function createFolderWithSpecialFile(name, kind) {
   return folder;
 }
 
-test("the language server answers beside a device or a FIFO", async () => {
+test("the language server answers beside a device or a FIFO", async (context) => {
   for (const [name, kind] of [["mcs4.toml", "zero"], ["mcs4.toml", "fifo"], ["board.toml", "zero"], ["board.toml", "fifo"]]) {
     const folder = createFolderWithSpecialFile(name, kind);
-    const client = new ServerClient(MCS4);
+    const client = startClient(context, ServerClient);
     await client.begin();
     const uri = `file://${join(folder, "p.asm")}`;
     assert.deepEqual(await client.open(uri, readFileSync(join(folder, "p.asm"), "utf8")), []);
@@ -144,10 +151,10 @@ test("the language server answers beside a device or a FIFO", async () => {
   }
 });
 
-test("the debug adapter rejects a device, a FIFO and a link out of the project", async () => {
+test("the debug adapter rejects a device, a FIFO and a link out of the project", async (context) => {
   for (const kind of ["zero", "fifo"]) {
     const folder = createFolderWithSpecialFile("board.toml", kind);
-    const client = new AdapterClient(MCS4);
+    const client = startClient(context, AdapterClient);
     await client.request("initialize", {});
     assert.match((await client.answer("launch", { program: join(folder, "p.asm") })).message, /^cannot read .*board.toml/);
     assert.equal(await client.end(), 0);
@@ -158,7 +165,7 @@ test("the debug adapter rejects a device, a FIFO and a link out of the project",
   symlinkSync("../board.toml", join(folder, "in", "board.toml"));
   writeFileSync(join(folder, "in", "p.asm"), "NOP\n");
   writeFileSync(join(folder, "in", "mcs4.toml"), "board = \"board.toml\"\nprogram = \"p.asm\"\n");
-  const client = new AdapterClient(MCS4);
+  const client = startClient(context, AdapterClient);
   await client.request("initialize", {});
   const message = /board.toml is a link that leads out of the project's folder$/;
   for (const launchArguments of [{ project: join(folder, "in") }, { program: join(folder, "in", "p.asm") }]) {
