@@ -311,3 +311,19 @@ test("a search is not needed for a property that is proved for its inputs", asyn
   const joined = joinReports([report, { ...report, properties: [{ ...first, states: 8, limits: [] }, oldGoal, ...others.slice(1)] }]);
   assert.deepEqual(joined.properties.slice(0, 2).map(({ states, limits }) => [states, limits]), [[8, []], [3, []]]);
 });
+
+test("the prover of the page applies the limits", async () => {
+  const judge = async (propertiesText, programText = PROGRAM) => {
+    const texts = { boardText: BOARD, programText, testText: "", propertiesText };
+    const { proving } = beginProving(moduleEngine, texts, 10000, { seen: async () => {}, yieldToMessages: async () => {} });
+    const { verdict } = await proving.judgeNext();
+    return verdict.kind === "proved" ? verdict.limits : verdict.kind;
+  };
+  assert.deepEqual(await judge(`press B C\n${NEVER_ON}`), ["press"]);
+  assert.equal(await judge(`press A B\n${NEVER_ON}`), "found");
+  assert.deepEqual(await judge("never lamp on on and lamp on off\n"), []);
+  // The lamp is switched on when A and B are down at one read.
+  const bothProgram = `${DRIVE_ROW_0}${waitForKey("look")}        RAR\n        JCN 10, look\n${SWITCH_LAMP_ON}`;
+  assert.deepEqual(await judge(`press A B\ntogether 1\n${NEVER_ON}`, bothProgram), ["press", "together 1"]);
+  assert.equal(await judge(`press A B\ntogether 2\n${NEVER_ON}`, bothProgram), "found");
+});
