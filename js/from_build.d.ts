@@ -5,7 +5,7 @@ declare module "#answer-table" {
 }
 
 /** Returns the interface of Visual Studio Code for the script of a view. */
-declare function acquireVsCodeApi(): { postMessage(message: { place: string, isDown: boolean } | { isReady: true } | { isTorn: true }): void };
+declare function acquireVsCodeApi(): { postMessage(message: { place: string, isDown: boolean } | { isReady: true } | { clearsPrintout: true }): void };
 
 declare module "#face-table" {
   const text: string;

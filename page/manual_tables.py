@@ -12,10 +12,10 @@ SECTIONS = ("The 45 instructions", "The form of a program", "The sixteen conditi
 
 def section_of(manual, title):
     """Returns the text below a heading, up to the next heading."""
-    found = re.search(rf"^#+ {re.escape(title)}\n(.*?)(?=^#|\Z)", manual, re.M | re.S)
-    if found is None:
+    match = re.search(rf"^#+ {re.escape(title)}\n(.*?)(?=^#|\Z)", manual, re.M | re.S)
+    if match is None:
         raise ValueError(f"neither docs/MANUAL.md nor page/help.md has a section '{title}'")
-    return found.group(1)
+    return match.group(1)
 
 
 def cells_of(line):

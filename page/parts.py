@@ -1,10 +1,10 @@
-"""The third-party software from which the page is built: esbuild bundles its modules, CodeMirror 6 is its editor, and pako unpacks its data
-in browsers without DecompressionStream.
+"""Finds the third-party software that the page needs: esbuild bundles its modules, CodeMirror 6 is its editor, and pako unpacks its data in
+browsers without DecompressionStream.
 
 CodeMirror and pako are in page/codemirror, from Debian's packages of trixie. page/codemirror/fetch downloads them, and page/codemirror/SUMS
 has the checksum of each file. The program esbuild is searched for in page/from_npm, where `npm install --prefix page/from_npm
 esbuild@VERSION` puts it, and then in PATH. With another version of esbuild, or with a zlib that packs differently, the page differs from the shipped
-one. A message reports that, and the page is built all the same.
+one. A message then reports the difference, but the page is still built.
 """
 
 import hashlib
@@ -19,7 +19,7 @@ ESBUILD = "0.17.0"
 EDITOR = HERE / "codemirror"
 # A sample text, and the checksum (SHA-256) of this text packed by zlib. If the checksum differs, zlib packs differently here.
 PACKED_TEXT = " ".join(str(number * number) for number in range(20000)).encode()
-PACKED_SUM = "c9235e861439903a62dc18ba276c200da9cfd6a308ace067475943966a4aaa78"
+PACKED_CHECKSUM = "c9235e861439903a62dc18ba276c200da9cfd6a308ace067475943966a4aaa78"
 # Matches the imports of js/page from CodeMirror: the imported names, and the module.
 IMPORTS = re.compile(r'^import \{([^}]*)\}\s*from "(@codemirror/[a-z]+|style-mod)";', re.M)
 
@@ -30,34 +30,34 @@ class MissingPart(Exception):
 
 def esbuild():
     """Returns the path of esbuild."""
-    found = shutil.which("esbuild", path=str(HERE / "from_npm/node_modules/.bin")) or shutil.which("esbuild")
-    if found is None:
-        raise MissingPart(f"esbuild is not found; by npm: npm install --prefix page/from_npm esbuild@{ESBUILD}; "
+    program = shutil.which("esbuild", path=str(HERE / "from_npm/node_modules/.bin")) or shutil.which("esbuild")
+    if program is None:
+        raise MissingPart(f"esbuild is not installed; with npm: npm install --prefix page/from_npm esbuild@{ESBUILD}; "
                           "on Debian: apt-get install esbuild")
-    return found
+    return program
 
 
-def sums():
+def checksums():
     """Returns the checksums (SHA-256) of the files of CodeMirror and pako, by file name."""
     lines = (EDITOR / "SUMS").read_text().splitlines()
     return {name: checksum for checksum, name in (line.split("  ", 1) for line in lines)}
 
 
-def editor():
+def editor_folder():
     """Returns the folder of CodeMirror and pako, after checking the checksum of each file."""
-    other = [name for name, checksum in sums().items() if hashlib.sha256((EDITOR / name).read_bytes()).hexdigest() != checksum]
-    if other:
-        raise MissingPart(f"page/codemirror/{other[0]} is not the one of SUMS; page/codemirror/fetch brings it")
+    changed_files = [name for name, checksum in checksums().items() if hashlib.sha256((EDITOR / name).read_bytes()).hexdigest() != checksum]
+    if changed_files:
+        raise MissingPart(f"page/codemirror/{changed_files[0]} does not have the checksum in SUMS; page/codemirror/fetch downloads it again")
     return EDITOR
 
 
 def editor_imports(folder):
     """Returns the names that the modules of a folder import from CodeMirror: for each module of CodeMirror, the sorted names."""
-    used = {}
+    imports = {}
     for path in sorted(folder.rglob("*.js")):
         for names, module in IMPORTS.findall(path.read_text()):
-            used.setdefault(module, set()).update(name.strip() for name in names.split(",") if name.strip())
-    return {module: sorted(names) for module, names in sorted(used.items())}
+            imports.setdefault(module, set()).update(name.strip() for name in names.split(",") if name.strip())
+    return {module: sorted(names) for module, names in sorted(imports.items())}
 
 
 def packed(data):
@@ -66,12 +66,13 @@ def packed(data):
     return packer.compress(data) + packer.flush()
 
 
-def other_parts():
+def differing_parts():
     """Returns a message for each part (esbuild, zlib) that differs from the one with which the shipped page was built."""
-    found = subprocess.run([esbuild(), "--version"], stdout=subprocess.PIPE, text=True, check=True).stdout.strip()
-    other_esbuild = [] if found == ESBUILD else [f"esbuild is {found}, not {ESBUILD}"]
-    other_zlib = [] if hashlib.sha256(packed(PACKED_TEXT)).hexdigest() == PACKED_SUM else [f"zlib {zlib.ZLIB_RUNTIME_VERSION} packs otherwise"]
-    return [*other_esbuild, *other_zlib]
+    version = subprocess.run([esbuild(), "--version"], stdout=subprocess.PIPE, text=True, check=True).stdout.strip()
+    esbuild_messages = [] if version == ESBUILD else [f"esbuild is {version}, not {ESBUILD}"]
+    has_same_zlib = hashlib.sha256(packed(PACKED_TEXT)).hexdigest() == PACKED_CHECKSUM
+    zlib_messages = [] if has_same_zlib else [f"zlib {zlib.ZLIB_RUNTIME_VERSION} packs differently"]
+    return [*esbuild_messages, *zlib_messages]
 
 
 def editor_licence():

@@ -2,7 +2,7 @@
 // is too short for any call. It checks properties that no compiler checks:
 // - MODULE has one memory, with 32-bit addresses and at most 256 MiB.
 // - If that memory cannot grow, calls answer `no 90` and leave the file unchanged. They work again when there is memory.
-// - The prover answers questions, also one with more states than fit into memory.
+// - The prover answers questions, including one with more states than fit into memory.
 // - A stack overflow, which every call of SHORT causes, ends in a trap.
 import { readFileSync } from "node:fs";
 
@@ -13,11 +13,11 @@ const BLOCK = 16n << 20n;
 const REPORT_SIZE = 16;
 const NO_MEMORY = 90;
 
-// Returns an unsigned number in LEB128, and the index after it.
-function numberAt(bytes, at) {
+// Returns the unsigned number in LEB128 at an index, and the index after it.
+function numberAt(bytes, index) {
   let value = 0;
   let shift = 0;
-  let next = at;
+  let next = index;
   for (;;) {
     const byte = bytes[next];
     next += 1;
@@ -27,29 +27,31 @@ function numberAt(bytes, at) {
   }
 }
 
-// Returns the number of the module's memories, and the flags and the maximum number of pages of the first one.
-function memories(bytes) {
-  let at = 8;
-  while (at < bytes.length) {
-    const kind = bytes[at];
-    const size = numberAt(bytes, at + 1);
+// Returns the number of the module's memories, and the flags and the maximum number of pages of the first memory. All are 0 if there is none.
+function readMemories(bytes) {
+  let index = 8;
+  while (index < bytes.length) {
+    const kind = bytes[index];
+    const size = numberAt(bytes, index + 1);
     if (kind === MEMORY_SECTION) {
       const count = numberAt(bytes, size.next);
       const flags = numberAt(bytes, count.next);
-      const least = numberAt(bytes, flags.next);
-      return { count: count.value, flags: flags.value, most: numberAt(bytes, least.next).value };
+      const minPages = numberAt(bytes, flags.next);
+      return { count: count.value, flags: flags.value, maxPages: numberAt(bytes, minPages.next).value };
     }
-    at = size.next + size.value;
+    index = size.next + size.value;
   }
-  return { count: 0, flags: 0, most: 0 };
+  return { count: 0, flags: 0, maxPages: 0 };
 }
 
+// Returns the exported functions and the memory of a new instance of the module in a file.
 function start(path) {
   return new WebAssembly.Instance(new WebAssembly.Module(readFileSync(path)), {}).exports;
 }
 
-// Allocates the buffers for calls (the file, the input, the answers and the report), and returns them.
-function desk(calls, input) {
+// Allocates the buffers for calls (the file, the input, the answers and the report), and returns their addresses and sizes. The input is in
+// its buffer.
+function allocateBuffers(calls, input) {
   const size = calls.bench_file_size();
   const file = calls.bench_buffer(size);
   const lines = calls.bench_buffer(64n);
@@ -59,63 +61,66 @@ function desk(calls, input) {
   return { size, file, lines, count: BigInt(input.length), answers, report };
 }
 
+// Returns a copy of the bytes of the file.
 function fileOf(calls, { file, size }) {
   return Buffer.from(new Uint8Array(calls.memory.buffer, Number(file), Number(size)).slice());
 }
 
-// Serves the input. Returns 0 if it was served, otherwise the number of the error.
+// Serves the input by the call `name`. Returns 0 if it was served, otherwise the number of the error.
 function serve(calls, name, { file, size, lines, count, answers, report }) {
-  const served = calls[name](file, size, lines, count, answers, 4096n, report);
-  return served ? 0 : new DataView(calls.memory.buffer, Number(report)).getUint32(0, true);
+  const isServed = calls[name](file, size, lines, count, answers, 4096n, report);
+  return isServed ? 0 : new DataView(calls.memory.buffer, Number(report)).getUint32(0, true);
 }
 
-const faults = [];
-function expect(name, found, wanted) {
-  if (found !== wanted) faults.push(`${name}: ${found}, not ${wanted}`);
+const errors = [];
+function expect(name, actual, expected) {
+  if (actual !== expected) errors.push(`${name}: ${actual}, not ${expected}`);
 }
 
 function tryMemory(bytes) {
-  const { count, flags, most } = memories(bytes);
+  const { count, flags, maxPages } = readMemories(bytes);
   expect("memories", count, 1);
   expect("flags of the memory", flags, HAS_MAX);
-  expect("pages of the memory at most", most, MAX_PAGES);
+  expect("pages of the memory at most", maxPages, MAX_PAGES);
 }
 
 function tryWithoutMemory(calls) {
-  const own = desk(calls, Buffer.from("poke r5 9\nregs\n"));
-  expect("begin", calls.bench_begin(own.file, own.size) !== 0, true);
+  const buffers = allocateBuffers(calls, Buffer.from("poke r5 9\nregs\n"));
+  expect("begin", calls.bench_begin(buffers.file, buffers.size) !== 0, true);
   // This call frees its blocks when it returns. The loop below must allocate these blocks, too, so that no memory is left.
-  expect("serve", serve(calls, "bench_serve_and_settle", own), 0);
+  expect("serve", serve(calls, "bench_serve_and_settle", buffers), 0);
   const blocks = [];
   for (let size = BLOCK; size >= 16n; size /= 2n) {
     for (let block = calls.bench_buffer(size); block !== 0n; block = calls.bench_buffer(size)) blocks.push(block);
   }
-  const before = fileOf(calls, own);
+  const before = fileOf(calls, buffers);
   for (const name of ["bench_serve", "bench_serve_and_settle", "bench_ask"]) {
-    expect(`${name} without memory`, serve(calls, name, own), NO_MEMORY);
+    expect(`${name} without memory`, serve(calls, name, buffers), NO_MEMORY);
   }
-  expect("settle without memory", calls.bench_settle(own.file, own.size), 0);
-  expect("begin without memory", calls.bench_begin(own.file, own.size), 0);
-  expect("the file without memory is as it was", fileOf(calls, own).equals(before), true);
+  expect("settle without memory", calls.bench_settle(buffers.file, buffers.size), 0);
+  expect("begin without memory", calls.bench_begin(buffers.file, buffers.size), 0);
+  expect("the file without memory is as it was", fileOf(calls, buffers).equals(before), true);
   for (const block of blocks) calls.bench_buffer_back(block);
-  expect("serve with memory again", serve(calls, "bench_serve", own), 0);
-  expect("the file has changed then", fileOf(calls, own).equals(before), false);
+  expect("serve with memory again", serve(calls, "bench_serve", buffers), 0);
+  expect("the file has changed then", fileOf(calls, buffers).equals(before), false);
 }
 
-// Returns a question about a program that counts in `registers` registers and turns its lamp on while TEST is 0. Line 1 of its port is
-// never on.
-function question(most, registers, never) {
+// Returns a question to the prover about a program that counts in `registers` registers and turns its lamp on while TEST is 0. The question is
+// whether the program never reaches the output `unwantedOutput` of its port. The lamp is line 0; line 1 is always 0. The prover may visit at most
+// `maxStates` states.
+function question(maxStates, registers, unwantedOutput) {
   const counts = [...Array(registers).keys()].map((register) => `ISZ R${register}, look\n`).join("");
-  return `most ${most}\nwire\n[[rom]]\nchip = 0\nport = "0000"\n[[ram]]\nbank = 0\nchips = 1\n.\nasm\n`
-    + `look: JCN 1, on\nLDM 0\nWMP\n${counts}JUN look\non: LDM 1\nWMP\n${counts}JUN look\n.\nnever\nin ramport 0 ${never}\nprove\n`;
+  return `most ${maxStates}\nwire\n[[rom]]\nchip = 0\nport = "0000"\n[[ram]]\nbank = 0\nchips = 1\n.\nasm\n`
+    + `look: JCN 1, on\nLDM 0\nWMP\n${counts}JUN look\non: LDM 1\nWMP\n${counts}JUN look\n.\nnever\nin ramport 0 ${unwantedOutput}\nprove\n`;
 }
 
-// Returns the line of the answer. If there is no answer, returns the error number and the count that the call returns.
-function prove(calls, text, room = 4096n) {
+// Asks the prover. Returns the number in the report and the line of the answer. If there is no answer, returns the error number and the count
+// in the report. `answerSize` is the size of the buffer for the answer.
+function prove(calls, text, answerSize = 4096n) {
   const input = Buffer.from(text);
-  const [lines, answers, report] = [BigInt(input.length), room, BigInt(REPORT_SIZE)].map((size) => calls.bench_buffer(size));
+  const [lines, answers, report] = [BigInt(input.length), answerSize, BigInt(REPORT_SIZE)].map((size) => calls.bench_buffer(size));
   new Uint8Array(calls.memory.buffer, Number(lines)).set(input);
-  const isAnswered = calls.bench_prove(lines, BigInt(input.length), answers, room, report);
+  const isAnswered = calls.bench_prove(lines, BigInt(input.length), answers, answerSize, report);
   const words = new DataView(calls.memory.buffer, Number(report));
   const [number, count] = [words.getUint32(0, true), Number(words.getBigUint64(8, true))];
   const answer = Buffer.from(new Uint8Array(calls.memory.buffer, Number(answers), isAnswered ? count : 0)).toString();
@@ -136,14 +141,14 @@ function tryProver(calls) {
 }
 
 function tryShortStack(calls) {
-  const own = desk(calls, Buffer.from("seq\n"));
-  let stopped = "no trap";
+  const buffers = allocateBuffers(calls, Buffer.from("seq\n"));
+  let errorName = "no trap";
   try {
-    calls.bench_begin(own.file, own.size);
-  } catch (fault) {
-    stopped = fault.constructor.name;
+    calls.bench_begin(buffers.file, buffers.size);
+  } catch (error) {
+    errorName = error.constructor.name;
   }
-  expect("a stack that is too short", stopped, "RuntimeError");
+  expect("a stack that is too short", errorName, "RuntimeError");
 }
 
 const [path, shortPath] = process.argv.slice(2);
@@ -151,5 +156,5 @@ tryMemory(readFileSync(path));
 tryWithoutMemory(start(path));
 tryProver(start(path));
 tryShortStack(start(shortPath));
-for (const fault of faults) console.error(`try_module: ${fault}`);
-process.exitCode = faults.length === 0 ? 0 : 1;
+for (const error of errors) console.error(`try_module: ${error}`);
+process.exitCode = errors.length === 0 ? 0 : 1;

@@ -1,4 +1,5 @@
-"""A second assembler, written only from the manual's chapter. It returns a program's bytes or its first error. It shares no code with the bench."""
+"""A second assembler, written only from the manual's chapter about the assembler. It returns a program's bytes or its errors, and the answers to
+`map` and `errors`. It shares no code with the bench."""
 
 import re
 
@@ -26,17 +27,19 @@ class ProgramError(Exception):
 
 
 def number_of(word):
+    """Returns the value of a decimal or hexadecimal number, or None if the word is not a number."""
     if re.fullmatch("0x[0-9a-fA-F]+", word):
         return int(word, 16)
     return int(word) if re.fullmatch("[0-9]+", word) else None
 
 
 def is_name(word):
+    """Returns true if a word can be the name of a label or a number."""
     return re.fullmatch("[A-Za-z_][A-Za-z0-9_]{0,15}", word) is not None and word.upper() not in RESERVED
 
 
 def tokens_of(line):
-    """Returns the tokens of a line: words, the signs `,`, `:` and `=`, and `?` for any other character."""
+    """Returns the tokens of a line without its comment: words, the signs `,`, `:` and `=`, and `?` for any other character."""
     return [token if re.match("[A-Za-z0-9_,:=]", token) else "?" for token in re.findall(r"[A-Za-z0-9_]+|[^ \t]", line.split(";")[0])]
 
 
@@ -47,8 +50,8 @@ def values_of(words):
 
 
 def parse_statement(words):
-    """Parses a statement. Returns its kind and its values, or None if the words are not a statement. The kind is `ORG`, `DB`, `CODE` for an
-    instruction without values, or the mnemonic of an instruction with values, which is followed by its code."""
+    """Parses a statement. Returns None if the words are not a statement. Otherwise returns `ORG` and an address, `DB` and a list of values, or
+    `CODE` and the code of an instruction without values. For an instruction with values, returns its mnemonic, its code, and the list of values."""
     name, operand_tokens = words[0].upper(), words[1:]
     if name in CODES_WITHOUT_OPERAND:
         return ("CODE", CODES_WITHOUT_OPERAND[name]) if not operand_tokens else None
@@ -96,6 +99,7 @@ def parse_line(line):
 
 
 def size_of(parsed):
+    """Returns the number of bytes of a parsed statement, which can be None."""
     if parsed is None or parsed[0] == "ORG":
         return 0
     if parsed[0] == "DB":
@@ -140,6 +144,7 @@ class FirstPass:
 
 
 def bytes_of(address, parsed, names, number):
+    """Returns the bytes of a parsed statement at an address, which can be None. Raises ProgramError with the line `number` if a value is wrong."""
     if parsed is None or parsed[0] == "ORG":
         return []
     if parsed[0] == "CODE":
@@ -181,7 +186,8 @@ class SecondPass:
 
 
 def assemble(lines):
-    """Returns the bytes by address, each line's address and number of bytes, and the names with their values."""
+    """Returns the bytes by address, each line's address and number of bytes, and the names with their values. Raises ProgramError for the first
+    error."""
     first_pass = FirstPass()
     for line in lines:
         first_pass.read(line)
@@ -192,7 +198,8 @@ def assemble(lines):
 
 
 def errors_of(lines):
-    """Returns the number and line of each error. The errors of the second pass are included only if the first pass found none."""
+    """Returns a pair of an error number and a line number for each error. The errors of the second pass are included only if the first pass found
+    none."""
     first_pass, errors = FirstPass(), []
     for line in lines:
         try:
@@ -223,7 +230,7 @@ def check_text(lines):
 
 
 def map_of(lines):
-    """Returns the answer to `map`, line by line."""
+    """Returns the answer to `map` for a program, line by line."""
     try:
         check_text(lines)
         _image, spans, names = assemble(lines)
@@ -235,7 +242,7 @@ def map_of(lines):
 
 
 def errors_answer(lines):
-    """Returns the answer to `errors`, line by line."""
+    """Returns the answer to `errors` for a program, line by line."""
     try:
         check_text(lines)
     except ProgramError as error:
@@ -245,5 +252,6 @@ def errors_answer(lines):
 
 
 def refusal_of(error):
+    """Returns the answer `no NN` for an error, with its line number unless that is 0."""
     number, line = error.args
     return f"no {number} line {line}" if line else f"no {number}"

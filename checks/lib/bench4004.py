@@ -53,8 +53,8 @@ def reader_of(place: str) -> Callable[[Board], str]:
 
 
 def count_instructions(board: Board, limit: int) -> tuple[Counter[int], Counter[int], int, str]:
-    """Runs a board for at most `max_cycles` cycles. Returns how often the instruction at each address was executed, how often it jumped, the number
-    of cycles, and the reason for the stop."""
+    """Runs a board for at most `limit` cycles. Returns how often the instruction at each address was executed, how often it jumped, the number of
+    cycles, and the reason for the stop."""
     runs: Counter[int] = Counter()
     jumps: Counter[int] = Counter()
 
@@ -160,7 +160,7 @@ class Bench:
         self.seq = 0
 
     def dialogue(self, script: Iterable[str]) -> Iterator[tuple[str, list[str]]]:
-        """Yields each line of a script that has an answer, with that answer. Starts with the `session` line."""
+        """Yields each line of a script that has an answer, and the lines of this answer. First yields an empty line with the `session` answer."""
         yield "", [f"session {self.seq}"]
         lines = iter(script)
         for line in lines:
@@ -171,7 +171,7 @@ class Bench:
                 yield line, self.answer(*words)
 
     def answer(self, command: str, *operands: object) -> list[str]:
-        """Returns the answer to a line, or to a command word that is followed by a text."""
+        """Returns the lines of the answer to a command or a query. Its operands are words, or the lines of a text."""
         if command in QUERIES:
             return QUERIES[command](self, *operands)
         reply = COMMANDS[command](self.board, *operands)
@@ -203,7 +203,7 @@ def wire(board: Board, text: list[str]) -> str:
 
 
 def load(board: Board, text: list[str]) -> str:
-    """Loads a program into ROM."""
+    """Loads a program into ROM. Rejects a program with bytes for ROM chips that the board does not have."""
     image = assemble(text)[0]
     if any(address >> 8 not in board.chips.masks for address in image):
         return "no 42"
@@ -239,7 +239,7 @@ def set_test(board: Board, level: str) -> str:
 
 
 def poke(board: Board, place: str, value_text: str) -> str:
-    """Sets the value of a register or of a memory cell, which `place` names."""
+    """Sets the value of a register or of a memory cell, which `place` names. Rejects a cell in a ROM or RAM chip that the board does not have."""
     kind, *words = place.split(".")
     numbers, value = [parse_number(word) for word in words], parse_number(value_text)
     if kind == "rom":

@@ -1,8 +1,8 @@
 """A second implementation of a board of MCS-4 chips, which shares no code with the bench.
 
 The 45 instructions and the chips 4001, 4002, 4003 and 4004 follow Intel's "MCS-4 Micro Computer Set, Users Manual" and data sheets, as
-docs/MANUAL.md describes them. Details that Intel leaves open follow docs/MANUAL.md, too: when a chain is clocked, which codes are not instructions,
-that a two-cycle instruction takes effect in its first cycle, and what stops a run.
+docs/MANUAL.md describes them. Details that Intel leaves open follow docs/MANUAL.md, too. They are: when a chain is clocked, which codes are not
+instructions, that a two-cycle instruction takes effect in its first cycle, and what stops a run.
 """
 
 from __future__ import annotations
@@ -16,7 +16,7 @@ from assembler import CODES_WITHOUT_OPERAND, CODES_ON_PAIR, CODES_ON_REGISTER, C
 ADDRESS_COUNT = 4096
 TWO_WORDS = {"JCN", "FIM", "JUN", "JMS", "ISZ"}
 TWO_CYCLES = TWO_WORDS | {"FIN"}
-# A line of the board: `rom` with chip and line number, `ram` with bank, chip and line number, or `chain` with its number and a bit.
+# A line of the board: `rom` with chip and line number, `ram` with bank, chip and line number, or `chain` with its number and a bit number.
 Line = tuple[str, tuple[int, ...]]
 
 
@@ -267,22 +267,22 @@ def jcn(board: Board, condition: int, second_byte: int) -> None:
 
 
 def fim(board: Board, pair: int, second_byte: int) -> None:
-    """Fetch immediate."""
+    """Fetch immediate: loads the second byte into a pair."""
     board.set_pair(pair, second_byte)
 
 
 def src(board: Board, pair: int, _second_byte: int) -> None:
-    """Send register control."""
+    """Send register control: sends a pair's byte to the chips."""
     board.chips.send_src(board.dcl, board.pair(pair))
 
 
 def fin(board: Board, pair: int, _second_byte: int) -> None:
-    """Fetch indirect through pair 0."""
+    """Fetch indirect: loads the ROM byte at the address in pair 0, in the page of the program counter, into a pair."""
     board.set_pair(pair, board.rom[board.pc & 0xF00 | board.pair(0)])
 
 
 def jin(board: Board, pair: int, _second_byte: int) -> None:
-    """Jump indirect."""
+    """Jump indirect: jumps to the address in a pair, in the page of the program counter."""
     jump_on_page(board, board.pair(pair))
 
 
@@ -310,12 +310,12 @@ def isz(board: Board, k: int, second_byte: int) -> None:
 
 
 def add(board: Board, k: int, _second_byte: int) -> None:
-    """Add a register and the carry."""
+    """Add a register and the carry to the accumulator."""
     board.set_sum(board.acc + board.r[k] + board.cy)
 
 
 def sub(board: Board, k: int, _second_byte: int) -> None:
-    """Subtract: adds the complements of the register and the carry."""
+    """Subtract a register: adds the complements of the register and the carry."""
     board.set_sum(board.acc + (15 - board.r[k]) + (1 - board.cy))
 
 
@@ -325,7 +325,7 @@ def ld(board: Board, k: int, _second_byte: int) -> None:
 
 
 def xch(board: Board, k: int, _second_byte: int) -> None:
-    """Exchange."""
+    """Exchange the accumulator and a register."""
     board.acc, board.r[k] = board.r[k], board.acc
 
 
@@ -341,49 +341,49 @@ def ldm(board: Board, value: int, _second_byte: int) -> None:
 
 
 def wrm(board: Board, _low: int, _second_byte: int) -> None:
-    """Write the RAM nibble."""
+    """Write the accumulator into the selected RAM nibble."""
     board.chips.write_character(board.dcl, board.chips.bank_src[board.dcl], board.acc)
 
 
 def wmp(board: Board, _low: int, _second_byte: int) -> None:
-    """Write the port of the RAM chip."""
+    """Write the accumulator to the port of the selected RAM chip."""
     board.chips.write_ram_port(board.dcl, board.acc)
 
 
 def wrr(board: Board, _low: int, _second_byte: int) -> None:
-    """Write the port of the ROM."""
+    """Write the accumulator to the port of the selected ROM chip."""
     board.chips.write_rom_port(board.acc)
 
 
 def write_status(k: int) -> Callable[[Board, int, int], None]:
-    """WR0 to WR3."""
+    """Returns the instruction WR0 to WR3 that writes status nibble `k` of the selected register."""
     return lambda board, _low, _second_byte: board.chips.write_status(board.dcl, board.chips.bank_src[board.dcl] >> 4, k, board.acc)
 
 
 def read_status(k: int) -> Callable[[Board, int, int], None]:
-    """RD0 to RD3."""
+    """Returns the instruction RD0 to RD3 that reads status nibble `k` of the selected register."""
     def execute(board: Board, _low: int, _second_byte: int) -> None:
         board.acc = board.chips.status[board.dcl][board.chips.bank_src[board.dcl] >> 4][k]
     return execute
 
 
 def sbm(board: Board, _low: int, _second_byte: int) -> None:
-    """Subtract the RAM nibble."""
+    """Subtract the selected RAM nibble: adds the complements of the nibble and the carry."""
     board.set_sum(board.acc + (15 - board.chips.character(board.dcl)) + (1 - board.cy))
 
 
 def rdm(board: Board, _low: int, _second_byte: int) -> None:
-    """Read the RAM nibble."""
+    """Read the selected RAM nibble into the accumulator."""
     board.acc = board.chips.character(board.dcl)
 
 
 def rdr(board: Board, _low: int, _second_byte: int) -> None:
-    """Read the port of the ROM."""
+    """Read the port of the selected ROM chip into the accumulator."""
     board.acc = board.chips.read_port(board.chips.rom_src >> 4)
 
 
 def adm(board: Board, _low: int, _second_byte: int) -> None:
-    """Add the RAM nibble and the carry."""
+    """Add the selected RAM nibble and the carry to the accumulator."""
     board.set_sum(board.acc + board.chips.character(board.dcl) + board.cy)
 
 
@@ -396,7 +396,7 @@ def accumulator_operation(compute: Callable[[int, int], tuple[int, int]]) -> Cal
 
 
 def dcl(board: Board, _low: int, _second_byte: int) -> None:
-    """Designate command line: uses the lower three bits."""
+    """Designate command line: selects a RAM bank with the lower three bits of the accumulator."""
     board.dcl = board.acc % 8
 
 
@@ -415,7 +415,7 @@ OPERATIONS: dict[str, Callable[[Board, int, int], None]] = {
     "DAC": accumulator_operation(lambda acc, cy: divmod(acc + 15, 16)),
     "TCS": accumulator_operation(lambda acc, cy: (0, 9 + cy)),
     "STC": accumulator_operation(lambda acc, cy: (1, acc)),
-    # The carry is set, never cleared.
+    # DAA can set the carry, but never clears it.
     "DAA": accumulator_operation(lambda acc, cy: (cy | (acc + 6) // 16, (acc + 6) % 16) if cy or acc > 9 else (cy, acc)),
     "KBP": accumulator_operation(lambda acc, cy: (cy, {0: 0, 1: 1, 2: 2, 4: 3, 8: 4}.get(acc, 15))),
 }

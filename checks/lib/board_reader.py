@@ -1,5 +1,5 @@
-"""A second parser of board texts, written only from the manual's chapter. It finds the first error, and the part of the text that contains the error.
-It shares no code with the bench."""
+"""A second parser of board texts, written only from the manual's chapter about boards. It finds the first error, and the part of the text that
+contains the error. It shares no code with the bench."""
 
 import re
 import tomllib
@@ -13,6 +13,7 @@ NUMBERED_PARTS = {"rom": "chip", "ram": "bank"}
 
 
 def is_within(first, last):
+    """Returns a function that returns true for integers from `first` to `last`."""
     return lambda value: type(value) is int and first <= value <= last
 
 
@@ -31,6 +32,7 @@ def numbers_of(name):
 
 
 def is_line(value):
+    """Returns true if a value is the name of a line."""
     return numbers_of(value) is not None
 
 
@@ -65,15 +67,15 @@ def tables_of(document):
 
 
 class BoardReading:
-    """Finds the first wrong part of a board text that is valid TOML."""
+    """A board text that is valid TOML, with methods that find its first wrong part."""
 
     def __init__(self, document):
         self.document = document
         self.tables = list(tables_of(document))
 
     def first_error(self):
-        """Returns the first error: its number, the section, the number of the table, and the key; "" or 0 for a part that does not apply. Returns
-        None if the board is valid."""
+        """Returns the first error: its number, the section, the number of the table, and the key. A section that does not apply is "", a number 0,
+        and a key None. Returns None if the board is valid."""
         for find_errors in (self.unknown_key_errors, self.missing_key_errors, self.value_errors, self.excess_errors, self.repetition_errors):
             for part in find_errors():
                 return part
@@ -81,6 +83,7 @@ class BoardReading:
         return next((part for number in (25, 26) for part in line_errors if part[0] == number), None)
 
     def unknown_key_errors(self):
+        """Yields error 21 for each unknown key."""
         for key in sorted(self.document):
             if key not in SECTIONS:
                 yield 21, "", 0, key
@@ -91,6 +94,7 @@ class BoardReading:
                         yield 21, section, index, key
 
     def missing_key_errors(self):
+        """Yields error 22 for each missing key."""
         for section, index, table in self.tables:
             if isinstance(table, dict):
                 for key in KEYS[section]:
@@ -98,6 +102,7 @@ class BoardReading:
                         yield 22, section, index, key
 
     def value_errors(self):
+        """Yields error 23 for each wrong value."""
         for section in SECTIONS:
             if section != "keys" and not isinstance(self.document.get(section, []), list):
                 yield 23, section, 0, None
@@ -110,6 +115,7 @@ class BoardReading:
                     yield 23, section, index, key
 
     def excess_errors(self):
+        """Yields error 27 for each kind of table that occurs too often, and for too many columns."""
         for section in SECTIONS:
             tables = [table for kind, _index, table in self.tables if kind == section]
             if section in MAX_TABLES and len(tables) > MAX_TABLES[section]:
@@ -118,6 +124,7 @@ class BoardReading:
                 yield 27, "keys", 0, "columns"
 
     def repetition_errors(self):
+        """Yields error 24 for each chip or bank number that occurs again."""
         for section, key in NUMBERED_PARTS.items():
             seen = set()
             for _section, index, table in (entry for entry in self.tables if entry[0] == section):
@@ -138,6 +145,7 @@ class BoardReading:
         return None
 
     def line_errors(self):
+        """Yields errors 25 and 26: missing lines, and lines of the wrong direction."""
         chips = [table["chips"] for section, _index, table in self.tables if section == "chain"]
         for section, index, table in self.tables:
             if section == "chain":
@@ -153,6 +161,7 @@ class BoardReading:
                 yield from self.errors_of_lines(section, index, "line", [table["line"]], "ob")
 
     def errors_of_lines(self, section, index, key, names, allowed):
+        """Yields the errors of the lines that a key names. `allowed` contains the directions that the lines can have."""
         directions = [self.direction(name) for name in names]
         if None in directions:
             yield 25, section, index, key
@@ -168,7 +177,8 @@ def has_part(document, section, index, key):
 
 
 def line_of(lines, part):
-    """Returns the number of lines in the shortest prefix of the text that is valid TOML and contains a part, as BoardReading returns it."""
+    """Returns the number of lines in the shortest prefix of the text that is valid TOML and contains a part. `part` is an error that
+    `BoardReading.first_error` has returned."""
     _number, section, index, key = part
     too_short, long_enough = 0, len(lines)
     while long_enough - too_short > 1:
@@ -182,7 +192,7 @@ def line_of(lines, part):
 
 
 def wiring_answer(lines):
-    """Returns the answer to `wiring`."""
+    """Returns the answer to `wiring` for a board's text."""
     count, document = longest_toml(lines, len(lines))
     if count < len(lines):
         return f"no 20 line {count + 1}"

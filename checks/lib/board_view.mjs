@@ -1,8 +1,8 @@
 // Runs the lamps and keys view of the Visual Studio Code extension with stand-ins for the editor: `node board_view.mjs FOLDER`. FOLDER is the
-// unpacked extension. The script uses the extension's module and the real debug adapter, which debugs the lock in real time. Each line of standard
-// input is JSON: { fromPage } is a message from the view's page, { request, args } is a request to the adapter, and { end } ends the script. Each line of
-// standard output is also JSON: { html } is the view's HTML, { toPage } a message for the page, { response, body } the response to a request, { stopped } a
-// stop of the program, and { error } an error.
+// unpacked extension. The script uses the extension's module and the real debug adapter, which debugs the lock in real time. Each line of
+// standard input is JSON: `{ fromPage }` is a message from the view's page, `{ request, args }` is a request to the adapter, and `{ end }`
+// ends the script. Each line of standard output is also JSON: `{ html }` is the view's HTML, and `{ toPage }` is a message for the page. `{
+// response, body }` is the response to a request, `{ stopped }` is a stop of the program, and `{ error }` is an error.
 import { createRequire } from "node:module";
 import { createInterface } from "node:readline";
 import { Client } from "./dap_client.mjs";
@@ -13,7 +13,7 @@ const { BoardView } = createRequire(import.meta.url)(`${folder}/board_view.js`);
 
 const say = (message) => process.stdout.write(`${JSON.stringify(message)}\n`);
 const listeners = {};
-/** Returns a function that registers a listener under a name. */
+/** Returns a function that stores a listener under a name in `listeners`. */
 const listening = (name) => (act) => {
   listeners[name] = act;
   return { dispose: () => {} };

@@ -1,6 +1,7 @@
-"""Checks the lamps and keys view of the Visual Studio Code extension: `python3 board_view.py FOLDER`. FOLDER is the extension, unpacked from its
-.vsix. The view's page runs in Chromium with a stand-in for the editor's interface (acquireVsCodeApi). The extension's module runs in Node with the
-real debug adapter (board_view.mjs). The check passes messages between the page and the module. Prints `ok TEXT` or `failed: TEXT` for each check."""
+"""Checks the lamps and keys view of the Visual Studio Code extension: `python3 board_view.py FOLDER [PICTURE]`. FOLDER is the extension, unpacked
+from its .vsix. The view's page runs in Chromium with a stand-in for the editor's interface (acquireVsCodeApi). The extension's module runs in Node
+with the real debug adapter (board_view.mjs). The check passes messages between the page and the module. Prints `ok TEXT` or `failed: TEXT` for each
+check, and writes a screenshot to the file PICTURE."""
 
 import json
 import pathlib
@@ -31,11 +32,12 @@ TIMEOUT_SECONDS = 60
 
 
 def expect_equal(actual, expected, description):
+    """Prints whether a value equals the expected one."""
     print(f"ok {description}" if actual == expected else f"failed: {description}: is {actual!r}, must be {expected!r}")
 
 
 class Bridge:
-    """Passes messages between the view's page in the browser and the extension in Node."""
+    """A connection that passes messages between the view's page in the browser and the extension in Node."""
 
     def __init__(self, folder, browser):
         self.browser = browser
@@ -46,10 +48,12 @@ class Bridge:
         self.messages = []
 
     def send(self, **message):
+        """Sends a message to the extension."""
         self.child.stdin.write(json.dumps(message) + "\n")
         self.child.stdin.flush()
 
     def pass_messages(self):
+        """Passes the messages so far. Stores the extension's messages that are not for the page."""
         for posted in self.browser.script(TAKE_MESSAGES):
             self.send(fromPage=posted)
         while not self.lines.empty():
@@ -72,6 +76,7 @@ class Bridge:
         expect_equal(result, expected, description)
 
     def request(self, name, **arguments):
+        """Sends a request to the debug adapter. Returns the body of its answer, or None if there is no answer in time."""
         self.send(request=name, args=arguments)
         deadline = time.monotonic() + TIMEOUT_SECONDS
         while time.monotonic() < deadline:

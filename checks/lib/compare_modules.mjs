@@ -9,7 +9,7 @@ import { readFileSync } from "node:fs";
 import { join } from "node:path";
 
 const [examples, count, ...paths] = process.argv.slice(2);
-/** The size of the buffers for an input and for answers. */
+/** The size in bytes of the buffers for an input and for answers. */
 const BUFFER_SIZE = 1n << 20n;
 const FILE_BUFFER_SIZE = 1n << 18n;
 
@@ -37,7 +37,7 @@ class Instance {
     return { done: this.exports.bench_settle(this.file, BigInt(this.size)) !== 0 };
   }
 
-  /** Calls a function of the module with an input. Returns the report and the answers. */
+  /** Calls a function of the module with an input. Returns whether it succeeded, the two numbers in its report, and the answers. */
   serve(name, text) {
     const input = Buffer.from(text, "latin1");
     this.view(this.input, input.length).set(input);
@@ -49,13 +49,13 @@ class Instance {
     return { done, number, bytes, answers };
   }
 
-  /** Returns the file. */
-  get() {
+  /** Returns a copy of the session file in the instance. */
+  getFile() {
     return Buffer.from(this.view(this.file, this.size).slice());
   }
 
-  /** Replaces the file. */
-  put(file) {
+  /** Replaces the session file in the instance. */
+  setFile(file) {
     this.size = file.length;
     this.view(this.file, file.length).set(file);
   }
@@ -78,7 +78,7 @@ const BOARDS = [
 const PROGRAM = readFileSync(join(examples, "calculator/calculator.asm"), "latin1");
 
 // Returns a program: the calculator's, or random bytes, so that each instruction runs under many conditions.
-function program() {
+function randomProgram() {
   if (random(3) === 0) return `asm\n${PROGRAM}.\n`;
   const lines = [...Array(1 + random(60))].map(() => `DB ${[...Array(1 + random(16))].map(() => random(256)).join(", ")}`);
   return `asm\n${lines.join("\n")}\n.\n`;
@@ -90,12 +90,12 @@ const LINES = [
   () => `press ${random(10)} ${random(5)}`, () => `release ${random(10)} ${random(5)}`, () => `test ${random(3)}`, () => "reset",
   () => `break ${random(400)}`, () => `unbreak ${random(400)}`, () => `watch ${random(9)} ${random(70)}`, () => `unwatch ${random(8)} ${random(64)}`,
   () => `ram ${random(9)}`, () => `list ${random(4200)} ${random(260)}`, () => "regs\nlamps\nports\nbreaks\nwatches\nboard\nseq",
-  () => `wire\n${pick(BOARDS)}.`, () => program().trimEnd(), () => "foo", () => "\tregs \r", () => "x".repeat(250 + random(10)), () => "caf\u00e9",
+  () => `wire\n${pick(BOARDS)}.`, () => randomProgram().trimEnd(), () => "foo", () => "\tregs \r", () => "x".repeat(250 + random(10)), () => "caf\u00e9",
 ];
 
 /** Returns a random input. */
-function script() {
-  const setup = random(4) ? `wire\n${pick(BOARDS.slice(0, 3))}.\n${program()}` : "";
+function randomInput() {
+  const setup = random(4) ? `wire\n${pick(BOARDS.slice(0, 3))}.\n${randomProgram()}` : "";
   const text = setup + [...Array(2 + random(30))].map(() => `${pick(LINES)()}\n`).join("");
   // Sometimes the input ends in the middle of a line or of a text.
   return random(6) ? text : text.slice(0, random(text.length));
@@ -104,7 +104,7 @@ function script() {
 let comparisons = 0;
 let failures = 0;
 /** Counts a comparison, and prints its name if it failed. */
-function expect(name, isRight) {
+function countComparison(name, isRight) {
   comparisons += 1;
   if (isRight) return;
   failures += 1;
@@ -113,8 +113,9 @@ function expect(name, isRight) {
 
 const instances = paths.map((path) => new Instance(path));
 
-// Checks that all modules return the same result. Returns the result of the first module.
-function onAll(name, act) {
+// Calls `act` with each instance. Checks that all results (as JSON, or as error messages) and all files are the same. Returns the result of
+// the first module.
+function compareAll(name, act) {
   const results = instances.map((instance) => {
     try {
       return JSON.stringify(act(instance));
@@ -122,30 +123,30 @@ function onAll(name, act) {
       return String(error);
     }
   });
-  const file = instances[0].get();
-  instances.forEach((instance, index) => expect(`${name}: ${paths[index]} differs from ${paths[0]}`, results[index] === results[0] && instance.get().equals(file)));
+  const file = instances[0].getFile();
+  instances.forEach((instance, index) => countComparison(`${name}: ${paths[index]} differs from ${paths[0]}`, results[index] === results[0] && instance.getFile().equals(file)));
   return results[0];
 }
 
 // Checks the three laws of the calls that serve, settle and ask.
 function tryLaws(name, text) {
   const [instance] = instances;
-  const before = instance.get();
+  const before = instance.getFile();
   const served = instance.serve("bench_serve", text);
-  expect(`${name}: the file cannot be settled`, !served.done || instance.settle().done);
-  const settled = instance.get();
-  instance.put(before);
+  countComparison(`${name}: the file cannot be settled`, !served.done || instance.settle().done);
+  const settled = instance.getFile();
+  instance.setFile(before);
   const answers = instance.serve("bench_ask", text);
-  expect(`${name}: asking gives other answers`, JSON.stringify(answers) === JSON.stringify(served));
-  expect(`${name}: asking changes the file`, instance.get().equals(before));
+  countComparison(`${name}: asking gives other answers`, JSON.stringify(answers) === JSON.stringify(served));
+  countComparison(`${name}: asking changes the file`, instance.getFile().equals(before));
   const both = instance.serve("bench_serve_and_settle", text);
-  expect(`${name}: serving and settling gives other answers`, JSON.stringify(both) === JSON.stringify(served));
-  expect(`${name}: serving and settling leaves another file`, instance.get().equals(served.done ? settled : before));
-  instance.put(before);
+  countComparison(`${name}: serving and settling gives other answers`, JSON.stringify(both) === JSON.stringify(served));
+  countComparison(`${name}: serving and settling leaves another file`, instance.getFile().equals(served.done ? settled : before));
+  instance.setFile(before);
 }
 
 /** Returns a copy of a file with changed bits. */
-function damage(file) {
+function damagedCopy(file) {
   const damaged = Buffer.from(file);
   for (let changes = 1 + random(4); changes > 0; changes--) {
     damaged[pick([random(24), 16 + random(8000), 16400 + random(2000), 81936 + random(3000)])] ^= 1 << random(8);
@@ -154,22 +155,22 @@ function damage(file) {
 }
 
 function tryFile(name, file) {
-  for (const instance of instances) instance.put(file);
-  onAll(`${name}, served`, (instance) => instance.serve("bench_serve", "seq\nregs\nlamps\nram 0\nlist 0 64\nrun 1000\n"));
-  onAll(`${name}, settled`, (instance) => instance.settle());
+  for (const instance of instances) instance.setFile(file);
+  compareAll(`${name}, served`, (instance) => instance.serve("bench_serve", "seq\nregs\nlamps\nram 0\nlist 0 64\nrun 1000\n"));
+  compareAll(`${name}, settled`, (instance) => instance.settle());
 }
 
 const CALLS = ["bench_serve", "bench_serve_and_settle", "bench_ask"];
 for (let number = 1; number <= Number(count); number++) {
-  onAll(`session ${number}, begun`, (instance) => instance.begin());
+  compareAll(`session ${number}, begun`, (instance) => instance.begin());
   for (let part = 1 + random(4); part > 0; part--) {
-    const text = script();
+    const text = randomInput();
     tryLaws(`session ${number}`, text);
     const call = pick(CALLS);
-    onAll(`session ${number}, ${call}`, (instance) => instance.serve(call, text));
-    if (random(3) === 0) onAll(`session ${number}, settled`, (instance) => instance.settle());
+    compareAll(`session ${number}, ${call}`, (instance) => instance.serve(call, text));
+    if (random(3) === 0) compareAll(`session ${number}, settled`, (instance) => instance.settle());
   }
-  if (number % 3 === 0) tryFile(`damaged file ${number}`, damage(instances[0].get()));
+  if (number % 3 === 0) tryFile(`damaged file ${number}`, damagedCopy(instances[0].getFile()));
   if (number % 25 === 0) tryFile(`a file of another size, ${number}`, Buffer.alloc(pick([0, 1, 16, 163855, 163857]), 7));
 }
 console.log(`${count} sessions, ${comparisons} comparisons, ${failures} differ`);

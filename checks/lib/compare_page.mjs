@@ -45,7 +45,7 @@ const PROBES = PLACES.concat([() => "lamps", () => "ret", () => `rom${random(17)
   () => `ram${random(8)}.${random(5)}.${random(4)}`, () => `chain${random(4)}.${random(81)}`, () => `rom${random(16)}`, () => `ram${random(8)}.${random(4)}`,
   () => `chain${random(4)}`, () => "src"]);
 
-function program() {
+function randomProgram() {
   const lines = [];
   const size = 1 + random(40);
   for (let n = 0; n < size; n++) {
@@ -59,7 +59,7 @@ function program() {
   return `asm\n${lines.join("\n")}\n.\n`;
 }
 
-function line() {
+function randomLine() {
   return either([() => `run ${1 + random(3000)}`, () => `run ${1 + random(100)}`, () => `run ${pick([0, 100000, 100001])}`, () => "step",
     () => `poke ${either(PLACES)} ${random(random(4) ? 16 : 300)}`,
     () => `press ${random(10)} ${random(5)}`, () => `release ${random(10)} ${random(5)}`,
@@ -68,13 +68,13 @@ function line() {
     () => pick(["lamps", "regs", "breaks", "watches", "board", "seq", "state"]), () => pick(["state", "watches", "regs"]),
     () => `count ${1 + random(2000)}`,
     () => `trace ${1 + random(300)} ${Array.from({ length: random(5) }, () => either(PROBES)).join(" ")}`,
-    () => `ram ${random(9)}`, () => `list ${random(4200)} ${random(260)}`, () => `wire\n${pick(BOARDS)}.`, () => program().trimEnd(),
+    () => `ram ${random(9)}`, () => `list ${random(4200)} ${random(260)}`, () => `wire\n${pick(BOARDS)}.`, () => randomProgram().trimEnd(),
     () => `foo ${random(9)}`, () => "", () => "\tregs \r", () => "wire now", () => "x".repeat(250 + random(10)), () => "caf\u00e9"]);
 }
 
-function script() {
-  let text = random(5) ? `wire\n${pick(BOARDS.slice(0, 4))}.\n${program()}` : "";
-  for (let count = 5 + random(60); count > 0; count--) text += `${line()}\n`;
+function randomScript() {
+  let text = random(5) ? `wire\n${pick(BOARDS.slice(0, 4))}.\n${randomProgram()}` : "";
+  for (let count = 5 + random(60); count > 0; count--) text += `${randomLine()}\n`;
   // Sometimes the input ends in the middle of a line or of a text.
   return random(6) ? text : text.slice(0, random(text.length));
 }
@@ -82,7 +82,8 @@ function script() {
 const path = join(work, "s.mcs");
 const inputPath = join(work, "input");
 
-// Returns the program's result for a script, in a new session (null) or in a session file.
+// Returns the program's answers, exit status and session file for a script. The script runs in a new session if `file` is null, otherwise
+// in the session file.
 function programResult(file, input) {
   rmSync(path, { force: true });
   if (file) writeFileSync(path, file);
@@ -95,7 +96,7 @@ function programResult(file, input) {
   return { output: result.stdout.toString("latin1"), status: result.status, file: readFileSync(path) };
 }
 
-// Returns the result of a call of the page's module. `bench_serve` serves without settling.
+// Returns the answers, the exit status and the session file of a call of the page's module. The call `bench_serve` serves without settling.
 function pageResult(engine, file, input, call = "bench_serve") {
   try {
     const { status, opened, answers } = engine.callForAnswers(call, file || engine.begin(), input);
@@ -121,8 +122,8 @@ const BEGINNINGS = {
   count: /^count ran /, trace: /^trace ran /,
 };
 
-// Returns true if the page assigns the answers to the right inputs.
-function isSplit(input, output) {
+// Returns true if the page's function `matchAnswers` assigns the answers to the right inputs.
+function areAnswersMatched(input, output) {
   const answers = output.split("\n").slice(1, -1);
   const inputs = readInputs(Buffer.from(input).toString("latin1"));
   const parts = matchAnswers(inputs, answers);
@@ -139,7 +140,7 @@ function compare(name, engine, file, input) {
   if (actual.output !== expected.output) differences.push("answers");
   if (actual.status !== expected.status) differences.push(`status ${actual.status}, not ${expected.status}`);
   if (Buffer.compare(Buffer.from(actual.file), expected.file) !== 0) differences.push("file");
-  if (expected.status === 0 && !isSplit(input, expected.output)) differences.push("the answers of each input");
+  if (expected.status === 0 && !areAnswersMatched(input, expected.output)) differences.push("the answers of each input");
   passed += differences.length === 0 ? 1 : 0;
   failed += differences.length === 0 ? 0 : 1;
   if (differences.length > 0) console.error(`compare_page: ${name} differs: ${differences.join(", ")}; input:\n${input.slice(0, 2000)}`);
@@ -217,7 +218,7 @@ function compareInPieces(name, engine, file, input) {
 
 function compareFiles(name, engine, file) {
   compareSource(name, engine, file);
-  compareInPieces(name, engine, file, script());
+  compareInPieces(name, engine, file, randomScript());
   const settled = settle(engine, file);
   checkSettled(`${name}: settle`, settled, seqOf(engine, file));
   const both = new Uint8Array(file.length);
@@ -237,16 +238,16 @@ function compareFiles(name, engine, file) {
   compare(`${name}, damaged`, engine, damaged, QUERIES);
 }
 
-function seconds(act) {
+function measureSeconds(act) {
   const start = process.hrtime.bigint();
   act();
   return Number(process.hrtime.bigint() - start) / 1e9;
 }
 
-const fastest = (act) => Math.min(...[1, 2, 3].map(() => seconds(act)));
+const fastest = (act) => Math.min(...[1, 2, 3].map(() => measureSeconds(act)));
 
 // Returns the cycles per second of the page's module and of the program, with the calculator.
-function speeds(engine) {
+function measureSpeeds(engine) {
   const board = `wire\n${calculator}.\nasm\n${readFileSync(join(examples, "calculator/calculator.asm"), "utf8")}.\n`;
   const runs = "run 100000\n".repeat(300);
   const file = engine.begin();
@@ -263,14 +264,14 @@ for (const name of readdirSync(examples, { recursive: true })) {
 // Texts that are longer than a chunk, longer than the module's initial memory, and longer than the bench accepts.
 for (const size of [70000, 1100000, 16777300]) compare(`an input of ${size} bytes`, engine, null, `poke acc 1\n${"\n".repeat(size)}seq\n`);
 for (let number = 1; number <= Number(count); number++) {
-  const file = compare(`script ${number}`, engine, null, script());
-  if (number % 4 === 0) compare(`script ${number}, continued`, engine, file, script());
+  const file = compare(`script ${number}`, engine, null, randomScript());
+  if (number % 4 === 0) compare(`script ${number}, continued`, engine, file, randomScript());
   if (number % 8 === 0) compareFiles(`script ${number}`, engine, file);
 }
 for (const bytes of [Buffer.from("no session"), new Uint8Array(163856), new Uint8Array(163857)]) {
   compare(`a file of ${bytes.length} bytes`, engine, bytes, "seq\n");
 }
-const { page, native } = speeds(engine);
+const { page, native } = measureSpeeds(engine);
 const millions = [page, native].map((speed) => Math.round(speed / 1e6));
 console.log(`${passed} equal, ${failed} different; ${millions[0]} million cycles a second in node, the program ${millions[1]}`);
 process.exitCode = failed === 0 ? 0 : 1;

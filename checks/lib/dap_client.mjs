@@ -7,7 +7,7 @@ export class Client extends MessageClient {
     super(command, folder, [...before, "dap", ...args], env);
     /** The protocol violations in the adapter's messages. */
     this.violations = [];
-    /** The number of the last message. */
+    /** The sequence number of the adapter's last message. */
     this.lastNumber = 0;
   }
 
@@ -21,7 +21,7 @@ export class Client extends MessageClient {
     if (!isResponse && !isEvent) this.violations.push(`neither a response nor an event: ${JSON.stringify(message)}`);
   }
 
-  /** Resolves to the response to a request, successful or not. */
+  /** Sends a request, and resolves to its response, successful or not. */
   answer(command, args) {
     this.number += 1;
     const seq = this.number;
@@ -29,7 +29,7 @@ export class Client extends MessageClient {
     return this.next((message) => message.type === "response" && message.request_seq === seq);
   }
 
-  /** Resolves to the body of the response. Throws an error if the request failed. */
+  /** Sends a request, and resolves to the body of its response. Throws an error if the request failed. */
   async request(command, args) {
     const response = await this.answer(command, args);
     if (!response.success) throw new Error(`${command}: ${response.message}`);
@@ -41,7 +41,10 @@ export class Client extends MessageClient {
     return this.next((message) => message.type === "event" && message.event === name);
   }
 
-  /** Sends the requests from initialize to configurationDone. `configure` is called before configurationDone and can set breakpoints. */
+  /**
+   * Sends the requests from initialize to configurationDone. `configure` is called before configurationDone and can set breakpoints. Resolves to
+   * the adapter's capabilities.
+   */
   async begin(args, configure = async () => {}) {
     const capabilities = await this.request("initialize", { adapterID: "mcs4", linesStartAt1: true, columnsStartAt1: true, pathFormat: "path" });
     await this.request("launch", args);
@@ -51,7 +54,7 @@ export class Client extends MessageClient {
     return capabilities;
   }
 
-  /** Sends a request that runs the machine, and waits until it stops. */
+  /** Sends a request that runs the machine, and waits until it stops. Resolves to the body of the event `stopped`. */
   async move(command, args = {}) {
     await this.request(command, { threadId: 1, ...args });
     return (await this.event("stopped")).body;
@@ -70,7 +73,7 @@ export class Client extends MessageClient {
     return { variablesReference, variables, values: Object.fromEntries(variables.map((variable) => [variable.name, variable.value])) };
   }
 
-  /** Returns the output since the last call. */
+  /** Returns the text of the output events since the last call. */
   output() {
     const isOutput = (message) => message.type === "event" && message.event === "output";
     const texts = this.received.filter(isOutput).map(({ body }) => body.output);

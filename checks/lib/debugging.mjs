@@ -1,5 +1,5 @@
-// The main tests of checks/debugging, with a separate client. Prints `ok TEXT` or `failed: TEXT` for each check, and `speed: TEXT` for a
-// measurement.
+// The main tests of checks/debugging. The client in dap_client.mjs takes the part of an editor. Prints `ok TEXT` or `failed: TEXT` for each
+// check, and `speed: TEXT` for a measurement.
 import { execFileSync, spawn } from "node:child_process";
 import { copyFileSync, readFileSync, readdirSync, writeFileSync } from "node:fs";
 import { Client } from "./dap_client.mjs";
@@ -18,7 +18,7 @@ function verdict(actual, expected, description) {
 
 const matches = (text, pattern, description) => console.log(pattern.test(text) ? `ok ${description}` : `failed: ${description}: ${text}`);
 
-/** Runs the program on a session file with these input lines, and returns its answers. */
+/** Runs the native program, which MCS4 names, on a session file with these input lines. Returns its answers without the first line. */
 const mcs4 = (word, file, input) => execFileSync(process.env.MCS4, [word, file], { input, encoding: "utf8" }).split("\n").slice(1, -1);
 
 /** Returns the state in a session file. Reads a copy, because a file in use cannot be opened. */
@@ -40,7 +40,10 @@ const example = (name) => ({
   board: `${TOP}examples/${name}/board.toml`, program: `${TOP}examples/${name}/${name}.asm`, project: `${TOP}examples/${name}`,
 });
 
-/** Creates a session file for an example with the native program, without the debug adapter. */
+/**
+ * Creates a session file for an example with the native program, without the debug adapter. Returns its path, the source line at each
+ * address, and the values of the names.
+ */
 function createSession(name, lines = "") {
   const file = `${folder}/${name}.mcs`;
   execFileSync("rm", ["-f", file]);
@@ -53,7 +56,7 @@ function createSession(name, lines = "") {
   return { file, lineAt, names };
 }
 
-/** Returns the machine's state as the client sees it, with the keys of `state`. */
+/** Resolves to the machine's state as the client sees it, with the keys of `state`. */
 async function machineState(client) {
   const { values } = await client.scope("Registers");
   const digits = (name) => values[name].replace(/^0x/, "");
@@ -61,10 +64,10 @@ async function machineState(client) {
   return { acc: digits("acc"), cy: values.cy, pc: digits("pc"), dcl: digits("dcl"), test: values.test, r };
 }
 
-/** Returns the values that `machineState` also has. */
+/** Returns those values of an answer to `state` that `machineState` also returns. */
 const comparable = ({ acc, cy, pc, dcl, test, r }) => ({ acc, cy, pc, dcl, test, r });
 
-/** Compares steps of the adapter in an example, forward and back, with the program's steps. */
+/** Compares steps of the adapter in an example, forward and back, with the steps of the native program. */
 async function trySteps(name) {
   const { lineAt, file } = createSession(name);
   const expected = mcs4("open", file, "state\nstep\n".repeat(STEPS)).filter((line) => line.startsWith("state ")).map(valuesOf);
@@ -90,7 +93,7 @@ async function trySteps(name) {
   verdict(await client.end(), 0, `${name}: the adapter's status`);
 }
 
-/** Compares breakpoints at an example's labels with the program's `break` and `run`. */
+/** Compares breakpoints at an example's labels with `break` and `run` in the native program. */
 async function tryBreakpoints(name) {
   const { file, lineAt, names } = createSession(name);
   const text = readFileSync(example(name).program, "utf8");
@@ -115,8 +118,9 @@ async function tryBreakpoints(name) {
 }
 
 /**
- * Goes back from each arrival at a label to the previous one, and compares these stops with the program's stops while it runs forward. With a
- * condition, only the arrivals at which the condition is true are compared.
+ * Goes back from each arrival at a label to the previous one, and compares these stops with those of the native program, which runs
+ * forward. Does the same with a condition on a register, given by its number. Then only the arrivals at which the condition is true must be
+ * stops.
  */
 async function tryArrivals(name, label, register) {
   const { file, names } = createSession(name);

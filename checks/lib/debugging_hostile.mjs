@@ -35,7 +35,7 @@ const FATAL_INPUTS = [
   { name: "binary bytes", bytes: Buffer.from(Array.from({ length: 6000 }, (_, index) => (index * 7919) % 256)), pattern: /^the head|^a message begins/ },
 ];
 
-/** Checks that the adapter sends and prints the error, and exits with a status other than 0. */
+/** Checks that the adapter sends and prints the error, and exits with status 1. */
 async function tryFatalInput({ name, bytes, pattern, isOpen = false }) {
   const client = new Client(ADAPTER);
   client.sendBytes(bytes);
@@ -82,7 +82,7 @@ function randomArguments(depth = 0) {
   return Object.fromEntries(Array.from({ length: random(7) }, () => [oneOf(NAMES), randomValue(depth)]));
 }
 
-/** Returns arguments most of which are valid, so that the adapter's later checks of the arguments are also tested. */
+/** Returns mostly valid arguments, so that the adapter's later checks of the arguments are also tested. */
 function mostlyValidArguments(command) {
   const valid = { threadId: 1, frameId: 1, variablesReference: 1 + random(7), name: oneOf(["acc", "R4", "lamp 0"]), value: oneOf(TEXTS), expression: oneOf(TEXTS),
     context: oneOf(["repl", "watch", "hover", "clipboard"]), memoryReference: oneOf(["0x000", "0x10000", "ram.0"]), offset: random(300) - 20, count: random(5000),
@@ -99,7 +99,10 @@ function argumentsFor(command) {
   return oneOf([() => undefined, () => null, () => randomValue(0), () => randomArguments(), () => mostlyValidArguments(command), () => mostlyValidArguments(command)])();
 }
 
-/** Sends requests in batches, without waiting within a batch. Resolves to the numbers of the requests that were not answered exactly once. */
+/**
+ * Sends requests in batches, without waiting within a batch. Resolves to the requests that were answered more than once: the number of
+ * each, and how often it was answered. Throws an error if a request is not answered in time.
+ */
 async function sendAll(client, count) {
   const answered = new Map();
   for (let done = 0; done < count; done += BATCH) {

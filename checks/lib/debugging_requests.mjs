@@ -23,14 +23,17 @@ function verdict(actual, expected, description) {
 
 const matches = (text, pattern, description) => console.log(pattern.test(text) ? `ok ${description}` : `failed: ${description}: ${text}`);
 
-/** Returns the program's answers to lines in a copy of a session file. */
+/** Returns the native program's answers to lines in a copy of a session file. */
 function answersOf(file, input) {
   copyFileSync(file, `${folder}/copy.mcs`);
   chmodSync(`${folder}/copy.mcs`, 0o600);
   return execFileSync(process.env.MCS4, ["open", `${folder}/copy.mcs`], { input, encoding: "utf8" }).split("\n").slice(1, -1);
 }
 
-/** Creates a session file for the lock with the native program, without the debug adapter, and executes session lines in it. */
+/**
+ * Creates a session file for the lock with the native program, without the debug adapter, and executes session lines in it. Returns its
+ * path.
+ */
 function sessionFile(name, lines) {
   const file = `${folder}/${name}.mcs`;
   const withoutComments = (text, mark) => text.split("\n").map((line) => line.replace(new RegExp(`${mark}.*`), "").trimEnd()).join("\n");
@@ -40,7 +43,10 @@ function sessionFile(name, lines) {
   return file;
 }
 
-/** Sends the requests that Visual Studio Code sends up to the first stop. */
+/**
+ * Sends the requests that Visual Studio Code sends up to the first stop. Resolves to the results of three of them, and to the body of the
+ * event `stopped`.
+ */
 async function begin(client, command, args, { watches = [], filterOptions = [], functions = [] } = {}) {
   const capabilities = await client.request("initialize", VSCODE);
   const launched = client.answer(command, { name: "MCS-4", type: "mcs4", request: command, __sessionId: "1", ...args });
@@ -79,7 +85,7 @@ async function tryAttach() {
   for (let step = 0; step < 3; step++) await client.move("stepIn", { granularity: "statement" });
   verdict((await client.request("evaluate", { expression: "state", context: "repl" })).result, stepped, "three steps after attach");
   verdict(Buffer.compare(before, readFileSync(file)), 0, "the file is unchanged");
-  verdict(answersOf(file, "state\n")[0], state, "the program can open it meanwhile");
+  verdict(answersOf(file, "state\n")[0], state, "`mcs4 open` opens the file while the adapter is attached to it");
   await client.move("restart", {});
   verdict((await client.request("evaluate", { expression: "state", context: "repl" })).result, state, "restart reads the file again");
   await client.request("disconnect", { restart: false, terminateDebuggee: false });
@@ -130,7 +136,7 @@ async function tryRejected() {
   await client.end();
 }
 
-/** Checks that a data breakpoint stops at the changes that the program's trace shows. */
+/** Checks that a data breakpoint stops at the changes in a trace of the native program. */
 async function tryWatches() {
   const file = sessionFile("watched", "run 400\n");
   for (const [dataId, probe] of [["r0", "r0"], ["acc", "acc"], ["chain0", "chain0"], ["rom0", "rom0"], ["cy", "cy"]]) {
@@ -156,7 +162,10 @@ async function tryWatches() {
   }
 }
 
-/** Compares the answers about step targets, stack frames, number formats, memory and completion with the program's answers. */
+/**
+ * Checks the adapter's answers about step targets, restarted frames, number formats, memory and completions. Code and memory must agree
+ * with the answers of the native program.
+ */
 async function tryRequests() {
   const file = sessionFile("lock", "");
   const client = new Client(ADAPTER);
@@ -164,17 +173,17 @@ async function tryRequests() {
     { functions: [{ name: "scan" }], filterOptions: [{ filterId: "calls" }, { filterId: "chip", condition: "r0 = 3" }] });
   const named = ["supportsStepInTargetsRequest", "supportsRestartFrame", "supportsCancelRequest", "supportsValueFormattingOptions",
     "supportsExceptionFilterOptions", "supportsDataBreakpoints", "supportsCompletionsRequest", "supportsReadMemoryRequest", "supportsWriteMemoryRequest"];
-  verdict(named.filter((name) => capabilities[name] !== true), [], "the announced capabilities");
-  verdict(filters.breakpoints.map(({ verified }) => verified), [true, true], "filters with options");
+  verdict(named.filter((name) => capabilities[name] !== true), [], "the adapter announces all capabilities that are used");
+  verdict(filters.breakpoints.map(({ verified }) => verified), [true, true], "exception filters with options are verified");
   const initial = await readStop(client);
   const { targets } = await client.request("stepInTargets", { frameId: initial.frames[0].id });
-  verdict(targets, [], "a jump is not a call");
+  verdict(targets, [], "stepInTargets: a jump is not a call");
   await client.move("stepIn");
   const ahead = await client.request("stepInTargets", { frameId: 1 });
-  verdict(ahead.targets.map(({ line }) => line), [29, 31], "the calls that come next");
+  verdict(ahead.targets.map(({ line }) => line), [29, 31], "the step targets are the two next calls");
   await client.move("stepIn", { targetId: ahead.targets[0].id });
   const { frames } = await readStop(client);
-  verdict([frames[0].name, frames.length], ["show", 2], "a step into the chosen call");
+  verdict([frames[0].name, frames.length], ["show", 2], "stepIn with a target enters the chosen call");
   await client.move("continue");
   const scanning = await readStop(client);
   const [depth] = [scanning.frames.length];
@@ -182,33 +191,33 @@ async function tryRequests() {
   for (let step = 0; step < 5; step++) await client.move("next");
   const { reason } = await client.move("restartFrame", { frameId: 2 });
   const again = await readStop(client);
-  verdict([reason, again.frames.length, again.frames[0].canRestart], ["restart", depth - 1, true], "a restarted frame");
+  verdict([reason, again.frames.length, again.frames[0].canRestart], ["restart", depth - 1, true], "restartFrame ends the calls above the frame");
   const address = Number(again.frames[0].instructionPointerReference);
   const call = Number(again.frames[1].instructionPointerReference);
   const [listed] = answersOf(file, `list ${call} 1\n`);
-  matches(listed, new RegExp(`JMS 0x${again.frames[0].instructionPointerReference.slice(2)}$`), `it begins at ${address}, where the JMS leads`);
+  matches(listed, new RegExp(`JMS 0x${again.frames[0].instructionPointerReference.slice(2)}$`), `the restarted frame begins at ${address}, the target of its JMS`);
   const registers = again.scopes.find(({ name }) => name === "Registers").variablesReference;
   const values = async (format) => (await client.request("variables", { variablesReference: registers, format })).variables.map(({ value }) => value);
   const [hex, decimal] = [await values({ hex: true }), await values({ hex: false })];
-  verdict(hex.map(Number), decimal.map(Number), "hexadecimal and decimal are the same numbers");
-  verdict([hex.every((value) => /^0x[0-9A-F]+$/.test(value)), decimal.every((value) => /^\d+$/.test(value))], [true, true], "each in its base");
+  verdict(hex.map(Number), decimal.map(Number), "registers in hexadecimal and in decimal have equal values");
+  verdict([hex.every((value) => /^0x[0-9A-F]+$/.test(value)), decimal.every((value) => /^\d+$/.test(value))], [true, true], "registers: each value is in the requested base");
   const rom = Buffer.from((await client.request("readMemory", { memoryReference: "0x000", offset: 0, count: 4096 })).data, "base64");
   const bytes = Array.from({ length: 16 }, (_, page) => answersOf(file, `list ${256 * page} 256\n`)).flat();
   const wrong = bytes.filter((line) => {
     const [at, ...rest] = line.slice(0, 9).trim().split(/ +/);
     return rest.some((byte, more) => rom[parseInt(at, 16) + more] !== parseInt(byte, 16));
   });
-  verdict([bytes.length > 1000, wrong], [true, []], "ROM, as the program lists it");
+  verdict([bytes.length > 1000, wrong], [true, []], "readMemory of the ROM has the bytes of `list`");
   await client.request("writeMemory", { memoryReference: "0x10000", offset: 18, data: Buffer.from([1, 2, 3]).toString("base64") });
   await client.event("memory");
   const { result } = await client.request("evaluate", { expression: "ram 0", context: "repl" });
   const wanted = answersOf(file, "poke ram.0.18 1\npoke ram.0.19 2\npoke ram.0.20 3\nram 0\n").slice(3);
   const ofRegister = (lines) => lines.find((line) => line.startsWith("0.0.1 ")).split(" ")[1];
-  verdict(ofRegister(result.split("\n")).slice(2, 5), ofRegister(wanted).slice(2, 5), "characters that are written");
+  verdict(ofRegister(result.split("\n")).slice(2, 5), ofRegister(wanted).slice(2, 5), "writeMemory writes characters of the RAM");
   const keys = await client.request("completions", { frameId: 1, text: "press ", column: 7, line: 1 });
-  verdict(keys.targets.map(({ label }) => label).join(" "), "1 2 3 4 5 6 7 8 9 * 0 #", "keys after press");
-  verdict(client.violations, [], "each message is as the protocol has it");
-  verdict(await client.end(), 0, "it ends");
+  verdict(keys.targets.map(({ label }) => label).join(" "), "1 2 3 4 5 6 7 8 9 * 0 #", "completions after `press` are the keys of the board");
+  verdict(client.violations, [], "each message of the adapter follows the protocol");
+  verdict(await client.end(), 0, "the adapter ends with status 0");
 }
 
 /** Checks that the adapter reports the progress of a long request, and ends the request when the client cancels it. */
@@ -222,7 +231,7 @@ async function tryLong() {
   await client.event("progressUpdate");
   await client.request("cancel", { progressId });
   await client.event("progressEnd");
-  verdict((await client.event("stopped")).body.reason, "pause", "a long run is reported, and pauses where it is cancelled");
+  verdict((await client.event("stopped")).body.reason, "pause", "progress of a long run is reported, and the run pauses when it is cancelled");
   const { result: before } = await client.request("evaluate", { expression: "seq", context: "repl" });
   // Search the whole past for an event that never happened.
   await client.request("evaluate", { expression: "back r9 = 9", context: "repl" });
@@ -238,10 +247,10 @@ async function tryLong() {
   if (!isDone) await client.request("cancel", { requestId: seq });
   const answer = isDone ? first : await client.next(isAnswer);
   const { result: after } = await client.request("evaluate", { expression: "seq", context: "repl" });
-  verdict([answer.message || "done", after === before], answer.success ? ["done", false] : ["cancelled", true], "a line that is cancelled does nothing");
+  verdict([answer.message || "done", after === before], answer.success ? ["done", false] : ["cancelled", true], "a cancelled line changes nothing");
   await client.request("continue", { threadId: 1 });
   await client.request("disconnect", { terminateDebuggee: true });
-  verdict(await client.ended, 0, "it ends while time runs");
+  verdict(await client.ended, 0, "the adapter ends with status 0 while time runs");
 }
 
 await tryAttach();

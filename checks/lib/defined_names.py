@@ -8,12 +8,12 @@ import re
 
 CRATES = pathlib.Path(__file__).resolve().parent.parent.parent / "crates"
 # Patterns of source lines that define a name: an item, a clause, a field, a variant, or a trait implementation.
-IN_SOURCES = (r"\b(?:fn|struct|enum|trait|const|static|mod|type|macro_rules!|ensures|invariant)\s+(\w+)", r"^\s+(?:pub(?:\(\w+\))? |ghost )?(\w+):",
+SOURCE_PATTERNS = (r"\b(?:fn|struct|enum|trait|const|static|mod|type|macro_rules!|ensures|invariant)\s+(\w+)", r"^\s+(?:pub(?:\(\w+\))? |ghost )?(\w+):",
               r"^\s+([A-Z]\w*)", r"\bimpl\b[^{;]*?(\w+)(?:<[^<>]*>)?\s+for\s")
 # The patterns with which a specs module defines a name: at the beginning of a line, or as a field or constructor below it.
-IN_SPECS = (r"^(?:(?:abbrev|unfoldable|pub|record|data|mod) )*([A-Za-z_]\w*)", r"^  (?:pub )?([A-Za-z_]\w*)(?: \w+)* :")
+SPECS_PATTERNS = (r"^(?:(?:abbrev|unfoldable|pub|record|data|mod) )*([A-Za-z_]\w*)", r"^  (?:pub )?([A-Za-z_]\w*)(?: \w+)* :")
 # Matches a name with several words, or the name of a definition. Does not match placeholders such as `romC.K`.
-NAME = r"\b(?:[a-z]\w*_\w+|[A-Z][a-z]\w+)\b"
+NAME_PATTERN = r"\b(?:[a-z]\w*_\w+|[A-Z][a-z]\w+)\b"
 
 
 @functools.cache
@@ -26,7 +26,7 @@ def files_of(crate):
 def names_of_file(path):
     """Returns the names that a file defines."""
     text = path.read_text()
-    return {name for pattern in (IN_SOURCES if path.suffix == ".rt" else IN_SPECS) for name in re.findall(pattern, text, re.M)}
+    return {name for pattern in (SOURCE_PATTERNS if path.suffix == ".rt" else SPECS_PATTERNS) for name in re.findall(pattern, text, re.M)}
 
 
 def names_defined_in(crate, module=None):
@@ -54,9 +54,9 @@ def crate_files():
 
 
 def unknown_names_in_comments():
-    """Yields each name that is in backticks in a comment of the crates but not in their code. Before the name are its file and its line."""
+    """Yields the file, the line and the name for each name that is in backticks in a comment of the crates but not in their code."""
     names_in_code = {word for path in crate_files() for line in path.read_text().splitlines() if not is_comment(line) for word in re.findall(r"\w+", line)}
     for path in crate_files():
         for number, line in enumerate(path.read_text().splitlines(), 1):
             quoted_codes = re.findall(r"`([^`]+)`", line) if is_comment(line) else []
-            yield from ((path, number, name) for code in quoted_codes for name in re.findall(NAME, code) if name not in names_in_code)
+            yield from ((path, number, name) for code in quoted_codes for name in re.findall(NAME_PATTERN, code) if name not in names_in_code)

@@ -4,12 +4,12 @@ import re
 import time
 
 ELEMENT = "element-6066-11e4-a52e-4f735466cecf"
-# The pause between the touches of two fingers.
+# The pause in milliseconds between the touches of two fingers.
 PAUSE = {"type": "pause", "duration": 10}
 # JavaScript that is inserted before every script: a function that returns true if an element is visible. The oldest browsers have no
 # `checkVisibility`.
 BEFORE_SCRIPTS = "const isShown = (element) => element.getClientRects().length > 0;\n"
-GET_PLACE_AND_TEXT = """
+GET_POSITION_AND_TEXT = """
 const element = document.querySelector(arguments[0]);
 return `${element.getBoundingClientRect().top} ${element.textContent}`"""
 
@@ -24,6 +24,7 @@ def matches(actual, expected):
 
 
 class BrowserDriver:
+    """The actions that all drivers share. Each driver's class implements its protocol."""
     # True if the driver can touch the page with several fingers.
     can_multitouch = True
     # True if `document.hidden` is true for a page in a background tab.
@@ -38,6 +39,7 @@ class BrowserDriver:
         self.script("document.querySelector(arguments[0]).scrollIntoView({ block: 'center' })", selector)
 
     def click(self, selector):
+        """Scrolls an element to the middle, and clicks it."""
         self.scroll_to(selector)
         time.sleep(self.settle_seconds)
         self.click_element(self.find(selector))
@@ -47,7 +49,7 @@ class BrowserDriver:
         self.scroll_to(selector)
         last_state = None
         deadline = time.monotonic() + 10
-        while (state := self.script(GET_PLACE_AND_TEXT, selector)) != last_state and time.monotonic() < deadline:
+        while (state := self.script(GET_POSITION_AND_TEXT, selector)) != last_state and time.monotonic() < deadline:
             last_state = state
             time.sleep(0.3)
         self.click_element(self.find(selector))
@@ -67,9 +69,11 @@ class BrowserDriver:
         })
 
     def type_into(self, selector, text):
+        """Types a text into an element."""
         self.send_to_element(self.find(selector), text)
 
     def text(self, selector):
+        """Returns the text of an element."""
         return self.script("return document.querySelector(arguments[0]).textContent", selector)
 
     def touch_together(self, selectors, milliseconds_down):
@@ -97,7 +101,7 @@ class BrowserDriver:
             {"type": "pointerMove", "duration": 0, "x": x, "y": y}, {"type": "pointerDown", "button": 2}, {"type": "pointerUp", "button": 2}]})
 
     def keys(self, keys, milliseconds_down=70, milliseconds_up=60):
-        """Types keys on the keyboard in sequence."""
+        """Types keys on the keyboard in sequence, each down and then up for the given milliseconds."""
         steps = []
         for key in keys:
             steps += [{"type": "keyDown", "value": key}, {"type": "pause", "duration": milliseconds_down},
@@ -111,7 +115,7 @@ class BrowserDriver:
             {"type": "keyUp", "value": typed_key}, {"type": "keyUp", "value": held_key}]})
 
     def resize(self, width, height, _mobile=False):
-        """Sets the size of the page, independent of the window's borders."""
+        """Sets the width and the height of the page in pixels, independent of the window's borders."""
         for _ in range(20):
             page_size = self.script("return [innerWidth, innerHeight]")
             if page_size == [width, height]:
@@ -122,11 +126,12 @@ class BrowserDriver:
         raise DriverError(f"the page has {page_size[0]} x {page_size[1]} pixels, not {width} x {height}")
 
     def restore_size(self):
+        """Restores the default size of the window."""
         self.set_window_size(1280, 900)
 
     def until(self, code, expected, seconds=30):
-        """Repeats a script until it returns the expected value, or a text that matches a pattern. Returns the last result. A script that fails is
-        also repeated, because scripts fail while the browser leaves the page."""
+        """Repeats a script until it returns the expected value, or a text that matches a pattern, or until the time in seconds is over. Returns the
+        last result. A script that fails is also repeated, because scripts fail while the browser leaves the page."""
         deadline = time.monotonic() + seconds
         while True:
             try:

@@ -1,4 +1,5 @@
-// The main tests of checks/editors, with a separate client. Prints `ok TEXT` or `failed: TEXT` for each check, and `speed: TEXT` for a measurement.
+// The main tests of checks/editors. The client in lsp_client.mjs takes the part of an editor. Prints `ok TEXT` or `failed: TEXT` for each
+// check, and `speed: TEXT` for a measurement.
 import { execFileSync } from "node:child_process";
 import { readFileSync, readdirSync } from "node:fs";
 import { Client } from "./lsp_client.mjs";
@@ -34,7 +35,7 @@ function examples() {
   return readdirSync(`${TOP}examples`, { withFileTypes: true }).filter((entry) => entry.isDirectory()).map(({ name }) => name);
 }
 
-/** Compares the addresses, sizes and values in an example's hovers with the program's report. */
+/** Compares the addresses and sizes in an example's hovers, and the values in its symbols, with the report of the native program. */
 async function compare(client, name) {
   const uri = `file://${TOP}examples/${name}/${name}.asm`;
   const [text, board] = [read(`examples/${name}/${name}.asm`), read(`examples/${name}/board.toml`)];
@@ -142,9 +143,8 @@ async function tryAtOnce() {
   verdict([error.code, await large.ended, large.stderr], [-32600, 1, `lsp: ${error.message}\n`], "a length that no message can have");
 }
 
-/**
- * Checks messages with wrong lengths: the server must print an error and end. Three lengths are tried: one that is too large while the stream stays
- * open, one that is too large at the end of the stream, and one that is too small.
+/** Checks messages with wrong lengths: the server must print an error and end. Tries a length that is too small. Also tries a length that
+ is too large, while the stream stays open and at the end of the stream.
  */
 async function tryWrongLengths() {
   const body = JSON.stringify({ jsonrpc: "2.0", id: 1, method: "initialize", params: {} });

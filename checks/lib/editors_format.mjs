@@ -27,7 +27,10 @@ function applyEdits(text, edits) {
   return lines.join("\n");
 }
 
-/** Returns the program's answers for each source text: the answer to `map`, the answer to `asm`, and then the contents of the whole ROM. */
+/**
+ * Returns the native program's output for source texts. For each text, the output has the answers to `map` and `asm`, and then the contents
+ * of the whole ROM.
+ */
 function answersTo(texts) {
   const input = ALL_ROMS + texts.map((text) => `map\n${text}.\nasm\n${text}.\n${LISTS}`).join("");
   const file = `${folder}/formatted.mcs`;

@@ -66,7 +66,7 @@ function countMarkedPixels() {
   return count;
 }
 
-/** Returns true if a line is marked. A marked line is many hundred pixels wide and several pixels high. */
+/** Returns true if a line is marked. A marked line is several hundred pixels wide and several pixels high. */
 const isMarked = () => countMarkedPixels() > 2000;
 
 // --- Kate
@@ -91,7 +91,7 @@ class Kate {
     return spawnSync("xdotool", args, { env: this.environment, encoding: "utf8", timeout: RETRY_AFTER }).stdout ?? "";
   }
 
-  /** Returns the window whose title contains a text, or undefined if there is none. */
+  /** Returns the id of a window whose title contains a text, or "" if there is none. */
   window(title) {
     return this.xdotool("search", "--onlyvisible", "--name", title).trim().split("\n").at(-1);
   }

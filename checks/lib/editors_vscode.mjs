@@ -146,7 +146,10 @@ function processorTime(pid) {
   return (Number(fields[11]) + Number(fields[12])) * 10;
 }
 
-/** Measures edits in a 16 KB program with 0 to 15 errors: the time of the answer to `diagnostic` after each edit. */
+/**
+ * Measures edits in a 16 KB program with up to 15 errors: the time until the answer to `diagnostic` arrives, and the processor time of the
+ * server. Checks that an edit takes less than 20 ms of processor time.
+ */
 async function measureSpeed(client) {
   const long = { uri: uriOf("long.asm") };
   const text = `start:\n${"LDM 5\n".repeat(2728)}NOP`;

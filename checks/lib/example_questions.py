@@ -1,7 +1,6 @@
-"""Questions to mcs4-prove about the examples, with the expected answers. The conditions in the examples' properties (`never` lines, lines with a time
-limit, and lines with key presses) are written as comparisons of the machine's cells. Also contains conditions that can become true only with certain
-inputs, and mutants: examples with one instruction replaced.
-"""
+"""Questions for mcs4-prove about the examples, with the expected answers. The conditions in the examples' properties (`never` lines, lines with a
+time limit, and lines with key presses) are written as comparisons of the machine's cells. Also contains conditions that can become true only with
+certain inputs, and mutants: examples with one instruction replaced."""
 
 from __future__ import annotations
 
@@ -50,7 +49,7 @@ def comparisons_of(text: str, names: dict[str, int]) -> list[Comparison]:
 
 
 def question_of(props: str, conditions: list[str], max_states: int, pause: int) -> Question:
-    """Returns a question about an example."""
+    """Returns the question of whether any of these conditions can become true in an example. `max_states` and `pause` limit the search."""
     board, program = texts_of(props)
     names = assemble(program)[2]
     return Question(board, program, [comparisons_of(never, names) for never in conditions], max_states, pause)
@@ -104,7 +103,7 @@ EXAMPLES = [
         "lamp left on and lamp middle on": "in ramport 0 line2 1 1 & in ramport 0 line1 1 1",
         "lamp middle on and lamp right on": "in ramport 0 line1 1 1 & in ramport 0 line0 1 1"}),
 ]
-# The answers of longer searches, which need a gigabyte of memory. The search of the clock takes minutes.
+# The answers of longer searches, which need a gigabyte of memory. checks/prove runs them only with more than its default number of seeds.
 LONGER_ANSWERS = {"counter.props": "holds 2240113"}
 # The values that each RAM port, by its index, can output in the examples that have mutants. The lock, the traffic light and the three lamps never
 # output other values, whatever is pressed.
@@ -136,7 +135,7 @@ class TimeLimit:
     max_states: int = 1000000
 
     def question(self) -> Question:
-        """Returns the question."""
+        """Returns the question of whether the stopwatch can exceed the limit."""
         question = question_of(self.props, [], self.max_states, 1000000)
         names = assemble(question.program)[2]
         question.begins, question.ends = ([comparisons_of(row, names) for row in rows] for rows in (self.begins, self.ends))
@@ -145,8 +144,8 @@ class TimeLimit:
 
 
 def duration_question(props: str, line: str, condition: str, limit: int, answer: str, longest: int = -1, max_states: int = 1000000) -> TimeLimit:
-    """Returns the question whether the comparisons of `condition` can all be true for longer than `limit` cycles. The stopwatch stops when any
-    comparison becomes false."""
+    """Returns the time limit for the question of whether all comparisons of `condition` can be true for longer than `limit` cycles. The stopwatch
+    stops when any comparison becomes false."""
     comparisons = [comparison.split(" ", 1) for comparison in condition.split(" & ")]
     ends = [f"{'out' if operator == 'in' else 'in'} {operands}" for operator, operands in comparisons]
     return TimeLimit(props, line, [condition], ends, limit, answer, longest, max_states)
@@ -189,8 +188,8 @@ UNTESTED_LINES = {"never display -0 and st.0.0.2 3 for 20 ms"}
 
 @dataclass
 class RequiredPresses:
-    """A line of a properties file that says that a condition becomes true only after key presses: the condition's comparisons, the keys to press, by
-    row and column, and the answer."""
+    """A line of a properties file that says that a condition becomes true only after key presses. `opens` has the condition's comparisons, and `keys`
+    the row and column of each key to press."""
 
     props: str
     line: str
@@ -199,7 +198,7 @@ class RequiredPresses:
     answer: str
 
     def question(self, keys: list[tuple[int, int]], max_states: int = 3000000, pause: int = 1000000) -> Question:
-        """Returns the question about these keys."""
+        """Returns the question of whether the condition can become true before these keys are pressed in this order."""
         question = question_of(self.props, [], max_states, pause)
         question.opens = [comparisons_of(self.opens, {})]
         question.marks = [(level, *key) for key in keys for level in ("up", "down")]
@@ -215,7 +214,7 @@ REQUIRED_PRESSES = [
 @dataclass
 class LimitedCondition:
     """A condition that an example cannot make true within limits of the inputs: its comparisons, the limits, and the answer. Within wider limits, it
-    can become true after a number of values."""
+    can become true after `value_count` values."""
 
     props: str
     condition: str
@@ -231,11 +230,11 @@ class LimitedCondition:
         return question
 
 
-# The answers of the second implementation.
+# The answers are those of the second implementation.
 LIMITED_CONDITIONS = [
     # If the switch is never opened, the counter counts at most once.
     LimitedCondition("counter.props", "in character 0 whole 2 15", InputLimits(only=True), "holds 114", InputLimits(only=True, test=True), 337),
-    # If the key is never pressed, the die always shows the same face.
+    # If the key is never pressed, the die always shows the same number.
     LimitedCondition("die.props", "in ramport 0 whole 3 3", InputLimits(only=True), "holds 3", InputLimits(only=True, keys=[(0, 0)]), 4),
     # The scan finds several keys in a row only if they are down together.
     LimitedCondition(LOCK, "in register 6 whole 14 14", InputLimits(1, True, [(0, 0), (0, 1)]), "holds 2259",
@@ -255,13 +254,13 @@ def press_lines(props: str) -> list[str]:
 
 
 def time_lines(props: str) -> list[str]:
-    """Returns the lines of a properties file that limit a time, except the limits of key presses."""
+    """Returns the lines of a properties file that limit a time, except the limits of key presses and the untested lines."""
     lines = (EXAMPLE_FILES / props).read_text().splitlines()
     return [line for line in lines if re.match(r"never .* for \d|every |@\S+ to ", line) and line not in UNTESTED_LINES]
 
 
 def never_conditions(props: str) -> list[str]:
-    """Returns the conditions of the `never` lines in a properties file, except those with a time or a guard."""
+    """Returns the conditions of the `never` lines in a properties file, except those with a time."""
     lines = (EXAMPLE_FILES / props).read_text().splitlines()
     return [line.removeprefix("never ") for line in lines if line.startswith("never ") and " for " not in line]
 
@@ -294,8 +293,9 @@ def program_of(image: dict[int, int]) -> list[str]:
     return lines
 
 
-def mutant(seed: int) -> tuple[str, Question]:
-    """Returns a question about an example with one instruction replaced by another one of the same size."""
+def mutant_question(seed: int) -> tuple[str, Question]:
+    """Chooses an example at random, and replaces one of its instructions with another one of the same size. Returns a description of the change, and
+    the question of whether the mutant's ports can output a value that the example cannot output."""
     rng = random.Random(seed)
     props, ports = rng.choice([*POSSIBLE_OUTPUTS.items()])
     conditions = [" & ".join(f"out ramport {port} whole {value} {value}" for value in values) for port, values in ports.items()]

@@ -1,5 +1,6 @@
-"""The expected output of the tools `trace`, `wave`, `cover`, `profile` and `cycles` for a session, computed with the board of board4004.py, following
-docs/MANUAL.md ("The workbench", "Testing a program") and the header comments of the tools. The functions do not change the board that they get.
+"""The expected output of the tools `trace`, `wave`, `cover`, `profile` and `cycles` for a session. It is computed with the board of board4004.py, as
+docs/MANUAL.md ("The workbench", "Testing a program") and the header comments of the tools describe it. The functions do not change the board that
+they get.
 """
 
 from __future__ import annotations
@@ -15,7 +16,7 @@ Changes = dict[int, dict[str, str]]
 
 
 class Source:
-    """A program's text, labels and names."""
+    """A program's text, with its labels and the addresses of its lines."""
 
     def __init__(self, lines: list[str]) -> None:
         """Assembles a program with the second assembler. If an address has two labels, the first one is used."""
@@ -98,7 +99,7 @@ def trace_row(board: Board, cycle: int, details: str, source: Source | None, wit
 
 
 def trace_output(start: Board, cycles: int, last_count: int = 0, source: Source | None = None, with_lines: bool = False) -> str:
-    """Returns the output of `mcs4 trace` for the next cycles. With `last_count`, returns only the last rows before the first stop."""
+    """Returns the output of `mcs4 trace` for the next cycles. With `last_count`, stops as a run does, and returns only that number of last rows."""
     board, reason, cycle, rows = start.copy(), "end", 0, []
     if last_count:
         cycles, reason = start.copy().run(cycles)
@@ -120,7 +121,8 @@ def trace_output(start: Board, cycles: int, last_count: int = 0, source: Source 
 # ---- wave
 
 def levels(board: Board, source: Source) -> dict[str, str]:
-    """Returns the levels of all lines of a board by name, in the order of `mcs4 wave --lines`."""
+    """Returns the levels of all lines of a board by name, in the order of `mcs4 wave --lines`. They include the keys, TEST, the program counter and
+    its label."""
     chips = board.chips
     lines: dict[str, Line] = {f"rom{chip}.{k}": ("rom", (chip, k)) for chip in chips.rom_latch for k in range(4)}
     lines |= {f"ram{bank}.{chip}.{k}": ("ram", (bank, chip, k)) for bank, chip in chips.ram_latch for k in range(4)}
@@ -176,7 +178,7 @@ def percentage_of(count: int, total: int) -> str:
 
 
 def line_ranges(lines: list[int], chosen_lines: list[int]) -> str:
-    """Returns the numbers of the chosen lines as text, in which consecutive lines are written as a range."""
+    """Returns the numbers, from 1, of the chosen lines as text. Chosen lines that are neighbours in `lines` are written as a range."""
     spans: list[list[int]] = []
     previous = None
     for line in lines:
@@ -189,7 +191,8 @@ def line_ranges(lines: list[int], chosen_lines: list[int]) -> str:
 
 
 def cover_output(start: Board, cycles: int, source: Source) -> str:
-    """Returns the output of `mcs4 cover`: how often each line ran, how often its jump was taken, and the lines that never ran."""
+    """Returns the output of `mcs4 cover`: how often each line ran, how often it jumped, the totals, and the lines that never ran or always went one
+    way."""
     runs, jumps, _done, _stop = count_instructions(without_stops(start), cycles)
     lines = [i for i, (address, size) in enumerate(source.spans) if size and (not source.is_data(i) or runs[address])]
     directions = {i: (jumps[address], runs[address] - jumps[address]) for i, (address, size) in enumerate(source.spans)
@@ -219,7 +222,7 @@ def without_stops(start: Board) -> Board:
 
 
 class Calls:
-    """The open subroutine calls, and the number of cycles spent in each subroutine so far."""
+    """The open subroutine calls, and for each subroutine the number of its calls and the cycles of each completed call."""
 
     def __init__(self) -> None:
         self.open: list[tuple[int, int]] = []
@@ -239,7 +242,7 @@ class Calls:
 
 
 def profile_output(start: Board, cycles: int, source: Source) -> str:
-    """Returns the output of `mcs4 profile`: where the cycles were spent."""
+    """Returns the output of `mcs4 profile`: the cycles below each label, and the calls of each subroutine with their cycles."""
     own_cycles: Counter[tuple[int, str]] = Counter()
     calls = Calls()
     starts: list[tuple[int, int]] = []
@@ -268,7 +271,7 @@ def profile_output(start: Board, cycles: int, source: Source) -> str:
 
 # ---- cycles
 
-def microseconds(cycles: int) -> str:
+def duration_text(cycles: int) -> str:
     """Returns a text with a number of cycles and the time that a 4004 needs for them."""
     tenths = 108 * cycles
     return f"{cycles} cycle{'' if cycles == 1 else 's'}, {tenths // 10}.{tenths % 10} microseconds"
@@ -276,5 +279,5 @@ def microseconds(cycles: int) -> str:
 
 def cycles_output(runs: list[tuple[int, int]], source: Source | None) -> str:
     """Returns the output of `mcs4 cycles` for runs. Each run is a number of cycles and the program counter at its end."""
-    rows = [f"{microseconds(cycles)}, to {source.description_of(address)}" for cycles, address in runs] if source else []
-    return "".join(f"{row}\n" for row in [*rows, microseconds(sum(cycles for cycles, _at in runs))])
+    rows = [f"{duration_text(cycles)}, to {source.description_of(address)}" for cycles, address in runs] if source else []
+    return "".join(f"{row}\n" for row in [*rows, duration_text(sum(cycles for cycles, _at in runs))])

@@ -104,7 +104,7 @@ const vscode = {
     "DocumentLink", "SymbolInformation", "CallHierarchyItem", "CallHierarchyIncomingCall", "CallHierarchyOutgoingCall"].map((name) => [name, class extends Plain {}])),
 };
 
-/** Checks the extension's features other than hover, names and diagnostics, in a text with the line `start:  JUN start` and a line below. */
+/** Checks the extension's features other than hover, names and diagnostics, in a text with the lines `start:  JUN start` and `LDM 3`. */
 async function tryFeatures() {
   const [formatted] = await providers.registerDocumentRangeFormattingEditProvider
     .provideDocumentRangeFormattingEdits(document, { start: { line: 1, character: 0 }, end: { line: 1, character: 3 } }, { tabSize: 4, insertSpaces: true })
@@ -152,8 +152,8 @@ const range = { start: { line: 0, character: 8 }, end: { line: 0, character: 11 
 const [action] = await providers.registerCodeActionsProvider.provideCodeActions(document, range);
 verdict(action.edit.edits, [["file:///tmp/a.asm", 0, 8, 0, 11, "JUN"]], "a quick fix");
 listeners.change({ document: { ...document, version: 2 }, contentChanges: [{ range, text: "JUN" }] });
-const found = await providers.registerDefinitionProvider.provideDefinition(document, { line: 0, character: 13 });
-verdict(found.given[1].given, [0, 0, 0, 5], "a definition");
+const definition = await providers.registerDefinitionProvider.provideDefinition(document, { line: 0, character: 13 });
+verdict(definition.given[1].given, [0, 0, 0, 5], "a definition");
 const edit = await providers.registerRenameProvider.provideRenameEdits(document, { line: 0, character: 1 }, "again");
 verdict(edit.edits.map((each) => each[5]), ["again", "again"], "a renamed label");
 verdict((await providers.registerDocumentSymbolProvider.provideDocumentSymbols(document)).map(({ given }) => given[0]), ["start"], "the outline");
@@ -189,6 +189,6 @@ verdict(manifest.activationEvents.filter((event) => event.startsWith("workspace"
   "the activation events");
 verdict(manifest.contributes.configuration.properties["mcs4.command"].scope, "machine", "a workspace cannot set the command");
 verdict(manifest.license, "UNLICENSED", "the licence");
-const named = [...manifest.contributes.grammars, ...manifest.contributes.languages.map(({ configuration }) => ({ path: configuration })), { path: manifest.main }];
-for (const { path } of named) verdict(readFileSync(`${TOP}editors/vscode/${path}`, "utf8").length > 0, true, `${path} exists`);
+const namedFiles = [...manifest.contributes.grammars, ...manifest.contributes.languages.map(({ configuration }) => ({ path: configuration })), { path: manifest.main }];
+for (const { path } of namedFiles) verdict(readFileSync(`${TOP}editors/vscode/${path}`, "utf8").length > 0, true, `${path} exists`);
 await extension.deactivate();

@@ -36,7 +36,8 @@ def sweep_phrases():
 
 
 def check_phrases():
-    """Yields the phrases about the number of wrong implementations that the checks must detect, and the name of each check."""
+    """Yields the phrases about the number of wrong implementations that the checks must detect, the phrase about seeded boards, and the name of each
+    check."""
     yield f"{len(WRONG_BOARDS) + len(WRONG_TOOLS)} wrong readings"
     yield f"{len(WRONG_SEARCHES) + len(WRONG_LIMITS)} wrong searches"
     boards = re.search(r"^RANDOM_BOARD_COUNT = (\d+)$", (TOP / "checks/runs").read_text(), re.M)

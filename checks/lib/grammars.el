@@ -1,4 +1,4 @@
-;; Writes the syntax highlighting of the file $TEXT by Emacs to the file $OUT, in the letters of checks/lib/grammars.mjs.
+;; Writes Emacs's syntax highlighting of the file $TEXT to the file $OUT, in the letters of checks/lib/grammars.mjs.
 (find-file (getenv "TEXT"))
 (font-lock-ensure)
 (let ((letters '((font-lock-comment-face . "c") (font-lock-comment-delimiter-face . "c") (font-lock-doc-face . "c")

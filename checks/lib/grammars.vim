@@ -1,4 +1,4 @@
-" Writes the syntax highlighting of the open text by Vim to the file $OUT, in the letters of checks/lib/grammars.mjs.
+" Writes Vim's syntax highlighting of the open text to the file $OUT, in the letters of checks/lib/grammars.mjs.
 let s:letters = {'mcs4Comment': 'c', 'mcs4Label': 'l', 'mcs4Constant': 'k', 'mcs4Instruction': 'i', 'mcs4Directive': 'd',
   \ 'mcs4Register': 'r', 'mcs4Number': 'n', 'mcs4Name': 'v', 'mcs4BoardComment': 'c', 'mcs4BoardFace': 'c', 'mcs4BoardTable': 't',
   \ 'mcs4BoardKey': 'p', 'mcs4BoardString': 's', 'mcs4BoardNumber': 'n'}

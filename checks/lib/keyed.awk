@@ -11,15 +11,18 @@
 # The display is a minus sign or a blank, `!` for an overflow, `?` for a division by zero, and eight digits, each followed by a point or a blank.
 # `E` is the key CE. The board's comments name the keys. The board and the program are those in quotient.txt, before its first key press.
 
+# Writes the answer to an accepted command. `more` is what follows `ok N`.
 function accept(more) {
     print "ok " ++accepted more > answers
 }
 
-function key(done, name) {
-    print done " " place[name] > script
+# Writes a line that presses or releases a key. `verb` is `press` or `release`.
+function key(verb, name) {
+    print verb " " place[name] > script
     accept("")
 }
 
+# Writes a run, and its answer.
 function run(cycles) {
     print "run " cycles > script
     accept(" ran " cycles " end")
@@ -33,7 +36,8 @@ function stroke(name) {
     run(index("+-*/=", name) ? 16000 : 1700)
 }
 
-function shows(display,    i, part, lit) {
+# Writes a query for the lamps, and the answer for a display.
+function expect_display(display,    i, part, lit) {
     print "lamps" > script
     for (i = 1; i <= length(display); i++) {
         part = substr(display, i, 1)
@@ -80,5 +84,5 @@ $1 == "run" {
     for (i = 1; i < bar; i++) stroke(substr($0, i, 1))
     display = substr($0, bar + 1)
     sub(/\|$/, "", display)
-    shows(display)
+    expect_display(display)
 }

@@ -14,7 +14,8 @@ void rattle_set_errno(int number);
 int64_t rattle_arg_count(void);
 int64_t rattle_arg(uint64_t which, unsigned char *to, uint64_t most);
 
-/* Allocates at least 16 bytes, grows the block, and prints whether the bytes in it are unchanged. */
+/* Allocates a block of `size` bytes and doubles its size. Prints an error if a call fails, if the address of the block is not a multiple of 16,
+   or if one of its bytes has changed. */
 static void try_heap(uint64_t size) {
     Tried lent = rattle_alloc(size, 8);
     if (lent.ok != 1 || (uint64_t)lent.at % 16) printf("no %llu bytes\n", (unsigned long long)size);

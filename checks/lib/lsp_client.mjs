@@ -17,7 +17,7 @@ export class Client extends MessageClient {
     this.send({ method, params });
   }
 
-  /** Resolves to the response to a request, which has a result or an error. */
+  /** Sends a request, and resolves to its response, which has a result or an error. */
   answer(method, params) {
     this.number += 1;
     const id = this.number;
@@ -25,7 +25,7 @@ export class Client extends MessageClient {
     return this.next((message) => message.id === id && message.method === undefined);
   }
 
-  /** Resolves to the result of a request. Throws an error if the request failed. */
+  /** Sends a request, and resolves to its result. Throws an error if the request failed. */
   async request(method, params) {
     const { result, error } = await this.answer(method, params);
     if (error) throw new Error(`${method}: ${error.message}`);

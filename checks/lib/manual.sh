@@ -1,8 +1,9 @@
-# Checks that the manual shows the output of the commands. A check reads this file by `.`, after it has defined `verdict`, `top`, `mcs4` and `folder`.
+# Checks that the manual shows the output of the commands. A check reads this file with `.`, after it has defined `verdict`, `top`, `mcs4` and
+# `folder`.
 # shellcheck shell=sh
 
-# Runs each command that a chapter of the manual shows, in a folder with the commands, the examples and the program. Its output must be the text below
-# the command. Arguments: the title of the chapter, and the minimum number of its commands.
+# Runs all commands that a chapter of the manual shows, in a folder with the tools, the examples and the program. Checks that the output of each is
+# the text below it. Arguments: the title of the chapter, and the minimum number of its commands.
 check_chapter() {
     mkdir -p "$folder/manual"
     ln -s "$top/tools" "$top/examples" "$folder/manual"

@@ -26,6 +26,7 @@ def preferences(download_folder):
 
 
 class Firefox(BrowserDriver):
+    """Firefox, which its own protocol controls."""
     name = "Firefox"
     # Firefox 153 often calls no listeners of `pagehide`, but it always calls those of `beforeunload`.
     always_calls_pagehide = False
@@ -46,6 +47,7 @@ class Firefox(BrowserDriver):
         self.restore_size()
 
     def _connect(self, port_file):
+        """Connects to Firefox at the port in a file, which Firefox writes when it has started. Returns the connection."""
         deadline = time.monotonic() + SECONDS_TO_START
         while time.monotonic() < deadline and self.program.poll() is None:
             try:
@@ -68,6 +70,7 @@ class Firefox(BrowserDriver):
         return json.loads(self.input.read(int(digits)))
 
     def send_command(self, command, **parameters):
+        """Sends a command, and returns its result. Raises DriverError if Firefox answers with an error."""
         self.number += 1
         message = json.dumps([0, self.number, command, parameters]).encode()
         self.connection.sendall(b"%d:%s" % (len(message), message))
@@ -77,30 +80,39 @@ class Firefox(BrowserDriver):
         return result["value"] if isinstance(result, dict) and list(result) == ["value"] else result
 
     def go(self, address):
+        """Opens a page at an address."""
         self.send_command("WebDriver:Navigate", url=address)
 
     def reload(self):
+        """Reloads the page."""
         self.send_command("WebDriver:Refresh")
 
     def back(self):
+        """Goes back to the previous page."""
         self.send_command("WebDriver:Back")
 
     def script(self, code, *arguments):
+        """Runs a script in the page, and returns its result."""
         return self.send_command("WebDriver:ExecuteScript", script=BEFORE_SCRIPTS + code, args=list(arguments))
 
     def find(self, selector):
+        """Returns the id of the first element that a selector matches."""
         return self.send_command("WebDriver:FindElement", using="css selector", value=selector)[ELEMENT]
 
     def click_element(self, element):
+        """Clicks the element with an id."""
         self.send_command("WebDriver:ElementClick", id=element)
 
     def send_to_element(self, element, text):
+        """Types a text into the element with an id."""
         self.send_command("WebDriver:ElementSendKeys", id=element, text=text)
 
     def actions(self, *sources):
+        """Performs sequences of input actions, one for each input device, at the same time."""
         self.send_command("WebDriver:PerformActions", actions=list(sources))
 
     def window_size(self):
+        """Returns the width and the height of the window in pixels."""
         window_rect = self.send_command("WebDriver:GetWindowRect")
         return window_rect["width"], window_rect["height"]
 
@@ -108,6 +120,7 @@ class Firefox(BrowserDriver):
         self.send_command("WebDriver:SetWindowRect", width=width, height=height)
 
     def tab(self):
+        """Returns the handle of the current tab."""
         return self.send_command("WebDriver:GetWindowHandle")
 
     def new_tab(self):
@@ -116,6 +129,7 @@ class Firefox(BrowserDriver):
         self.show_tab(handle)
 
     def show_tab(self, handle):
+        """Switches to the tab with a handle."""
         self.send_command("WebDriver:SwitchToWindow", handle=handle, focus=True)
 
     def close_tab(self, handle):
@@ -124,6 +138,7 @@ class Firefox(BrowserDriver):
         self.show_tab(handle)
 
     def picture(self):
+        """Returns a screenshot as the bytes of a PNG file."""
         return base64.b64decode(self.send_command("WebDriver:TakeScreenshot", full=False))
 
     def process(self):
@@ -131,6 +146,7 @@ class Firefox(BrowserDriver):
         return self.program.pid
 
     def end(self):
+        """Ends Firefox, and waits until it has ended."""
         try:
             self.send_command("Marionette:Quit", flags=["eForceQuit"])
         except (DriverError, OSError):

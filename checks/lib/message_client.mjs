@@ -66,7 +66,7 @@ export class MessageClient {
     this.sendBytes(body);
   }
 
-  /** Waits for the first message that matches, removes it from the list, and resolves to it. */
+  /** Waits for the first message that matches, removes it from the list, and resolves to it. Throws an error after TIMEOUT. */
   async next(matches) {
     const deadline = Date.now() + TIMEOUT;
     for (;;) {

@@ -18,12 +18,12 @@ from second_search import Comparison, Condition, Levels, Mark
 
 
 def replace_instruction(name: str, execute: Callable[[Board, int, int], None]) -> Callable[[], AbstractContextManager]:
-    """Returns a mutant with another implementation of an instruction."""
+    """Returns a mutant with another implementation of an instruction. A mutant is a function that returns a context manager."""
     return lambda: mock.patch.dict(board4004.OPERATIONS, {name: execute})
 
 
 def replace_function(owner: Any, name: str, replacement: Callable[..., Any]) -> Callable[[], AbstractContextManager]:
-    """Returns a mutant with another implementation of a method or a function."""
+    """Returns a mutant with another implementation of a method or a function. `owner` is its class or its module."""
     return lambda: mock.patch.object(owner, name, replacement)
 
 
@@ -108,7 +108,7 @@ def as_number(text: str) -> object:
 def changes_by_number(before: Board, after: Board) -> list[str]:
     """Returns the changes by an instruction, except changes of chains whose texts are equal as numbers."""
     chains = ["".join(str(bit) for bit in chain) for chain in before.chips.chains]
-    return [change for change in CORRECT_WRITTEN(before, after)
+    return [change for change in CORRECT_CHANGES_BETWEEN(before, after)
             if not change.startswith("chain") or as_number(change.split()[1]) != as_number(chains[int(change[5])])]
 
 
@@ -117,7 +117,7 @@ def levels_by_number(board: Board, source: expected_tool_output.Source) -> dict[
     return CORRECT_LEVELS(board, source) | {"pc": str(as_number(f"{board.pc:03X}"))}
 
 
-CORRECT_WRITTEN, CORRECT_LEVELS = expected_tool_output.changes_between, expected_tool_output.levels
+CORRECT_CHANGES_BETWEEN, CORRECT_LEVELS = expected_tool_output.changes_between, expected_tool_output.levels
 WRONG_TOOLS: dict[str, Callable[[], AbstractContextManager]] = {
     "trace compares chains as numbers": replace_function(expected_tool_output, "changes_between", changes_by_number),
     "wave compares addresses as numbers": replace_function(expected_tool_output, "levels", levels_by_number),
@@ -152,25 +152,25 @@ def zeros_like(value: Any) -> Any:
 def saved_without(index: int) -> Callable[[Board], tuple]:
     """Returns a function that saves a machine's state without one of its parts."""
     def save_state(board: Board) -> tuple:
-        state = CORRECT_SAVED(board)
+        state = CORRECT_STATE_OF(board)
         return (*state[:index], zeros_like(state[index]), *state[index + 1:])
     return save_state
 
 
 def values_but_largest(board: Board) -> dict[int, Levels]:
     """Omits the largest value that the next cycle can read, unless it is the only value."""
-    values = CORRECT_VALUES(board)
+    values = CORRECT_VALUES_READ(board)
     return {value: values[value] for value in sorted(values)[:max(len(values) - 1, 1)]}
 
 
 def values_at_constant_test(board: Board) -> dict[int, Levels]:
     """Keeps TEST at 1, so that JCN never reads a 0 there."""
-    return {value: levels for value, levels in CORRECT_VALUES(board).items() if second_search.next_instruction(board)[0] != "JCN" or levels[1] == 1}
+    return {value: levels for value, levels in CORRECT_VALUES_READ(board).items() if second_search.next_instruction(board)[0] != "JCN" or levels[1] == 1}
 
 
 def tested_only_at_end(board: Board, levels: Levels, is_bad: Condition, pause: int) -> tuple[int, bool]:
     """Tests conditions only when the search reaches a state, not in the cycles between two states."""
-    cycle_count, _bad = CORRECT_GO_ON(board, levels, lambda _board: False, pause)
+    cycle_count, _bad = CORRECT_RUN_TO_NEXT_STATE(board, levels, lambda _board: False, pause)
     return cycle_count, is_bad(board)
 
 
@@ -183,43 +183,43 @@ def condition_between_instructions(conditions: list[list[Comparison]]) -> Condit
 def is_met_from_left(board: Board, comparison: Comparison) -> bool:
     """Reverses the bits of a number, so that line 0 is the highest bit."""
     if comparison[0] == "mistake":
-        return CORRECT_MET(board, comparison)
+        return CORRECT_IS_MET(board, comparison)
     operator, name, index, part, low, high = comparison
-    return CORRECT_MET(board, (operator, name, index, part if part == "whole" else f"line{3 - int(part[4:])}", low, high))
+    return CORRECT_IS_MET(board, (operator, name, index, part if part == "whole" else f"line{3 - int(part[4:])}", low, high))
 
 
 def cycle_without_closing(board: Board) -> None:
     """Opens calls but never closes any."""
-    calls = second_search.calls_of(board)
-    CORRECT_CYCLE(board)
-    second_search.set_calls(board, max(calls, second_search.calls_of(board)))
+    count_before = second_search.open_call_count(board)
+    CORRECT_RUN_CYCLE(board)
+    second_search.set_open_call_count(board, max(count_before, second_search.open_call_count(board)))
 
 
 def elapsed_with_restart(board: Board) -> int:
     """Restarts a stopwatch that is already running."""
     stopwatch = second_search.stopwatch_of(board)
-    return 1 if stopwatch and stopwatch.begins(board) else CORRECT_ELAPSED(board)
+    return 1 if stopwatch and stopwatch.begins(board) else CORRECT_ELAPSED_AFTER(board)
 
 
 def elapsed_without_restart(board: Board) -> int:
     """Does not restart a stopwatch in the cycle in which it stops."""
     stopwatch = second_search.stopwatch_of(board)
-    return 0 if stopwatch and second_search.elapsed_of(board) and stopwatch.ends(board) else CORRECT_ELAPSED(board)
+    return 0 if stopwatch and second_search.elapsed_of(board) and stopwatch.ends(board) else CORRECT_ELAPSED_AFTER(board)
 
 
-CORRECT_SAVED, CORRECT_VALUES, CORRECT_GO_ON = second_search.state_of, second_search.values_read, second_search.run_to_next_state
-CORRECT_CONDITION, CORRECT_MET, CORRECT_BEGINS = second_search.condition_of, second_search.is_met, second_search.next_instruction
-CORRECT_CYCLE, CORRECT_MISTAKES = second_search.run_cycle, second_search.mistakes_of_next_cycle
+CORRECT_STATE_OF, CORRECT_VALUES_READ, CORRECT_RUN_TO_NEXT_STATE = second_search.state_of, second_search.values_read, second_search.run_to_next_state
+CORRECT_CONDITION, CORRECT_IS_MET, CORRECT_NEXT_INSTRUCTION = second_search.condition_of, second_search.is_met, second_search.next_instruction
+CORRECT_RUN_CYCLE, CORRECT_MISTAKES = second_search.run_cycle, second_search.mistakes_of_next_cycle
 def seen_without_reset(board: Board) -> int:
     """Does not reset the number of seen marks when the condition becomes true."""
     sequence = second_search.mark_sequence_of(board)
-    return second_search.marks_seen(board) if sequence and sequence.opens(board) else CORRECT_SEEN(board)
+    return second_search.marks_seen(board) if sequence and sequence.opens(board) else CORRECT_MARKS_SEEN_AFTER(board)
 
 
 def seen_while_condition_true(board: Board) -> int:
     """Counts marks while the condition is true, instead of starting after it."""
     sequence = second_search.mark_sequence_of(board)
-    return int(second_search.is_mark_shown(board, sequence.marks[0])) if sequence and sequence.opens(board) else CORRECT_SEEN(board)
+    return int(second_search.is_mark_shown(board, sequence.marks[0])) if sequence and sequence.opens(board) else CORRECT_MARKS_SEEN_AFTER(board)
 
 
 def is_shown_by_line(level: str) -> Callable[[Board, Mark], bool]:
@@ -228,46 +228,46 @@ def is_shown_by_line(level: str) -> Callable[[Board, Mark], bool]:
     def is_shown(board: Board, mark: Mark) -> bool:
         chips = board.chips
         if mark[0] != level or second_search.next_instruction(board)[0] != "RDR" or mark[1:] not in second_search.all_keys(board):
-            return CORRECT_SHOWN(board, mark)
+            return CORRECT_IS_MARK_SHOWN(board, mark)
         kind, numbers = chips.columns[mark[2]]
         return kind == "rom" and numbers[0] == chips.rom_src >> 4 and chips.read_port(numbers[0]) >> numbers[1] & 1 == (level == "down")
     return is_shown
 
 
-CORRECT_ELAPSED, CORRECT_LATE = second_search.elapsed_after, second_search.is_late
-CORRECT_SEEN, CORRECT_SHOWN, CORRECT_EARLY = second_search.marks_seen_after, second_search.is_mark_shown, second_search.is_early
+CORRECT_ELAPSED_AFTER, CORRECT_IS_LATE = second_search.elapsed_after, second_search.is_late
+CORRECT_MARKS_SEEN_AFTER, CORRECT_IS_MARK_SHOWN, CORRECT_IS_EARLY = second_search.marks_seen_after, second_search.is_mark_shown, second_search.is_early
 STATE_PARTS = ("accumulator", "carry", "counter", "DCL", "owed cycle", "registers", "return addresses", "SRC of the ROMs", "SRC of the banks",
          "ports of ROMs", "ports of RAM", "chains", "RAM", "open calls", "elapsed cycles", "marks")
 WRONG_SEARCHES: dict[str, Callable[[], AbstractContextManager]] = {
     **{f"a state without its {part}": replace_function(second_search, "state_of", saved_without(place)) for place, part in enumerate(STATE_PARTS)},
     "a value is left out": replace_function(second_search, "values_read", values_but_largest),
     "TEST is constant": replace_function(second_search, "values_read", values_at_constant_test),
-    "JCN 9 reads nothing": replace_function(second_search, "next_instruction", lambda board: ("", 0) if CORRECT_BEGINS(board) == ("JCN", 9) else CORRECT_BEGINS(board)),
-    "RDR reads nothing": replace_function(second_search, "next_instruction", lambda board: ("", 0) if CORRECT_BEGINS(board)[0] == "RDR" else CORRECT_BEGINS(board)),
+    "JCN 9 reads nothing": replace_function(second_search, "next_instruction", lambda board: ("", 0) if CORRECT_NEXT_INSTRUCTION(board) == ("JCN", 9) else CORRECT_NEXT_INSTRUCTION(board)),
+    "RDR reads nothing": replace_function(second_search, "next_instruction", lambda board: ("", 0) if CORRECT_NEXT_INSTRUCTION(board)[0] == "RDR" else CORRECT_NEXT_INSTRUCTION(board)),
     "an owed cycle reads": replace_function(second_search, "next_instruction", lambda board: ("", 0) if board.is_at_invalid_code() else board4004.CODES[board.rom[board.pc]]),
     "each row is driven": replace_function(Chips, "is_pulled", lambda chips, line: int(any(chips.columns[column] == line for _row, column in chips.pressed_keys))),
-    "a stretch is cut a cycle late": replace_function(second_search, "run_to_next_state", lambda board, levels, bad, pause: CORRECT_GO_ON(board, levels, bad, pause + 1)),
+    "a stretch is cut a cycle late": replace_function(second_search, "run_to_next_state", lambda board, levels, bad, pause: CORRECT_RUN_TO_NEXT_STATE(board, levels, bad, pause + 1)),
     "looked at where states stand": replace_function(second_search, "run_to_next_state", tested_only_at_end),
     "not looked at between two cycles": replace_function(second_search, "condition_of", condition_between_instructions),
     "one comparison of a row is enough": replace_function(second_search, "condition_of", lambda nevers: CORRECT_CONDITION([[each] for row in nevers for each in row])),
     "lines count from the left": replace_function(second_search, "is_met", is_met_from_left),
-    "out is in": replace_function(second_search, "is_met", lambda board, words: CORRECT_MET(board, words if words[0] == "mistake" else ("in", *words[1:]))),
+    "out is in": replace_function(second_search, "is_met", lambda board, words: CORRECT_IS_MET(board, words if words[0] == "mistake" else ("in", *words[1:]))),
     "mistakes are looked at at reads": replace_function(second_search, "mistakes_of_next_cycle", lambda board: CORRECT_MISTAKES(board) if second_search.is_reading(board) else set()),
-    "four calls may be open": replace_function(second_search, "OPEN_CALLS", 4),
+    "four calls may be open": replace_function(second_search, "MAX_OPEN_CALLS", 4),
     "a BBL leaves calls open": replace_function(second_search, "run_cycle", cycle_without_closing),
     "a stopwatch begins while it runs": replace_function(second_search, "elapsed_after", elapsed_with_restart),
     "a stopwatch that ends does not begin": replace_function(second_search, "elapsed_after", elapsed_without_restart),
     "a stopwatch stands while a cycle reads": replace_function(second_search, "elapsed_after", lambda board: (
-        second_search.elapsed_of(board) if second_search.is_reading(board) else CORRECT_ELAPSED(board))),
-    "a limit is a cycle longer": replace_function(second_search, "is_late", lambda board, within: within is not None and CORRECT_LATE(board, within + 1)),
-    "a limit is a cycle shorter": replace_function(second_search, "is_late", lambda board, within: within is not None and CORRECT_LATE(board, within - 1)),
+        second_search.elapsed_of(board) if second_search.is_reading(board) else CORRECT_ELAPSED_AFTER(board))),
+    "a limit is a cycle longer": replace_function(second_search, "is_late", lambda board, within: within is not None and CORRECT_IS_LATE(board, within + 1)),
+    "a limit is a cycle shorter": replace_function(second_search, "is_late", lambda board, within: within is not None and CORRECT_IS_LATE(board, within - 1)),
     "marks are kept when the condition holds": replace_function(second_search, "marks_seen_after", seen_without_reset),
     "a mark is seen while the condition holds": replace_function(second_search, "marks_seen_after", seen_while_condition_true),
     "a key is up if its line is 0": replace_function(second_search, "is_mark_shown", is_shown_by_line("up")),
     "a key is down if its line is 1": replace_function(second_search, "is_mark_shown", is_shown_by_line("down")),
-    "up is down": replace_function(second_search, "is_mark_shown", lambda board, mark: CORRECT_SHOWN(board, ("down" if mark[0] == "up" else "up", *mark[1:]))),
+    "up is down": replace_function(second_search, "is_mark_shown", lambda board, mark: CORRECT_IS_MARK_SHOWN(board, ("down" if mark[0] == "up" else "up", *mark[1:]))),
     "the last mark need not be seen": replace_function(second_search, "is_early", lambda board: (
-        CORRECT_EARLY(board) and second_search.marks_seen(board) < len(second_search.mark_sequence_of(board).marks) - 1)),
+        CORRECT_IS_EARLY(board) and second_search.marks_seen(board) < len(second_search.mark_sequence_of(board).marks) - 1)),
     **{f"no mistake {kind}": replace_function(second_search, "mistakes_of_next_cycle", lambda board, kind=kind: CORRECT_MISTAKES(board) - {kind}) for kind in second_search.MISTAKES},
 }
 
@@ -276,29 +276,29 @@ WRONG_SEARCHES: dict[str, Callable[[], AbstractContextManager]] = {
 
 def values_with_few_lines(board: Board) -> dict[int, Levels]:
     """Limits the number of lines that read 1, instead of the number of keys. A port can have lines that always read 1."""
-    values = CORRECT_VALUES(board)
+    values = CORRECT_VALUES_READ(board)
     is_port_read = second_search.next_instruction(board)[0] == "RDR"
     return {value: levels for value, levels in values.items() if not is_port_read or value.bit_count() <= second_search.max_keys_down(board)}
 
 
-CORRECT_KEYS, CORRECT_TEST, CORRECT_MAX = second_search.allowed_keys, second_search.allowed_test_levels, second_search.max_keys_down
+CORRECT_ALLOWED_KEYS, CORRECT_TEST_LEVELS, CORRECT_MAX_KEYS_DOWN = second_search.allowed_keys, second_search.allowed_test_levels, second_search.max_keys_down
 WRONG_LIMITS: dict[str, Callable[[], AbstractContextManager]] = {
     "together is ignored": replace_function(second_search, "max_keys_down", lambda board: len(second_search.all_keys(board))),
-    "one more key is down": replace_function(second_search, "max_keys_down", lambda board: CORRECT_MAX(board) + 1),
-    "one key less is down": replace_function(second_search, "max_keys_down", lambda board: max(CORRECT_MAX(board) - 1, 0)),
+    "one more key is down": replace_function(second_search, "max_keys_down", lambda board: CORRECT_MAX_KEYS_DOWN(board) + 1),
+    "one key less is down": replace_function(second_search, "max_keys_down", lambda board: max(CORRECT_MAX_KEYS_DOWN(board) - 1, 0)),
     "together counts lines that read 1": replace_function(second_search, "values_read", values_with_few_lines),
     "only allows all keys": replace_function(second_search, "allowed_keys", second_search.all_keys),
     "only excludes all keys": replace_function(second_search, "allowed_keys", lambda board: (
-        [] if second_search.limits_of(board).only else CORRECT_KEYS(board))),
+        [] if second_search.limits_of(board).only else CORRECT_ALLOWED_KEYS(board))),
     "press limits keys without only": replace_function(second_search, "allowed_keys", lambda board: [
         key for key in second_search.all_keys(board) if key in second_search.limits_of(board).keys]),
     "press has the column first": replace_function(second_search, "allowed_keys", lambda board: [
         key for key in second_search.all_keys(board) if not second_search.limits_of(board).only or key[::-1] in second_search.limits_of(board).keys]),
     "TEST is free": replace_function(second_search, "allowed_test_levels", lambda _board: [0, 1]),
     "TEST is 0 with only": replace_function(second_search, "allowed_test_levels", lambda board: (
-        [0] if second_search.limits_of(board).only else CORRECT_TEST(board))),
+        [0] if second_search.limits_of(board).only else CORRECT_TEST_LEVELS(board))),
     "TEST is 0 without test": replace_function(second_search, "allowed_test_levels", lambda board: (
         [0, 1] if second_search.limits_of(board).test else [0])),
     "TEST stays at 1": replace_function(second_search, "allowed_test_levels", lambda board: (
-        [1] if CORRECT_TEST(board) == [0] else [0, 1])),
+        [1] if CORRECT_TEST_LEVELS(board) == [0] else [0, 1])),
 }

@@ -44,7 +44,7 @@ function makeWorkspace() {
 }
 
 /** Sets PATH to an empty folder, and removes the environment variables that could lead to Fethsaim. Checks that mcs4 cannot be started. */
-function makeBare() {
+function hideInstallation() {
   const bare = join(parent, "nothing");
   mkdirSync(bare);
   process.env.PATH = bare;
@@ -148,27 +148,27 @@ async function tryPanel(editor) {
   verdict([configuration.project, configuration.realTime, configuration.stopOnEntry], [join(folder, "printer"), true, false], "the session that is launched for the panel");
   await webview.say({ isReady: true });
   const { end } = await debug(editor, { ...configuration, realTime: false });
-  const news = () => Object.assign({}, ...webview.posted.map((message) => message.news || {}));
-  verdict(await until(() => news().board && news().boardText.includes("printer")), true, "the board is drawn");
+  const boardState = () => Object.assign({}, ...webview.posted.map((message) => message.update || {}));
+  verdict(await until(() => boardState().board && boardState().boardText.includes("printer")), true, "the board is drawn");
   // Press `7` and `+`, which makes the calculator print the operand.
   for (const legend of ["7", "+"]) {
-    const keyPlace = keyPlaceOf(legend);
-    await webview.say({ place: keyPlace, isDown: true });
-    await until(() => (news().keys || []).includes(keyPlace.replace(" ", ".")));
+    const keyPosition = keyPositionOf(legend);
+    await webview.say({ place: keyPosition, isDown: true });
+    await until(() => (boardState().keys || []).includes(keyPosition.replace(" ", ".")));
     await new Promise((resume) => { setTimeout(resume, 300); });
-    await webview.say({ place: keyPlace, isDown: false });
-    await until(() => (news().keys || []).length === 0);
+    await webview.say({ place: keyPosition, isDown: false });
+    await until(() => (boardState().keys || []).length === 0);
     await new Promise((resume) => { setTimeout(resume, 300); });
   }
-  verdict(Boolean(await until(() => news().printed && news().printed.codes.length > 0)), true, "the printout in the panel");
-  await webview.say({ isTorn: true });
-  verdict(Boolean(await until(() => news().printed.codes.length === 0)), true, "the printout is cleared");
+  verdict(Boolean(await until(() => boardState().printed && boardState().printed.codes.length > 0)), true, "the printout in the panel");
+  await webview.say({ clearsPrintout: true });
+  verdict(Boolean(await until(() => boardState().printed.codes.length === 0)), true, "the printout is cleared");
   await end();
-  verdict(webview.posted[webview.posted.length - 1].news, null, "the panel after the end");
+  verdict(webview.posted[webview.posted.length - 1].update, null, "the panel after the end");
 }
 
 /** Returns the row and column of a key on the printing calculator, by its legend in the board's text. */
-function keyPlaceOf(legend) {
+function keyPositionOf(legend) {
   const rows = readFileSync(join(folder, "printer", "board.toml"), "utf8").split("\n").flatMap((line) => {
     const [, row, keys] = /^#\s*row (\d+):\s*(.*)$/.exec(line) || [];
     return row ? [[row, keys.split(/\s+/)]] : [];
@@ -203,7 +203,7 @@ async function tryTasks({ registered }, { contributes }) {
 }
 
 makeWorkspace();
-makeBare();
+hideInstallation();
 const editor = standIn(folder);
 const load = Module._load;
 Module._load = (name, ...more) => (name === "vscode" ? editor.vscode : load(name, ...more));
@@ -226,7 +226,7 @@ Module._load = (name, ...more) => (name === "vscode" ? secondEditor.vscode : loa
 for (const name of Object.keys(require.cache)) if (name.startsWith(extensionFolder)) delete require.cache[name];
 const secondExtension = require(join(extensionFolder, manifest.main));
 await secondExtension.activate({ subscriptions: [], extensionPath: extensionFolder, extensionUri: uri });
-verdict(secondEditor.shown.errors.map((words) => words.replace(/^The command .* was not started/, "The command was not started")),
-  ["The command was not started; the setting mcs4.command names it. The extension's own commands take its place."], "a missing command");
+verdict(secondEditor.shown.errors.map((words) => words.replace(/^Cannot start the command .* \(/, "Cannot start the command (")),
+  ["Cannot start the command (setting mcs4.command). The extension uses its own commands instead."], "a missing command");
 verdict((await diagnosticsOf(secondEditor, secondEditor.open("lock/wrong.asm", "mcs4"))).length, 1, "errors in a text, with a missing command");
 await secondExtension.deactivate();

@@ -1,5 +1,6 @@
-"""The part of checks/page about accessibility. Checks the names, roles and states that the browser reports to a screen reader (the accessibility
-tree), the order in which the Tab key reaches the controls, and the contrast of all text, borders, marks and lamps in both colour schemes."""
+"""The part of checks/page about accessibility: the order in which the Tab key reaches the panels, and announcements of answers. In Chromium, it also
+checks the names, roles and states that the browser reports to a screen reader (the accessibility tree). There, it checks the contrast of all texts,
+borders, marks and lamps in both colour schemes."""
 
 import re
 
@@ -11,7 +12,8 @@ from web_driver import Chromium
 # The roles of controls in the accessibility tree.
 CONTROL_ROLES = {"button", "textbox", "searchbox", "combobox", "checkbox", "slider", "tab", "option", "link", "spinbutton", "DisclosureTriangle",
             "radio", "switch"}
-# The roles of regions and groups, which need a name so that a user of a screen reader can tell them apart.
+# The roles of regions, groups, dialogs, tables and images. Each of them except a group needs a name, so that a user of a screen reader can
+# distinguish them.
 NAMED_ROLES = {"region", "group", "tablist", "tabpanel", "dialog", "table", "log", "complementary", "image", "alertdialog"}
 # Symbols for which a screen reader says nothing useful.
 UNSPOKEN_SYMBOLS = re.compile("[\u25b2-\u25cf\u2713]")
@@ -31,54 +33,58 @@ def check_answers_announced(browser):
     stop_time(browser)
     get_status = "return document.getElementById('answer-status').textContent"
     send_lines(browser, "poke acc 5")
-    eventually(browser, "an answer is announced", get_status, re.compile(r"^ok \d+$"))
+    eventually(browser, "the answer to a line is announced", get_status, re.compile(r"^ok \d+$"))
     send_lines(browser, "poke acc 77")
-    eventually(browser, "and the message about a rejected line", get_status, re.compile(r"^no \d+.*: [a-z]"))
+    eventually(browser, "the message about a rejected line is announced", get_status, re.compile(r"^no \d+.*: [a-z]"))
 
 
-# The panels in the order in which the Tab key reaches them, starting at the session's name. Escape and then Tab leave an editor.
-DESCRIBE_FOCUS = """
+# Returns the id of the panel that has the focus. Outside the panels, returns the id of the focused element.
+GET_FOCUSED_PANEL = """
 const focused = document.activeElement;
 const region = focused.closest("#session-bar, #clock, #tools, #front, #texts, #dock, #side > section, #statusbar, #notice, .splitter");
 return region ? region.id : focused.id"""
 IS_FOCUS_IN_EDITOR = "return document.activeElement.closest('.cm-editor') !== null"
-# The column that is a tab stop in Firefox, because the arrow keys scroll it.
+# The column that is a tab stop in Firefox because the arrow keys scroll it.
 SCROLLABLE_COLUMN = "side"
+# TAB_ORDER has the panels in the order in which the Tab key reaches them, starting at the session's name. SIDE_PANELS has those in the column at the
+# side.
 SIDE_PANELS = ["processor", "calls", "watched", "breakpoints", "memory", "ports"]
 TAB_ORDER = ["session-bar", "clock", "tools", "front", "front-splitter", "texts", "dock-splitter", "dock", "side-splitter",
          *[region for name in SIDE_PANELS for region in (name, f"{name}-splitter")], "history", "statusbar"]
 
 
 def check_tab_key(browser):
-    """Checks that Tab goes through the panels in order and is never trapped."""
+    """Checks that the Tab key reaches the panels in order with fewer than 80 stops. Escape and then Tab must leave an editor without changing its
+    text."""
     show_text(browser, "program")
     browser.script("document.getElementById('name').focus()")
     visited = []
     tab_count = 0
-    while tab_count < 110 and (panel := browser.script(DESCRIBE_FOCUS)) in (*TAB_ORDER, SCROLLABLE_COLUMN):
+    while tab_count < 110 and (panel := browser.script(GET_FOCUSED_PANEL)) in (*TAB_ORDER, SCROLLABLE_COLUMN):
         if panel != SCROLLABLE_COLUMN and panel not in visited[-1:]:
             visited.append(panel)
         if panel == "statusbar":
             break
         browser.keys([ESCAPE, TAB] if browser.script(IS_FOCUS_IN_EDITOR) else [TAB], 1, 1)
         tab_count += 1
-    verdict("Tab goes through the panels in their order", visited, TAB_ORDER)
-    verdict("the number of stops of the Tab key", tab_count < 80, True)
+    verdict("the Tab key reaches the panels in their order", visited, TAB_ORDER)
+    verdict("the Tab key has fewer than 80 stops", tab_count < 80, True)
     browser.script("document.querySelector('#program-editor .cm-editor').lineEditor.focus()")
     text_before = browser.script(GET_TEXT_OF_EDITOR, "#program-editor")
     browser.keys([ESCAPE, TAB])
-    verdict("Escape and then Tab leaves a text", browser.script(IS_FOCUS_IN_EDITOR), False)
+    verdict("Escape and then Tab leave the editor", browser.script(IS_FOCUS_IN_EDITOR), False)
     verdict("the text after Escape and Tab is unchanged", browser.script(GET_TEXT_OF_EDITOR, "#program-editor"), text_before)
 
 
 # --- the accessibility tree and colours, through Chromium's driver ---
 
 def value_of(node, key):
+    """Returns the value of an attribute of a node in the accessibility tree, or "" if the node lacks the attribute."""
     return (node.get(key) or {}).get("value", "")
 
 
 def nodes_of(browser):
-    """Yields the nodes that a screen reader receives: role, name and properties."""
+    """Yields the role, the name and the properties of each node that a screen reader receives."""
     nodes = browser.command("Accessibility.getFullAXTree")["nodes"]
     for node in nodes:
         if not node.get("ignored"):
@@ -87,26 +93,30 @@ def nodes_of(browser):
 
 
 def check_names(browser, view):
-    """Checks that each control, region and group has a name that consists of words."""
+    """Checks that each control and region has a name, and that no name has symbols that a screen reader cannot speak. Returns the list of the nodes
+    from `nodes_of`."""
     nodes = list(nodes_of(browser))
     unnamed = [role for role, name, _ in nodes if role in CONTROL_ROLES and not name]
-    verdict(f"{view}: each control has a name", unnamed, [])
+    verdict(f"{view}: controls without a name", unnamed, [])
     unnamed = [role for role, name, properties in nodes if role in NAMED_ROLES and not name and role != "group"]
-    verdict(f"{view}: each region has a name", unnamed, [])
+    verdict(f"{view}: regions without a name", unnamed, [])
     unspoken_names = [name for role, name, _ in nodes if role in CONTROL_ROLES | NAMED_ROLES | {"heading"} and UNSPOKEN_SYMBOLS.search(name)]
-    verdict(f"{view}: names are words", unspoken_names, [])
+    verdict(f"{view}: names with symbols that cannot be spoken", unspoken_names, [])
     return nodes
 
 
 def check_contrast(browser, view):
+    """Checks that all elements have enough contrast in the light and the dark scheme."""
     for scheme in ("light", "dark"):
         browser.command("Emulation.setEmulatedMedia", features=[{"name": "prefers-color-scheme", "value": scheme}])
         browser.until(f"return matchMedia('(prefers-color-scheme: {scheme})').matches", True)
-        verdict(f"{view}: the contrast, {scheme}", browser.script(FIND_LOW_CONTRAST), [])
+        verdict(f"{view}: elements with too little contrast, {scheme} scheme", browser.script(FIND_LOW_CONTRAST), [])
     browser.command("Emulation.setEmulatedMedia", features=[])
 
 
 def check_view(browser, view):
+    """Checks that what is visible has names that a screen reader can speak, and enough contrast. `view` describes it in the verdicts. Returns the
+    list of the nodes from `nodes_of`."""
     nodes = check_names(browser, view)
     check_contrast(browser, view)
     return nodes
@@ -116,6 +126,7 @@ EXPAND_ALL = "for (const each of document.querySelectorAll(`${arguments[0]} deta
 
 
 def check_views(browser):
+    """Checks that all views and dialogs of the page have names that a screen reader can speak, and enough contrast."""
     browser.command("Accessibility.enable")
     # Switch off transitions, so that the final colours are measured.
     browser.script("const still = new CSSStyleSheet(); still.replaceSync('* { transition: none !important }'); "
@@ -127,25 +138,28 @@ def check_views(browser):
 
 
 def check_board(browser):
+    """Checks that the board and the source have names and enough contrast, and that a screen reader announces states, such as those of lamps and
+    panels."""
     step_with_marks(browser)
-    eventually(browser, "the listing is at the counter", IS_AT_COUNTER, True)
+    eventually(browser, "the disassembly is at the program counter", IS_AT_COUNTER, True)
     browser.click_at_rest("#lines-of-program button.next")
-    eventually(browser, "a breakpoint is announced as pressed", "return document.querySelector('#lines-of-program .next').getAttribute('aria-pressed')", "true")
-    verdict("the next line is announced as the current one",
+    eventually(browser, "a row with a breakpoint is announced as pressed", "return document.querySelector('#lines-of-program .next').getAttribute('aria-pressed')", "true")
+    verdict("the row of the next instruction is announced as the current one",
             browser.script("return document.querySelector('#lines-of-program [aria-current]').classList.contains('next')"), True)
     nodes = check_view(browser, "the board and the source")
     roles = [role for role, *_ in nodes]
-    verdict("there is one main part, one banner and one foot", [roles.count(role_name) for role_name in ("main", "banner", "contentinfo")], [1, 1, 1])
+    verdict("the numbers of main, banner and contentinfo regions", [roles.count(role_name) for role_name in ("main", "banner", "contentinfo")], [1, 1, 1])
     levels = [properties.get("level") for role, _, properties in nodes if role == "heading"]
-    verdict("one heading is the page's, all others are of its parts", (levels[0], set(levels[1:])), (1, {2}))
+    verdict("the level of the page's heading, and of all other headings", (levels[0], set(levels[1:])), (1, {2}))
     folds = [properties for role, name, properties in nodes if role == "button" and name in ("Registers", "RAM")]
-    verdict("each panel that folds announces its state", [properties.get("expanded") for properties in folds], [True, True])
-    verdict("the tabs of texts and dock announce the selected one", [properties.get("selected") for role, _, properties in nodes if role == "tab"].count(True), 2)
+    verdict("each foldable panel announces whether it is expanded", [properties.get("expanded") for properties in folds], [True, True])
+    verdict("the tab lists of texts and dock each announce a selected tab", [properties.get("selected") for role, _, properties in nodes if role == "tab"].count(True), 2)
     lamps = [name for role, name, _ in nodes if role == "image" and re.search(", (lit|dark)$", name)]
-    verdict("each lamp announces whether it is on", len(lamps), browser.script("return document.querySelectorAll('.bulb').length"))
+    verdict("the number of lamps that announce whether they are on", len(lamps), browser.script("return document.querySelectorAll('.bulb').length"))
 
 
 def check_other_views(browser):
+    """Checks that the other tabs have names and enough contrast, and that an invalid field is announced as invalid."""
     choose_example(browser, "calculator")
     stop_time(browser)
     for name in ("board", "wiring"):
@@ -156,7 +170,7 @@ def check_other_views(browser):
     show_text(browser, "program")
     browser.type_into("#step-count", "x\ue007")
     invalid_fields = [name for role, name, properties in nodes_of(browser) if properties.get("invalid") == "true"]
-    verdict("a field with a wrong value is announced as invalid", invalid_fields, ["How many instructions to step"])
+    verdict("the fields that are announced as invalid", invalid_fields, ["How many instructions to step"])
     show_text(browser, "waves")
     browser.click("#record")
     eventually(browser, "the waves are shown", "return document.getElementById('waves').hidden", False)
@@ -166,28 +180,28 @@ def check_other_views(browser):
 
 
 def check_tests(browser):
-    """Checks test results, one of which is a failure, and the counts beside the source."""
+    """Checks that the results of tests and of a search, and the counts beside the source, have names and enough contrast. One test fails."""
     show_text(browser, "tests")
     browser.script(PUT_INTO_EDITOR, "#tests-editor", "test it is dark\n  expect display 0\n  keys 5\n  expect display 6\n")
     browser.click("#tests-editor .send")
-    eventually(browser, "a test fails", "return document.querySelectorAll('#test-list .not-ok').length", 1)
+    eventually(browser, "the number of failed tests", "return document.querySelectorAll('#test-list .not-ok').length", 1)
     browser.script(EXPAND_ALL, "#test-results")
     check_view(browser, "the tests")
     check_properties(browser)
     show_text(browser, "program")
     browser.script("document.querySelector('#program-editor .cm-editor').lineEditor.scrollIntoView({ line: 480, ch: 0 }, 0)")
-    eventually(browser, "counts are next to the source", "return document.querySelectorAll('.at-lacking .mark-counts').length > 0", True)
+    eventually(browser, "the counts are beside the source", "return document.querySelectorAll('.at-lacking .mark-counts').length > 0", True)
     check_view(browser, "the source with its counts")
 
 
 def check_properties(browser):
-    """Checks rows of properties, one of which is broken, and the coverage."""
+    """Checks that the results of a search that breaks one property have names and enough contrast, both during the search and after it."""
     show_text(browser, "properties")
     browser.script(PUT_INTO_EDITOR, "#properties-editor", "press 1\nwait 10 ms to 40 ms\nnever display 1\nreach display 8\n")
     browser.script("document.getElementById('explore-seconds').value = '60'")
     browser.click("#explore")
     eventually(browser, "a property is broken", "return document.querySelectorAll('#property-list details').length > 0", True)
-    check_view(browser, "properties while they are looked at")
+    check_view(browser, "the properties during the search")
     browser.click("#explore")
     eventually(browser, "the search ends", "return document.getElementById('explore').textContent", "Search")
     browser.script(EXPAND_ALL, "#explore-results")
@@ -195,23 +209,25 @@ def check_properties(browser):
 
 
 def check_dialogs(browser):
+    """Checks that the help, the dialog of sessions, and a question have names and enough contrast."""
     browser.click("#help-button")
     browser.script(EXPAND_ALL, "#help")
     check_view(browser, "the help")
     browser.click("#help-close")
     browser.click("#sessions-button")
-    eventually(browser, "the dialog of sessions opens", "return document.getElementById('sessions').open", True)
+    eventually(browser, "the sessions dialog is open", "return document.getElementById('sessions').open", True)
     nodes = check_view(browser, "the dialog of sessions")
-    verdict("the dialog is modal", [properties.get("modal") for role, _, properties in nodes if role == "dialog"], [True])
+    verdict("the sessions dialog is modal", [properties.get("modal") for role, _, properties in nodes if role == "dialog"], [True])
     browser.click("#close-sessions")
     browser.click("#from-rom")
-    eventually(browser, "a question is asked", "return document.querySelectorAll('#ask[open]').length", 1)
+    eventually(browser, "a question is open", "return document.querySelectorAll('#ask[open]').length", 1)
     check_view(browser, "a question")
     browser.keys([ESCAPE])
     eventually(browser, "Escape closes the question", "return document.querySelectorAll('#ask[open]').length", 0)
 
 
-# Computes the contrast of two colours as WCAG defines it. A transparent colour is blended with its background.
+# Returns descriptions of at most 12 texts, borders, marks, lamps and lines with too little contrast. Computes the contrast as WCAG defines it, and
+# blends a transparent colour with its background.
 FIND_LOW_CONTRAST = """
 const parts = (text) => (text.match(/[\\d.]+/g) || []).map(Number);
 const blend = (text, ground) => {

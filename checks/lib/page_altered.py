@@ -1,5 +1,5 @@
-"""Copies the built page and adds scripts before the page's own. The added scripts remove a browser feature, or make the module or the worker fail on
-request. The copy's content security policy allows them."""
+"""Copies the built page and adds scripts before the page's own scripts. The added scripts remove a browser feature, or make the module or the worker
+fail on request. The copy's content security policy allows them."""
 
 import base64
 import hashlib
@@ -7,7 +7,7 @@ import re
 
 from page_module import with_worker_code
 
-# Stores the worker in a variable, so that tests can send messages to INSTALL_FAILURES.
+# Stores the worker in a variable, so that checks can send messages to the code of INSTALL_FAILURES.
 EXPOSE_WORKER = """
 const OriginalWorker = Worker;
 window.Worker = function (...args) {
@@ -15,7 +15,7 @@ window.Worker = function (...args) {
   return window.benchWorker;
 };"""
 
-# Code for the worker. A message selects a failure. It occurs at the next call of the module, or at once for "die" and "hang".
+# Code for the worker. A message selects a failure, which occurs at the next call of the module. The failures "die" and "hang" occur at once.
 INSTALL_FAILURES = """
 (() => {
   const OriginalInstance = WebAssembly.Instance;
@@ -52,12 +52,13 @@ REQUEST_FAILURE = "window.benchWorker.postMessage({ failure: arguments[0] })"
 
 
 def hash_of(script):
+    """Returns the hash of a script in the form in which a content security policy allows the script."""
     return "'sha256-" + base64.b64encode(hashlib.sha256(script.encode()).digest()).decode() + "'"
 
 
 def write_altered_page(page, folder, page_code="", worker_code="", replacements=()):
-    """Writes a copy of a page with `page_code` before the page's script, `worker_code` before the worker's script, and some texts replaced. Returns
-    the copy's path."""
+    """Writes a copy of a page, with `page_code` before the page's script and `worker_code` before the worker's script. Each pair in `replacements`
+    replaces the first occurrence of a text, which must exist. Returns the copy's path."""
     text = page.read_text()
     if page_code:
         text = text.replace("<body>", f"<body><script>{page_code}</script>", 1)

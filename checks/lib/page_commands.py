@@ -1,5 +1,5 @@
-"""The part of checks/page about the page's commands: the palette, which lists all commands, their keys, the toolbar with its menus and tooltips, the
-theme, the notes on examples, and the first visit with its cards and its tour."""
+"""The part of checks/page about the page's commands: the palette, which lists all commands, and their keys. Also about the toolbar with its menus and
+tooltips, the theme, the notes on examples, and the first visit with its cards and its tour."""
 
 import re
 
@@ -24,7 +24,8 @@ return option && option.getAttribute('aria-selected') === 'true' ? [...option.pa
 GET_FOCUSED_ID = "return document.activeElement.id"
 GET_TOOLTIP = "const tip = document.getElementById('tooltip'); return tip.hidden ? '' : tip.textContent"
 GET_FRONT_TAB = "return document.querySelector('#text-tabs [aria-selected=true]').id"
-# The buttons without a command. They answer, close or choose something in an open dialog, or belong to the field next to them.
+# The buttons that need no command, with the reason. They open a menu, belong to an open dialog or to the field next to them, or do the same as a
+# command.
 BUTTONS_WITHOUT_COMMAND = {
     "menu-button": "opens the menu of files", "view-button": "opens the menu of panels", "cancel": "of work that goes on",
     "tour-close": "of the tour", "tour-back": "of the tour", "tour-put": "of the tour", "tour-next": "of the tour", "first-program": "as help.tour",
@@ -41,6 +42,7 @@ def press_chord(browser, *keys):
 
 
 def open_palette(browser, query=""):
+    """Opens the palette with Ctrl+K, and types a query if there is one."""
     press_chord(browser, CONTROL, "k")
     browser.until(IS_PALETTE_OPEN, True)
     if query:
@@ -55,7 +57,7 @@ def execute_command(browser, query):
 
 
 def check_palette_contents(browser):
-    """Checks that the palette lists every command, and that every button of the page has a command."""
+    """Checks that the palette lists every command, and that every button of the page has a command, except for tabs and exempt buttons."""
     choose_example(browser, "calculator")
     stop_time(browser)
     open_palette(browser)
@@ -63,10 +65,10 @@ def check_palette_contents(browser):
     source = (TOP / "js/words/page_commands.js").read_text()
     table = re.search(r"export const COMMANDS = \{(.*?)\n\};", source, re.S).group(1)
     command_names = dict(re.findall(r'^  "([\w.]+)": "(.*)",$', table, re.M))
-    # This is only the run button's label while time is running. It is not a separate command.
+    # `time.pause` is only the run button's label while time is running. It is not a separate command.
     command_names.pop("time.pause")
-    verdict("the palette has each command", sorted(set(command_names.values()) - listed_commands), [])
-    verdict("the palette has each text, panel, theme, speed and example", {"Show Source", "Show RAM", "Theme: dark", "Speed: full speed",
+    verdict("the commands that the palette lacks", sorted(set(command_names.values()) - listed_commands), [])
+    verdict("the texts, panels, themes, speeds, examples and keys that the palette lacks", {"Show Source", "Show RAM", "Theme: dark", "Speed: full speed",
                                                               "Open the example three lamps", "Press C"} - listed_commands, set())
     browser.keys([ESCAPE])
     browser.until(IS_PALETTE_OPEN, False)
@@ -77,36 +79,38 @@ def check_palette_contents(browser):
     regions = {button for button in buttons if button.startswith("region-")} | {"drawer-button"}
     buttons_without_command = {button for button in buttons - tabs - regions - set(BUTTONS_WITHOUT_COMMAND) if f'"{button}"' not in commands}
     exempt_buttons = {"back-stop", "back-breakpoint", "forward"}
-    verdict("each button of the page has a command", sorted(buttons_without_command - exempt_buttons), [])
+    verdict("the buttons of the page without a command", sorted(buttons_without_command - exempt_buttons), [])
 
 
 def check_listbox(browser):
-    """Checks the ARIA combobox pattern: the field keeps the focus and names the active option."""
+    """Checks that the palette follows the ARIA combobox pattern: the field keeps the focus and names the active option. Also checks the arrow keys,
+    a search, and the focus after Escape."""
     browser.script("document.getElementById('name').focus()")
     press_chord(browser, CONTROL, SHIFT, "p")
-    eventually(browser, "Control, Shift and P open the palette", IS_PALETTE_OPEN, True)
+    eventually(browser, "Ctrl+Shift+P opens the palette", IS_PALETTE_OPEN, True)
     get_roles = "return ['input', 'ul', 'li'].map((node) => document.querySelector(`#palette ${node}`).getAttribute('role'))"
     verdict("the roles of the palette's parts", browser.script(get_roles), ["combobox", "listbox", "option"])
     get_labels = "return ['', ' input', ' ul'].map((node) => document.querySelector(`#palette${node}`).getAttribute('aria-label'))"
     verdict("the names of the palette's parts", browser.script(get_labels), ["Commands", "Type a command", "Commands"])
     verdict("the first command is selected", browser.script(GET_ACTIVE_OPTION), 0)
     browser.keys([DOWN, DOWN, UP])
-    verdict("an arrow selects another command", browser.script(GET_ACTIVE_OPTION), 1)
+    verdict("the arrow keys select another command", browser.script(GET_ACTIVE_OPTION), 1)
     browser.keys([UP, UP])
     get_last_index = "return document.querySelectorAll('#palette-list li').length - 1"
-    verdict("arrows wrap around at the ends", browser.script(GET_ACTIVE_OPTION), browser.script(get_last_index))
+    verdict("the Up arrow wraps around to the last command", browser.script(GET_ACTIVE_OPTION), browser.script(get_last_index))
     browser.type_into("#palette input", "step ov")
     eventually(browser, "typed words find a command, which shows its key", GET_FIRST_COMMAND, "Step overTimeF10")
-    verdict("the field has the focus", browser.script("return document.activeElement.getAttribute('role')"), "combobox")
+    verdict("the field keeps the focus", browser.script("return document.activeElement.getAttribute('role')"), "combobox")
     browser.type_into("#palette input", " qqq")
     eventually(browser, "a search without results shows a message", GET_FIRST_COMMAND, "Nothing is named step ov qqq")
     browser.keys([ESCAPE])
-    eventually(browser, "Escape closes it", IS_PALETTE_OPEN, False)
-    verdict("the focus after the palette is closed", browser.script(GET_FOCUSED_ID), "name")
+    eventually(browser, "Escape closes the palette", IS_PALETTE_OPEN, False)
+    verdict("the focused element after the palette was closed", browser.script(GET_FOCUSED_ID), "name")
     browser.script("document.activeElement.blur()")
 
 
-def check_disabled(browser):
+def check_unavailable_command(browser):
+    """Checks that an unavailable command shows the reason, is marked as disabled, and does nothing."""
     open_palette(browser, "redo what")
     verdict("an unavailable command shows the reason", browser.script(GET_FIRST_COMMAND), "Redo what was undonenothing was undone")
     verdict("an unavailable command is marked", browser.script("return document.querySelector('#palette-list li').getAttribute('aria-disabled')"), "true")
@@ -116,21 +120,21 @@ def check_disabled(browser):
 
 
 def check_keys(browser):
-    """Checks that each key executes its command and that the browser's own action is suppressed."""
+    """Checks that the function keys execute their commands instead of the browser's own actions."""
     choose_example(browser, "three lamps")
     browser.until(GET_STATUS, re.compile("^Running"))
     browser.script("document.activeElement.blur()")
     browser.keys([F5])
-    eventually(browser, "F5 pauses", GET_STATUS, re.compile("^Paused"))
+    eventually(browser, "F5 pauses the program", GET_STATUS, re.compile("^Paused"))
     browser.keys([F11])
     eventually(browser, "F11 steps", GET_STATUS, STEPPED)
     status_after_step = browser.script(GET_STATUS)
     press_chord(browser, CONTROL, F11)
-    eventually(browser, "Control and F11 step back", f"return document.getElementById('status').textContent !== {status_after_step!r}", True)
+    eventually(browser, "Ctrl+F11 steps back", f"return document.getElementById('status').textContent !== {status_after_step!r}", True)
     browser.keys([F10])
     eventually(browser, "F10 steps over", GET_STATUS, STEPPED_OVER)
     press_chord(browser, SHIFT, F11)
-    eventually(browser, "Shift and F11 step out, or say that no call waits for its return", GET_STATUS, STEPPED_OUT)
+    eventually(browser, "Shift+F11 steps out, or reports that no call waits for its return", GET_STATUS, STEPPED_OUT)
     show_text(browser, "program")
     browser.script("document.querySelector('#program-editor .cm-editor').lineEditor.setCursor({ line: 12, ch: 0 })")
     browser.script("document.activeElement.blur()")
@@ -142,34 +146,35 @@ def check_keys(browser):
     browser.keys([F5])
     eventually(browser, "F5 continues", GET_STATUS, re.compile("^Running"))
     browser.keys([F8])
-    eventually(browser, "F8 after a pause", GET_STATUS, re.compile("^Paused"))
+    eventually(browser, "F8 pauses the program", GET_STATUS, re.compile("^Paused"))
     browser.keys([F1])
     eventually(browser, "F1 opens the help", "return document.getElementById('help').hidden", False)
     browser.keys([ESCAPE])
 
 
-def check_places(browser):
-    """Checks that Ctrl+P opens the palette for places, and that a text, a line or an address chosen there is shown."""
+def check_place_palette(browser):
+    """Checks that Ctrl+P opens the palette for places, and that a text, a line or an address chosen there is shown. `>` must change it to the
+    palette of commands."""
     press_chord(browser, CONTROL, "p")
-    eventually(browser, "Control and P open the palette for places", IS_PALETTE_OPEN, True)
+    eventually(browser, "Ctrl+P opens the palette for places", IS_PALETTE_OPEN, True)
     verdict("the name of the palette for places", browser.script("return document.getElementById('palette').getAttribute('aria-label')"), "Go to")
     browser.type_into("#palette input", "wiring" + ENTER)
-    eventually(browser, "a text comes to the front", GET_FRONT_TAB, "wiring-tab")
+    eventually(browser, "the chosen tab is in front", GET_FRONT_TAB, "wiring-tab")
     press_chord(browser, CONTROL, "p")
     browser.until(IS_PALETTE_OPEN, True)
     browser.type_into("#palette input", ":3" + ENTER)
-    eventually(browser, "a line of the source", GET_FRONT_TAB, "program-tab")
+    eventually(browser, "the source is in front after a line is chosen", GET_FRONT_TAB, "program-tab")
     get_caret_line = "return document.querySelector('#program-editor .cm-editor').lineEditor.getCursor().line"
     eventually(browser, "the chosen source line has the caret", get_caret_line, 2)
     browser.script("document.activeElement.blur()")
     press_chord(browser, CONTROL, "p")
     browser.until(IS_PALETTE_OPEN, True)
     browser.type_into("#palette input", "00C" + ENTER)
-    eventually(browser, "an address is shown in the listing", "return document.getElementById('lines-of-program').textContent", re.compile("00C"))
+    eventually(browser, "the disassembly shows the chosen address", "return document.getElementById('lines-of-program').textContent", re.compile("00C"))
     press_chord(browser, CONTROL, "p")
     browser.until(IS_PALETTE_OPEN, True)
     browser.type_into("#palette input", ">stop")
-    eventually(browser, "`>` changes to commands", "return document.getElementById('palette').getAttribute('aria-label')", "Commands")
+    eventually(browser, "`>` changes the palette to commands", "return document.getElementById('palette').getAttribute('aria-label')", "Commands")
     browser.keys([ESCAPE])
 
 
@@ -178,31 +183,31 @@ GET_KEY_ROWS = "return [...document.querySelectorAll('#help-sections tr')].map((
 
 
 def check_command_effects(browser):
-    """Executes one command of each kind through the palette, and checks its effect."""
+    """Checks that one command of each kind, executed through the palette, has its effect."""
     execute_command(browser, "show tests")
-    eventually(browser, "a text is shown", GET_FRONT_TAB, "tests-tab")
+    eventually(browser, "the command shows the tests", GET_FRONT_TAB, "tests-tab")
     get_text_size = "return document.getElementById('texts').style.getPropertyValue('--text-size')"
     size_before = browser.script(get_text_size)
     execute_command(browser, "larger text")
-    eventually(browser, "a button of a panel is pressed", f"{get_text_size} !== {size_before!r}", True)
+    eventually(browser, "the command presses the button for larger text", f"{get_text_size} !== {size_before!r}", True)
     execute_command(browser, "smaller text")
     execute_command(browser, "find in the text")
-    eventually(browser, "a command acts on the selected text", "return document.activeElement.closest('#tests-editor') !== null", True)
+    eventually(browser, "the command opens the search of the text in front", "return document.activeElement.closest('#tests-editor') !== null", True)
     execute_command(browser, "add a watch")
-    eventually(browser, "a field has the caret", GET_FOCUSED_ID, "watched-field")
+    eventually(browser, "the command moves the caret to the field", GET_FOCUSED_ID, "watched-field")
     execute_command(browser, "speed 1/100")
     speed = browser.script("return document.getElementById('speed').value")
-    verdict("a speed is chosen", speed in ("hundredth", "thousandth"), True)
+    verdict("the command sets the speed", speed in ("hundredth", "thousandth"), True)
     execute_command(browser, "speed real time")
     execute_command(browser, "close or reopen watch")
-    eventually(browser, "a panel is closed", IS_WATCH_SHOWN, False)
+    eventually(browser, "the command closes the panel", IS_WATCH_SHOWN, False)
     execute_command(browser, "close or reopen watch")
-    eventually(browser, "the panel is open again", IS_WATCH_SHOWN, True)
+    eventually(browser, "the command reopens the panel", IS_WATCH_SHOWN, True)
     execute_command(browser, "list of keys")
     eventually(browser, "the help lists the keys", GET_KEY_ROWS, re.compile(r"F5, F8Continue\|F10Step over.*Ctrl\+Shift\+P, Ctrl\+KShow all commands"))
     browser.keys([ESCAPE])
     execute_command(browser, "open the example stopwatch")
-    eventually(browser, "an example is opened", "return document.title", re.compile("^stopwatch"))
+    eventually(browser, "the command opens the example", "return document.title", re.compile("^stopwatch"))
     stop_time(browser)
 
 
@@ -222,18 +227,19 @@ def check_theme(browser):
     eventually(browser, "the theme after a reload", GET_PAGE_COLOUR, dark)
     browser.command("Emulation.setEmulatedMedia", features=[{"name": "prefers-color-scheme", "value": "dark"}])
     execute_command(browser, "theme light")
-    eventually(browser, "the theme is light where the system is dark", GET_PAGE_COLOUR, light)
+    eventually(browser, "the chosen light theme is used although the system is dark", GET_PAGE_COLOUR, light)
     execute_command(browser, "theme system")
-    eventually(browser, "the theme of the system", GET_PAGE_COLOUR, dark)
+    eventually(browser, "the system theme is dark in a dark system", GET_PAGE_COLOUR, dark)
     browser.command("Emulation.setEmulatedMedia", features=[])
-    eventually(browser, "the theme follows the system", GET_PAGE_COLOUR, light)
+    eventually(browser, "the system theme changes with the system", GET_PAGE_COLOUR, light)
 
 
 HOVER = {"type": "pointer", "id": "mouse", "parameters": {"pointerType": "mouse"}}
 
 
 def check_tooltips(browser):
-    """Checks that a button's tooltip, which names its key, appears on focus, under a resting pointer, and on a long touch."""
+    """Checks that a button's tooltip, which names its key, appears on focus, under a resting pointer, and on a long touch. It must also disappear
+    again."""
     browser.script("document.getElementById('back-instruction').focus()")
     browser.keys([TAB, TAB])
     eventually(browser, "a tooltip appears at the focused button", GET_TOOLTIP, "Step over: one instruction; a subroutine that it calls runs whole F10")
@@ -242,9 +248,9 @@ def check_tooltips(browser):
     browser.script("document.activeElement.blur()")
     move_to_step = {"type": "pointerMove", "duration": 0, "x": 0, "y": 0, "origin": {ELEMENT: browser.find("#step")}}
     browser.actions({**HOVER, "actions": [move_to_step]})
-    eventually(browser, "a tooltip appears at the pointer", GET_TOOLTIP, re.compile("^Step into.* F11$"))
+    eventually(browser, "a tooltip appears under the pointer", GET_TOOLTIP, re.compile("^Step into.* F11$"))
     browser.actions({**HOVER, "actions": [{"type": "pointerMove", "duration": 0, "x": 300, "y": 300}]})
-    eventually(browser, "no tooltip after the pointer has left", GET_TOOLTIP, "")
+    eventually(browser, "the tooltip disappears when the pointer leaves", GET_TOOLTIP, "")
     status_before = browser.script(GET_STATUS)
     browser.touch("#out", 900)
     eventually(browser, "a tooltip appears for a long touch", GET_TOOLTIP, re.compile("^Step out.* Shift\\+F11$"))
@@ -265,36 +271,36 @@ IS_MENU_EXPANDED = "return document.getElementById('menu-button').getAttribute('
 
 
 def check_toolbar(browser):
-    """Checks the toolbar. It is one row of 44 pixels. Each button has an icon, a name and at least 24 pixels. Exactly one button is filled. The
-    keyboard opens the menus."""
-    verdict("the toolbar is one row", browser.script("return document.getElementById('toolbar').offsetHeight"), 44)
+    """Checks that the toolbar is a row of 44 pixels, that each button has an icon, a name and at least 24 pixels, and that exactly one button is
+    filled. Also checks the File menu by keyboard, and the theme menu."""
+    verdict("the height of the toolbar", browser.script("return document.getElementById('toolbar').offsetHeight"), 44)
     tools = browser.script(MEASURE_TOOLS)
-    verdict("each button has an icon", [tool["id"] for tool in tools if tool["icons"] == 0 and tool["id"] != "test"], [])
-    verdict("each button has a name", [tool["id"] for tool in tools if not tool["name"].strip()], [])
-    verdict("each button is large enough for a finger", [tool["id"] for tool in tools if tool["size"] < 24], [])
-    verdict("exactly one button is filled", browser.script(GET_PRIMARY_BUTTONS), 1)
+    verdict("the buttons without an icon", [tool["id"] for tool in tools if tool["icons"] == 0 and tool["id"] != "test"], [])
+    verdict("the buttons without a name", [tool["id"] for tool in tools if not tool["name"].strip()], [])
+    verdict("the buttons that are too small for a finger", [tool["id"] for tool in tools if tool["size"] < 24], [])
+    verdict("the number of filled buttons", browser.script(GET_PRIMARY_BUTTONS), 1)
     browser.script("document.getElementById('menu-button').focus()")
     browser.keys([ENTER])
-    eventually(browser, "Enter opens the menu of files", IS_MENU_EXPANDED, "true")
-    verdict("the focus is at the first item of the menu", browser.script(GET_FOCUSED_ID), "open-button")
+    eventually(browser, "Enter opens the File menu", IS_MENU_EXPANDED, "true")
+    verdict("the first item of the menu has the focus", browser.script(GET_FOCUSED_ID), "open-button")
     get_roles = "return [...document.querySelectorAll('#menu button')].map((node) => node.getAttribute('role')).join(' ')"
     verdict("the roles of the menu's items", set(browser.script(get_roles).split()), {"menuitem"})
     browser.keys([UP])
-    verdict("the arrow wraps around in the menu", browser.script(GET_FOCUSED_ID), "projects-button")
+    verdict("the Up arrow wraps around to the last item of the menu", browser.script(GET_FOCUSED_ID), "projects-button")
     browser.keys([ESCAPE])
-    eventually(browser, "Escape closes it", IS_MENU_EXPANDED, "false")
-    verdict("the focus after the menu is closed", browser.script(GET_FOCUSED_ID), "menu-button")
+    eventually(browser, "Escape closes the menu", IS_MENU_EXPANDED, "false")
+    verdict("the focused element after the menu was closed", browser.script(GET_FOCUSED_ID), "menu-button")
     browser.script("document.activeElement.blur()")
     browser.click("#theme-button")
     get_checked = "return [...document.querySelectorAll('#theme-menu button')].map((node) => node.getAttribute('aria-checked'))"
-    eventually(browser, "the menu of themes marks the selected theme", get_checked, ["true", "false", "false"])
+    eventually(browser, "the theme menu marks the selected theme", get_checked, ["true", "false", "false"])
     browser.click("#front h2")
-    verdict("a click beside a menu closes it", browser.script("return document.getElementById('theme-menu').hidden"), True)
+    verdict("a click outside closes the theme menu", browser.script("return document.getElementById('theme-menu').hidden"), True)
     browser.click("#front h2")
 
 
 def check_accessibility(browser):
-    """Checks the names, roles and contrast of the palette, a menu and the welcome cards, in light and dark."""
+    """Checks that the palette, a menu and the welcome cards have names and enough contrast in both colour schemes."""
     browser.command("Accessibility.enable")
     open_palette(browser)
     check_view(browser, "the palette")
@@ -313,8 +319,8 @@ COUNT_LAMPS_ON = "return document.querySelectorAll('.bulb.lit').length"
 
 
 def check_first_visit(browser, page):
-    """Checks that a browser without stored data shows six cards, that the first card's tour turns a lamp on with three clicks, and that the cards do
-    not appear again."""
+    """Checks that there are six welcome cards, that the first card's tour turns a lamp on with three clicks, and that the cards do not appear at the
+    next visit. Returns early in a browser that cannot list its databases."""
     browser.script("localStorage.clear()")
     browser.go("about:blank")
     browser.go(page.as_uri())
@@ -323,13 +329,13 @@ def check_first_visit(browser, page):
         return
     is_welcome_open = "return document.getElementById('welcome').open"
     if not browser.script(is_welcome_open):
-        # Earlier checks have stored sessions, so a command must show the cards.
+        # If earlier checks have stored sessions, the page shows the cards only on command.
         execute_command(browser, "first steps")
     cards = browser.script(GET_WELCOME_CARDS)
-    verdict("six cards", len(cards), 6)
-    verdict("the first card", cards[0], "Light a lamp (3 clicks)")
+    verdict("the number of welcome cards", len(cards), 6)
+    verdict("the first welcome card", cards[0], "Light a lamp (3 clicks)")
     browser.click("#welcome li:nth-child(1) button")
-    eventually(browser, "the tour of the first program begins", "return document.getElementById('tour').hidden", False)
+    eventually(browser, "the tour of the first program is open", "return document.getElementById('tour').hidden", False)
     eventually(browser, "the tour points at the button that inserts its program", DESCRIBE_TOUR_RING, "tour-put")
     browser.click("#tour-put")
     eventually(browser, "the tour points at the button that assembles", DESCRIBE_TOUR_RING, "send")
@@ -339,16 +345,17 @@ def check_first_visit(browser, page):
     for number in range(4):
         browser.script("document.getElementById('tour-next').click()")
     browser.click("#tour-put")
-    eventually(browser, "the target of the tour scrolls into view", MEASURE_RAM_IN_RING, True)
+    eventually(browser, "the tour scrolls its target into view", IS_RAM_CELL_IN_RING, True)
     browser.click("#tour-close")
-    eventually(browser, "no ring without the tour", "return document.getElementById('tour-ring').hidden", True)
+    eventually(browser, "the ring disappears with the tour", "return document.getElementById('tour-ring').hidden", True)
     browser.go("about:blank")
     browser.go(page.as_uri())
     until_ready(browser)
-    verdict("the cards were seen", browser.script(is_welcome_open), False)
+    verdict("the welcome cards do not appear again", browser.script(is_welcome_open), False)
 
 
-# Describes the element that the tour's ring surrounds.
+# Returns the id of the button in the middle of the tour's ring, or the button's class if it has no id. Returns "" if the ring is hidden or surrounds
+# no button.
 DESCRIBE_TOUR_RING = """
 const ring = document.getElementById('tour-ring');
 if (ring.hidden) return '';
@@ -356,7 +363,8 @@ const box = ring.getBoundingClientRect();
 const within = document.elementFromPoint(box.left + box.width / 2, box.top + box.height / 2);
 const button = within && within.closest('button');
 return button ? button.id || button.className : ''"""
-MEASURE_RAM_IN_RING = """
+# Returns whether the tour's ring surrounds the first RAM cell, and this cell is in view.
+IS_RAM_CELL_IN_RING = """
 const ring = document.getElementById('tour-ring').getBoundingClientRect();
 const cell = document.querySelector('#banks .ram button').getBoundingClientRect();
 return Math.abs(ring.left + 4 - cell.left) < 2 && Math.abs(ring.top + 4 - cell.top) < 2 && cell.bottom <= innerHeight && cell.top >= 0"""
@@ -366,23 +374,25 @@ COUNT_EXAMPLES_WITHOUT_NOTE = "return [...document.querySelectorAll('#examples l
 IS_EMPTY_NOTE_SHOWN = "return isShown(document.querySelector('#watched-list + .empty'))"
 
 
-def check_empty(browser):
-    """Checks that an empty panel has a button that adds to it, and that the button disappears when the panel has contents."""
+def check_empty_panels(browser):
+    """Checks that each empty panel has exactly one button. In the watch panel, the button must move the focus to the field, and the note must
+    disappear when the panel has a value."""
     choose_example(browser, "three lamps")
-    eventually(browser, "an empty watch explains itself", IS_EMPTY_NOTE_SHOWN, True)
+    eventually(browser, "an empty watch panel shows its note", IS_EMPTY_NOTE_SHOWN, True)
     browser.click("#watched-list + .empty button")
-    eventually(browser, "the button of an empty watch moves the focus to the field", GET_FOCUSED_ID, "watched-field")
+    eventually(browser, "the button of the empty watch panel moves the focus to the field", GET_FOCUSED_ID, "watched-field")
     browser.type_into("#watched-field", "R5" + ENTER)
-    eventually(browser, "the button's text in the field", IS_EMPTY_NOTE_SHOWN, False)
+    eventually(browser, "the note disappears when the panel has a value", IS_EMPTY_NOTE_SHOWN, False)
     count_other_panels = "return [...document.querySelectorAll('.empty')].filter((node) => node.querySelectorAll('button').length !== 1).length"
-    verdict("each empty panel offers one action", browser.script(count_other_panels), 0)
+    verdict("the number of empty panels without exactly one button", browser.script(count_other_panels), 0)
 
 
 def check_examples(browser):
+    """Checks that every example in the list has a note, and that "three lamps" is the first example."""
     browser.click("#sessions-button")
-    eventually(browser, "each example says what to do with it", COUNT_EXAMPLES_WITHOUT_NOTE, 0)
+    eventually(browser, "the number of examples without a note", COUNT_EXAMPLES_WITHOUT_NOTE, 0)
     get_first_label = "return document.querySelector('#examples li:nth-child(2) button').getAttribute('aria-label')"
-    verdict("the short ones stand first", browser.script(get_first_label), "new session: three lamps")
+    verdict("the first example in the list", browser.script(get_first_label), "new session: three lamps")
     browser.click("#close-sessions")
 
 
@@ -390,14 +400,14 @@ def check(browser, page, _folder, _mcs4):
     reopen_page(browser, page)
     check_palette_contents(browser)
     check_listbox(browser)
-    check_disabled(browser)
+    check_unavailable_command(browser)
     check_keys(browser)
-    check_places(browser)
+    check_place_palette(browser)
     check_command_effects(browser)
     check_toolbar(browser)
     check_tooltips(browser)
     check_examples(browser)
-    check_empty(browser)
+    check_empty_panels(browser)
     if isinstance(browser, Chromium):
         check_theme(browser)
         check_accessibility(browser)

@@ -1,7 +1,7 @@
-"""The debugger on the page: breakpoints that stay at their lines while the source is edited, conditions, hit counts, log messages, saving, and
-the speed.
+"""The part of checks/page about the debugger: breakpoints that stay at their lines while the source is edited, conditions, hit counts, log messages,
+and going back. Also about the form and the menu for editing a breakpoint, and about saving.
 
-An earlier version of the page moved breakpoints of the program below away from their lines. The addresses in this check were counted manually.
+An earlier version of the page moved breakpoints of PROGRAM away from their lines. The addresses in this check were counted manually.
 """
 
 import re
@@ -33,7 +33,7 @@ JUN_LINE, WMP_LINE, INC_LINE = (LINES.index(next(line for line in LINES if text 
 
 SET_PROGRAM = """
 document.querySelector("#program-editor .cm-editor").lineEditor.setValue(arguments[0])"""
-# Inserts a line before another line, like an edit from the keyboard.
+# Inserts a line before the line with this number, like an edit of the user. The arguments are the number, from 1, and the text.
 INSERT_LINE = """
 const editor = document.querySelector("#program-editor .cm-editor").lineEditor;
 editor.replaceRange(`        ${arguments[1]}\\n`, { line: arguments[0] - 1, ch: 0 }, undefined, "paste")"""
@@ -48,17 +48,18 @@ GET_BREAKPOINT_DETAILS = 'return [...document.querySelectorAll("#breakpoint-list
 GET_LINES_IN_MARGIN = """
 return document.querySelector("#program-editor .cm-editor").lineEditor.marksIn("breakpoints").map((line) => line + 1).join(" ")"""
 UNDO_EDIT = "document.querySelector('#program-editor .cm-editor').lineEditor.undo()"
-# The form below a line that edits its breakpoint: its error and its contents.
+# The form below a source line edits the line's breakpoint. GET_ROW_ERROR returns the error in the form, and GET_ROW_VALUES returns the values of its
+# fields.
 GET_ROW_ERROR = "const shown = document.querySelector('.breakpoint-row .fault'); return shown ? shown.textContent : 'no row'"
 GET_ROW_VALUES = "return [...document.querySelectorAll('.breakpoint-row input')].map((node) => node.value).join('; ')"
-# Fills in the condition, hit count or log message of the first breakpoint in the list.
+# Sets the condition, hit count or log message of the first breakpoint in the list, through its form.
 FILL_ROW = """
 document.querySelector("#breakpoint-list .edit").click();
 const row = document.querySelector(".breakpoint-row");
 row.querySelectorAll("input")[arguments[0]].value = arguments[1];
 row.requestSubmit()"""
 CONDITION, HIT_COUNT, LOG_MESSAGE = range(3)
-# Changes the condition of the first breakpoint to each argument and starts time, without letting the page run in between.
+# Sets the condition of the first breakpoint to each argument in turn, and then starts time, without letting the page run in between.
 CHANGE_AND_RUN = """
 for (const words of arguments) {
   document.querySelector("#breakpoint-list .edit").click();
@@ -66,14 +67,14 @@ for (const words of arguments) {
   document.querySelector(".breakpoint-row").requestSubmit();
 }
 document.getElementById("run").click()"""
-# Presses Shift+F9 at a source line.
+# Presses Shift+F9 at a source line (counted from 0), which opens the form with the condition of the line's breakpoint.
 OPEN_CONDITION_ROW = """
 const editor = document.querySelector("#program-editor .cm-editor").lineEditor;
 editor.setCursor({ line: arguments[0], ch: 0 });
 editor.getInputField().dispatchEvent(new KeyboardEvent("keydown", { key: "F9", keyCode: 120, shiftKey: true, bubbles: true }))"""
 GET_LINE_ABOVE_FOCUSED_ROW = "const row = document.activeElement.closest('.breakpoint-row'); return row ? row.previousElementSibling.textContent : ''"
 ROW_LINE = re.compile("INC R9")
-# The line above the breakpoint form.
+# Returns the text of the line above the breakpoint form, or "" if there is no form.
 GET_LINE_ABOVE_ROW = "const row = document.querySelector('.breakpoint-row'); return row ? row.previousElementSibling.textContent : ''"
 IS_FOCUS_IN_SOURCE = "return document.activeElement.closest('#program-editor .cm-content') !== null"
 GET_FOCUSED_TEXT = "return document.activeElement.textContent"
@@ -89,7 +90,7 @@ SEND_BUTTON = "#program-editor .send"
 
 
 def load_program(browser):
-    """Loads the program on the first board and pauses time."""
+    """Loads the program in a new session with the board that an empty bench offers, and pauses time."""
     choose_example(browser, "empty bench")
     browser.click("#first-board")
     browser.until("return document.querySelectorAll('#keys button').length", 2)
@@ -103,53 +104,54 @@ def load_program(browser):
 def check_moves_with_line(browser):
     """Checks that a breakpoint stays at its line when one or two bytes are inserted before it, and that a run stops there after each assembly."""
     browser.script(CLICK_MARGIN, JUN_LINE)
-    eventually(browser, "a breakpoint in the margin", GET_BREAKPOINT_LINES, str(JUN_LINE))
+    eventually(browser, "a click in the margin sets a breakpoint", GET_BREAKPOINT_LINES, str(JUN_LINE))
     browser.script(INSERT_LINE, 2, "NOP")
     eventually(browser, "the breakpoint moves with its line", GET_BREAKPOINT_LINES, str(JUN_LINE + 1))
     browser.click(SEND_BUTTON)
-    eventually(browser, "assembled again it stops there, reported by name and line", GET_WHOLE_STATUS,
+    eventually(browser, "after assembly the program stops at the breakpoint, which the status names by label and line", GET_WHOLE_STATUS,
                f"Paused at 010 (loop + 7, line {JUN_LINE + 1}), at a breakpoint.")
-    verdict("the breakpoint keeps its address", send_lines(browser, "breaks"), re.compile("breaks 010$"))
+    verdict("the address of the breakpoint", send_lines(browser, "breaks"), re.compile("breaks 010$"))
     browser.script(CLICK_MARGIN, WMP_LINE + 1)
     browser.script(CLICK_MARGIN, JUN_LINE + 1)
-    eventually(browser, "a breakpoint at WMP instead", GET_BREAKPOINT_LINES, str(WMP_LINE + 1))
+    eventually(browser, "the breakpoint was moved to WMP", GET_BREAKPOINT_LINES, str(WMP_LINE + 1))
     browser.script(INSERT_LINE, 3, "FIM P2, 0")
     browser.click(SEND_BUTTON)
-    eventually(browser, "two bytes more before it: it stays at WMP", GET_WHOLE_STATUS, f"Paused at 00F (loop + 4, line {WMP_LINE + 2}), at a breakpoint.")
-    verdict("the list has it by name and line", browser.script(GET_BREAKPOINTS), f"\u25cf 00F (loop + 4, line {WMP_LINE + 2})")
+    eventually(browser, "the breakpoint stays at WMP after two more bytes before it", GET_WHOLE_STATUS, f"Paused at 00F (loop + 4, line {WMP_LINE + 2}), at a breakpoint.")
+    verdict("the list shows the breakpoint by label and line", browser.script(GET_BREAKPOINTS), f"\u25cf 00F (loop + 4, line {WMP_LINE + 2})")
     browser.script(INSERT_LINE, 1, "")
-    eventually(browser, "while the source differs from ROM its mark stays", GET_BREAKPOINT_LINES, str(WMP_LINE + 3))
+    eventually(browser, "the breakpoint keeps its line while the source differs from ROM", GET_BREAKPOINT_LINES, str(WMP_LINE + 3))
     browser.script(UNDO_EDIT)
-    eventually(browser, "the breakpoint after Undo", GET_BREAKPOINT_LINES, str(WMP_LINE + 2))
+    eventually(browser, "the line of the breakpoint after Undo", GET_BREAKPOINT_LINES, str(WMP_LINE + 2))
 
 
-def check_no_instruction(browser):
+def check_moves_to_instruction(browser):
     """Checks that a breakpoint at a line without bytes, or inside an instruction, moves to the next instruction, and that a message says so."""
     load_program(browser)
     browser.script(INSERT_LINE, JUN_LINE, "; what comes next")
     browser.click(SEND_BUTTON)
     browser.until(GET_STATUS, re.compile("^Running"))
     browser.script(CLICK_MARGIN, JUN_LINE)
-    eventually(browser, "a line without bytes", GET_POPUP,
+    eventually(browser, "the message about a breakpoint at a line without bytes", GET_POPUP,
                f"Line {JUN_LINE} puts no bytes into ROM: its breakpoint is at the next instruction, line {JUN_LINE + 1}.")
     eventually(browser, "the breakpoint of a line without bytes is at the next instruction", GET_BREAKPOINT_LINES, str(JUN_LINE + 1))
     eventually(browser, "the breakpoint stops the running program", GET_STATUS, "Paused at 00F, at a breakpoint.")
     browser.click("#breakpoint-list .bar button[title='removes it']")
     eventually(browser, "the breakpoint is removed in the list", GET_BREAKPOINT_LINES, "")
     send_lines(browser, "break 0x010")
-    eventually(browser, "one inside an instruction goes to the next one", GET_BREAKPOINT_LINES, str(JUN_LINE + 2))
-    verdict("a message says so", browser.script(GET_POPUP),
+    eventually(browser, "a breakpoint inside an instruction moves to the next instruction", GET_BREAKPOINT_LINES, str(JUN_LINE + 2))
+    verdict("the message about a breakpoint inside an instruction", browser.script(GET_POPUP),
             f"010 is inside the instruction of line {JUN_LINE + 1}: its breakpoint is at the next one, line {JUN_LINE + 2}.")
-    eventually(browser, "the breakpoint in the bench", "return [...document.querySelectorAll('#breakpoint-list .place')].map((node) => node.textContent).join()",
+    eventually(browser, "the breakpoint in the list", "return [...document.querySelectorAll('#breakpoint-list .place')].map((node) => node.textContent).join()",
                f"011 (wait, line {JUN_LINE + 2})")
 
 
-def check_condition(browser):
-    """Checks a condition, a hit count, a log message, a breakpoint with an error, and a disabled breakpoint."""
+def check_conditions_and_counts(browser):
+    """Checks that a breakpoint stops if its condition is true or its hit count is reached, and that one with a log message logs and continues. A
+    breakpoint with an error must always stop, and a disabled breakpoint must stay in the list."""
     load_program(browser)
     browser.script(OPEN_CONDITION_ROW, INC_LINE - 1)
-    eventually(browser, "Shift and F9 sets one, and the caret is in its condition, below the line", GET_LINE_ABOVE_FOCUSED_ROW, ROW_LINE)
-    verdict("the condition's row is at its line", browser.script(GET_BREAKPOINT_LINES), str(INC_LINE))
+    eventually(browser, "Shift+F9 sets a breakpoint, and its condition has the caret, below the line", GET_LINE_ABOVE_FOCUSED_ROW, ROW_LINE)
+    verdict("the line of the breakpoint with the condition", browser.script(GET_BREAKPOINT_LINES), str(INC_LINE))
     browser.keys([*"r9 = 9", ENTER])
     eventually(browser, "a breakpoint with a condition has its own mark", GET_BREAKPOINTS, re.compile("^\u25c6 "))
     browser.click("#run")
@@ -167,20 +169,20 @@ def check_condition(browser):
     browser.script(FILL_ROW, CONDITION, "R9 == 3 || (r9 >= 0xF && lamp 1 on)")
     eventually(browser, "a corrected condition works", GET_BREAKPOINT_ERRORS, "")
     browser.script(FILL_ROW, CONDITION, "rom3 in 1")
-    eventually(browser, "a condition about a part that the board lacks", GET_BREAKPOINT_ERRORS,
+    eventually(browser, "the error in a condition about a part that the board lacks", GET_BREAKPOINT_ERRORS,
                "It stops every time, because of an error: the board has no ROM 3 (column 1).")
     browser.script(CHANGE_AND_RUN, "r9 = 7", "", "r9 = 5")
-    eventually(browser, "a run immediately after a change uses the new condition", GET_STATUS, "Paused at 011, at a breakpoint, when r9 = 5.")
+    eventually(browser, "a run immediately after changes of the condition uses the last one", GET_STATUS, "Paused at 011, at a breakpoint, when r9 = 5.")
     browser.script(FILL_ROW, CONDITION, "")
-    eventually(browser, "a breakpoint without a condition again", GET_BREAKPOINTS, re.compile("^\u25cf "))
+    eventually(browser, "the breakpoint has no condition again", GET_BREAKPOINTS, re.compile("^\u25cf "))
     browser.click("#breakpoints-hits")
     browser.script(FILL_ROW, HIT_COUNT, "50")
     browser.click("#reset")
     browser.until(GET_STATUS, re.compile("^The board was reset"))
     browser.click("#run")
-    eventually(browser, "a hit count of 50", GET_HITS, "50 hits")
+    eventually(browser, "the hit count in the list", GET_HITS, "50 hits")
     eventually(browser, "the program stops at the hit count", GET_STATUS, "Paused at 011, at a breakpoint, at hit 50.")
-    verdict("R9 was counted on 49 times", send_lines(browser, "regs"), re.compile(" r .{9}1.{6} "))
+    verdict("R9 at the hit count", send_lines(browser, "regs"), re.compile(" r .{9}1.{6} "))
     browser.script(FILL_ROW, HIT_COUNT, "")
     browser.script(FILL_ROW, LOG_MESSAGE, "R9 is {r9}, {lamps}")
     eventually(browser, "a breakpoint with a log message has its own mark", GET_BREAKPOINTS, re.compile("^\u25b8 "))
@@ -188,7 +190,7 @@ def check_condition(browser):
     browser.until(GET_STATUS, re.compile("^The board was reset"))
     browser.click("#run")
     eventually(browser, "the message is logged instead of a stop", GET_NOTES, re.compile(r"^011 \(wait, line \d+\) R9 is [0-9A-F], [*.]{4}; "))
-    verdict("time is running", browser.script(GET_RUN_LABEL), "Pause")
+    verdict("the program still runs after the log message", browser.script(GET_RUN_LABEL), "Pause")
     browser.click("#breakpoints-off")
     eventually(browser, "a disabled breakpoint is kept", GET_BREAKPOINTS, re.compile("^\u25cb "))
     browser.click("#run")
@@ -199,20 +201,20 @@ def check_console_run(browser):
     """Checks that a `run` typed at the console also stops at a breakpoint, with a message."""
     browser.script(FILL_ROW, CONDITION, "r9 = 9")
     send_lines(browser, "reset")
-    verdict("a run by a line stops when the condition is true", send_lines(browser, "run 100000"), re.compile(r"run (\d+)ok \d+ ran \1 end$"))
-    eventually(browser, "the status after the run", GET_WHOLE_STATUS,
+    verdict("a `run` line stops when the condition is true", send_lines(browser, "run 100000"), re.compile(r"run (\d+)ok \d+ ran \1 end$"))
+    eventually(browser, "the status after the `run` line", GET_WHOLE_STATUS,
                "Paused at 011 (wait, line 14), at a breakpoint, when r9 = 9. The line run 100000 ended there.")
-    verdict("the bench's counter after the run", send_lines(browser, "regs"), re.compile(" r .{9}9.{6} "))
+    verdict("R9 after the `run` line", send_lines(browser, "regs"), re.compile(" r .{9}9.{6} "))
 
 
 def check_going_back(browser):
-    """Checks that going back leads to the last arrival at which a condition was true, or to the start of the history if there is none. The result
-    must not depend on the lengths of the runs."""
-    # Runs past the next arrival at which the condition is true. That takes 16 increments of R9, one every 11 cycles.
+    """Checks that going back leads to the last arrival at which a condition was true, or to the start of the history if there is no such arrival.
+    The result must not depend on the lengths of the runs."""
+    # Run past the next arrival at which the condition is true. R9 is 9 again after 16 increments, one every 11 cycles.
     for cycles in (150, 26, 77):
         send_lines(browser, f"run {cycles}")
     browser.click("#back-breakpoint")
-    eventually(browser, "back to the arrival at which the condition is true", GET_STATUS,
+    eventually(browser, "the status after going back to the arrival at which the condition was true", GET_STATUS,
                re.compile(r"^Back at 011, 77 cycles, .* earlier, at a breakpoint, when r9 = 9\.$"))
     verdict("R9 after going back", send_lines(browser, "regs"), re.compile(" r .{9}9.{6} "))
     browser.click("#forward")
@@ -220,35 +222,35 @@ def check_going_back(browser):
     browser.click("#back-breakpoint")
     browser.until(GET_STATUS, re.compile("at a breakpoint, when r9 = 9"))
     browser.click("#back-breakpoint")
-    eventually(browser, "back to the previous arrival", GET_STATUS, re.compile("^Back at 011, 176 cycles, "))
+    eventually(browser, "the status after going back to the previous arrival", GET_STATUS, re.compile("^Back at 011, 176 cycles, "))
     browser.script(FILL_ROW, CONDITION, "r9 = 9 and r9 = 8")
     browser.click("#back-breakpoint")
-    eventually(browser, "no arrival if the condition is never true", GET_STATUS,
+    eventually(browser, "the status after going back if the condition is never true", GET_STATUS,
                re.compile("^Back at ..., .* at the beginning of the remembered past: no breakpoint was passed since then"))
     browser.click("#forward")
-    eventually(browser, "forward again to the arrival", GET_STATUS, re.compile("^Forward again to 011"))
+    eventually(browser, "the status after going forward", GET_STATUS, re.compile("^Forward again to 011"))
 
 
 def check_reload(browser):
-    """Checks that a reload keeps all breakpoints with their details."""
+    """Checks that a reload keeps all breakpoints with their details, and a condition that was typed but not applied."""
     list_before = browser.script(GET_BREAKPOINTS)
     browser.script(FILL_ROW, CONDITION, "at wait")
     time.sleep(0.3)
     browser.reload()
     until_ready(browser)
-    eventually(browser, "a reload keeps the list", GET_BREAKPOINTS, list_before)
+    eventually(browser, "a reload keeps the list of breakpoints", GET_BREAKPOINTS, list_before)
     verdict("the conditions after a reload", browser.script(GET_BREAKPOINT_DETAILS), 'if at wait: logs "R9 is {r9}, {lamps}" and continues')
     browser.click("#breakpoint-list .edit")
     browser.keys([*"r9 ="])
     browser.until(GET_ROW_VALUES, "r9 =; ; R9 is {r9}, {lamps}")
     browser.reload()
     until_ready(browser)
-    eventually(browser, "a typed condition that was not applied", GET_BREAKPOINT_DETAILS, re.compile('^if r9 =: logs "R9 is'))
+    eventually(browser, "a reload keeps a condition that was typed but not applied", GET_BREAKPOINT_DETAILS, re.compile('^if r9 =: logs "R9 is'))
     browser.click("#breakpoints-remove")
     eventually(browser, "all breakpoints are removed", GET_BREAKPOINT_LINES, "")
 
 
-def check_replaced(browser, folder):
+def check_replaced_source(browser, folder):
     """Checks that restoring a replaced source also restores its breakpoints with their details, through the notice and through Ctrl+Z."""
     load_program(browser)
     browser.script(OPEN_CONDITION_ROW, INC_LINE - 1)
@@ -261,12 +263,12 @@ def check_replaced(browser, folder):
     for length, text in (("short", "; a\n NOP\n"), ("long", "; a\n" + " NOP\n" * 40)):
         other = folder / f"{length}.asm"
         other.write_text(text)
-        for action, undo in (("Undo", lambda: browser.click(UNDO_BUTTON)), ("Control and Z", lambda: browser.script(UNDO_EDIT))):
+        for action, undo in (("Undo", lambda: browser.click(UNDO_BUTTON)), ("Ctrl+Z", lambda: browser.script(UNDO_EDIT))):
             browser.type_into("#file", str(other))
             browser.until(GET_NOTICE, re.compile(f"{length}.asm"))
-            eventually(browser, f"a {length} source has none of the breakpoints of the one before it", GET_LINES_IN_MARGIN, "")
+            eventually(browser, f"a {length} source has none of the breakpoints of the source before it", GET_LINES_IN_MARGIN, "")
             undo()
-            eventually(browser, f"{action} brings back the lines of the breakpoints", GET_LINES_IN_MARGIN, both_lines)
+            eventually(browser, f"{action} restores the lines of the breakpoints", GET_LINES_IN_MARGIN, both_lines)
             eventually(browser, "the list after an undo", GET_BREAKPOINTS, list_before[0])
             verdict("the conditions after an undo", browser.script(GET_BREAKPOINT_DETAILS), list_before[1])
     browser.script("for (const each of document.querySelectorAll('#notice .dismiss')) each.click()")
@@ -279,10 +281,10 @@ def check_replaced(browser, folder):
     time.sleep(1)
     browser.reload()
     until_ready(browser)
-    eventually(browser, "a reload keeps it", GET_BREAKPOINT_DETAILS, "if r9 = 9")
+    eventually(browser, "a reload keeps the breakpoint", GET_BREAKPOINT_DETAILS, "if r9 = 9")
 
 
-def check_row(browser):
+def check_breakpoint_form(browser):
     """Checks that a breakpoint's details are edited below its line. Enter applies them, Escape cancels, and an error stays at its field."""
     load_program(browser)
     browser.script(OPEN_CONDITION_ROW, INC_LINE - 1)
@@ -290,65 +292,66 @@ def check_row(browser):
     browser.keys([*"r44 = 9", ENTER])
     eventually(browser, "an error in a condition is shown in the row", GET_ROW_ERROR,
                "It stops every time, because of an error: r44: no such place; the registers are r0 to r15 (column 1).")
-    verdict("the caret stays in the row", browser.script(GET_LINE_ABOVE_FOCUSED_ROW), ROW_LINE)
+    verdict("the form keeps the focus after an error", browser.script(GET_LINE_ABOVE_FOCUSED_ROW), ROW_LINE)
     browser.keys([*[BACKSPACE] * 7, *"r9 = 9", TAB, *"0", ENTER])
-    eventually(browser, "an invalid count is marked", "return document.activeElement.getAttribute('aria-invalid')", "true")
+    eventually(browser, "an invalid hit count is marked", "return document.activeElement.getAttribute('aria-invalid')", "true")
     verdict("nothing is applied after an error", browser.script(GET_BREAKPOINT_DETAILS), "if r44 = 9")
     browser.keys([BACKSPACE, "2", ENTER])
     eventually(browser, "Enter applies the typed values", GET_BREAKPOINT_DETAILS, "if r9 = 9 from hit 2 on")
-    verdict("the row closes", browser.script(GET_ROW_VALUES), "")
-    verdict("the text has the focus again", browser.script(IS_FOCUS_IN_SOURCE), True)
+    verdict("the form closes", browser.script(GET_ROW_VALUES), "")
+    verdict("the source has the focus again", browser.script(IS_FOCUS_IN_SOURCE), True)
     browser.press_chord(SHIFT, F9)
-    eventually(browser, "the caret is in the same line", GET_ROW_VALUES, "r9 = 9; 2; ")
+    eventually(browser, "Shift+F9 opens the form again", GET_ROW_VALUES, "r9 = 9; 2; ")
     browser.keys([*"at loop", TAB, TAB, *"seen"])
-    verdict("a field that is left counts for itself not yet", browser.script(GET_BREAKPOINT_DETAILS), "if r9 = 9 from hit 2 on")
+    verdict("a field that lost the focus is not applied yet", browser.script(GET_BREAKPOINT_DETAILS), "if r9 = 9 from hit 2 on")
     browser.keys([F10, F10])
-    eventually(browser, "steps leave the caret where it is", GET_ROW_VALUES, "at loop; 2; seen")
-    verdict("the focus is in the row", browser.script(GET_LINE_ABOVE_FOCUSED_ROW), ROW_LINE)
+    eventually(browser, "steps keep the form open with its values", GET_ROW_VALUES, "at loop; 2; seen")
+    verdict("the form keeps the focus", browser.script(GET_LINE_ABOVE_FOCUSED_ROW), ROW_LINE)
     browser.keys([ESCAPE])
-    eventually(browser, "Escape leaves it", GET_ROW_VALUES, "")
+    eventually(browser, "Escape closes the form", GET_ROW_VALUES, "")
     verdict("Escape restores the condition", browser.script(GET_BREAKPOINT_DETAILS), "if r9 = 9 from hit 2 on")
     browser.script(OPEN_CONDITION_ROW, INC_LINE - 1)
     browser.until(GET_LINE_ABOVE_FOCUSED_ROW, ROW_LINE)
     browser.keys([*"at wait"])
     browser.click("#step")
-    eventually(browser, "what is typed counts where the row is left otherwise", GET_BREAKPOINT_DETAILS, "if at wait from hit 2 on")
+    eventually(browser, "a click outside the form applies it", GET_BREAKPOINT_DETAILS, "if at wait from hit 2 on")
     browser.script("document.querySelector('#program-editor .cm-editor').lineEditor.replaceRange('\\n NOP', { line: arguments[0], ch: Infinity })", INC_LINE - 1)
-    eventually(browser, "a line that begins at its end goes below the row", GET_LINE_ABOVE_ROW, ROW_LINE)
+    eventually(browser, "a line inserted after the breakpoint's line is below the form", GET_LINE_ABOVE_ROW, ROW_LINE)
     browser.script(INSERT_LINE, 1, "NOP")
-    eventually(browser, "and it goes with its line", GET_LINE_ABOVE_ROW, ROW_LINE)
+    eventually(browser, "the form moves with its line", GET_LINE_ABOVE_ROW, ROW_LINE)
     browser.script("document.querySelector('#program-editor .cm-editor').lineEditor.replaceRange('', { line: arguments[0], ch: 0 }, { line: arguments[0] + 1, ch: 0 })", INC_LINE)
-    eventually(browser, "with its line it goes for good", GET_LINE_ABOVE_ROW, "")
+    eventually(browser, "the form disappears with its line", GET_LINE_ABOVE_ROW, "")
 
 
 def check_menu(browser):
-    """Checks the margin menu of a line, and that a breakpoint without a line is edited in the list."""
+    """Checks that the menu of a line's margin adds a log message and disables a breakpoint. A breakpoint without a line must be edited in the
+    list."""
     load_program(browser)
     browser.script(OPEN_MARGIN_MENU, INC_LINE)
-    eventually(browser, "the menu of the margin has the keyboard", GET_FOCUSED_TEXT, "Add breakpointF9")
+    eventually(browser, "the margin menu has the focus", GET_FOCUSED_TEXT, "Add breakpointF9")
     browser.keys([DOWN, DOWN, DOWN, ENTER])
-    eventually(browser, "Log message sets a breakpoint and edits it", GET_LINE_ABOVE_FOCUSED_ROW, ROW_LINE)
+    eventually(browser, "Log message sets a breakpoint and opens its form", GET_LINE_ABOVE_FOCUSED_ROW, ROW_LINE)
     browser.keys([*"R9 is {r9}", ENTER])
-    eventually(browser, "the log message is logged", GET_BREAKPOINT_DETAILS, 'logs "R9 is {r9}" and continues')
+    eventually(browser, "the breakpoint has the log message", GET_BREAKPOINT_DETAILS, 'logs "R9 is {r9}" and continues')
     browser.script(OPEN_MARGIN_MENU, INC_LINE)
     browser.until(GET_FOCUSED_TEXT, "Remove breakpointF9")
     browser.keys([UP, UP, ENTER])
-    eventually(browser, "Disable breakpoint keeps it", GET_BREAKPOINTS, re.compile("^\u25cb "))
-    verdict("the menu is closed", browser.script("return document.getElementById('margin-menu').hidden"), True)
+    eventually(browser, "Disable breakpoint keeps the breakpoint", GET_BREAKPOINTS, re.compile("^\u25cb "))
+    verdict("the margin menu is closed", browser.script("return document.getElementById('margin-menu').hidden"), True)
     browser.script(OPEN_MARGIN_MENU, INC_LINE)
     browser.until(GET_FOCUSED_TEXT, "Remove breakpointF9")
     browser.keys([ESCAPE])
-    eventually(browser, "Escape leaves the menu, and the keyboard is the text's", IS_FOCUS_IN_SOURCE, True)
+    eventually(browser, "Escape closes the margin menu, and the source has the focus", IS_FOCUS_IN_SOURCE, True)
     browser.click("#breakpoints-remove")
     send_lines(browser, "break 0x200")
     browser.until(GET_BREAKPOINTS, re.compile("200"))
     browser.click("#breakpoint-list .edit")
-    eventually(browser, "one without a line is edited in the list", "return document.activeElement.closest('#breakpoint-list .breakpoint-row') !== null", True)
+    eventually(browser, "the form of a breakpoint without a line is in the list", "return document.activeElement.closest('#breakpoint-list .breakpoint-row') !== null", True)
     browser.keys([*"r9 = 1", ENTER])
-    eventually(browser, "the edit in the list is applied", GET_BREAKPOINT_DETAILS, "if r9 = 1")
-    eventually(browser, "the focus is at the breakpoint's button", GET_FOCUSED_TEXT, "Edit")
+    eventually(browser, "the form in the list is applied", GET_BREAKPOINT_DETAILS, "if r9 = 1")
+    eventually(browser, "the breakpoint's Edit button has the focus", GET_FOCUSED_TEXT, "Edit")
     choose_example(browser, "three lamps")
-    eventually(browser, "another session has no row", GET_ROW_VALUES, "")
+    eventually(browser, "another session shows no form", GET_ROW_VALUES, "")
 
 
 def check(browser, page, folder, *_):
@@ -356,9 +359,9 @@ def check(browser, page, folder, *_):
     until_ready(browser)
     load_program(browser)
     check_moves_with_line(browser)
-    check_no_instruction(browser)
-    check_condition(browser)
+    check_moves_to_instruction(browser)
+    check_conditions_and_counts(browser)
     check_reload(browser)
-    check_row(browser)
+    check_breakpoint_form(browser)
     check_menu(browser)
-    check_replaced(browser, folder)
+    check_replaced_source(browser, folder)

@@ -9,18 +9,18 @@ from page_in_browser import (ENTER, ESCAPE, GET_NOTICE, GET_STATUS, GET_TEXT_OF_
 from verdicts import eventually, verdict
 
 CONTROL, SHIFT, DELETE, LEFT, UP, RIGHT, DOWN = "\ue009", "\ue008", "\ue017", "\ue012", "\ue013", "\ue014", "\ue015"
-BOARD = "#board-editor"
+BOARD_EDITOR = "#board-editor"
 GET_DRAWING_STATUS = "return document.getElementById('drawing-status').textContent"
-GET_STATE = "return document.getElementById('drawing-state').textContent"
+GET_DRAWING_STATE = "return document.getElementById('drawing-state').textContent"
 GET_BULBS = "return [...document.querySelectorAll('#front .bulb')].map((bulb) => (bulb.classList.contains('lit') ? '*' : '.')).join('')"
 COUNT_KEYS = "return document.querySelectorAll('#keys .key').length"
-COUNT_HIGH = "return document.querySelectorAll('#wiring-picture .high').length"
+COUNT_HIGH_LINES = "return document.querySelectorAll('#wiring-picture .high').length"
 # The label of the buzzer's sound button, or "" if there is none.
 GET_SOUND_LABEL = "return document.getElementById('sound').hidden ? '' : document.getElementById('sound-button').textContent"
 GET_FOCUSED_LABEL = "return document.activeElement.getAttribute('aria-label')"
 GET_TITLE = "return document.querySelector('#chosen > b').textContent"
-GET_OFFERED_ENDS = "return [...document.querySelectorAll('#wiring-picture .can-end')].map((node) => node.getAttribute('aria-label'))"
-INSERT = "Insert code that scans these keys"
+GET_OFFERED_PINS = "return [...document.querySelectorAll('#wiring-picture .can-end')].map((node) => node.getAttribute('aria-label'))"
+INSERT_SCAN_LABEL = "Insert code that scans these keys"
 GET_PIN_NUMBERS = "return [...document.querySelectorAll('#wiring-picture [aria-label^=\"ROM 0\"] .number')].map((node) => node.textContent).join(' ')"
 GET_SOURCE = "return document.querySelector('#program-editor .cm-editor').lineEditor.getValue()"
 GET_DISABLED_BUTTONS = "return [...document.querySelectorAll('#shelf button:disabled')].map((node) => `${node.textContent}: ${node.title}`)"
@@ -30,7 +30,7 @@ return [box.getAttribute("x"), box.getAttribute("y")].map(Number)"""
 GET_CENTRE = "const box = document.querySelector(arguments[0]).getBoundingClientRect(); return [box.x + box.width / 2, box.y + box.height / 2]"
 # The descriptions of the parts and wires in the picture.
 GET_WIRING_LINES = "return [...document.querySelectorAll('#wiring-words li')].map((node) => node.textContent).join(' ')"
-# A program whose lamps show which keys are down.
+# A program that shows on the lamps which keys are down.
 PROGRAM = """        FIM P0, 0x00    ; ROM 0 and RAM chip 0
         FIM P1, 0x10    ; ROM 1
         SRC P0
@@ -79,17 +79,18 @@ line = "ram0.0.3"
 """
 
 
-def pin(label):
-    """Returns the selector of the picture's pin whose label begins with a text."""
+def pin_selector(label):
+    """Returns the selector of the picture's pin whose label begins with `label`."""
     return f"#wiring-picture .at-pin[aria-label^='{label}']"
 
 
 def text_of(browser):
-    return browser.script(GET_TEXT_OF_EDITOR, BOARD)
+    """Returns the text in the board's editor."""
+    return browser.script(GET_TEXT_OF_EDITOR, BOARD_EDITOR)
 
 
 def drag(browser, from_selector, target, kind="mouse"):
-    """Drags from the centre of one element to the centre of another, or by a distance in pixels."""
+    """Drags from the centre of one element to the centre of another, or by a distance in pixels. `kind` is the kind of pointer: mouse or touch."""
     browser.scroll_to("#wiring-picture")
     time.sleep(browser.settle_seconds)
     start = browser.script(GET_CENTRE, from_selector)
@@ -100,191 +101,192 @@ def drag(browser, from_selector, target, kind="mouse"):
         first_move, {"type": "pointerDown", "button": 0}, *other_moves, {"type": "pointerUp", "button": 0}]})
 
 
-def press(browser, selector):
+def click_centre(browser, selector):
     """Clicks at the centre of an element. (A driver's click fails if another element covers the centre.)"""
     drag(browser, selector, (0, 0))
 
 
-def check_by_mouse(browser):
+def check_drawing_by_mouse(browser):
     """Checks that a user can draw a board on an empty bench, without writing TOML, and run a program on it."""
     choose_example(browser, "empty bench")
     browser.click("#first-drawing")
-    eventually(browser, "an empty bench leads to the shelf", "return isShown(document.getElementById('shelf'))", True)
-    eventually(browser, "and all of it is offered", GET_DISABLED_BUTTONS, [])
+    eventually(browser, "the button of an empty bench shows the shelf", "return isShown(document.getElementById('shelf'))", True)
+    eventually(browser, "all parts of the shelf are enabled", GET_DISABLED_BUTTONS, [])
     browser.click("#shelf-keys")
-    eventually(browser, "keys come with what they need", GET_DRAWING_STATUS, "The keys were added, with ROM 0, chain 0 and ROM 1.")
+    eventually(browser, "keys are added with the parts that they need", GET_DRAWING_STATUS, "The keys were added, with ROM 0, chain 0 and ROM 1.")
     for lamp in range(4):
         browser.click("#shelf-lamp")
-        eventually(browser, f"lamp {lamp} comes", GET_DRAWING_STATUS, re.compile(f"^Lamp {lamp} was added"))
-    verdict("the text is as one writes it", text_of(browser), DRAWN_BOARD)
-    verdict("a second matrix is not offered, and says why", browser.script(GET_DISABLED_BUTTONS),
+        eventually(browser, f"lamp {lamp} is added", GET_DRAWING_STATUS, re.compile(f"^Lamp {lamp} was added"))
+    verdict("the text of the drawn board", text_of(browser), DRAWN_BOARD)
+    verdict("the shelf disables a second key matrix, with the reason", browser.script(GET_DISABLED_BUTTONS),
             ["Keys: A board has one key matrix: give it more rows and columns."])
-    verdict("it is not wired yet, and says so", browser.script(GET_STATE), re.compile("^Not applied yet"))
+    verdict("the picture reports that the board is not applied yet", browser.script(GET_DRAWING_STATE), re.compile("^Not applied yet"))
     browser.type_into("#chosen [aria-label=name]", "fourth one" + ENTER)
-    eventually(browser, "a lamp is named", GET_DRAWING_STATUS, "Lamp 3 is called fourth one.")
+    eventually(browser, "the lamp has a new name", GET_DRAWING_STATUS, "Lamp 3 is called fourth one.")
     browser.type_into("#chosen [aria-label=colour]", "green")
-    eventually(browser, "and coloured", GET_DRAWING_STATUS, "Lamp 3 is green.")
-    verdict("as in the front panel", text_of(browser).split("\n")[:3], ["# lamp 3: fourth_one", "# colour 3: green", ""])
+    eventually(browser, "the lamp has a colour", GET_DRAWING_STATUS, "Lamp 3 is green.")
+    verdict("the comments of the front panel have the name and the colour", text_of(browser).split("\n")[:3], ["# lamp 3: fourth_one", "# colour 3: green", ""])
     browser.click("#drawing-wire")
-    eventually(browser, "it is wired", GET_DRAWING_STATUS, "Board applied.")
-    eventually(browser, "four keys", COUNT_KEYS, 4)
-    eventually(browser, "and four lamps", GET_BULBS, "....")
-    verdict("which is said no more", browser.script(GET_STATE), "")
+    eventually(browser, "the drawn board is applied", GET_DRAWING_STATUS, "Board applied.")
+    eventually(browser, "the number of keys", COUNT_KEYS, 4)
+    eventually(browser, "the lamps of the applied board", GET_BULBS, "....")
+    verdict("the note that the board is not applied is gone", browser.script(GET_DRAWING_STATE), "")
     show_text(browser, "program")
     browser.script(PUT_INTO_EDITOR, "#program-editor", PROGRAM)
     browser.click("#program-editor .send")
-    eventually(browser, "the program runs", GET_STATUS, re.compile("^Running"))
+    eventually(browser, "the program is running", GET_STATUS, re.compile("^Running"))
     time.sleep(0.3)
     browser.script("window.seen = new Set(); new MutationObserver(() => window.seen.add([...document.querySelectorAll('#front .bulb')]"
                    ".map((bulb) => (bulb.classList.contains('lit') ? '*' : '.')).join(''))).observe(document.getElementById('lamps'),"
                    " { subtree: true, attributes: true })")
     browser.keys(["3"], 400)
-    eventually(browser, "a key lights its lamp", "return [...window.seen].join(' ')", re.compile(r"\.\.\*\."))
+    eventually(browser, "a key turns its lamp on", "return [...window.seen].join(' ')", re.compile(r"\.\.\*\."))
 
 
 def check_wires(browser):
-    """Checks wires that are drawn by dragging and by clicks, and wires that are not possible."""
+    """Checks that wires can be drawn by dragging and by clicks, and undone, and that impossible wires are not drawn."""
     choose_example(browser, "lock")
     show_text(browser, "wiring")
     text_before = text_of(browser)
-    eventually(browser, "lines at 1 are coloured", "return document.querySelectorAll('#wiring-picture .high').length > 0", True)
-    drag(browser, f"{pin('ROM 0 · 4001, out 2')} circle", f"{pin('Lamps · 3, open')} circle")
-    eventually(browser, "a wire is dragged from pin to pin", GET_DRAWING_STATUS, "Line rom0.2 is wired to lamp 1.")
-    verdict("it is one word of the text", text_of(browser), text_before.replace('"ram0.0.1"', '"rom0.2"'))
-    eventually(browser, "the picture has it", GET_WIRING_LINES, re.compile("open is at rom0.2"))
-    verdict("levels of a board that is not wired are not shown", browser.script(COUNT_HIGH) <= 1, True)
-    drag(browser, f"{pin('ROM 1 · 4001, in 0')} circle", f"{pin('Chain 0 · 1 × 4003, clock')} circle")
-    eventually(browser, "one from an input to a clock is none", GET_DRAWING_STATUS, "No wire was drawn.")
-    press(browser, f"{pin('ROM 1 · 4001, in 0')} circle")
-    eventually(browser, "nor is it offered", GET_OFFERED_ENDS, ["Keys · 4 × 3, column 1, at rom1.1", "Keys · 4 × 3, column 2, at rom1.2"])
-    press(browser, f"{pin('Keys · 4 × 3, column 2')} circle")
-    eventually(browser, "a wire by one click after the other", GET_DRAWING_STATUS, "Line rom1.0 is wired to column 2 of the keys.")
+    eventually(browser, "the lines at 1 are coloured", "return document.querySelectorAll('#wiring-picture .high').length > 0", True)
+    drag(browser, f"{pin_selector('ROM 0 · 4001, out 2')} circle", f"{pin_selector('Lamps · 3, open')} circle")
+    eventually(browser, "dragging from pin to pin draws a wire", GET_DRAWING_STATUS, "Line rom0.2 is wired to lamp 1.")
+    verdict("the wire changes one word of the text", text_of(browser), text_before.replace('"ram0.0.1"', '"rom0.2"'))
+    eventually(browser, "the picture has the wire", GET_WIRING_LINES, re.compile("open is at rom0.2"))
+    verdict("the picture of a board that is not applied shows no levels", browser.script(COUNT_HIGH_LINES) <= 1, True)
+    drag(browser, f"{pin_selector('ROM 1 · 4001, in 0')} circle", f"{pin_selector('Chain 0 · 1 × 4003, clock')} circle")
+    eventually(browser, "no wire is drawn from an input to a clock", GET_DRAWING_STATUS, "No wire was drawn.")
+    click_centre(browser, f"{pin_selector('ROM 1 · 4001, in 0')} circle")
+    eventually(browser, "the pins at which a wire from an input can end", GET_OFFERED_PINS, ["Keys · 4 × 3, column 1, at rom1.1", "Keys · 4 × 3, column 2, at rom1.2"])
+    click_centre(browser, f"{pin_selector('Keys · 4 × 3, column 2')} circle")
+    eventually(browser, "two clicks draw a wire", GET_DRAWING_STATUS, "Line rom1.0 is wired to column 2 of the keys.")
     browser.click("#drawing-undo")
-    eventually(browser, "it is undone", GET_DRAWING_STATUS, "Undone.")
+    eventually(browser, "Undo removes the last wire", GET_DRAWING_STATUS, "Undone.")
     browser.click("#drawing-undo")
-    eventually(browser, "and the one before it", GET_WIRING_LINES, re.compile("open is at ram0.0.1"))
-    verdict("the text is unchanged", text_of(browser), text_before)
+    eventually(browser, "Undo removes the wire before it", GET_WIRING_LINES, re.compile("open is at ram0.0.1"))
+    verdict("the text is the same as before the wires", text_of(browser), text_before)
     browser.click("#drawing-redo")
-    eventually(browser, "and done again", GET_WIRING_LINES, re.compile("open is at rom0.2"))
+    eventually(browser, "Redo restores the wire", GET_WIRING_LINES, re.compile("open is at rom0.2"))
     browser.click("#shelf-ram")
-    eventually(browser, "after a click on the shelf", GET_WIRING_LINES, re.compile("RAM 0.1"))
+    eventually(browser, "a click on the shelf adds a RAM chip", GET_WIRING_LINES, re.compile("RAM 0.1"))
     browser.press_chord(CONTROL, "z")
-    eventually(browser, "Ctrl Z undoes it, too", GET_DRAWING_STATUS, "Undone.")
-    verdict("and nothing else", browser.script(GET_WIRING_LINES), re.compile("open is at rom0.2"))
-    check_part_is_dragged(browser)
+    eventually(browser, "Ctrl+Z removes the RAM chip", GET_DRAWING_STATUS, "Undone.")
+    verdict("the wire is still there after Ctrl+Z", browser.script(GET_WIRING_LINES), re.compile("open is at rom0.2"))
+    check_moving_part(browser)
     check_chain_keeps_its_place(browser)
 
 
 def check_buzzer(browser):
-    """Checks that a buzzer can be added by mouse, wired, named, deleted and restored by undo, also by keyboard and by touch."""
+    """Checks that a buzzer can be added, wired, named, deleted, and restored by undo. It can also be wired by keyboard and by touch."""
     choose_example(browser, "empty bench")
     show_text(browser, "wiring")
-    verdict("a board without a buzzer has no sound", browser.script(GET_SOUND_LABEL), "")
+    verdict("a board without a buzzer has no sound button", browser.script(GET_SOUND_LABEL), "")
     browser.click("#shelf-buzzer")
-    eventually(browser, "a buzzer comes with what it needs", GET_DRAWING_STATUS, "The buzzer was added, with ROM 0.")
-    verdict("as a line of the front panel", text_of(browser).split("\n")[0], "# buzzer rom0.0: buzzer")
-    verdict("a second one is not offered, and says why", browser.script(GET_DISABLED_BUTTONS), ["Buzzer: A board has one buzzer: delete that one first."])
-    drag(browser, f"{pin('ROM 0 · 4001, out 3')} circle", f"{pin('Buzzer, buzzer')} circle")
-    eventually(browser, "a wire is dragged to it", GET_DRAWING_STATUS, "Line rom0.3 is wired to the buzzer.")
-    eventually(browser, "the picture has it", GET_WIRING_LINES, re.compile("buzzer sounds the edges of rom0.3"))
+    eventually(browser, "the buzzer is added with the parts that it needs", GET_DRAWING_STATUS, "The buzzer was added, with ROM 0.")
+    verdict("the comment of the buzzer in the text", text_of(browser).split("\n")[0], "# buzzer rom0.0: buzzer")
+    verdict("the shelf disables a second buzzer, with the reason", browser.script(GET_DISABLED_BUTTONS), ["Buzzer: A board has one buzzer: delete that one first."])
+    drag(browser, f"{pin_selector('ROM 0 · 4001, out 3')} circle", f"{pin_selector('Buzzer, buzzer')} circle")
+    eventually(browser, "dragging draws a wire to the buzzer", GET_DRAWING_STATUS, "Line rom0.3 is wired to the buzzer.")
+    eventually(browser, "the picture has the wire to the buzzer", GET_WIRING_LINES, re.compile("buzzer sounds the edges of rom0.3"))
     browser.script("const name = document.querySelector('#chosen [aria-label=name]'); name.focus(); name.select()")
     browser.keys([*"the horn", ENTER], 10, 10)
-    eventually(browser, "it is named", GET_DRAWING_STATUS, "The buzzer is called the horn.")
-    verdict("in the same line", text_of(browser).split("\n")[0], "# buzzer rom0.3: the horn")
+    eventually(browser, "the buzzer has a new name", GET_DRAWING_STATUS, "The buzzer is called the horn.")
+    verdict("the comment of the buzzer has the new name", text_of(browser).split("\n")[0], "# buzzer rom0.3: the horn")
     browser.click("#drawing-wire")
-    eventually(browser, "it is wired, and can be heard", GET_SOUND_LABEL, "Sound of the horn")
+    eventually(browser, "the sound button of the applied board", GET_SOUND_LABEL, "Sound of the horn")
     browser.until(GET_DRAWING_STATUS, "Board applied.")
     browser.script("document.querySelector('#wiring-picture .of-buzzer').focus()")
     browser.keys([DELETE])
-    eventually(browser, "the Delete key deletes it", GET_DRAWING_STATUS, "The buzzer was deleted.")
+    eventually(browser, "the Delete key deletes the buzzer", GET_DRAWING_STATUS, "The buzzer was deleted.")
     browser.press_chord(CONTROL, "z")
-    eventually(browser, "Ctrl Z brings it back", GET_WIRING_LINES, re.compile("the horn sounds the edges of rom0.3"))
-    browser.script("document.querySelector(arguments[0]).focus()", pin("Buzzer, the horn"))
+    eventually(browser, "Ctrl+Z restores the buzzer", GET_WIRING_LINES, re.compile("the horn sounds the edges of rom0.3"))
+    browser.script("document.querySelector(arguments[0]).focus()", pin_selector("Buzzer, the horn"))
     browser.keys([ENTER])
-    eventually(browser, "Enter begins a wire at it", GET_DRAWING_STATUS, "Wire from the buzzer: it can end at 3 pins.")
+    eventually(browser, "Enter begins a wire at the buzzer", GET_DRAWING_STATUS, "Wire from the buzzer: it can end at 3 pins.")
     browser.keys([UP, ENTER])
-    eventually(browser, "and ends it at another line", GET_DRAWING_STATUS, "Line rom0.2 is wired to the buzzer.")
+    eventually(browser, "Enter ends the wire at another line", GET_DRAWING_STATUS, "Line rom0.2 is wired to the buzzer.")
     if browser.can_multitouch:
-        browser.touch_together([f"{pin('ROM 0 · 4001, out 1')} circle"], 60)
-        browser.touch_together([f"{pin('Buzzer, the horn')} circle"], 60)
-        eventually(browser, "fingers wire it, too", GET_DRAWING_STATUS, "Line rom0.1 is wired to the buzzer.")
+        browser.touch_together([f"{pin_selector('ROM 0 · 4001, out 1')} circle"], 60)
+        browser.touch_together([f"{pin_selector('Buzzer, the horn')} circle"], 60)
+        eventually(browser, "touches draw a wire to the buzzer", GET_DRAWING_STATUS, "Line rom0.1 is wired to the buzzer.")
 
 
-def check_part_is_dragged(browser):
+def check_moving_part(browser):
+    """Checks that a part can be dragged to another position, that a reload keeps this position, and that Tidy restores the old one."""
     position_before = browser.script(GET_POSITION_OF_KEYS)
     drag(browser, "#wiring-picture .of-keys .title", (-30, 90))
-    eventually(browser, "a part is dragged", f"{GET_POSITION_OF_KEYS}[1] > {position_before[1] + 40}", True)
+    eventually(browser, "a part moves when it is dragged", f"{GET_POSITION_OF_KEYS}[1] > {position_before[1] + 40}", True)
     new_position = browser.script(GET_POSITION_OF_KEYS)
     time.sleep(1)
     browser.reload()
     until_ready(browser)
-    eventually(browser, "and stands there after a reload", GET_POSITION_OF_KEYS, new_position)
+    eventually(browser, "a reload keeps the position of the part", GET_POSITION_OF_KEYS, new_position)
     browser.click("#drawing-tidy")
-    eventually(browser, "until it is tidied", GET_POSITION_OF_KEYS, position_before)
+    eventually(browser, "Tidy moves the part back", GET_POSITION_OF_KEYS, position_before)
 
 
 def check_chain_keeps_its_place(browser):
     """Checks that deleting a chain leaves the later chain at its position in the picture."""
     choose_example(browser, "calculator")
     show_text(browser, "wiring")
-    eventually(browser, "a board has two chains", GET_WIRING_LINES, re.compile("Chain 0 .*Chain 1 "))
+    eventually(browser, "the calculator has two chains", GET_WIRING_LINES, re.compile("Chain 0 .*Chain 1 "))
     get_chain_positions = "return [...document.querySelectorAll('#wiring-picture .of-chain rect')].map((box) => Number(box.getAttribute('y')))"
     first_position, second_position = browser.script(get_chain_positions)
     browser.script("document.querySelectorAll('#wiring-picture .of-chain')[1].focus()")
     for _ in range(5):
         browser.press_chord(SHIFT, DOWN)
-    eventually(browser, "Shift and arrows move the second chain", f"{get_chain_positions}[1] > {second_position}", True)
+    eventually(browser, "Shift and the Down arrow move the second chain", f"{get_chain_positions}[1] > {second_position}", True)
     _, moved_position = browser.script(get_chain_positions)
     browser.script("document.querySelector('#wiring-picture .of-chain').focus()")
     browser.keys([DELETE])
-    eventually(browser, "the first one is deleted", GET_DRAWING_STATUS, re.compile("^Chain 0 was deleted"))
-    eventually(browser, "and the second one stays where it is", get_chain_positions, [moved_position])
+    eventually(browser, "the first chain is deleted", GET_DRAWING_STATUS, re.compile("^Chain 0 was deleted"))
+    eventually(browser, "the second chain keeps its position", get_chain_positions, [moved_position])
     browser.click("#drawing-undo")
-    eventually(browser, "undone, both stand where they stood", get_chain_positions, [first_position, moved_position])
+    eventually(browser, "the positions of both chains after Undo", get_chain_positions, [first_position, moved_position])
 
 
-def check_by_keyboard(browser):
+def check_drawing_by_keyboard(browser):
     """Checks that the keyboard alone suffices to add a part, begin and end a wire, delete, and undo."""
     choose_example(browser, "lock")
     browser.script("document.getElementById('wiring-tab').click(); document.getElementById('wiring-tab').focus()")
     text_before = text_of(browser)
-    verdict("Tab comes to the shelf", move_focus_until(browser, TAB, "e.id === 'shelf-lamp'", 14), True)
+    verdict("the Tab key reaches the shelf", move_focus_until(browser, TAB, "e.id === 'shelf-lamp'", 14), True)
     browser.keys([ENTER])
     eventually(browser, "Enter adds a lamp", GET_DRAWING_STATUS, "Lamp 3 was added.")
-    verdict("Tab comes to the picture", move_focus_until(browser, TAB, "e.closest('#wiring-picture') !== null", 20), True)
-    eventually(browser, "at the lamp that is chosen", GET_FOCUSED_LABEL, re.compile("^Lamps · 4, lamp 3"))
+    verdict("the Tab key reaches the picture", move_focus_until(browser, TAB, "e.closest('#wiring-picture') !== null", 20), True)
+    eventually(browser, "the focus is at the new lamp", GET_FOCUSED_LABEL, re.compile("^Lamps · 4, lamp 3"))
     browser.keys([UP, UP, UP, UP])
-    eventually(browser, "arrows go from pin to part", GET_FOCUSED_LABEL, re.compile("^Lamps · 4: locked is at"))
+    eventually(browser, "the Up arrow moves the focus from the pin to the part", GET_FOCUSED_LABEL, re.compile("^Lamps · 4: locked is at"))
     browser.keys([LEFT, LEFT, LEFT])
-    eventually(browser, "and from part to part", GET_FOCUSED_LABEL, re.compile("^RAM 0.0 · 4002: line"))
+    eventually(browser, "the Left arrow moves the focus from part to part", GET_FOCUSED_LABEL, re.compile("^RAM 0.0 · 4002: line"))
     browser.keys([RIGHT])
-    eventually(browser, "and back", GET_FOCUSED_LABEL, re.compile("^Chain 0"))
+    eventually(browser, "the Right arrow moves the focus back", GET_FOCUSED_LABEL, re.compile("^Chain 0"))
     browser.keys([DOWN])
-    eventually(browser, "to its clock", GET_FOCUSED_LABEL, re.compile("clock, at rom0.0$"))
+    eventually(browser, "the Down arrow moves the focus to the clock", GET_FOCUSED_LABEL, re.compile("clock, at rom0.0$"))
     browser.keys([ENTER])
     eventually(browser, "Enter begins a wire", GET_DRAWING_STATUS, re.compile("^Wire from the clock of chain 0: it can end at 8 pins"))
     browser.keys([UP])
-    eventually(browser, "arrows go to where it can end", GET_FOCUSED_LABEL, "RAM 0.0 · 4002, out 3, wired to lamp 3")
+    eventually(browser, "the Up arrow moves the focus to the next pin at which the wire can end", GET_FOCUSED_LABEL, "RAM 0.0 · 4002, out 3, wired to lamp 3")
     browser.keys([ENTER])
-    eventually(browser, "Enter ends it", GET_DRAWING_STATUS, "Line ram0.0.3 is wired to the clock of chain 0.")
-    eventually(browser, "the focus stays", GET_FOCUSED_LABEL, "RAM 0.0 · 4002, out 3, wired to clock 0 and lamp 3")
+    eventually(browser, "Enter ends the wire", GET_DRAWING_STATUS, "Line ram0.0.3 is wired to the clock of chain 0.")
+    eventually(browser, "the pin keeps the focus", GET_FOCUSED_LABEL, "RAM 0.0 · 4002, out 3, wired to clock 0 and lamp 3")
     browser.keys([ENTER])
-    eventually(browser, "another one is begun", GET_DRAWING_STATUS, re.compile("^Wire from"))
+    eventually(browser, "Enter begins another wire", GET_DRAWING_STATUS, re.compile("^Wire from"))
     browser.keys([ESCAPE])
-    eventually(browser, "and left by Escape", GET_DRAWING_STATUS, "No wire was drawn.")
+    eventually(browser, "Escape cancels the wire", GET_DRAWING_STATUS, "No wire was drawn.")
     browser.keys([DELETE])
-    eventually(browser, "a line cannot be deleted", GET_DRAWING_STATUS, re.compile("is deleted only with its chip"))
+    eventually(browser, "a line cannot be deleted without its chip", GET_DRAWING_STATUS, re.compile("is deleted only with its chip"))
     browser.press_chord(CONTROL, "z")
-    eventually(browser, "Ctrl Z takes the wire back", GET_DRAWING_STATUS, "Undone.")
+    eventually(browser, "Ctrl+Z removes the wire", GET_DRAWING_STATUS, "Undone.")
     browser.press_chord(CONTROL, "z")
-    eventually(browser, "and the lamp", GET_WIRING_LINES, re.compile("Lamps · 3"))
-    verdict("the text is unchanged", text_of(browser), text_before)
+    eventually(browser, "Ctrl+Z removes the lamp", GET_WIRING_LINES, re.compile("Lamps · 3"))
+    verdict("the text is the same as before", text_of(browser), text_before)
     browser.script("document.querySelector('#wiring-picture .of-chain').focus()")
     browser.keys([DELETE])
-    eventually(browser, "what hangs on a part goes with it", GET_DRAWING_STATUS, "Chain 0 was deleted, and with it the keys.")
+    eventually(browser, "deleting a chain also deletes the keys that need it", GET_DRAWING_STATUS, "Chain 0 was deleted, and with it the keys.")
     browser.press_chord(CONTROL, "z")
-    eventually(browser, "and comes back with it", GET_WIRING_LINES, re.compile("Keys · 4 × 3"))
-    verdict("nothing is lost", text_of(browser), text_before)
+    eventually(browser, "Ctrl+Z also restores the keys", GET_WIRING_LINES, re.compile("Keys · 4 × 3"))
+    verdict("the text is unchanged after Ctrl+Z", text_of(browser), text_before)
 
 
 GET_WIDTH = "return Math.round(document.querySelector('#wiring-picture svg').getBoundingClientRect().width)"
@@ -297,7 +299,7 @@ const picture = document.getElementById("wiring-picture");
 const { left, top } = picture.getBoundingClientRect();
 const turn = { ctrlKey: arguments[1], deltaY: arguments[0], clientX: left + 50, clientY: top + 40, bubbles: true, cancelable: true };
 return picture.dispatchEvent(new WheelEvent("wheel", turn))"""
-# The part that the picture shows at a point of the panel.
+# The class of the part that the picture shows at a point, or null if there is no part. The point is in pixels from the panel's upper left corner.
 GET_PART_AT_POINT = """
 const { left, top } = document.getElementById("wiring-picture").getBoundingClientRect();
 const found = document.elementFromPoint(left + arguments[0], top + arguments[1]).closest(".part");
@@ -312,53 +314,53 @@ def check_zoom(browser):
     browser.scroll_to("#wiring-picture")
     width_before = browser.script(GET_WIDTH)
     browser.click("#picture-larger")
-    verdict("a button makes it larger", abs(browser.script(GET_WIDTH) - width_before * 1.25) <= 1, True)
+    verdict("a button enlarges the picture", abs(browser.script(GET_WIDTH) - width_before * 1.25) <= 1, True)
     for _ in range(30):
         browser.click("#picture-larger")
     largest = browser.script(GET_WIDTH)
     browser.click("#picture-larger")
-    verdict("up to a size", (browser.script(GET_WIDTH), largest > width_before * 2), (largest, True))
-    verdict("which the button says", browser.script(GET_ZOOM_BOUNDS), ["false", "true"])
+    verdict("the picture has a maximum size", (browser.script(GET_WIDTH), largest > width_before * 2), (largest, True))
+    verdict("the button for a larger picture is disabled", browser.script(GET_ZOOM_BOUNDS), ["false", "true"])
     browser.click("#picture-fit")
-    verdict("and as it was", browser.script(GET_WIDTH), width_before)
+    verdict("Fit restores the width of the picture", browser.script(GET_WIDTH), width_before)
     browser.script("document.querySelector('#wiring-picture .of-rom').focus()")
     browser.keys("--")
-    verdict("keys make it smaller", abs(browser.script(GET_WIDTH) - width_before / 1.25 ** 2) <= 1, True)
-    drag(browser, f"{pin('RAM 0.0 · 4002, out 3')} circle", f"{pin('Lamps · 3, alarm')} circle")
-    eventually(browser, "a wire is drawn all the same", GET_DRAWING_STATUS, "Line ram0.0.3 is wired to lamp 2.")
+    verdict("two presses of - reduce the picture", abs(browser.script(GET_WIDTH) - width_before / 1.25 ** 2) <= 1, True)
+    drag(browser, f"{pin_selector('RAM 0.0 · 4002, out 3')} circle", f"{pin_selector('Lamps · 3, alarm')} circle")
+    eventually(browser, "a wire can be drawn in the smaller picture", GET_DRAWING_STATUS, "Line ram0.0.3 is wired to lamp 2.")
     browser.click("#drawing-undo")
-    eventually(browser, "and undone", GET_DRAWING_STATUS, "Undone.")
+    eventually(browser, "the wire is undone", GET_DRAWING_STATUS, "Undone.")
     browser.script("document.querySelector('#wiring-picture .of-rom').focus()")
     browser.keys("-" * 20, 2, 2)
     smallest = browser.script(GET_WIDTH)
     browser.keys("-", 2, 2)
-    verdict("down to a size", (browser.script(GET_WIDTH), browser.script(GET_ZOOM_BOUNDS)), (smallest, ["true", "false"]))
-    verdict("at which all of it is seen, and can be read", (browser.script(IS_WHOLE_PICTURE_IN_VIEW), smallest >= width_before / 3), (True, True))
+    verdict("the picture has a minimum size, at which the button is disabled", (browser.script(GET_WIDTH), browser.script(GET_ZOOM_BOUNDS)), (smallest, ["true", "false"]))
+    verdict("the smallest picture is completely visible, and readable", (browser.script(IS_WHOLE_PICTURE_IN_VIEW), smallest >= width_before / 3), (True, True))
     browser.script("document.getElementById('picture-smaller').focus()")
     browser.keys([ENTER])
-    verdict("nor does the button, which keeps the focus", (browser.script(GET_WIDTH), browser.script("return document.activeElement.id")),
+    verdict("the disabled button does not change the picture, and keeps the focus", (browser.script(GET_WIDTH), browser.script("return document.activeElement.id")),
             (smallest, "picture-smaller"))
     browser.script("document.querySelector('#wiring-picture .of-rom').focus()")
     browser.keys("+" * 20, 2, 2)
-    verdict("keys make it larger up to the same size", browser.script(GET_WIDTH), largest)
+    verdict("+ enlarges the picture to the maximum size", browser.script(GET_WIDTH), largest)
     browser.keys("0")
-    verdict("and 0 as it was", browser.script(GET_WIDTH), width_before)
+    verdict("0 restores the width of the picture", browser.script(GET_WIDTH), width_before)
     browser.script("document.getElementById('picture-fit').click()")
     part_under_pointer = browser.script(GET_PART_AT_POINT, 50, 40)
-    verdict("the wheel alone scrolls", browser.script(TURN_WHEEL, -100, False), True)
-    verdict("with Ctrl it zooms, and the page does not", browser.script(TURN_WHEEL, -100, True), False)
-    verdict("where the pointer is", (browser.script(GET_WIDTH) > width_before, browser.script(GET_PART_AT_POINT, 50, 40)), (True, part_under_pointer))
+    verdict("the wheel scrolls the page", browser.script(TURN_WHEEL, -100, False), True)
+    verdict("Ctrl and the wheel do not zoom the page", browser.script(TURN_WHEEL, -100, True), False)
+    verdict("Ctrl and the wheel zoom the picture at the pointer", (browser.script(GET_WIDTH) > width_before, browser.script(GET_PART_AT_POINT, 50, 40)), (True, part_under_pointer))
     browser.click("#picture-fit")
 
 
-def check_by_touch(browser):
+def check_wire_by_touch(browser):
     """Checks that touching one pin and then another draws a wire."""
-    browser.touch_together([f"{pin('RAM 0.0 · 4002, out 3')} circle"], 60)
-    eventually(browser, "a finger begins a wire", GET_DRAWING_STATUS, re.compile("^Wire from line ram0.0.3"))
-    browser.touch_together([f"{pin('Lamps · 3, alarm')} circle"], 60)
-    eventually(browser, "and another touch ends it", GET_DRAWING_STATUS, "Line ram0.0.3 is wired to lamp 2.")
+    browser.touch_together([f"{pin_selector('RAM 0.0 · 4002, out 3')} circle"], 60)
+    eventually(browser, "a touch begins a wire", GET_DRAWING_STATUS, re.compile("^Wire from line ram0.0.3"))
+    browser.touch_together([f"{pin_selector('Lamps · 3, alarm')} circle"], 60)
+    eventually(browser, "another touch ends the wire", GET_DRAWING_STATUS, "Line ram0.0.3 is wired to lamp 2.")
     browser.touch_together(["#drawing-undo"], 60)
-    eventually(browser, "a button undoes it", GET_DRAWING_STATUS, "Undone.")
+    eventually(browser, "a touch of Undo removes the wire", GET_DRAWING_STATUS, "Undone.")
 
 
 # GET_POINT_ON_SHEET converts a point of the window to coordinates of the drawing. GET_HEADING_CENTRE returns the centre of a part's heading in the
@@ -376,7 +378,8 @@ GET_SHEET_CORNER = "const { left, top } = document.getElementById('wiring-pictur
 
 
 def drag_from_shelf(browser, part, target, kind="mouse", key=""):
-    """Drags a part from the shelf to a point of the window. Can press a key before the drop."""
+    """Drags a part from the shelf to a point of the window. `kind` is the kind of pointer: mouse or touch. If `key` is not empty, presses this key
+    before the drop."""
     start = [round(axis) for axis in browser.script(GET_CENTRE, f"#shelf-{part}")]
     places = [[round(start[axis] + fraction * (target[axis] - start[axis])) for axis in (0, 1)] for fraction in (0, 0.3, 0.7, 1)]
     first_move, *other_moves = [{"type": "pointerMove", "duration": 60, "x": x, "y": y} for x, y in places]
@@ -388,33 +391,36 @@ def drag_from_shelf(browser, part, target, kind="mouse", key=""):
 
 
 def is_near(point, expected):
+    """Returns whether each coordinate of a point differs by less than 2 from the expected coordinate. Returns False if the point is None."""
     return point is not None and all(abs(coordinate - expected_coordinate) < 2 for coordinate, expected_coordinate in zip(point, expected))
 
 
 def check_drag_from_shelf(browser, kind):
+    """Checks that a part dragged from the shelf is added where it is dropped, and is wired if that is a pin. A part that is dropped outside the
+    sheet must not be added."""
     choose_example(browser, "empty bench")
     show_text(browser, "wiring")
-    eventually(browser, "the shelf offers all", GET_DISABLED_BUTTONS, [])
+    eventually(browser, "all parts of the shelf are enabled", GET_DISABLED_BUTTONS, [])
     left, top = browser.script(GET_SHEET_CORNER)
     target = [left + 330, top + 20]
     expected = browser.script(GET_POINT_ON_SHEET, *target)
     drag_from_shelf(browser, "rom", target, kind)
-    eventually(browser, f"a {kind} drags a chip onto the sheet", GET_DRAWING_STATUS, "ROM 0 was added.")
-    verdict("where it was dropped", is_near(browser.script(GET_HEADING_CENTRE, "ROM 0"), expected), True)
-    verdict("once", text_of(browser), '[[rom]]\nchip = 0\nport = "0000"\n')
-    drag_from_shelf(browser, "lamp", [round(each) for each in browser.script(GET_CENTRE, f"{pin('ROM 0 · 4001, out 3')} circle")], kind)
+    eventually(browser, f"dragging with the {kind} adds a chip", GET_DRAWING_STATUS, "ROM 0 was added.")
+    verdict("the chip is at the point where it was dropped", is_near(browser.script(GET_HEADING_CENTRE, "ROM 0"), expected), True)
+    verdict("the text has one chip", text_of(browser), '[[rom]]\nchip = 0\nport = "0000"\n')
+    drag_from_shelf(browser, "lamp", [round(each) for each in browser.script(GET_CENTRE, f"{pin_selector('ROM 0 · 4001, out 3')} circle")], kind)
     eventually(browser, "a lamp that is dropped on a pin is wired to it", GET_WIRING_LINES, re.compile("lamp 0 is at rom0.3"))
     browser.click("#drawing-undo")
-    eventually(browser, "undone in one step", GET_DRAWING_STATUS, "Undone.")
-    verdict("the chip is unchanged", text_of(browser), '[[rom]]\nchip = 0\nport = "0000"\n')
+    eventually(browser, "one step undoes the lamp", GET_DRAWING_STATUS, "Undone.")
+    verdict("the text still has the chip", text_of(browser), '[[rom]]\nchip = 0\nport = "0000"\n')
     if kind == "mouse":
         drag_from_shelf(browser, "ram", target, kind, ESCAPE)
-        verdict("Escape drops nothing", "ram" in text_of(browser), False)
+        verdict("Escape cancels the drag", "ram" in text_of(browser), False)
     left, top = (round(each) for each in browser.script(GET_CENTRE, "#text-tabs"))
     drag_from_shelf(browser, "ram", [left, top], kind)
-    verdict("nor does one that is dropped elsewhere", "ram" in text_of(browser), False)
+    verdict("a part that is dropped outside the sheet is not added", "ram" in text_of(browser), False)
     browser.click("#shelf-ram")
-    eventually(browser, "a click adds one, as ever", GET_DRAWING_STATUS, "RAM 0.0 was added.")
+    eventually(browser, "a click on the shelf adds a part", GET_DRAWING_STATUS, "RAM 0.0 was added.")
 
 
 def check_shelf(browser):
@@ -423,11 +429,11 @@ def check_shelf(browser):
         check_drag_from_shelf(browser, kind)
     browser.script("document.getElementById('shelf-chain').focus()")
     browser.press_chord(SHIFT, ENTER)
-    eventually(browser, "Shift and Enter add a part", GET_DRAWING_STATUS, re.compile("^Chain 0 was added"))
-    eventually(browser, "and go to it on the sheet", GET_FOCUSED_LABEL, re.compile("^Chain 0"))
+    eventually(browser, "Shift+Enter adds a part", GET_DRAWING_STATUS, re.compile("^Chain 0 was added"))
+    eventually(browser, "the new part has the focus", GET_FOCUSED_LABEL, re.compile("^Chain 0"))
     position_before = browser.script(GET_HEADING_CENTRE, "Chain 0")
     browser.press_chord(SHIFT, DOWN)
-    eventually(browser, "where arrows move it", f"return ((...arguments) => {{{GET_HEADING_CENTRE}}})('Chain 0')[1] > {position_before[1] + 6}", True)
+    eventually(browser, "Shift and the Down arrow move the new part", f"return ((...arguments) => {{{GET_HEADING_CENTRE}}})('Chain 0')[1] > {position_before[1] + 6}", True)
 
 
 def check_scan_at_caret(browser):
@@ -439,71 +445,73 @@ def check_scan_at_caret(browser):
     browser.click("#program-editor .cm-line:nth-child(2)")
     show_text(browser, "wiring")
     browser.click("#wiring-picture .of-keys text")
-    browser.click(f"#chosen [aria-label='{INSERT}']")
-    eventually(browser, "the routine is behind the line of the caret", "return document.querySelector('#program-editor .status-text').textContent",
+    browser.click(f"#chosen [aria-label='{INSERT_SCAN_LABEL}']")
+    eventually(browser, "the routine is inserted below the caret's line", "return document.querySelector('#program-editor .status-text').textContent",
                "A routine that scans the keys is at line 4 of the source.")
     lines = browser.script(GET_SOURCE).split("\n")
-    verdict("between what was before and after it", lines[:3] + lines[-9:], [*source.split("\n")[:2], "", *source.split("\n")[-9:]])
+    verdict("the lines before and after the routine", lines[:3] + lines[-9:], [*source.split("\n")[:2], "", *source.split("\n")[-9:]])
     browser.press_chord(CONTROL, "z")
-    eventually(browser, "one step undoes it", GET_SOURCE, source)
+    eventually(browser, "one Undo removes the routine", GET_SOURCE, source)
 
 
 def check_scan(browser):
-    """Checks that the page inserts a routine that scans a newly drawn key matrix, and that this routine assembles and detects a pressed key."""
+    """Checks that the page inserts a routine that scans a newly drawn key matrix, and that the program assembles and runs. A second routine must
+    have other labels."""
     choose_example(browser, "empty bench")
     show_text(browser, "wiring")
     browser.click("#shelf-keys")
-    eventually(browser, "the keys are chosen", GET_TITLE, re.compile("^Keys"))
-    verdict("chips have the numbers of their pins", browser.script(GET_PIN_NUMBERS), "16 15 14 13")
+    eventually(browser, "the new keys are selected", GET_TITLE, re.compile("^Keys"))
+    verdict("the pin numbers of the chips", browser.script(GET_PIN_NUMBERS), "16 15 14 13")
     browser.click("#drawing-wire")
-    eventually(browser, "wired, there is a front with a key", COUNT_KEYS, 4)
-    browser.click(f"#chosen [aria-label='{INSERT}']")
-    eventually(browser, "the routine is in the source", "return document.querySelector('#program-editor .status-text').textContent",
+    eventually(browser, "the number of keys on the front panel", COUNT_KEYS, 4)
+    browser.click(f"#chosen [aria-label='{INSERT_SCAN_LABEL}']")
+    eventually(browser, "the routine is at the end of the source", "return document.querySelector('#program-editor .status-text').textContent",
                "A routine that scans the keys is at the end of the source.")
     source = browser.script(GET_TEXT_OF_EDITOR, "#program-editor")
-    verdict("with a program that calls it", source.startswith("start:      JMS keys_scan"), True)
+    verdict("the source begins with a program that calls the routine", source.startswith("start:      JMS keys_scan"), True)
     browser.click("#program-editor .send")
-    eventually(browser, "it assembles and runs", GET_STATUS, re.compile("^Running"))
-    press(browser, "#keys .key:nth-child(3)")
+    eventually(browser, "the program assembles and runs", GET_STATUS, re.compile("^Running"))
+    click_centre(browser, "#keys .key:nth-child(3)")
     show_text(browser, "wiring")
     browser.click("#wiring-picture .of-keys text")
-    browser.click(f"#chosen [aria-label='{INSERT}']")
-    eventually(browser, "a second routine has labels of its own", GET_SOURCE, re.compile("^keys1_scan:", re.M))
-    verdict("behind the first one", browser.script(GET_SOURCE).startswith(source.rstrip()), True)
+    browser.click(f"#chosen [aria-label='{INSERT_SCAN_LABEL}']")
+    eventually(browser, "a second routine has other labels", GET_SOURCE, re.compile("^keys1_scan:", re.M))
+    verdict("the second routine is below the first one", browser.script(GET_SOURCE).startswith(source.rstrip()), True)
 
 
 def check_text_with_errors(browser):
-    """Checks that the picture stays unchanged while the board's text has errors, and is updated when they are corrected."""
+    """Checks that the picture reports errors in the board's text, and that the report is gone when they are corrected. A title that is typed in the
+    text must appear in the picture."""
     text = text_of(browser)
-    browser.script(PUT_INTO_EDITOR, BOARD, f"{text}\n[[lamp]]\n")
-    eventually(browser, "a text with errors says so", GET_STATE, re.compile("^The bench rejects the board's text"))
-    verdict("and nothing can be added", len(browser.script(GET_DISABLED_BUTTONS)), 12)
-    browser.script(PUT_INTO_EDITOR, BOARD, text.replace("# title: Lock", "# title: Other"))
-    eventually(browser, "without them it continues", GET_STATE, "")
+    browser.script(PUT_INTO_EDITOR, BOARD_EDITOR, f"{text}\n[[lamp]]\n")
+    eventually(browser, "the picture reports that the bench rejects the text", GET_DRAWING_STATE, re.compile("^The bench rejects the board's text"))
+    verdict("the number of disabled buttons", len(browser.script(GET_DISABLED_BUTTONS)), 12)
+    browser.script(PUT_INTO_EDITOR, BOARD_EDITOR, text.replace("# title: Lock", "# title: Other"))
+    eventually(browser, "the report is gone when the text has no errors", GET_DRAWING_STATE, "")
     browser.script("document.querySelector('#wiring-picture [tabindex=\"0\"]').focus()")
     browser.keys([ESCAPE])
-    eventually(browser, "what is typed in the text is drawn", "const field = document.querySelector('#chosen [aria-label=title]'); return field && field.value",
+    eventually(browser, "the picture shows a title that is typed in the text", "const field = document.querySelector('#chosen [aria-label=title]'); return field && field.value",
                "Other")
 
 
 def check_other_boards(browser):
-    """Checks that the user can switch to sessions with more or fewer chips while the picture is visible."""
+    """Checks that the picture shows the board of each session that the user opens, even if it has more or fewer chips."""
     for example, part in (("calculator", "ROM 3 · 4001"), ("die", "ROM 0 · 4001"), ("calculator", "ROM 3 · 4001"), ("lock", "Keys · 4 × 3")):
         choose_example(browser, example)
         verdict(f"{example} is opened", "No session was made" in browser.script(GET_NOTICE), False)
-        eventually(browser, f"the picture is that of {example}", GET_WIRING_LINES, re.compile(part))
+        eventually(browser, f"the picture shows the board of {example}", GET_WIRING_LINES, re.compile(part))
 
 
 def check(browser, page, _folder, _mcs4):
     browser.go(page.as_uri())
     until_ready(browser)
-    check_by_mouse(browser)
+    check_drawing_by_mouse(browser)
     check_buzzer(browser)
     check_wires(browser)
-    check_by_keyboard(browser)
+    check_drawing_by_keyboard(browser)
     check_zoom(browser)
     if browser.can_multitouch:
-        check_by_touch(browser)
+        check_wire_by_touch(browser)
     check_text_with_errors(browser)
     check_other_boards(browser)
     check_shelf(browser)

@@ -8,7 +8,7 @@ from verdicts import eventually, verdict
 
 CONTROL, SHIFT, ALT, ENTER, ESCAPE, TAB = "\ue009", "\ue008", "\ue00a", "\ue007", "\ue00c", "\ue004"
 END, DOWN, F2, F9, F12, BACKSPACE = "\ue010", "\ue015", "\ue032", "\ue039", "\ue03c", "\ue003"
-PROGRAM, BOARD = "#program-editor", "#board-editor"
+PROGRAM_EDITOR, BOARD_EDITOR = "#program-editor", "#board-editor"
 # A text at the limit: 16,381 bytes without comments and indentation, 36,497 bytes with them.
 LONGEST_TEXT = "; a line of a comment, with words in it, and then some more of them\n" * 240 + "\tNOP\n" * 4035 + ";\n"
 
@@ -21,7 +21,7 @@ GET_UNDERLINED = "return [...document.querySelectorAll('{} .fault')].map((node) 
 GET_STATUS_OF = "return document.querySelector('{} .status-text').textContent"
 GET_EXPLANATION = "return document.querySelector('{} .meaning').textContent"
 GET_LISTING = "return document.querySelector('#lines-of-program').textContent"
-IS_FOCUS_IN_PAPER = "return document.activeElement.closest('.paper') !== null"
+IS_FOCUS_IN_PROGRAM = "return document.activeElement.closest('.paper') !== null"
 # Scrolls to the end of a text. Returns the last line number, whether the text is wider than its box, and whether each visible line number is beside
 # a line.
 GET_LINE_NUMBERS = f"""{FIND_EDITOR}
@@ -76,92 +76,95 @@ ERROR_MESSAGES = re.compile(r"^line 1: LDX is not an instruction; .*\|line 2: FI
 
 
 def set_text(browser, editor, text):
+    """Replaces the text in an editor."""
     browser.script(PUT_INTO_EDITOR, editor, text)
 
 
 def check_errors(browser):
     """Checks that the editor shows all errors of a program while the user types."""
-    set_text(browser, PROGRAM, "")
-    browser.script(SET_CARET, PROGRAM, 0, 0)
-    set_text(browser, PROGRAM, FAULTY_PROGRAM)
-    browser.script(SET_CARET, PROGRAM, 1, 3)
-    eventually(browser, "all errors of a program, with a message", GET_ERRORS.format(PROGRAM), ERROR_MESSAGES)
-    verdict("with the words at error underlined", browser.script(GET_UNDERLINED.format(PROGRAM)), "LDX R0 JMP LDM loop")
-    verdict("the caret stays, and nothing is selected", browser.script(GET_CARET, PROGRAM), [1, 3, ""])
-    verdict("each error is in the margin of its line",
+    set_text(browser, PROGRAM_EDITOR, "")
+    browser.script(SET_CARET, PROGRAM_EDITOR, 0, 0)
+    set_text(browser, PROGRAM_EDITOR, FAULTY_PROGRAM)
+    browser.script(SET_CARET, PROGRAM_EDITOR, 1, 3)
+    eventually(browser, "the messages about all errors of the program", GET_ERRORS.format(PROGRAM_EDITOR), ERROR_MESSAGES)
+    verdict("the underlined words", browser.script(GET_UNDERLINED.format(PROGRAM_EDITOR)), "LDX R0 JMP LDM loop")
+    verdict("the caret and the selection are unchanged", browser.script(GET_CARET, PROGRAM_EDITOR), [1, 3, ""])
+    verdict("the number of errors in the margin",
             browser.script("return document.querySelectorAll('#program-editor .mark-faults').length"), 5)
-    verdict("the tab shows how many", browser.text("#program-tab"), re.compile("5 errors$"))
-    browser.click(f"{PROGRAM} .send")
-    eventually(browser, "a program with errors is not assembled", GET_STATUS_OF.format(PROGRAM), re.compile("^line 1: LDX is not an instruction.*4 more$"))
-    browser.click(f"{PROGRAM} .fault-list li:nth-child(3) button")
-    verdict("an error in the list leads to its word", browser.script(GET_CARET, PROGRAM), [2, 8, ""])
+    verdict("the tab shows the number of errors", browser.text("#program-tab"), re.compile("5 errors$"))
+    browser.click(f"{PROGRAM_EDITOR} .send")
+    eventually(browser, "a program with errors is not assembled", GET_STATUS_OF.format(PROGRAM_EDITOR), re.compile("^line 1: LDX is not an instruction.*4 more$"))
+    browser.click(f"{PROGRAM_EDITOR} .fault-list li:nth-child(3) button")
+    verdict("a click on an error in the list selects its word", browser.script(GET_CARET, PROGRAM_EDITOR), [2, 8, ""])
     corrected = FAULTY_PROGRAM.replace("LDM\n", "LDM 1\t; caf\u00e9\n").replace("LDX", "LDM").replace("R0", "P0").replace("JMP", "JUN")
     corrected = corrected.replace("loop:   NOP\nloop:", "loop:   NOP\nmore:")
-    set_text(browser, PROGRAM, corrected.replace("start\n", "strat\n").replace("LDM 1\t", "LDM 16\t"))
-    eventually(browser, "errors of values come when each line has a form", GET_ERRORS.format(PROGRAM),
+    set_text(browser, PROGRAM_EDITOR, corrected.replace("start\n", "strat\n").replace("LDM 1\t", "LDM 16\t"))
+    eventually(browser, "errors in values are reported when no line has a syntax error", GET_ERRORS.format(PROGRAM_EDITOR),
           "line 3: strat is not defined; start?|line 4: LDM takes a value, 0 to 15")
-    set_text(browser, PROGRAM, corrected)
-    eventually(browser, "corrected, no error is left", GET_ERRORS.format(PROGRAM), "")
+    set_text(browser, PROGRAM_EDITOR, corrected)
+    eventually(browser, "a corrected program has no errors", GET_ERRORS.format(PROGRAM_EDITOR), "")
 
 
 def check_typing(browser):
-    """Checks Tab, completion, help, search and undo."""
-    set_text(browser, PROGRAM, "loop:\tNOP\n")
-    browser.script(SET_CARET, PROGRAM, 1, 0)
-    # Type a key first, so that Tab indents.
+    """Checks that Tab indents, that completion inserts words, that the instruction at the caret is explained, and that a search selects the word.
+    Escape and then Tab must leave the editor."""
+    set_text(browser, PROGRAM_EDITOR, "loop:\tNOP\n")
+    browser.script(SET_CARET, PROGRAM_EDITOR, 1, 0)
+    # Press a key in the editor first, so that Tab indents and does not move the focus.
     browser.keys([DOWN, TAB, "l", "d"], 5, 5)
     browser.press_chord(CONTROL, " ")
-    eventually(browser, "what begins so can be chosen", "return [...document.querySelectorAll('.cm-tooltip-autocomplete li')]"
+    eventually(browser, "completion offers the words with the typed beginning", "return [...document.querySelectorAll('.cm-tooltip-autocomplete li')]"
                ".map((each) => each.textContent.slice(0, 3)).join()", "LD ,LDM")
     browser.keys([DOWN, ENTER, " ", "5", ENTER, "J", "U", "N", " ", "l", "o"], 5, 5)
     browser.press_chord(CONTROL, " ")
     browser.until("return document.querySelectorAll('.cm-tooltip-autocomplete li').length", 1)
     browser.keys([ENTER], 5, 5)
-    eventually(browser, "Tab indents, and what was chosen is there", GET_TEXT_OF_EDITOR.replace("arguments[0]", f"'{PROGRAM}'"),
+    eventually(browser, "Tab indents, and the chosen words are inserted", GET_TEXT_OF_EDITOR.replace("arguments[0]", f"'{PROGRAM_EDITOR}'"),
                "loop:\tNOP\n\tLDM 5\n\tJUN loop")
-    browser.script(SET_CARET, PROGRAM, 1, 2)
-    eventually(browser, "the instruction at the caret is explained", GET_EXPLANATION.format(PROGRAM),
+    browser.script(SET_CARET, PROGRAM_EDITOR, 1, 2)
+    eventually(browser, "the instruction at the caret is explained", GET_EXPLANATION.format(PROGRAM_EDITOR),
                re.compile(r"^(acc 0, cy 0\. )?LDM d: 1 word, 1 cycle\. Load immediate: d into ACC\. The carry stays\.$"))
     browser.press_chord(CONTROL, "f")
     browser.keys([*"jun", ENTER, ESCAPE], 5, 5)
-    eventually(browser, "what is sought is selected", GET_CARET.replace("arguments[0]", f"'{PROGRAM}'"), [2, 4, "JUN"])
+    eventually(browser, "the found word is selected", GET_CARET.replace("arguments[0]", f"'{PROGRAM_EDITOR}'"), [2, 4, "JUN"])
     browser.keys([ESCAPE, TAB], 5, 5)
-    verdict("Escape, then Tab leaves the text", browser.script(IS_FOCUS_IN_PAPER), False)
-    verdict("and the text stays", browser.script(GET_TEXT_OF_EDITOR, PROGRAM), "loop:\tNOP\n\tLDM 5\n\tJUN loop")
+    verdict("Escape and then Tab leave the editor", browser.script(IS_FOCUS_IN_PROGRAM), False)
+    verdict("the text is unchanged", browser.script(GET_TEXT_OF_EDITOR, PROGRAM_EDITOR), "loop:\tNOP\n\tLDM 5\n\tJUN loop")
 
 
-def check_names(browser):
-    """Checks going to a name's definition, finding its references, renaming, going to a line, replacing, and commenting."""
-    get_text = GET_TEXT_OF_EDITOR.replace("arguments[0]", f"'{PROGRAM}'")
-    get_caret = GET_CARET.replace("arguments[0]", f"'{PROGRAM}'")
-    set_text(browser, PROGRAM, "loop:\tNOP ; loop\n\tFIM P0, loop\n\tJUN loop")
-    browser.script(SET_CARET, PROGRAM, 2, 7)
+def check_name_commands(browser):
+    """Checks that the keys find a name's definition and its references, and rename it everywhere except in comments. Also checks going to a line,
+    commenting, and replacing."""
+    get_text = GET_TEXT_OF_EDITOR.replace("arguments[0]", f"'{PROGRAM_EDITOR}'")
+    get_caret = GET_CARET.replace("arguments[0]", f"'{PROGRAM_EDITOR}'")
+    set_text(browser, PROGRAM_EDITOR, "loop:\tNOP ; loop\n\tFIM P0, loop\n\tJUN loop")
+    browser.script(SET_CARET, PROGRAM_EDITOR, 2, 7)
     browser.keys([F12], 5, 5)
-    eventually(browser, "F12 leads to where a name is defined", get_caret, [0, 4, "loop"])
+    eventually(browser, "F12 selects the definition of a name", get_caret, [0, 4, "loop"])
     browser.press_chord(SHIFT, F12)
-    eventually(browser, "its places are listed", "return [...document.querySelectorAll('#program-editor .places li')].map((node) => node.textContent).join('|')",
+    eventually(browser, "Shift+F12 lists the references to a name", "return [...document.querySelectorAll('#program-editor .places li')].map((node) => node.textContent).join('|')",
                "loop is at 3 places Close|line 1, where it is defined loop:\tNOP ; loop|line 2 FIM P0, loop|line 3 JUN loop")
-    browser.click(f"{PROGRAM} .places li:nth-child(3) button")
-    eventually(browser, "one of them is shown", get_caret, [1, 13, "loop"])
+    browser.click(f"{PROGRAM_EDITOR} .places li:nth-child(3) button")
+    eventually(browser, "a click in the list selects a reference", get_caret, [1, 13, "loop"])
     browser.keys([F2], 5, 5)
     browser.keys([*"jun", ENTER], 5, 5)
-    eventually(browser, "an unknown name is rejected with a message", "return document.querySelector('#program-editor .search:not([hidden]) p').textContent",
+    eventually(browser, "a name that is an instruction is rejected with a message", "return document.querySelector('#program-editor .search:not([hidden]) p').textContent",
                "jun is an instruction.")
     browser.keys([BACKSPACE, BACKSPACE, BACKSPACE, *"again", ENTER], 5, 5)
-    eventually(browser, "another name stands at all places", get_text, "again:\tNOP ; loop\n\tFIM P0, again\n\tJUN again")
+    eventually(browser, "the name is replaced in all places except comments", get_text, "again:\tNOP ; loop\n\tFIM P0, again\n\tJUN again")
     browser.press_chord(CONTROL, "g")
     browser.keys(["3", ENTER], 5, 5)
-    eventually(browser, "a line is gone to by its number", get_caret, [2, 0, ""])
+    eventually(browser, "Ctrl+G goes to a line by its number", get_caret, [2, 0, ""])
     browser.press_chord(CONTROL, "/")
-    eventually(browser, "a line becomes a comment", get_text, "again:\tNOP ; loop\n\tFIM P0, again\n; \tJUN again")
+    eventually(browser, "Ctrl+/ makes a line a comment", get_text, "again:\tNOP ; loop\n\tFIM P0, again\n; \tJUN again")
     browser.press_chord(CONTROL, "/")
-    eventually(browser, "and a line again", get_text, "again:\tNOP ; loop\n\tFIM P0, again\n\tJUN again")
-    browser.script(SET_CARET, PROGRAM, 0, 0)
+    eventually(browser, "Ctrl+/ restores the line", get_text, "again:\tNOP ; loop\n\tFIM P0, again\n\tJUN again")
+    browser.script(SET_CARET, PROGRAM_EDITOR, 0, 0)
     browser.press_chord(CONTROL, "h")
     browser.keys([*"again"], 5, 5)
-    browser.script(f"document.querySelector('{PROGRAM} [aria-label=\"Replace with\"]').value = 'loop'")
-    browser.script(f"[...document.querySelectorAll('{PROGRAM} .search button')].find((node) => node.textContent === 'Replace all').click()")
-    eventually(browser, "all are replaced", get_text, "loop:\tNOP ; loop\n\tFIM P0, loop\n\tJUN loop")
+    browser.script(f"document.querySelector('{PROGRAM_EDITOR} [aria-label=\"Replace with\"]').value = 'loop'")
+    browser.script(f"[...document.querySelectorAll('{PROGRAM_EDITOR} .search button')].find((node) => node.textContent === 'Replace all').click()")
+    eventually(browser, "Replace all replaces the name", get_text, "loop:\tNOP ; loop\n\tFIM P0, loop\n\tJUN loop")
     browser.keys([ESCAPE], 5, 5)
 
 
@@ -181,49 +184,51 @@ other:  NOP
 def check_folding(browser):
     """Checks that parts of the source can be folded by mouse and by keyboard, that folding loses no text, and that a part unfolds when it must be
     visible."""
-    set_text(browser, PROGRAM, FOLDABLE_PROGRAM)
+    set_text(browser, PROGRAM_EDITOR, FOLDABLE_PROGRAM)
     browser.until("return document.querySelectorAll('#program-editor .fold-open').length", 4)
-    browser.click(f"{PROGRAM} .fold-open")
-    eventually(browser, "a click in the margin folds lines", GET_FOLDED, "\u2026 1 line")
-    verdict("and sets no breakpoint", browser.script(f"return document.querySelector('{PROGRAM} .mark-breakpoints') === null"), True)
-    browser.script(SET_CARET, PROGRAM, 5, 8)
+    browser.click(f"{PROGRAM_EDITOR} .fold-open")
+    eventually(browser, "a click in the margin folds a part", GET_FOLDED, "\u2026 1 line")
+    verdict("the click sets no breakpoint", browser.script(f"return document.querySelector('{PROGRAM_EDITOR} .mark-breakpoints') === null"), True)
+    browser.script(SET_CARET, PROGRAM_EDITOR, 5, 8)
     keys = [CONTROL, SHIFT, "["]
     browser.actions({"type": "key", "id": "keyboard", "actions": [
         *[{"type": "keyDown", "value": key} for key in keys], *[{"type": "keyUp", "value": key} for key in reversed(keys)]]})
-    eventually(browser, "the keys fold the part that the caret is in", GET_FOLDED, "\u2026 1 line,\u2026 1 line")
-    verdict("the innermost one, whose first line the caret is in", browser.script(GET_CARET, PROGRAM)[:1], [4])
-    verdict("the text is what it was", browser.script(GET_TEXT_OF_EDITOR, PROGRAM), FOLDABLE_PROGRAM)
-    browser.script(SET_CARET, PROGRAM, 7, 2)
+    eventually(browser, "Ctrl+Shift+[ folds the part at the caret", GET_FOLDED, "\u2026 1 line,\u2026 1 line")
+    verdict("the innermost part is folded, and the caret is in its first line", browser.script(GET_CARET, PROGRAM_EDITOR)[:1], [4])
+    verdict("folding does not change the text", browser.script(GET_TEXT_OF_EDITOR, PROGRAM_EDITOR), FOLDABLE_PROGRAM)
+    browser.script(SET_CARET, PROGRAM_EDITOR, 7, 2)
     keys = [CONTROL, SHIFT, ALT, "["]
     browser.actions({"type": "key", "id": "keyboard", "actions": [
         *[{"type": "keyDown", "value": key} for key in keys], *[{"type": "keyUp", "value": key} for key in reversed(keys)]]})
-    browser.script(SET_CARET, PROGRAM, 7, 2)
-    eventually(browser, "all of it folds", GET_FOLDED, "\u2026 1 line,\u2026 2 lines,\u2026 1 line")
-    browser.click(f"{PROGRAM} .send")
-    eventually(browser, "it is assembled as it is", GET_STATUS, re.compile("^Running"))
+    browser.script(SET_CARET, PROGRAM_EDITOR, 7, 2)
+    eventually(browser, "Ctrl+Shift+Alt+[ folds all parts", GET_FOLDED, "\u2026 1 line,\u2026 2 lines,\u2026 1 line")
+    browser.click(f"{PROGRAM_EDITOR} .send")
+    eventually(browser, "a folded program is assembled and runs", GET_STATUS, re.compile("^Running"))
     stop_time(browser)
     # On a busy machine, time can be paused before the first instruction, whose line is not folded.
     browser.click("#step")
     browser.until(GET_STATUS, STEPPED)
     # Time is paused either at the loop's label, so that the line below the label stays folded, or at that line.
-    eventually(browser, "and the line at which time is paused is unfolded", GET_FOLDED, re.compile("^\u2026 1 line(,\u2026 1 line){1,2}$"))
+    eventually(browser, "the line at which the program is paused is unfolded", GET_FOLDED, re.compile("^\u2026 1 line(,\u2026 1 line){1,2}$"))
 
 
-def check_numbers(browser):
-    set_text(browser, PROGRAM, "\tNOP\n" * 200 + "; " + "a long line " * 40 + "\n\tNOP")
+def check_line_numbers(browser):
+    """Checks that at the end of a long and wide text, each line number is beside its line."""
+    set_text(browser, PROGRAM_EDITOR, "\tNOP\n" * 200 + "; " + "a long line " * 40 + "\n\tNOP")
     time.sleep(0.3)
-    browser.script(GET_LINE_NUMBERS, PROGRAM)
+    browser.script(GET_LINE_NUMBERS, PROGRAM_EDITOR)
     time.sleep(0.3)
-    verdict("at the end of a wide text each number stands beside its line", browser.script(GET_LINE_NUMBERS, PROGRAM), ["202", True, True])
+    verdict("the last line number, whether the text is wider than the box, and whether the numbers are beside their lines", browser.script(GET_LINE_NUMBERS, PROGRAM_EDITOR), ["202", True, True])
 
 
-def check_hidden_text(browser):
+def check_scroll_position_kept(browser):
+    """Checks that the source keeps its scroll position while another tab is in front."""
     browser.script(FIND_EDITOR + "editor.scrollTo(2500)", "#program-editor")
     eventually(browser, "the source is scrolled", GET_SCROLL_TOP, 2500)
     for name in ("board", "program"):
         show_text(browser, name)
         time.sleep(0.3)
-    verdict("a text that was hidden comes back where it was", browser.script(GET_SCROLL_TOP), 2500)
+    verdict("a tab keeps its scroll position while it is hidden", browser.script(GET_SCROLL_TOP), 2500)
 
 
 def check_opened_text(browser, page):
@@ -231,80 +236,80 @@ def check_opened_text(browser, page):
     reopen_page(browser, page)
     choose_example(browser, "calculator")
     show_text(browser, "program")
-    browser.script(FIND_EDITOR + "editor.scrollTo(4000)", PROGRAM)
-    eventually(browser, "a text that is scrolled", GET_SCROLL_TOP, 4000)
+    browser.script(FIND_EDITOR + "editor.scrollTo(4000)", PROGRAM_EDITOR)
+    eventually(browser, "the source is scrolled", GET_SCROLL_TOP, 4000)
     choose_example(browser, "calculator")
     time.sleep(0.5)
-    verdict("a text that is opened begins at its first line", browser.script(GET_SCROLL_TOP), 0)
+    verdict("an opened text is shown from its first line", browser.script(GET_SCROLL_TOP), 0)
     are_lines_coloured = """const lines = [...document.querySelectorAll('#program-editor .cm-line')].filter((line) => line.textContent.trim() !== "");
 return lines.length > 20 && lines.every((line) => line.querySelector('span') !== null)"""
-    verdict("and its words have their colours", browser.script(are_lines_coloured), True)
+    verdict("the lines of an opened text are coloured", browser.script(are_lines_coloured), True)
 
 
 def check_limits(browser):
     """Checks that typing stays fast in a text of maximum length, and that a longer text is rejected with a message."""
-    set_text(browser, PROGRAM, LONGEST_TEXT)
-    eventually(browser, "the counter", f"return document.querySelector('{PROGRAM} .size').textContent", "16,381 of 16,384 bytes")
-    key_time, slowness = browser.script(MEASURE_KEY_TIMES, PROGRAM, 120), browser.script(MEASURE_SLOWNESS)
+    set_text(browser, PROGRAM_EDITOR, LONGEST_TEXT)
+    eventually(browser, "the size of the text", f"return document.querySelector('{PROGRAM_EDITOR} .size').textContent", "16,381 of 16,384 bytes")
+    key_time, slowness = browser.script(MEASURE_KEY_TIMES, PROGRAM_EDITOR, 120), browser.script(MEASURE_SLOWNESS)
     print(f"a key at the longest text takes {key_time:.1f} ms in {browser.name}, which others make {slowness:.1f} times as slow meanwhile")
     verdict("a key takes less than 16 ms", key_time / slowness < 16, True)
-    set_text(browser, PROGRAM, "\tNOP\n")
-    browser.script(SET_CARET, PROGRAM, 1, 0)
-    browser.script(PASTE_TEXT, PROGRAM, "\tNOP\n", 1_000_000)
-    eventually(browser, "5 MB pasted are rejected with a message", GET_STATUS_OF.format(PROGRAM), re.compile("^It was not inserted: the text would have 5,000,005 characters"))
-    verdict("and the text is unchanged", browser.script(GET_TEXT_OF_EDITOR, PROGRAM), "\tNOP\n")
+    set_text(browser, PROGRAM_EDITOR, "\tNOP\n")
+    browser.script(SET_CARET, PROGRAM_EDITOR, 1, 0)
+    browser.script(PASTE_TEXT, PROGRAM_EDITOR, "\tNOP\n", 1_000_000)
+    eventually(browser, "a pasted text of 5 MB is rejected with a message", GET_STATUS_OF.format(PROGRAM_EDITOR), re.compile("^It was not inserted: the text would have 5,000,005 characters"))
+    verdict("the rejected text changes nothing", browser.script(GET_TEXT_OF_EDITOR, PROGRAM_EDITOR), "\tNOP\n")
 
 
-def check_sessions(browser):
-    """Checks that each session has its own undo history for its texts."""
+def check_undo_history(browser):
+    """Checks that a disassembly that replaced the source can be undone in one step, and that a new session has no earlier step to undo."""
     choose_example(browser, "die")
-    text_before = browser.script(GET_TEXT_OF_EDITOR, PROGRAM)
+    text_before = browser.script(GET_TEXT_OF_EDITOR, PROGRAM_EDITOR)
     browser.click("#from-rom")
     browser.until("return document.getElementById('ask').open", True)
     browser.click("#ask .bar button:first-child")
     time.sleep(0.5)
-    browser.script(SET_CARET, PROGRAM, 0, 0)
+    browser.script(SET_CARET, PROGRAM_EDITOR, 0, 0)
     browser.press_chord(CONTROL, "z")
-    eventually(browser, "what was taken from ROM is undone by one step", GET_TEXT_OF_EDITOR.replace("arguments[0]", f"'{PROGRAM}'"), text_before)
+    eventually(browser, "one Undo restores the source that was replaced by the disassembly", GET_TEXT_OF_EDITOR.replace("arguments[0]", f"'{PROGRAM_EDITOR}'"), text_before)
     browser.press_chord(CONTROL, "z")
-    verdict("and there is no step before that", browser.script(GET_TEXT_OF_EDITOR, PROGRAM), text_before)
+    verdict("there is no earlier step to undo", browser.script(GET_TEXT_OF_EDITOR, PROGRAM_EDITOR), text_before)
 
 
 def check_running(browser):
     """Checks that Ctrl+Enter assembles the source and runs it, and that the message of the button "assemble only" says what stays unchanged."""
     choose_example(browser, "traffic light")
     browser.until(GET_STATUS, re.compile("^Running"))
-    set_text(browser, PROGRAM, "\tLDM 7\nstop:\tJUN stop\n")
+    set_text(browser, PROGRAM_EDITOR, "\tLDM 7\nstop:\tJUN stop\n")
     browser.click("#assemble-only")
-    eventually(browser, "assembling alone says what it leaves", GET_STATUS_OF.format(PROGRAM), re.compile(
+    eventually(browser, "the message of \"assemble only\" says what stays unchanged", GET_STATUS_OF.format(PROGRAM_EDITOR), re.compile(
         r"^3 bytes assembled\. \d+ bytes from before stay in ROM, from 0x0..?\. The counter stays at ..., nothing was reset\.$".replace(", n", "; n")))
-    browser.script(SET_CARET, PROGRAM, 0, 0)
+    browser.script(SET_CARET, PROGRAM_EDITOR, 0, 0)
     browser.press_chord(CONTROL, ENTER)
-    eventually(browser, "Control and Enter assemble and run", GET_STATUS_OF.format(PROGRAM), "Assembled 3 bytes; running from 000.")
-    eventually(browser, "time is running", GET_STATUS, re.compile("^Running"))
+    eventually(browser, "Ctrl+Enter assembles and runs the source", GET_STATUS_OF.format(PROGRAM_EDITOR), "Assembled 3 bytes; running from 000.")
+    eventually(browser, "the program is running", GET_STATUS, re.compile("^Running"))
     browser.until("return document.querySelector('#registers').textContent", re.compile("^acc7"))
     stop_time(browser)
-    eventually(browser, "the machine is at the program's end", "return document.querySelector('#registers').textContent", re.compile("^acc7.*pc00[12]"))
+    eventually(browser, "the machine is at the end of the program", "return document.querySelector('#registers').textContent", re.compile("^acc7.*pc00[12]"))
     browser.script("document.getElementById('lines').value = 'list 3 40'")
     show_text(browser, "console")
     browser.click("#send")
-    eventually(browser, "ROM has nothing else", "return document.querySelector('#log').textContent.split('list 3 40').pop().replace(/... 00 +NOP/g, '')", "")
+    eventually(browser, "the rest of ROM is empty", "return document.querySelector('#log').textContent.split('list 3 40').pop().replace(/... 00 +NOP/g, '')", "")
     lines = browser.script("return document.querySelector('#log').textContent")
-    verdict("by one text and a reset", len(re.findall("reset", lines)), 1)
+    verdict("the number of resets", len(re.findall("reset", lines)), 1)
 
 
-def check_empty(browser):
-    """Checks that an empty bench offers a board, and that a line that needs a missing ROM chip has an error."""
+def check_empty_bench(browser):
+    """Checks that an empty bench offers a board, and that a line for a missing ROM chip has an error."""
     choose_example(browser, "empty bench")
-    set_text(browser, PROGRAM, "; nothing yet\n\tLDM 1\n")
-    eventually(browser, "a ROM that is lacking is reported at its line", GET_ERRORS.format(PROGRAM), re.compile(r"^line 2: this line is at 000, and the board has no ROM 0: wire a \[\[rom\]\]"))
+    set_text(browser, PROGRAM_EDITOR, "; nothing yet\n\tLDM 1\n")
+    eventually(browser, "a line for a missing ROM chip has an error", GET_ERRORS.format(PROGRAM_EDITOR), re.compile(r"^line 2: this line is at 000, and the board has no ROM 0: wire a \[\[rom\]\]"))
     show_text(browser, "board")
     browser.click("#first-board")
-    eventually(browser, "an empty bench gets a board", GET_STATUS_OF.format(BOARD), "Board applied.")
-    verdict("with lamps", browser.script("return document.querySelectorAll('#lamps li').length"), 4)
-    verdict("and it is not offered again", browser.script("return document.getElementById('board-offer').hidden"), True)
+    eventually(browser, "the button of an empty bench applies a board", GET_STATUS_OF.format(BOARD_EDITOR), "Board applied.")
+    verdict("the number of lamps", browser.script("return document.querySelectorAll('#lamps li').length"), 4)
+    verdict("the board is not offered again", browser.script("return document.getElementById('board-offer').hidden"), True)
     show_text(browser, "program")
-    eventually(browser, "then the program has no error", GET_ERRORS.format(PROGRAM), "")
+    eventually(browser, "the program has no errors on the new board", GET_ERRORS.format(PROGRAM_EDITOR), "")
 
 
 FAULTY_BOARD = """[[rom]]
@@ -315,36 +320,36 @@ size = 3
 [[lamp]]
 lime = "rom0.0"
 """
-# The corrections in order: the text to replace, the new text, the error before the correction, and the text that is underlined.
+# The corrections in order: the wrong text, the corrected text, the error before the correction, and the text that is underlined.
 BOARD_CORRECTIONS = [("size = 3\n", "", "line 4: size is not a key of rom, which has chip, port", "size"),
                 ("lime", "line", "line 6: lime is not a key of lamp; line?", "lime"),
                 ("77", "7", "line 2: chip must be a unique number from 0 to 15", "77")]
 
 
-def check_board(browser):
-    """Checks that the editor shows the error in a board's text while the user types."""
+def check_board_text(browser):
+    """Checks that the editor shows the error in a board's text while the user types, and that completion inserts complete parts."""
     show_text(browser, "board")
     text = FAULTY_BOARD
     for wrong_text, corrected_text, message, underlined in BOARD_CORRECTIONS:
-        set_text(browser, BOARD, text)
-        eventually(browser, "the error of a board, with a message", GET_ERRORS.format(BOARD), message)
-        verdict("with what is wrong underlined", browser.script(GET_UNDERLINED.format(BOARD)), underlined)
+        set_text(browser, BOARD_EDITOR, text)
+        eventually(browser, "the message about the error in the board's text", GET_ERRORS.format(BOARD_EDITOR), message)
+        verdict("the underlined text", browser.script(GET_UNDERLINED.format(BOARD_EDITOR)), underlined)
         text = text.replace(wrong_text, corrected_text)
-    set_text(browser, BOARD, text)
-    eventually(browser, "a lamp at a ROM that the board lacks", GET_ERRORS.format(BOARD), "line 6: the board has no line rom0.0: no [[rom]] has chip = 0")
-    set_text(browser, BOARD, "")
-    browser.script(SET_CARET, BOARD, 0, 0)
+    set_text(browser, BOARD_EDITOR, text)
+    eventually(browser, "the error about a lamp at a missing ROM chip", GET_ERRORS.format(BOARD_EDITOR), "line 6: the board has no line rom0.0: no [[rom]] has chip = 0")
+    set_text(browser, BOARD_EDITOR, "")
+    browser.script(SET_CARET, BOARD_EDITOR, 0, 0)
     for text in ("[[rom]]\nchip = 0\nport = \"0000\"", "[[lamp]]\nline = \"rom0.0\""):
         browser.press_chord(CONTROL, " ")
         browser.until("return document.querySelectorAll('.cm-tooltip-autocomplete li').length", 5)
         browser.script("[...document.querySelectorAll('.cm-tooltip-autocomplete li')].find((node) => node.textContent.startsWith(arguments[0]))"
                        ".dispatchEvent(new MouseEvent('mousedown', { bubbles: true, cancelable: true }))",
                        text.split("\n")[0])
-        verdict("an empty line becomes a part", browser.script(GET_TEXT_OF_EDITOR, BOARD).endswith(text), True)
+        verdict("completion in an empty line inserts a part", browser.script(GET_TEXT_OF_EDITOR, BOARD_EDITOR).endswith(text), True)
         browser.keys([ENTER])
-    eventually(browser, "and a board of such parts has no error", GET_ERRORS.format(BOARD), "")
-    set_text(browser, BOARD, "[[rom]]\nchip = 0\nport = 0000\n")
-    eventually(browser, "what is no TOML", GET_ERRORS.format(BOARD), 'line 3: a number has no leading zero; write a text in quotes: "0000"')
+    eventually(browser, "a board of inserted parts has no errors", GET_ERRORS.format(BOARD_EDITOR), "")
+    set_text(browser, BOARD_EDITOR, "[[rom]]\nchip = 0\nport = 0000\n")
+    eventually(browser, "the error about a text that is not TOML", GET_ERRORS.format(BOARD_EDITOR), 'line 3: a number has no leading zero; write a text in quotes: "0000"')
     show_text(browser, "program")
 
 
@@ -359,29 +364,30 @@ def compose(browser, *words, replaced_range=None):
     browser.command("Input.insertText", text=words[-1])
 
 
-def check_phone(browser, page):
-    """Checks words that a phone's keyboard composes and corrects while the editor marks errors, and typing over selected lines. Needs Chromium's
-    driver."""
+def check_phone_keyboard(browser, page):
+    """Checks that a word is inserted once if a phone's keyboard composes or corrects it while the editor marks errors. Text typed over selected
+    lines must replace them. Needs Chromium's driver."""
     reopen_page(browser, page)
     choose_example(browser, "calculator")
     show_text(browser, "program")
-    get_text = GET_TEXT_OF_EDITOR.replace("arguments[0]", f"'{PROGRAM}'")
-    set_text(browser, PROGRAM, "\tLDM \n\tJUN nowhere\n")
-    browser.script(SET_CARET, PROGRAM, 0, 5)
+    get_text = GET_TEXT_OF_EDITOR.replace("arguments[0]", f"'{PROGRAM_EDITOR}'")
+    set_text(browser, PROGRAM_EDITOR, "\tLDM \n\tJUN nowhere\n")
+    browser.script(SET_CARET, PROGRAM_EDITOR, 0, 5)
     compose(browser, "w", "wo", "wor", "word")
-    eventually(browser, "a word that is composed while errors are marked is there", get_text, "\tLDM word\n\tJUN nowhere\n")
-    eventually(browser, "with its error", GET_ERRORS.format(PROGRAM), re.compile("^line 1: .*word"))
-    set_text(browser, PROGRAM, "lable:\tNOP\n")
-    browser.script(SET_CARET, PROGRAM, 0, 5)
+    eventually(browser, "a composed word is inserted while errors are marked", get_text, "\tLDM word\n\tJUN nowhere\n")
+    eventually(browser, "the composed word has an error", GET_ERRORS.format(PROGRAM_EDITOR), re.compile("^line 1: .*word"))
+    set_text(browser, PROGRAM_EDITOR, "lable:\tNOP\n")
+    browser.script(SET_CARET, PROGRAM_EDITOR, 0, 5)
     compose(browser, "label", replaced_range=(0, 5))
-    eventually(browser, "a word that the keyboard puts right stands once", get_text, "label:\tNOP\n")
-    set_text(browser, PROGRAM, "one:\tNOP\ntwo:\tNOP\n\tNOP\n")
-    browser.script(f"{FIND_EDITOR}editor.focus(); editor.setSelection({{ line: 0, ch: 5 }}, {{ line: 1, ch: 8 }})", PROGRAM)
+    eventually(browser, "a word that the keyboard corrects appears once", get_text, "label:\tNOP\n")
+    set_text(browser, PROGRAM_EDITOR, "one:\tNOP\ntwo:\tNOP\n\tNOP\n")
+    browser.script(f"{FIND_EDITOR}editor.focus(); editor.setSelection({{ line: 0, ch: 5 }}, {{ line: 1, ch: 8 }})", PROGRAM_EDITOR)
     browser.command("Input.insertText", text="I")
-    eventually(browser, "what is typed over lines takes their place", get_text, "one:\tI\n\tNOP\n")
+    eventually(browser, "text typed over selected lines replaces them", get_text, "one:\tI\n\tNOP\n")
 
 
 def check_editor(browser, page, _folder, _mcs4):
+    """Runs the checks of this part, and checks that they cause only the expected notice."""
     check_opened_text(browser, page)
     reopen_page(browser, page)
     browser.script("for (const each of document.querySelectorAll('#notice .dismiss')) each.click()")
@@ -390,15 +396,15 @@ def check_editor(browser, page, _folder, _mcs4):
     show_text(browser, "program")
     check_errors(browser)
     check_typing(browser)
-    check_names(browser)
+    check_name_commands(browser)
     check_folding(browser)
-    check_numbers(browser)
-    check_hidden_text(browser)
+    check_line_numbers(browser)
+    check_scroll_position_kept(browser)
     check_limits(browser)
-    check_sessions(browser)
+    check_undo_history(browser)
     check_running(browser)
-    check_board(browser)
-    check_empty(browser)
+    check_board_text(browser)
+    check_empty_bench(browser)
     notices = browser.script(GET_ALL_NOTICES)
     unexpected = [words for words in notices[:len(notices) - notice_count_before] if not words.endswith("is saved.")]
-    verdict("no notice but what was done", unexpected, ["The source was disassembled from ROM."])
+    verdict("the notices of this check", unexpected, ["The source was disassembled from ROM."])

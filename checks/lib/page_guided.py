@@ -27,155 +27,165 @@ GET_REGISTER = "return document.getElementById(`value-${arguments[0]}`).textCont
 
 
 def click_link(browser, label, wait_seconds=0.2):
-    """Clicks the story's link with this text, and waits. A number after `#` in `label` selects one of several links with the same text, from 1."""
+    """Clicks the story's link with this text, and waits. A number after `#` in `label` selects one of several links with the same text, from 1. If
+    there is no such link, the check fails."""
     label, _, number = label.partition("#")
     matches = [index for index, link in enumerate(browser.script(GET_LINKS)) if link == label]
     if not matches:
-        verdict(f"the story has a place {label}", browser.script(GET_LINKS), label)
+        verdict(f"the story has a link {label}", browser.script(GET_LINKS), label)
         return
     browser.script(CLICK_LINK, matches[int(number or 1) - 1])
     time.sleep(wait_seconds)
 
 
 def next_step(browser, title):
+    """Opens the next step of the story, and checks its title."""
     browser.click("#tour-next")
     eventually(browser, f"the next step is {title}", GET_TITLE, re.compile(f"^[1-6] of 6: {title}$"))
 
 
-def check_sum(browser):
-    eventually(browser, "the story is open", GET_TITLE, "1 of 6: A sum")
-    verdict("with its example", browser.script(GET_SESSION_NAME), "printing calculator")
+def check_sum_step(browser):
+    """Checks that the story opens its example at the first step, and that the links of this step press the keys of a sum."""
+    eventually(browser, "the story opens at its first step", GET_TITLE, "1 of 6: A sum")
+    verdict("the story opens its example", browser.script(GET_SESSION_NAME), "printing calculator")
     for label in ("1", "2", "+", "3", "0", "="):
         click_link(browser, label)
-    eventually(browser, "its keys press the board's", GET_PRINTER_TAPE, "12+ 30= 42")
-    verdict("and the display shows what came", browser.script(GET_DIGITS), "42")
+    eventually(browser, "the links press the calculator's keys", GET_PRINTER_TAPE, "12+ 30= 42")
+    verdict("the display shows the result", browser.script(GET_DIGITS), "42")
 
 
-def check_main_loop(browser):
+def check_main_loop_step(browser):
+    """Checks that the links of the second step pause and resume the program, and show the wiring and the source."""
     next_step(browser, "One digit at a time")
     click_link(browser, "Pause")
-    eventually(browser, "time is paused", GET_STATUS, re.compile("^Paused"))
+    eventually(browser, "the link pauses the program", GET_STATUS, re.compile("^Paused"))
     click_link(browser, "Resume")
-    eventually(browser, "time is running", GET_STATUS, re.compile("^Running"))
+    eventually(browser, "the link resumes the program", GET_STATUS, re.compile("^Running"))
     click_link(browser, "wiring")
-    eventually(browser, "the wiring is in front", GET_TAB, re.compile("^Wiring"))
+    eventually(browser, "the link shows the wiring", GET_TAB, re.compile("^Wiring"))
     click_link(browser, "a turn")
-    eventually(browser, "the source is in front", GET_TAB, re.compile("^Source"))
+    eventually(browser, "the link shows the source", GET_TAB, re.compile("^Source"))
 
 
 def check_phone(browser):
-    """Checks that on a phone the story stays visible above the part that it shows."""
+    """Checks that on a phone the story stays visible above the tab that it shows."""
     set_size(browser, 390, 844, True)
     for label in ("wiring", "a turn"):
         click_link(browser, label)
-        eventually(browser, f"on a phone the story stays beside {label}", IS_STORY_IN_VIEW, True)
-        verdict(f"and {label} has room", browser.script(GET_TAB_HEIGHT) > 150, True)
-        verdict("nothing scrolls sideways", browser.script(MEASURE_OVERFLOW), 0)
+        eventually(browser, f"on a phone the story stays visible with {label}", IS_STORY_IN_VIEW, True)
+        verdict(f"on a phone {label} is more than 150 pixels high", browser.script(GET_TAB_HEIGHT) > 150, True)
+        verdict("the page does not scroll sideways", browser.script(MEASURE_OVERFLOW), 0)
     browser.restore_size()
 
 
-def check_key(browser):
+def check_key_step(browser):
+    """Checks that the links of the third step press a key, run to locations of the program, and go back to the instructions that set registers."""
     next_step(browser, "A key goes down")
     click_link(browser, "Pause")
-    eventually(browser, "time is paused", GET_STATUS, re.compile("^Paused"))
+    eventually(browser, "the link pauses the program", GET_STATUS, re.compile("^Paused"))
     click_link(browser, "press 5")
-    eventually(browser, "the key stays down", GET_KEYS_DOWN, "5")
+    eventually(browser, "the link presses the key, which stays down", GET_KEYS_DOWN, "5")
     click_link(browser, "press 5")
-    verdict("also where it is pressed again", browser.script(GET_KEYS_DOWN), "5")
+    verdict("the key stays down when it is pressed again", browser.script(GET_KEYS_DOWN), "5")
     click_link(browser, "Run to where the columns are read")
-    eventually(browser, "time has reached the place where the columns are read", GET_WHOLE_STATUS, re.compile(r"look, line"))
+    eventually(browser, "the program runs to the read of the columns", GET_WHOLE_STATUS, re.compile(r"look, line"))
     click_link(browser, "Run to where the key is accepted")
-    eventually(browser, "and to where the key is accepted", GET_WHOLE_STATUS, re.compile(r"taken, line"))
-    verdict("R11 has its number", browser.script(GET_REGISTER, "R11"), "5")
+    eventually(browser, "the program runs to the acceptance of the key", GET_WHOLE_STATUS, re.compile(r"taken, line"))
+    verdict("R11 has the number of the key", browser.script(GET_REGISTER, "R11"), "5")
     click_link(browser, "R11 gets it")
-    eventually(browser, "back to where R11 gets it", GET_WHOLE_STATUS, re.compile(r"^Back .*other \+"))
-    verdict("which is not done yet", browser.script(GET_REGISTER, "R11"), "0")
-    verdict("R9 has it", browser.script(GET_REGISTER, "R9"), "5")
+    eventually(browser, "the program goes back to the instruction that sets R11", GET_WHOLE_STATUS, re.compile(r"^Back .*other \+"))
+    verdict("R11 is not set yet", browser.script(GET_REGISTER, "R11"), "0")
+    verdict("R9 has the number of the key", browser.script(GET_REGISTER, "R9"), "5")
     click_link(browser, "R9 gets it")
-    eventually(browser, "and to where R9 gets it", GET_WHOLE_STATUS, re.compile(r"^Back .*look \+"))
-    verdict("from the accumulator", browser.script(GET_REGISTER, "acc"), "5")
+    eventually(browser, "the program goes back to the instruction that sets R9", GET_WHOLE_STATUS, re.compile(r"^Back .*look \+"))
+    verdict("the accumulator has the number of the key", browser.script(GET_REGISTER, "acc"), "5")
     click_link(browser, "Forward")
     click_link(browser, "Forward")
-    eventually(browser, "forward is where it came from", GET_WHOLE_STATUS, re.compile(r"taken, line"))
+    eventually(browser, "two steps forward return to the acceptance of the key", GET_WHOLE_STATUS, re.compile(r"taken, line"))
 
 
-def check_digit_entry(browser):
+def check_digit_entry_step(browser):
+    """Checks that the links of the fourth step run to the entry and the display of a digit, show RAM, and release the key. Resuming must remove the
+    goal of a run."""
     next_step(browser, "A digit of a number")
     click_link(browser, "Run to where the digit is entered")
-    eventually(browser, "time has reached the place where the digit is entered", GET_WHOLE_STATUS, re.compile(r"enter, line"))
-    verdict("R15 has its code", browser.script(GET_REGISTER, "R15"), "5")
+    eventually(browser, "the program runs to the entry of the digit", GET_WHOLE_STATUS, re.compile(r"enter, line"))
+    verdict("R15 has the digit", browser.script(GET_REGISTER, "R15"), "5")
     click_link(browser, "RAM")
-    eventually(browser, "RAM is in view", IS_MEMORY_IN_VIEW, True)
+    eventually(browser, "the link shows RAM", IS_MEMORY_IN_VIEW, True)
     click_link(browser, "run on to where it is shown")
-    eventually(browser, "time has reached the place where it is shown", GET_WHOLE_STATUS, re.compile(r"show, line"))
+    eventually(browser, "the program runs to the display of the digit", GET_WHOLE_STATUS, re.compile(r"show, line"))
     click_link(browser, "Run to the next turn")
-    eventually(browser, "and to the next turn", GET_WHOLE_STATUS, re.compile(r"turn, line"))
+    eventually(browser, "the program runs to the next iteration of the main loop", GET_WHOLE_STATUS, re.compile(r"turn, line"))
     click_link(browser, "Release 5")
-    eventually(browser, "the key is up", GET_KEYS_DOWN, "")
+    eventually(browser, "the link releases the key", GET_KEYS_DOWN, "")
     click_link(browser, "resume")
-    eventually(browser, "the digit is seen", GET_DIGITS, "5")
+    eventually(browser, "the display shows the digit", GET_DIGITS, "5")
     click_link(browser, "Run to where the digit is entered")
-    eventually(browser, "without a key time is running up to there", GET_WHOLE_STATUS, re.compile("^Running to"))
+    eventually(browser, "without a key press the program runs towards the entry of a digit", GET_WHOLE_STATUS, re.compile("^Running to"))
     click_link(browser, "resume")
-    eventually(browser, "until it is to run on without a goal", GET_WHOLE_STATUS, re.compile('^Running ".*F5'))
+    eventually(browser, "resume removes the goal of the run", GET_WHOLE_STATUS, re.compile('^Running ".*F5'))
     browser.keys(["5"])
-    eventually(browser, "a digit that is entered then is seen", GET_DIGITS, "55")
-    verdict("and stops nothing", browser.script(GET_WHOLE_STATUS), re.compile('^Running ".*F5'))
+    eventually(browser, "the display shows a digit that is typed later", GET_DIGITS, "55")
+    verdict("the program continues after the digit", browser.script(GET_WHOLE_STATUS), re.compile('^Running ".*F5'))
 
 
-def check_printing(browser):
+def check_printing_step(browser):
+    """Checks that the links of the fifth step run to the output of a printer code, and go back to before it was printed."""
     next_step(browser, "A printed line")
     click_link(browser, "Pause")
-    eventually(browser, "time is paused", GET_STATUS, re.compile("^Paused"))
+    eventually(browser, "the link pauses the program", GET_STATUS, re.compile("^Paused"))
     click_link(browser, "press =")
     click_link(browser, "run to where a character is sent")
-    eventually(browser, "time has reached the place where a printer code is sent", GET_WHOLE_STATUS, re.compile(r"send, line"))
-    verdict("the accumulator has its code", browser.script(GET_REGISTER, "acc"), "5")
+    eventually(browser, "the program runs to the output of a printer code", GET_WHOLE_STATUS, re.compile(r"send, line"))
+    verdict("the accumulator has the printer code", browser.script(GET_REGISTER, "acc"), "5")
     click_link(browser, "Run on")
-    eventually(browser, "the printout has one character more", GET_PRINTER_TAPE, "12+ 30= 42 5")
+    eventually(browser, "the printout has one more character", GET_PRINTER_TAPE, "12+ 30= 42 5")
     click_link(browser, "Go back to before the code was written")
-    eventually(browser, "it is gone again", GET_PRINTER_TAPE, "12+ 30= 42")
+    eventually(browser, "going back removes the character", GET_PRINTER_TAPE, "12+ 30= 42")
 
 
-def check_end(browser):
-    """Checks the end of the story by keyboard."""
+def check_last_step(browser):
+    """Checks that Enter opens the last step and follows its links, and that a link to a label that the program lacks is reported."""
     browser.script("document.getElementById('tour-next').focus()")
     browser.keys([ENTER])
-    eventually(browser, "Enter goes to the last step", GET_TITLE, "6 of 6: Further")
+    eventually(browser, "Enter opens the last step", GET_TITLE, "6 of 6: Further")
     for label, query in (("Release =", GET_KEYS_DOWN), ("tests", GET_TAB), ("Waves", GET_DOCK_TAB), ("Source", GET_TAB)):
         browser.script(FOCUS_LINK, browser.script(GET_LINKS).index(label))
         browser.keys([ENTER])
         expected = "" if query == GET_KEYS_DOWN else re.compile(f"^{label.capitalize()}")
-        eventually(browser, f"Enter on {label}", query, expected)
+        eventually(browser, f"Enter follows the link {label}", query, expected)
     browser.script(FOCUS_LINK, browser.script(GET_LINKS).index("resume"))
     browser.keys([ENTER])
-    eventually(browser, "time is running", GET_STATUS, re.compile("^Running"))
+    eventually(browser, "Enter on the link resumes the program", GET_STATUS, re.compile("^Running"))
     status_of(browser, "#program-editor", "NOP\n")
     browser.click("#tour-back")
     click_link(browser, "run to where a character is sent")
-    eventually(browser, "a label that is gone is reported", GET_TOUR_STATUS, re.compile("^Nothing was done: .* it has no label send"))
+    eventually(browser, "the missing label is reported", GET_TOUR_STATUS, re.compile("^Nothing was done: .* it has no label send"))
 
 
 def check_leaving(browser):
+    """Checks that a reload opens the story at its first step, and that Leave closes it."""
     browser.reload()
     until_ready(browser)
-    eventually(browser, "a reload shows the story again", GET_TITLE, "1 of 6: A sum")
-    verdict("beside the session", browser.script("return location.hash"), re.compile("^#session="))
+    eventually(browser, "a reload opens the story at its first step", GET_TITLE, "1 of 6: A sum")
+    verdict("the address still names the session", browser.script("return location.hash"), re.compile("^#session="))
     browser.click("#tour-close")
-    verdict("Leave closes it", browser.script(GET_TITLE), "-")
+    verdict("Leave closes the story", browser.script(GET_TITLE), "-")
 
 
 def check_other_sessions(browser, page):
+    """Checks that an unknown story is reported, that the list of examples opens a story, and that another session has no story."""
     browser.go(f"{page.as_uri()}?story=no%20such")
     until_ready(browser)
     eventually(browser, "an unknown story is reported", GET_NOTICE, 'The address names a story, "no such", that this page does not have.')
-    verdict("and the last session is there", browser.script(GET_SESSION_NAME), "printing calculator")
+    verdict("the last session is open", browser.script(GET_SESSION_NAME), "printing calculator")
     browser.click("#sessions-button")
     browser.until("return document.getElementById('sessions').open", True)
     browser.click("#examples button[aria-label='new session with its story: printing calculator']")
-    eventually(browser, "the list of examples has it, too", GET_TITLE, "1 of 6: A sum")
-    is_line_in_window = "return document.documentElement.scrollWidth <= innerWidth"
-    verdict("no line is wider than the window", browser.script(is_line_in_window), True)
+    eventually(browser, "the list of examples opens the story", GET_TITLE, "1 of 6: A sum")
+    is_page_in_window = "return document.documentElement.scrollWidth <= innerWidth"
+    verdict("the page is not wider than the window", browser.script(is_page_in_window), True)
     choose_example(browser, "traffic light")
     eventually(browser, "another session has no story", GET_TITLE, "-")
 
@@ -184,13 +194,13 @@ def check(browser, page, _folder, _mcs4):
     browser.go(f"{page.as_uri()}?story={STORY_NAME}")
     eventually(browser, "the page is ready", IS_READY, True, 90)
     browser.script(SET_SPEED, "real")
-    check_sum(browser)
-    check_main_loop(browser)
+    check_sum_step(browser)
+    check_main_loop_step(browser)
     if isinstance(browser, Chromium):
         check_phone(browser)
-    check_key(browser)
-    check_digit_entry(browser)
-    check_printing(browser)
-    check_end(browser)
+    check_key_step(browser)
+    check_digit_entry_step(browser)
+    check_printing_step(browser)
+    check_last_step(browser)
     check_leaving(browser)
     check_other_sessions(browser, page)

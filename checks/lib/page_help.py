@@ -1,4 +1,4 @@
-"""The part of checks/page about the page's help: the manual's tables, the console input, the wiring picture, and the first program."""
+"""The part of checks/page about the page's help: the manual's tables, the console input, the wiring picture, and the tour."""
 
 import re
 import time
@@ -14,66 +14,71 @@ GET_TOUR_STATUS = "return document.getElementById('tour-status').textContent"
 GET_TOUR_TITLE = "return document.getElementById('tour-title').textContent"
 COUNT_ROWS = "return document.querySelectorAll('#help-sections tbody tr').length"
 SHOW_IN_BOARD = "#chosen [aria-label='Show in text']"
-COUNT_HIGH = "return [...document.querySelectorAll('#wiring-picture .high')].length"
+COUNT_HIGH_LINES = "return [...document.querySelectorAll('#wiring-picture .high')].length"
 GET_SELECTED = "return document.querySelector('#board-editor .cm-editor').lineEditor.getSelection()"
 
 
 def check_help(browser):
+    """Checks that F1 opens the help, that a search shows only the matching row of the manual, and that Escape closes the help."""
     browser.script("document.activeElement.blur()")
     browser.keys([F1])
     eventually(browser, "F1 opens the help", IS_HELP_SHOWN, True)
     browser.type_into("#help-search", "decimal adjust")
-    eventually(browser, "a search leaves the row that has it", COUNT_ROWS, 1)
-    verdict("it is the manual's", browser.text("#help-sections tbody tr"), re.compile("^DAAFBdecimal adjust: 6 is added to ACC if CY"))
+    eventually(browser, "a search shows only the matching row", COUNT_ROWS, 1)
+    verdict("the row is from the manual", browser.text("#help-sections tbody tr"), re.compile("^DAAFBdecimal adjust: 6 is added to ACC if CY"))
     browser.keys([ESCAPE])
     eventually(browser, "Escape closes the help", IS_HELP_SHOWN, False)
-    verdict("and the button has the focus again", browser.script("return document.activeElement.id"), "help-button")
+    verdict("the help button has the focus again", browser.script("return document.activeElement.id"), "help-button")
 
 
-def check_lines(browser):
+def check_console_input(browser):
+    """Checks that the console's field shows matching commands, recalls earlier lines, and completes words. The line `help WORD` must open the
+    help."""
     show_text(browser, "console")
     browser.script("document.activeElement.blur()")
     browser.type_into("#lines", "re")
-    eventually(browser, "what begins so is shown below the box", GET_HINT, re.compile(r"^release r c: .*\nreset: .*\nregs: "))
+    eventually(browser, "the commands with the typed beginning are shown below the field", GET_HINT, re.compile(r"^release r c: .*\nreset: .*\nregs: "))
     browser.script("document.getElementById('lines').value = ''")
     browser.type_into("#lines", "poke r5 9" + ENTER)
-    eventually(browser, "Enter sends", GET_LINES, "")
+    eventually(browser, "Enter sends the line and empties the field", GET_LINES, "")
     browser.type_into("#lines", "seq" + ENTER)
-    eventually(browser, "and again", GET_LINES, "")
+    eventually(browser, "Enter sends the second line", GET_LINES, "")
     browser.keys([UP, UP])
-    eventually(browser, "the arrow up brings back what was sent before", GET_LINES, "poke r5 9")
+    eventually(browser, "the Up arrow recalls the line before the last one", GET_LINES, "poke r5 9")
     browser.keys([DOWN])
-    eventually(browser, "and the arrow down what was sent after it", GET_LINES, "seq")
+    eventually(browser, "the Down arrow recalls the last line", GET_LINES, "seq")
     browser.keys([DOWN])
-    eventually(browser, "and at the end what was being typed", GET_LINES, "")
+    eventually(browser, "the Down arrow after the last line empties the field", GET_LINES, "")
     browser.type_into("#lines", "unb")
     browser.press_chord(CONTROL, " ")
-    eventually(browser, "Control and the space bar complete a word", GET_LINES, "unbreak ")
+    eventually(browser, "Ctrl+Space completes a word", GET_LINES, "unbreak ")
     browser.script("document.getElementById('lines').value = ''")
     browser.type_into("#lines", "help watch" + ENTER)
-    eventually(browser, "help with a word opens the help there", IS_HELP_SHOWN, True)
-    verdict("and searches it", browser.script("return document.getElementById('help-search').value"), "watch")
+    eventually(browser, "the line `help WORD` opens the help", IS_HELP_SHOWN, True)
+    verdict("the help searches the word", browser.script("return document.getElementById('help-search').value"), "watch")
     browser.click("#help-close")
-    eventually(browser, "its button closes it", IS_HELP_SHOWN, False)
+    eventually(browser, "the Close button closes the help", IS_HELP_SHOWN, False)
 
 
 def check_wiring(browser):
+    """Checks that the wiring picture colours the lines at 1 and describes them in words, and that a selected part can be shown in the board's
+    text."""
     choose_example(browser, "traffic light")
     browser.click("#wiring-tab")
-    eventually(browser, "the wiring is drawn", "return document.querySelectorAll('#wiring-picture .part').length >= 4", True)
-    eventually(browser, "lines at 1 are marked while time is running", COUNT_HIGH, re.compile("[1-9]"))
-    verdict("and described in words", browser.text("#wiring-words"), re.compile("ROM 0 · 4001: line rom0.0, an (in|out)put, "))
+    eventually(browser, "the picture of the wiring has its parts", "return document.querySelectorAll('#wiring-picture .part').length >= 4", True)
+    eventually(browser, "lines at 1 are coloured while the program is running", COUNT_HIGH_LINES, re.compile("[1-9]"))
+    verdict("the lines are also described in words", browser.text("#wiring-words"), re.compile("ROM 0 · 4001: line rom0.0, an (in|out)put, "))
     browser.script("document.querySelector('#wiring-picture .part.of-rom').focus()")
     browser.keys([ENTER])
     browser.click(SHOW_IN_BOARD)
-    eventually(browser, "a part that is chosen by Enter has its lines in the board's text", GET_SELECTED, re.compile(r"^\[\[rom\]\]\nchip = 0\n"))
+    eventually(browser, "a part that was selected with Enter is shown in the board's text", GET_SELECTED, re.compile(r"^\[\[rom\]\]\nchip = 0\n"))
     browser.click("#wiring-tab")
     browser.script("document.querySelector('#wiring-picture .of-test').focus()")
     browser.keys([ENTER])
     browser.click(SHOW_IN_BOARD)
-    eventually(browser, "and the button at TEST its line", GET_SELECTED, "# test: button WALK")
+    eventually(browser, "the button at TEST is shown in the board's text", GET_SELECTED, "# test: button WALK")
     browser.click("#wiring-tab")
-    verdict("and the part where the caret stands is marked",
+    verdict("the part at the caret is marked in the picture",
             browser.script("return document.querySelectorAll('#wiring-picture .marked').length") >= 1, True)
     browser.click("#program-tab")
 
@@ -83,44 +88,45 @@ def run_program(browser):
     browser.click("#tour-put")
     browser.script("document.querySelector('#program-editor .status-text').firstChild.data = ''")
     browser.click("#program-editor .send")
-    browser.until("return document.querySelector('#program-editor .status-text').textContent", re.compile("It runs from 000 on"))
+    browser.until("return document.querySelector('#program-editor .status-text').textContent", re.compile("running from 000"))
     browser.until(GET_STATUS, re.compile("^Running"))
 
 
 def check_tour(browser):
-    """Performs the actions that the five steps of the tour describe, and checks the results."""
+    """Checks that the tour detects the action that each of its five steps describes, and closes after the last one."""
     browser.click("#help-button")
     browser.click("#tour-begin")
-    eventually(browser, "the first program begins", GET_TOUR_TITLE, "1 of 5: A lamp")
+    eventually(browser, "the first step of the tour is open", GET_TOUR_TITLE, "1 of 5: A lamp")
     run_program(browser)
-    eventually(browser, "the lamp is seen", GET_TOUR_STATUS, "Done.")
+    eventually(browser, "the tour detects the lamp", GET_TOUR_STATUS, "Done.")
     browser.click("#tour-next")
     run_program(browser)
-    eventually(browser, "the count is seen", GET_TOUR_STATUS, "Done.")
+    eventually(browser, "the tour detects the count", GET_TOUR_STATUS, "Done.")
     browser.click("#tour-next")
-    verdict("a step begins undone", browser.script(GET_TOUR_STATUS), "")
+    verdict("the third step is not done yet", browser.script(GET_TOUR_STATUS), "")
     run_program(browser)
     time.sleep(0.3)
     browser.touch_together([key("right")], 400)
-    eventually(browser, "the key is seen", GET_TOUR_STATUS, "Done.")
+    eventually(browser, "the tour detects the key press", GET_TOUR_STATUS, "Done.")
     browser.click("#tour-next")
     send_lines(browser, "break 0x006")
-    eventually(browser, "the breakpoint is seen", GET_TOUR_STATUS, "Done.")
+    eventually(browser, "the tour detects the breakpoint", GET_TOUR_STATUS, "Done.")
     send_lines(browser, "unbreak 0x006")
     browser.click("#tour-next")
     run_program(browser)
     browser.click(".ram button")
     time.sleep(0.3)
     browser.touch_together([key("left")], 300)
-    eventually(browser, "the watch is seen", GET_TOUR_STATUS, re.compile("^Done: that was the last step"))
+    eventually(browser, "the tour detects the watch", GET_TOUR_STATUS, re.compile("^Done: that was the last step"))
     browser.click("#tour-next")
-    eventually(browser, "and it ends", "return document.getElementById('tour').hidden", True)
+    eventually(browser, "the tour closes after its last step", "return document.getElementById('tour').hidden", True)
 
 
-def check_hints(browser):
+def check_cell_tooltips(browser):
+    """Checks that tooltips explain the cells of the processor, the calls and the ports."""
     get_titles = "return [...document.querySelectorAll('#processor [title], #calls [title], #ports [title]')].map((node) => node.title).join('; ')"
-    for description in ("the accumulator", "in the middle of an instruction of two cycles", "the return addresses, the newest first", "what WRR has written"):
-        eventually(browser, f"a cell says what it shows: {description}", get_titles, re.compile(description))
+    for description in ("the accumulator", "in the middle of a two-cycle instruction", "the return addresses for BBL, the newest first", "what WRR has written"):
+        eventually(browser, f"the tooltip of a cell: {description}", get_titles, re.compile(description))
 
 
 def check(browser, page, _folder, _mcs4):
@@ -128,7 +134,7 @@ def check(browser, page, _folder, _mcs4):
     until_ready(browser)
     choose_example(browser, "calculator")
     check_help(browser)
-    check_hints(browser)
-    check_lines(browser)
+    check_cell_tooltips(browser)
+    check_console_input(browser)
     check_wiring(browser)
     check_tour(browser)

@@ -1,4 +1,5 @@
-"""The basic part of checks/page in the browser: keys, clicks and files must have the same effects as the program's lines."""
+"""The basic part of checks/page: the calculator by pointer and keyboard, session files, breakpoints, messages about texts, two tabs, and hidden
+pages. Keys, clicks and files must have the same effects as the program's lines. The other parts use the functions of this module."""
 
 import os
 import pathlib
@@ -26,7 +27,7 @@ document.querySelector("#notices .bar button").click();
 return all"""
 # Closes the cards of a first visit, which cover everything else.
 CLOSE_CARDS = "const cards = document.getElementById('welcome'); if (cards && cards.open) cards.close()"
-# The page is ready, and has prepared the editors of the tabs that are not in front.
+# True if the page is ready, and has prepared the editors of the tabs that are not in front.
 IS_READY = "return Boolean(document.body.dataset.ready) && document.querySelectorAll('.cm-editor').length === 4"
 COUNT_KEYS_DOWN = "return document.querySelectorAll(\"#keys [aria-pressed='true']\").length"
 SET_SPEED = """
@@ -53,7 +54,8 @@ indexedDB.open("fethsaim", 1).onsuccess = (opened) => {
 }"""
 COUNT_SAVED_SESSIONS = "const kept = window.keptWhenHidden; return [kept.length, new Set(kept).size]"
 
-# The text of an editor, and its replacement. Each editor's element has a LineEditor (js/page/text/line_editor.js).
+# GET_TEXT_OF_EDITOR returns the text of an editor, and PUT_INTO_EDITOR replaces it. Each editor's element has a LineEditor
+# (js/page/text/line_editor.js).
 GET_TEXT_OF_EDITOR = "return document.querySelector(`${arguments[0]} .cm-editor`).lineEditor.getValue()"
 PUT_INTO_EDITOR = "document.querySelector(`${arguments[0]} .cm-editor`).lineEditor.setValue(arguments[1])"
 
@@ -86,7 +88,7 @@ GET_VIOLATIONS = "return [...window.violations].sort().join(' ') + (window.injec
 
 
 def until_ready(browser):
-    """Waits until the page is ready, which can take much longer on a busy machine."""
+    """Waits at most 90 seconds until the page is ready, because that can take long on a busy machine. Closes the cards of a first visit."""
     eventually(browser, "the page is ready", IS_READY, True, 90)
     browser.script(CLOSE_CARDS)
 
@@ -99,7 +101,7 @@ def reopen_page(browser, page):
 
 
 def stop_time(browser):
-    """Pauses time."""
+    """Pauses time, which must be running."""
     browser.click("#run")
     browser.until(GET_STATUS, re.compile("^Paused"))
 
@@ -111,11 +113,12 @@ def choose_from_file_menu(browser, selector):
 
 
 def key(legend):
-    """Returns the selector of a key on the board."""
+    """Returns the selector of the board's key with this legend."""
     return f"#keys button[aria-label^='key {legend},']"
 
 
 def choose_example(browser, name):
+    """Opens an example in a new session, through the dialog of sessions."""
     browser.click("#sessions-button")
     browser.until("return document.getElementById('sessions').open", True)
     browser.click(f"#examples button[aria-label='new session: {name}']")
@@ -125,42 +128,46 @@ def choose_example(browser, name):
 def step_with_marks(browser):
     """Checks with the traffic light that a lamp is on, that time can be paused, and that a step marks the values that it changed."""
     choose_example(browser, "traffic light")
-    eventually(browser, "a lamp is on", "return document.querySelectorAll('.bulb.lit').length > 0", True)
+    eventually(browser, "a lamp of the traffic light is on", "return document.querySelectorAll('.bulb.lit').length > 0", True)
     stop_time(browser)
     browser.click("#step")
     eventually(browser, "a step marks the changed values", "return document.querySelectorAll('.changed').length > 0", True)
 
 
 def check_calculator(browser):
+    """Checks that the calculator computes what is typed with the pointer and on the keyboard, even very fast, and that a reload keeps the display."""
     choose_example(browser, "calculator")
     for legend in "12+30=":
         browser.touch_together([key(legend)], 60)
         time.sleep(0.08)
-    eventually(browser, "1 2 + 3 0 = by the pointer", GET_DIGITS, "42")
+    eventually(browser, "the result of 12 + 30, typed with the pointer", GET_DIGITS, "42")
     browser.reload()
     until_ready(browser)
     eventually(browser, "the display after a reload", GET_DIGITS, "42")
     browser.keys([ESCAPE, "7", "-", "9", ENTER])
-    eventually(browser, "7 - 9 by the keyboard", GET_DIGITS, "-2")
+    eventually(browser, "the result of 7 - 9, typed on the keyboard", GET_DIGITS, "-2")
     browser.keys([ESCAPE, "6", "*", "9", ENTER], 1, 1)
-    eventually(browser, "6 * 9, typed very fast", GET_DIGITS, "54")
-    # Each key is pressed again before its release is reported in the next frame, 43 ms after the press.
+    eventually(browser, "the result of 6 * 9, typed very fast", GET_DIGITS, "54")
+    # The milliseconds for which the key is down, and then up. On the board, the page keeps a key down for at least 43 ms, and then up for at least 22
+    # ms.
     for down, up in ((20, 50), (50, 20), (90, 25)):
         browser.keys([ESCAPE, *"11111111"], down, up)
-        eventually(browser, f"one key eight times, {down} ms down and {up} ms up", GET_DIGITS, "11111111")
+        eventually(browser, f"the same key typed eight times, {down} ms down and {up} ms up", GET_DIGITS, "11111111")
 
 
-def check_two_keys(browser):
+def check_keys_together(browser):
+    """Checks that three fingers can hold three keys at once, and that all keys are up afterwards."""
     browser.script("window.both = 0; new MutationObserver(() => { window.both = Math.max(window.both, "
                    "document.querySelectorAll(\"#keys [aria-pressed='true']\").length); }).observe(document.getElementById('keys'), "
                    "{ subtree: true, attributes: true, attributeFilter: ['aria-pressed'] })")
     browser.touch_together([key("C"), key("S"), key("0")], 400)
-    eventually(browser, "three keys at once", "return window.both", 3)
+    eventually(browser, "the maximum number of keys that are down at once", "return window.both", 3)
     eventually(browser, "all keys are up again", COUNT_KEYS_DOWN, 0)
 
 
 def display_of(mcs4, file, keys):
-    """Returns the program's display text for a session file after some keys."""
+    """Presses keys in a session file of the calculator with the native program, which changes the file. Returns the display, which `mcs4 display`
+    reads from the answers."""
     board = TOP / "examples/calculator/board.toml"
     environment = dict(os.environ, MCS4=str(mcs4))
     lines = subprocess.run([TOP / "mcs4", "keys", board, keys], stdout=subprocess.PIPE, check=True, env=environment).stdout
@@ -169,7 +176,7 @@ def display_of(mcs4, file, keys):
 
 
 def as_version_1(file):
-    """Returns a saved session in the format of version 1, which does not have the version byte and the number of watches."""
+    """Converts the bytes of a saved session without watches to version 1, which lacks the version byte and the watches with their count."""
     slot = 16 if file[8] % 2 == 0 else 81936
     length = int.from_bytes(file[slot:slot + 4], "big")
     snapshot = file[slot + 4:slot + 4 + length]
@@ -177,10 +184,12 @@ def as_version_1(file):
     return file[:slot] + old_snapshot + file[slot + len(old_snapshot):]
 
 
-def check_files(browser, folder, mcs4):
+def check_session_files(browser, folder, mcs4):
+    """Checks that the program continues a session that the page saved, and that the page opens the result. A file of version 1 must be converted,
+    and a foreign or damaged file must be rejected."""
     browser.keys([ESCAPE, "6", "*", "7", ENTER])
     browser.until(GET_DIGITS, "42")
-    # Waits until no key is down, because a key that is down when time is paused is also down in the file.
+    # Wait until no key is down, because a key that is down when time is paused is also down in the file.
     browser.until(COUNT_KEYS_DOWN, 0)
     stop_time(browser)
     choose_from_file_menu(browser, "#save-session-button")
@@ -194,12 +203,12 @@ def check_files(browser, folder, mcs4):
     browser.type_into("#file", str(old_file))
     eventually(browser, "a file of version 1 is converted", "return document.getElementById('name').value", "old")
     verdict("the display of the converted session", browser.script(GET_DIGITS), "42")
-    verdict("the saved file, continued by the program", display_of(mcs4, saved_file, "/8="), "5.25")
+    verdict("the display after the program continues the saved file", display_of(mcs4, saved_file, "/8="), "5.25")
     browser.type_into("#file", str(saved_file))
-    eventually(browser, "the program's file, opened by the page", GET_DIGITS, "5.25")
+    eventually(browser, "the page opens the file that the program has written", GET_DIGITS, "5.25")
     verdict("the keys of the opened session have names", browser.text("#keys"), "789/456*123-0.~+CCEcS=")
     source = browser.script(GET_TEXT_OF_EDITOR, "#program-editor")
-    verdict("the program of the opened session has a text", source, (TOP / "examples/calculator/calculator.asm").read_text())
+    verdict("the source of the opened session", source, (TOP / "examples/calculator/calculator.asm").read_text())
     foreign_file = folder / "rubbish.mcs"
     foreign_file.write_bytes(b"no session")
     browser.type_into("#file", str(foreign_file))
@@ -215,25 +224,26 @@ def check_files(browser, folder, mcs4):
     browser.click("#notice .dismiss")
 
 
-def check_stops(browser):
+def check_breakpoint_and_watch(browser):
+    """Checks that clicks set and clear a breakpoint and a watch, and that runs stop at them."""
     browser.click("#step")
     browser.until(GET_STATUS, STEPPED)
     next_row = "#lines-of-program button.next"
-    eventually(browser, "the listing is at the counter", IS_AT_COUNTER, True)
+    eventually(browser, "the disassembly is at the program counter", IS_AT_COUNTER, True)
     address = browser.text(f"{next_row} span")[:3]
     browser.click_at_rest(next_row)
-    eventually(browser, "a breakpoint by a click", f"return document.querySelector('{next_row}').getAttribute('aria-pressed')", "true")
+    eventually(browser, "a click sets a breakpoint", f"return document.querySelector('{next_row}').getAttribute('aria-pressed')", "true")
     browser.click("#run")
-    eventually(browser, "the run stops there", GET_STATUS, f"Paused at {address}, at a breakpoint.")
-    eventually(browser, "the listing shows it", f"return document.querySelector('{next_row} span').textContent.slice(0, 3)", address)
+    eventually(browser, "the program stops at the breakpoint", GET_STATUS, f"Paused at {address}, at a breakpoint.")
+    eventually(browser, "the disassembly shows the address of the stop", f"return document.querySelector('{next_row} span').textContent.slice(0, 3)", address)
     browser.click_at_rest(next_row)
-    eventually(browser, "the breakpoint is gone", f"return document.querySelector('{next_row}').getAttribute('aria-pressed')", "false")
+    eventually(browser, "another click clears the breakpoint", f"return document.querySelector('{next_row}').getAttribute('aria-pressed')", "false")
     browser.click(".ram button")
-    eventually(browser, "a watch by a click", "return document.querySelector('.ram button').getAttribute('aria-pressed')", "true")
+    eventually(browser, "a click sets a watch", "return document.querySelector('.ram button').getAttribute('aria-pressed')", "true")
     browser.script(SET_SPEED, "full")
     browser.click("#run")
     browser.touch_together([key("C")], 60)
-    eventually(browser, "a run at full speed stops where the nibble changes", GET_STATUS,
+    eventually(browser, "a run at full speed stops when the watched nibble changes", GET_STATUS,
                re.compile("^Paused at ..., after a watched nibble changed.$"))
     browser.script(SET_SPEED, "real")
     verdict("the changed nibble is marked", "changed" in browser.script("return document.querySelector('.ram button').className"), True)
@@ -251,28 +261,30 @@ def move_focus_until(browser, key, code, max_presses=40):
 
 
 def check_keyboard_alone(browser):
-    # After the page's last element, the focus moves to the browser.
+    """Checks that the keyboard reaches Step and the disassembly, where it sets and clears a breakpoint, and that all controls have names."""
+    # Start at the session's name, because after the page's last element the focus moves to the browser.
     browser.script("document.getElementById('name').focus()")
-    verdict("Tab comes to Step", move_focus_until(browser, TAB, "e.id === 'step'"), True)
+    verdict("the Tab key reaches Step", move_focus_until(browser, TAB, "e.id === 'step'"), True)
     browser.keys([ENTER])
     eventually(browser, "Enter steps", GET_STATUS, STEPPED)
-    verdict("Tab comes to the listing", move_focus_until(browser, TAB, "e.closest('#lines-of-program') !== null"), True)
+    verdict("the Tab key reaches the disassembly", move_focus_until(browser, TAB, "e.closest('#lines-of-program') !== null"), True)
     browser.keys([DOWN, DOWN, ENTER])
     eventually(browser, "arrows and Enter set a breakpoint", "return document.activeElement.getAttribute('aria-pressed')", "true")
     browser.keys([ENTER])
-    eventually(browser, "arrows and Enter clear the breakpoint", "return document.activeElement.getAttribute('aria-pressed')", "false")
-    verdict("each control has a name", browser.script(COUNT_UNNAMED_CONTROLS), 0)
+    eventually(browser, "Enter clears the breakpoint", "return document.activeElement.getAttribute('aria-pressed')", "false")
+    verdict("the number of controls without a name", browser.script(COUNT_UNNAMED_CONTROLS), 0)
 
 
-def check_narrow(browser):
+def check_phone_width(browser):
+    """Checks that the page does not scroll sideways at the width of a phone."""
     browser.command("Emulation.setDeviceMetricsOverride", width=360, height=740, deviceScaleFactor=1, mobile=True)
     eventually(browser, "a phone shows the page without scrolling sideways", "return document.documentElement.scrollWidth <= 360", True)
     browser.restore_size()
 
 
-def check_hidden(browser):
+def check_hidden_page(browser):
     """Checks that time pauses in a hidden page, and in a page that the browser suspends."""
-    # Presses a key, because an example is saved only after the user has done something.
+    # Press a key, because an example is saved only after the user has done something.
     browser.keys([ESCAPE])
     browser.until("return location.hash", re.compile("#session="))
     browser.script(RECORD_SAVED_SESSIONS)
@@ -282,10 +294,10 @@ def check_hidden(browser):
     browser.close_tab(shown_tab)
     eventually(browser, "a page that was hidden shows how long it was paused", GET_STATUS,
                re.compile(r"^Running\. Paused for \d+ seconds while the page was hidden\.$"))
-    eventually(browser, "the stored session did not change while hidden", COUNT_SAVED_SESSIONS, [2, 1])
-    eventually(browser, "the speed after the page was hidden", GET_RATE, re.compile("^9[0-4]...$"))
+    eventually(browser, "the saved session does not change while the page is hidden", COUNT_SAVED_SESSIONS, [2, 1])
+    eventually(browser, "the rate of cycles after the page was hidden", GET_RATE, re.compile("^9[0-4]...$"))
     browser.script(BLOCK_PAGE, 1500)
-    eventually(browser, "a page that the browser suspended", GET_STATUS,
+    eventually(browser, "the page reports how long the browser suspended it", GET_STATUS,
                re.compile(r"Paused for \d+ seconds while the tab was busy\.$"))
     check_hidden_at_full_speed(browser)
 
@@ -299,31 +311,31 @@ def check_hidden_at_full_speed(browser):
     browser.new_tab()
     time.sleep(6)
     browser.close_tab(shown_tab)
-    eventually(browser, "at full speed the session continues while hidden", COUNT_SAVED_SESSIONS, [2, 2])
+    eventually(browser, "at full speed the saved session changes while the page is hidden", COUNT_SAVED_SESSIONS, [2, 2])
     verdict("no pause is reported at full speed", browser.script(GET_STATUS), re.compile("^Running"))
     browser.script(SET_SPEED, "real")
-    eventually(browser, "real time is kept again", GET_RATE, re.compile("^9[0-4]...$"))
+    eventually(browser, "the rate of cycles in real time", GET_RATE, re.compile("^9[0-4]...$"))
 
 
 def check_speed_field(browser):
-    """Checks that time runs at the speed that the speed field shows. Some browsers restore this field after a reload, others when the user returns to
-    the page. (The driver goes back, not a script, because Chromium lets a script skip pages without user input.)"""
+    """Checks that the simulation has the speed that the speed field shows. Some browsers restore this field after a reload, others when the user
+    returns to the page. (The driver goes back, not a script, because Chromium lets a script skip pages without user input.)"""
     for action, return_to_page in {"a reload": lambda: browser.script("setTimeout(() => location.reload(), 50)"),
                              "coming back": lambda: (browser.go("about:blank"), browser.back())}.items():
         browser.type_into("#speed", "full")
-        # A page from the browser's cache is ready as soon as it is shown again.
+        # Treat a page from the browser's cache as ready when it is shown again.
         browser.script("const { dataset } = document.body; delete dataset.ready; addEventListener('pageshow', () => { dataset.ready = 'again'; })")
         return_to_page()
         until_ready(browser)
         is_full = browser.until("const field = document.getElementById('speed'); return field ? field.value : ''", re.compile("^(full|real)$")) == "full"
         # The first rate reported at full speed can still be low.
-        eventually(browser, f"the speed after {action} is the one in its field", GET_RATE, re.compile("^[2-9].{5}$|^.{7,}$" if is_full else "^[1-9].{4}$"))
+        eventually(browser, f"the rate of cycles after {action} is that of the speed field", GET_RATE, re.compile("^[2-9].{5}$|^.{7,}$" if is_full else "^[1-9].{4}$"))
     browser.script(SET_SPEED, "real")
 
 
 def show_text(browser, name):
-    """Selects a tab of the texts (`program`, `board`, `wiring`) or of the dock (`console`, `disassembly`). Clicks again if the page has moved the tab
-    away from the pointer, which can happen on a slow machine."""
+    """Brings a tab of the texts (such as `program`) or of the dock (such as `console`) to the front. Clicks again if the page has moved the tab away
+    from the pointer, which can happen on a slow machine."""
     get_selected = f"return document.getElementById('{name}-tab').getAttribute('aria-selected')"
     deadline = time.monotonic() + 30
     while time.monotonic() < deadline:
@@ -335,31 +347,34 @@ def show_text(browser, name):
 
 
 def status_of(browser, editor, text):
+    """Puts a text into an editor (such as `#board-editor`) and presses its button. Returns the message that appears."""
     show_text(browser, editor[1:].removesuffix("-editor"))
     browser.script(PUT_INTO_EDITOR, editor, text)
     browser.click(f"{editor} .send")
     return browser.until(f"return document.querySelector('{editor} .status-text').textContent", re.compile("."))
 
 
-def check_texts(browser):
-    verdict("a program's error at its line", status_of(browser, "#program-editor", "NOP\n\tJCN 4, far\n ORG 0x300\nfar: NOP\n"),
+def check_text_messages(browser):
+    """Checks that errors in programs and boards are reported, that lines are answered, and that a board can be applied."""
+    verdict("the message about a program's error", status_of(browser, "#program-editor", "NOP\n\tJCN 4, far\n ORG 0x300\nfar: NOP\n"),
             re.compile("^line 2: far is on another page; JCN reaches"))
-    verdict("a dot in a text", status_of(browser, "#program-editor", "NOP\n.\nNOP\n"), re.compile("^line 2: a line with only a dot"))
-    verdict("a letter that is not of ASCII", status_of(browser, "#program-editor", "NOP\ncaf\u00e9: NOP"), re.compile("^line 2: \u00e9 is not a"))
+    verdict("the message about a line with only a dot", status_of(browser, "#program-editor", "NOP\n.\nNOP\n"), re.compile("^line 2: a line with only a dot"))
+    verdict("the message about a non-ASCII letter", status_of(browser, "#program-editor", "NOP\ncaf\u00e9: NOP"), re.compile("^line 2: \u00e9 is not a"))
     rom = '[[rom]]\nchip = 0\nport = "0000"\n'
-    verdict("an unknown key of a board", status_of(browser, "#board-editor", f"{rom}size = 3\n"),
+    verdict("the message about an unknown key in a board's text", status_of(browser, "#board-editor", f"{rom}size = 3\n"),
             "line 4: size is not a key of rom, which has chip, port")
-    verdict("a line that the board lacks", status_of(browser, "#board-editor", f'{rom}\n[[lamp]]\nline = "ram0.0.0"\n'),
+    verdict("the message about a line that the board lacks", status_of(browser, "#board-editor", f'{rom}\n[[lamp]]\nline = "ram0.0.0"\n'),
             "line 6: the board has no line ram0.0.0: no [[ram]] has bank = 0")
     verdict("the board is unchanged", browser.script(GET_DIGITS) != "", True)
-    verdict("lines and their answers", send_lines(browser, "poke r5 9\nfoo\nseq"),
+    verdict("the answers to three lines", send_lines(browser, "poke r5 9\nfoo\nseq"),
             re.compile(r"poke r5 9ok \d+foono 10: not a command.*seqseq \d+$"))
     three_lamps_board = (TOP / "examples/three_lamps/board.toml").read_text()
-    verdict("a board that is wired", status_of(browser, "#board-editor", three_lamps_board), "Board applied.")
+    verdict("the message after a board is applied", status_of(browser, "#board-editor", three_lamps_board), "Board applied.")
     verdict("the new board has three lamps", browser.script("return document.querySelectorAll('#lamps li').length"), 3)
 
 
 def send_lines(browser, lines):
+    """Sends lines through the console. Returns the text that they add to its log."""
     browser.script("document.getElementById('lines').value = arguments[0]", lines)
     log_length = len(browser.text("#log"))
     # Click through a script, because a notice can cover the button.
@@ -369,12 +384,13 @@ def send_lines(browser, lines):
 
 
 def check_two_tabs(browser):
+    """Checks that a second tab with the address of an open session shows another session, and can open a copy of the first."""
     address = browser.script("return location.href")
     first_tab = browser.tab()
     browser.new_tab()
     browser.go(address)
     until_ready(browser)
-    verdict("a second tab on the session is informed", browser.script(GET_NOTICE), re.compile("open in another tab"))
+    verdict("a notice in the second tab reports that the session is open", browser.script(GET_NOTICE), re.compile("open in another tab"))
     verdict("the second tab shows another session", browser.script("return location.href") != address, True)
     name = browser.script("return document.getElementById('name').value")
     browser.click("#notice button[aria-label^='Open a copy']")
@@ -384,39 +400,42 @@ def check_two_tabs(browser):
 
 
 def check_basic_use(browser, page, folder, mcs4):
-    """Checks the basic use of the page in a browser that has all features that the page needs."""
+    """Checks that the calculator, files, breakpoints, the keyboard, texts, tabs and the speed field work in a browser that has all features that the
+    page needs."""
     browser.go(page.as_uri())
     until_ready(browser)
-    verdict("the copy opens without a notice", browser.script(GET_NOTICE), "")
+    verdict("the page opens without a notice", browser.script(GET_NOTICE), "")
     check_calculator(browser)
     if browser.can_multitouch:
-        check_two_keys(browser)
-    check_files(browser, folder, mcs4)
-    check_stops(browser)
+        check_keys_together(browser)
+    check_session_files(browser, folder, mcs4)
+    check_breakpoint_and_watch(browser)
     check_keyboard_alone(browser)
-    check_texts(browser)
+    check_text_messages(browser)
     check_two_tabs(browser)
     choose_example(browser, "calculator")
     if browser.hides_background_tabs:
-        check_hidden(browser)
+        check_hidden_page(browser)
     check_speed_field(browser)
 
 
 def check_by_chromium(browser, page):
-    """Runs the checks that need functions of Chromium's driver."""
+    """Checks that the page does not scroll sideways on a phone, and that the browser's log has no errors. Only Chromium's driver has the functions
+    for this."""
     browser.go(page.as_uri())
     until_ready(browser)
-    check_narrow(browser)
-    # The check's own scripts can fail until the result for which they wait exists. These are not errors of the page.
+    check_phone_width(browser)
+    # The check repeats a script that fails because its result does not exist yet. Such failures are not errors of the page.
     expected_words = ("javascript ", "Script error", "favicon")
-    verdict("no error in the browser's log", [line for line in browser.log() if not any(word in line for word in expected_words)], [])
+    verdict("the errors in the browser's log", [line for line in browser.log() if not any(word in line for word in expected_words)], [])
 
 
 def check_policy(browser, page):
+    """Checks that the page's content security policy forbids everything that TRY_FORBIDDEN tries."""
     browser.go(page.as_uri())
     until_ready(browser)
     browser.script(TRY_FORBIDDEN)
-    eventually(browser, "requests that the policy blocks", GET_VIOLATIONS, "base-uri form-action img-src script-src-elem style-src-elem")
+    eventually(browser, "the violations of the content security policy", GET_VIOLATIONS, "base-uri form-action img-src script-src-elem style-src-elem")
 
 
 def page_figures(browser, page):
@@ -427,6 +446,7 @@ def page_figures(browser, page):
 
 
 def take_picture(browser, page, path):
+    """Takes a screenshot of the calculator on the page for the documents, and writes it to a file."""
     browser.go(page.as_uri())
     until_ready(browser)
     choose_example(browser, "calculator")

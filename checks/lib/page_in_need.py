@@ -23,7 +23,7 @@ FILL_STORE = """
 window.put = IDBObjectStore.prototype.put;
 IDBObjectStore.prototype.put = () => { throw new DOMException("", "QuotaExceededError"); }"""
 
-# The visible buttons and fields.
+# Returns the texts of the visible buttons and fields.
 GET_SHOWN_CONTROLS = """
 return [...document.querySelectorAll("button, input, select, textarea")].filter(isShown)
   .map((each) => each.textContent)"""
@@ -34,7 +34,8 @@ def cause_failure(browser, failure):
     browser.script(REQUEST_FAILURE, failure)
 
 
-def dismiss(browser):
+def dismiss_notice(browser):
+    """Dismisses the visible notice."""
     browser.click("#notice .dismiss")
 
 
@@ -48,40 +49,42 @@ def check_failures(browser, page, folder):
     cause_failure(browser, "trap")
     eventually(browser, "a trap is reported", GET_NOTICE, re.compile("the module stopped inside a call .unreachable. and was started again"))
     verdict("the session is unchanged", browser.script(GET_DIGITS), "12")
-    dismiss(browser)
+    dismiss_notice(browser)
     browser.click("#run")
     browser.keys(["3"])
     eventually(browser, "the bench continues after a trap", GET_DIGITS, "123")
     cause_failure(browser, "no memory")
-    eventually(browser, "lack of memory is reported", GET_NOTICE, re.compile("no 90: there was no memory"))
+    eventually(browser, "lack of memory is reported", GET_NOTICE, re.compile("no 90: out of memory"))
     eventually(browser, "the session is unchanged after a lack of memory", GET_DIGITS, "123")
-    dismiss(browser)
+    dismiss_notice(browser)
     check_full_store(browser)
     cause_failure(browser, "trap without memory")
     browser.click("#step")
-    eventually(browser, "no memory for the module after a trap is reported", GET_NOTICE, re.compile("no 90: there was no memory"))
-    verdict("and the session is unchanged", browser.script(GET_DIGITS), "123")
-    dismiss(browser)
-    check_worker(browser)
+    eventually(browser, "a lack of memory after a trap is reported", GET_NOTICE, re.compile("no 90: out of memory"))
+    verdict("the session is unchanged after both failures", browser.script(GET_DIGITS), "123")
+    dismiss_notice(browser)
+    check_worker_restart(browser)
 
 
 def check_full_store(browser):
+    """Checks that the page reports that it could not save a command, and saves again when the store has space."""
     browser.script(FILL_STORE)
-    verdict("an answer that is not kept says so", send_lines(browser, "poke r5 9"), re.compile("not kept: "))
-    verdict("a full storage is reported", browser.script(GET_NOTICE), re.compile("This session is not kept: the browser has no more space"))
+    verdict("the answer to a command that was not saved reports that", send_lines(browser, "poke r5 9"), re.compile("not kept: "))
+    verdict("a full store is reported", browser.script(GET_NOTICE), re.compile("This session is not kept: the browser has no more space"))
     browser.script("IDBObjectStore.prototype.put = window.put")
     send_lines(browser, "seq")
-    verdict("the notice disappears when the session is stored", browser.script(GET_NOTICE), "")
+    verdict("the notice disappears when the session is saved", browser.script(GET_NOTICE), "")
 
 
-def check_worker(browser):
-    """Checks a worker that dies while time is running, and a worker that hangs when its work is cancelled."""
+def check_worker_restart(browser):
+    """Checks that the page replaces a worker that dies while time is running, or that hangs until its work is cancelled. The session must be
+    unchanged."""
     browser.click("#run")
     browser.until(GET_STATUS, re.compile("^Running \""))
     cause_failure(browser, "die")
     eventually(browser, "a worker that died is reported", GET_NOTICE, re.compile("worker stopped and was restarted.*session is unchanged"), 40)
-    eventually(browser, "and the session is unchanged", GET_DIGITS, "123")
-    dismiss(browser)
+    eventually(browser, "the session is unchanged after the worker died", GET_DIGITS, "123")
+    dismiss_notice(browser)
     browser.click("#run")
     browser.keys(["4"])
     eventually(browser, "the bench continues in a new worker", GET_DIGITS, "1234")
@@ -90,16 +93,17 @@ def check_worker(browser):
     cause_failure(browser, "hang")
     browser.script("document.getElementById('lines').value = 'poke r5 9'")
     browser.script("document.getElementById('send').click()")
-    eventually(browser, "work that hangs can be cancelled", "return document.getElementById('work').hidden", False)
+    eventually(browser, "work that hangs has a Cancel button", "return document.getElementById('work').hidden", False)
     browser.click("#cancel")
-    eventually(browser, "the cancelled worker is ended", GET_NOTICE, re.compile("worker stopped and was restarted"), 20)
+    eventually(browser, "the cancelled worker is replaced", GET_NOTICE, re.compile("worker stopped and was restarted"), 20)
     browser.script("document.getElementById('lines').value = ''")
     verdict("the session is unchanged after the cancellation", send_lines(browser, "seq"), answer_before)
-    dismiss(browser)
+    dismiss_notice(browser)
 
 
-# Puts 20,000,000 bytes of slow lines into the console's field. After a cancellation, none of the lines may have been executed.
-# The field is hidden, because a browser would need minutes for its layout. `longest` becomes the longest time for which the page was blocked.
+# Puts 20,000,000 bytes of slow lines into the console's field. After a cancellation, the session must be as if none of them had been executed. The
+# field is hidden, because a browser would need minutes for its layout. `longest` becomes the longest time in milliseconds for which the page was
+# blocked.
 START_LONG_WORK = """
 document.getElementById("lines").style.display = "none";
 document.getElementById("lines").value = "run 100000".padEnd(249).concat("\\n").repeat(80000);
@@ -123,9 +127,10 @@ if (location.search === "?hang") {
   deaf("beforeunload");
   deaf("pagehide");
 }"""
+# A flag in the browser's storage marks a session that is being opened. A flag that remains shows that the page hung. AGE_FLAGS makes all flags old.
 COUNT_FLAGS = "return Object.keys(localStorage).filter((key) => key.startsWith('fethsaim.opening')).length"
 AGE_FLAGS = "for (const key of Object.keys(localStorage)) if (key.startsWith('fethsaim.opening')) localStorage.setItem(key, '1')"
-# A busy page that the user left can have left its flag behind.
+# Removes all flags, because a busy page that the user left can have left its flag behind.
 REMOVE_FLAGS = "for (const key of Object.keys(localStorage)) if (key.startsWith('fethsaim.opening')) localStorage.removeItem(key)"
 UNFINISHED_NOTICE = 'The session "die" was not opened automatically: the last time, opening it did not finish.'
 GET_LAST_ENTRY = "return document.getElementById('log').lastElementChild.textContent"
@@ -138,18 +143,18 @@ def check_long_work(browser, page):
     reopen_page(browser, page)
     choose_example(browser, "calculator")
     stop_time(browser)
-    # Sends a line, so that the entry about the runs so far is in the log before the long work begins.
+    # Send a line, so that the entry about the runs so far is in the log before the long work begins.
     send_lines(browser, "seq")
     answer_before = send_lines(browser, "seq")
     browser.script(START_LONG_WORK)
     browser.script("document.getElementById('send').click()")
-    eventually(browser, "long work shows how far it is", HAS_PROGRESS, True, 60)
+    eventually(browser, "long work shows its progress", HAS_PROGRESS, True, 60)
     browser.click("#cancel")
     eventually(browser, "long work can be cancelled", GET_NOTICE, re.compile("It was cancelled. The session is as it was before."), 30)
     print(f"during long work the page answers at least every {browser.script(GET_LONGEST_BLOCK):.0f} ms in {browser.name}")
     browser.script("const area = document.getElementById('lines'); area.value = ''; area.style.display = ''")
     verdict("cancelled work has no effect", send_lines(browser, "seq"), answer_before)
-    dismiss(browser)
+    dismiss_notice(browser)
     browser.script("document.getElementById('lines').value = 'step\\n'.repeat(20000)")
     browser.script("document.getElementById('send').click()")
     eventually(browser, "work in pieces is completed", "return document.getElementById('lines').value", "", 60)
@@ -164,40 +169,46 @@ window.setTimeout = (handler, time, ...rest) => wait(handler, time === 10000 ? 3
 
 
 def page_without_feature(page, folder, code):
-    """Returns a copy of the page in which `code` removes a feature of the browser. The copy waits for a store for 0.3 seconds instead of ten."""
+    """Writes a copy of the page in which `code` removes a feature of the browser, and returns its path. The copy waits for a store for 0.3 seconds
+    instead of ten."""
     return write_altered_page(page, folder, f"{SHORTEN_WAIT}{code}")
 
 
 def notice_after_reopening(browser, page, code=GET_NOTICE, expected=re.compile(".")):
+    """Opens a blank page and then the page. Waits until the script `code`, by default for the notice, returns an expected result. Returns this
+    result."""
     browser.go("about:blank")
     browser.go(page.as_uri())
     return browser.until(code, expected)
 
 
-def check_works(browser, description):
+def check_calculator_works(browser, description):
+    """Checks that the page becomes ready, and that its first session, the calculator, computes 6 * 7."""
     eventually(browser, description, IS_READY, True)
     browser.keys([ESCAPE, "6", "*", "7", ENTER])
     eventually(browser, "the bench works despite the missing feature", GET_DIGITS, "42")
 
 
 def check_poor_browsers(browser, page, folder):
-    verdict("no bulk memory", notice_after_reopening(browser, page_without_feature(page, folder, "WebAssembly.validate = () => false")),
+    """Checks that the page shows only a notice if WebAssembly lacks bulk memory, and that it works without a store of sessions or without locks."""
+    verdict("the notice about a browser without bulk memory", notice_after_reopening(browser, page_without_feature(page, folder, "WebAssembly.validate = () => false")),
             re.compile(r"This browser has no WebAssembly with bulk memory.*97.*102.*16"))
-    verdict("no button without a use", browser.script(GET_SHOWN_CONTROLS), ["Dismiss"])
+    verdict("the buttons of a page without a module", browser.script(GET_SHOWN_CONTROLS), ["Dismiss"])
     for description, code in SCRIPTS_WITHOUT_STORE.items():
         verdict(description, notice_after_reopening(browser, page_without_feature(page, folder, code)), re.compile("stores nothing"))
-        check_works(browser, description)
-        verdict("a line is answered", send_lines(browser, "poke r5 9"), re.compile(r"poke r5 9ok \d+"))
+        check_calculator_works(browser, description)
+        verdict("a line is answered without a store", send_lines(browser, "poke r5 9"), re.compile(r"poke r5 9ok \d+"))
         browser.click("#sessions-button")
-        eventually(browser, "the sessions of this page are shown", "return document.querySelectorAll('#kept li').length", 1)
+        eventually(browser, "the number of listed sessions without a store", "return document.querySelectorAll('#kept li').length", 1)
         browser.click("#close-sessions")
-    verdict("a storage that cannot be read", notice_after_reopening(browser, page_without_feature(page, folder, FAIL_READING)), re.compile("could not be read"))
-    check_works(browser, "a store that cannot be read")
+    verdict("the notice about a store that cannot be read", notice_after_reopening(browser, page_without_feature(page, folder, FAIL_READING)), re.compile("could not be read"))
+    check_calculator_works(browser, "a store that cannot be read")
     check_no_locks(browser, page, folder)
 
 
 def check_no_locks(browser, page, folder):
-    """Checks that in a browser without locks, two tabs with the same session do not overwrite each other's changes."""
+    """Checks that in a browser without locks, two tabs with the same session do not overwrite each other's changes. A closed tab must not block the
+    session."""
     notice_after_reopening(browser, write_altered_page(page, folder, "Object.defineProperty(Navigator.prototype, 'locks', { value: undefined })"), IS_READY, True)
     address = browser.script("return location.href")
     first_tab = browser.tab()
@@ -205,39 +216,39 @@ def check_no_locks(browser, page, folder):
     browser.new_tab()
     browser.go(address)
     until_ready(browser)
-    verdict("the second tab keeps its line", send_lines(browser, "poke r5 9"), re.compile(r"poke r5 9ok \d+"))
+    verdict("the second tab executes its line", send_lines(browser, "poke r5 9"), re.compile(r"poke r5 9ok \d+"))
     browser.close_tab(first_tab)
-    verdict("the first tab's line is reported", send_lines(browser, "poke r5 3"), re.compile("not kept: another tab has changed"))
+    verdict("the first tab reports that its line is not saved", send_lines(browser, "poke r5 3"), re.compile("not kept: another tab has changed"))
     browser.reload()
     until_ready(browser)
-    verdict("the second tab's changes are stored", send_lines(browser, "regs"), re.compile(" r .{5}9"))
-    verdict("a closed page does not block another page", reopen(browser, page.as_uri()), "")
+    verdict("the saved session has the second tab's line", send_lines(browser, "regs"), re.compile(" r .{5}9"))
+    verdict("a closed page does not prevent another page from opening the session", reopen(browser, page.as_uri()), "")
 
 
-def check_blocked(browser_class, page, folder):
-    """Checks the page in a browser whose settings block all site data."""
+def check_blocked_data(browser_class, page, folder):
+    """Checks that the page reports blocked site data and still works, in a browser whose settings block all site data."""
     browser = browser_class(folder / f"blocked{browser_class.name}", str(folder / "downloads"), **browser_class.blocks_data)
     try:
-        verdict("blocked data of sites", notice_after_reopening(browser, page), re.compile("blocked by the settings"))
-        check_works(browser, "blocked data of sites")
+        verdict("the notice about blocked site data", notice_after_reopening(browser, page), re.compile("blocked by the settings"))
+        check_calculator_works(browser, "blocked data of sites")
     finally:
         browser.end()
 
 
 def check_little_memory(page, folder):
-    """Checks a browser that gives the module only 80 pages of memory (5 MB). A text that needs more is rejected, and the session stays unchanged."""
+    """Checks that a text is rejected if the module needs more than 80 pages of memory (5 MB) for it, and that the session stays unchanged."""
     browser = Chromium(folder / "little", str(folder / "downloads"), ["--js-flags=--wasm-max-mem-pages=80"])
     try:
         browser.go(page.as_uri())
         until_ready(browser)
         stop_time(browser)
-        # The log can get an entry about runs in the meantime.
+        # Use only the last word, because the log can get an entry about runs before the answer.
         number_before = send_lines(browser, "seq").split()[-1]
         browser.script("document.getElementById('lines').value = 'poke r5 9\\nasm\\n' + '; a comment of so many letters\\n'.repeat(150000)")
         browser.script("document.getElementById('send').click()")
-        eventually(browser, "lack of memory in the module is reported", GET_NOTICE, re.compile("no 90: there was no memory.*The session is as it was"), 30)
+        eventually(browser, "lack of memory in the module is reported", GET_NOTICE, re.compile("no 90: out of memory.*The session is as it was"), 30)
         browser.script("document.getElementById('lines').value = ''")
-        verdict("and the session is unchanged", send_lines(browser, "seq").split()[-1], number_before)
+        verdict("the session is unchanged after the lack of memory", send_lines(browser, "seq").split()[-1], number_before)
     finally:
         browser.end()
 
@@ -250,8 +261,8 @@ def reopen(browser, address):
     return browser.script(GET_NOTICE)
 
 
-def hang(browser, address):
-    """Opens a session that never finishes opening. Sets the time stamp of its flag back, as if the page had hung for a long time."""
+def open_hanging_session(browser, address):
+    """Opens a session in a page that never finishes opening it. Makes the flag of this opening old, as if the page had hung for a long time."""
     browser.go("about:blank")
     browser.go(address.replace("html", "html?hang", 1))
     browser.until("return Boolean(window.hung)", True)
@@ -267,11 +278,11 @@ def check_leaving_early(browser, address, session):
         text = f"; left {query}\n"
         browser.script(PUT_INTO_EDITOR, "#program-editor", text)
         browser.go("about:blank")
-        # Wait, because another tab could still be opening the session at this time.
+        # Wait two seconds, because a younger flag could belong to another tab that is still opening the session.
         time.sleep(2.1)
-        verdict(f"a session of a page that is left at once is opened automatically again ({query})",
+        verdict(f"a session whose page was left at once is opened automatically ({query})",
                 [reopen(browser, address), browser.script("return location.hash")], ["", session])
-        verdict("the text that was typed last", browser.script(GET_TEXT_OF_EDITOR, "#program-editor"), text)
+        verdict("the text that was typed before leaving is restored", browser.script(GET_TEXT_OF_EDITOR, "#program-editor"), text)
 
 
 def check_unfinished_opening(browser, page, folder):
@@ -283,21 +294,21 @@ def check_unfinished_opening(browser, page, folder):
     choose_example(browser, "die")
     browser.click("#step")
     session = browser.until("return location.hash", re.compile("^#session="))
-    eventually(browser, "no flag is left after a session was opened", COUNT_FLAGS, 0)
+    eventually(browser, "the flag is removed after the session was opened", COUNT_FLAGS, 0)
     verdict("the session is opened automatically", [reopen(browser, hanging), browser.script("return location.hash")], ["", session])
     browser.until(COUNT_FLAGS, 0)
-    hang(browser, hanging + session)
+    open_hanging_session(browser, hanging + session)
     for address in (hanging, hanging + session):
         verdict("a session whose opening did not finish is reported", reopen(browser, address), UNFINISHED_NOTICE)
         verdict("that session is not opened automatically", browser.script("return location.hash") != session, True)
     browser.click("#notice button[aria-label^='Open it']")
     eventually(browser, "the session can be opened", "return location.hash", session)
-    eventually(browser, "the session is intact", COUNT_FLAGS, 0)
+    eventually(browser, "the flag is removed after the user opened the session", COUNT_FLAGS, 0)
     verdict("the session is opened automatically at the next start", [reopen(browser, hanging), browser.script("return location.hash")], ["", session])
     browser.until(COUNT_FLAGS, 0)
     check_leaving_early(browser, hanging, session)
     browser.until(COUNT_FLAGS, 0)
-    hang(browser, hanging + session)
+    open_hanging_session(browser, hanging + session)
     reopen(browser, hanging)
     browser.click("#notice button[aria-label^='Delete it']")
     eventually(browser, "the session can be deleted", GET_NOTICE, 'Deleted "die".')

@@ -1,5 +1,5 @@
-"""The part of checks/page about the layout: the positions of panels and controls at each window size, the scrolling of the disassembly, the marks of
-changes, cells that are edited in place, printing, and accessible names."""
+"""The part of checks/page about the layout: the positions of panels and controls at each window size, and the scrolling of the disassembly. Also
+about the marks of changes, cells that are edited in place, printing, and accessible names."""
 
 import re
 import time
@@ -23,12 +23,12 @@ def check(browser, page, _folder, _mcs4):
     check_tabs(browser)
     check_folds(browser)
     check_arrangement(browser)
-    check_listing(browser)
+    check_disassembly_keys(browser)
     check_follow(browser)
-    check_marks(browser)
-    check_cells(browser)
-    check_refusals(browser)
-    check_names(browser)
+    check_change_marks(browser)
+    check_edited_cells(browser)
+    check_limit_messages(browser)
+    check_accessible_names(browser)
     check_swipe(browser)
     check_text_sizes(browser)
     check_first_glance(browser, page, set_size)
@@ -53,32 +53,34 @@ GET_SHOWN_EDITOR = "return [...document.querySelectorAll('#texts [role=tabpanel]
 
 
 def check_tabs(browser):
-    """Checks the ARIA pattern of the tabs, and that selecting another tab loses no text that the user has typed."""
+    """Checks that the tabs follow the ARIA pattern: a click, the arrow keys and Home select a tab and show its text, and the Tab key reaches only
+    one tab."""
     show_text(browser, "board")
     verdict("a click shows the board's text", browser.script(GET_SHOWN_EDITOR), "board-editor")
     browser.script("document.getElementById('board-tab').focus()")
     browser.keys([HOME])
-    verdict("Home goes to the first tab", browser.script(GET_FRONT_TAB), "program-tab")
+    verdict("Home selects the first tab", browser.script(GET_FRONT_TAB), "program-tab")
     browser.keys([RIGHT])
-    verdict("an arrow shows the next one", (browser.script(GET_FRONT_TAB), browser.script(GET_SHOWN_EDITOR)), ("board-tab", "board-editor"))
-    verdict("one tab is a stop of the Tab key", browser.script("return document.querySelectorAll('#text-tabs [tabindex=\"0\"]').length"), 1)
+    verdict("the Right arrow shows the next tab", (browser.script(GET_FRONT_TAB), browser.script(GET_SHOWN_EDITOR)), ("board-tab", "board-editor"))
+    verdict("the number of tabs that the Tab key reaches", browser.script("return document.querySelectorAll('#text-tabs [tabindex=\"0\"]').length"), 1)
     browser.keys([LEFT])
-    verdict("the previous tab is selected again", browser.script(GET_SHOWN_EDITOR), "program-editor")
+    verdict("the Left arrow shows the previous tab", browser.script(GET_SHOWN_EDITOR), "program-editor")
 
 
 def check_folds(browser):
+    """Checks that a click folds and unfolds a panel, and that a reload keeps the folded panel and the selected tabs."""
     browser.click("#memory .fold")
     get_fold_state = "return document.querySelector('#memory .fold').getAttribute('aria-expanded') + isShown(document.getElementById('banks'))"
-    verdict("a panel folds", browser.script(get_fold_state), "falsefalse")
+    verdict("a click folds the panel", browser.script(get_fold_state), "falsefalse")
     show_text(browser, "board")
     show_text(browser, "console")
     browser.reload()
     until_ready(browser)
-    verdict("and is folded after a reload", browser.script(get_fold_state), "falsefalse")
-    verdict("the tab is kept, too", browser.script(GET_FRONT_TAB), "board-tab")
-    verdict("and that of the dock", browser.script("return isShown(document.getElementById('talk'))"), True)
+    verdict("the panel is still folded after a reload", browser.script(get_fold_state), "falsefalse")
+    verdict("the selected text tab after a reload", browser.script(GET_FRONT_TAB), "board-tab")
+    verdict("the selected tab of the dock after a reload", browser.script("return isShown(document.getElementById('talk'))"), True)
     browser.click("#memory .fold")
-    verdict("the panel unfolds", browser.script(get_fold_state), "truetrue")
+    verdict("a click unfolds the panel", browser.script(get_fold_state), "truetrue")
     show_text(browser, "program")
     show_text(browser, "disassembly")
 
@@ -92,25 +94,28 @@ GET_SCROLL_TOP = "return document.getElementById('lines-of-program').scrollTop"
 
 
 def shown_addresses(browser):
+    """Returns the addresses of the visible rows of the disassembly."""
     return [re.sub(r"\W", "", line)[:3] for line in browser.script(GET_ROWS)]
 
 
 def focus_row(browser, index):
+    """Gives the focus to a row of the disassembly."""
     browser.script("document.querySelectorAll('#lines-of-program button')[arguments[0]].focus()", index)
 
 
-def check_listing(browser):
-    """Checks that keys, wheel and scroll bar can bring each of the 4,096 addresses into view."""
+def check_disassembly_keys(browser):
+    """Checks that the keys bring all instructions of the program, and the first and the last address, into view. Also checks the scroll bar and Go
+    to."""
     stop_time(browser)
     focus_row(browser, 3)
     browser.keys([HOME])
-    eventually(browser, "Home goes to 000", GET_FOCUSED_ROW, "000")
-    verdict("follow is off after Home", browser.script("return document.getElementById('follow').checked"), False)
+    eventually(browser, "Home shows address 000", GET_FOCUSED_ROW, "000")
+    verdict("Home switches Follow off", browser.script("return document.getElementById('follow').checked"), False)
     first_addresses = shown_addresses(browser)
     browser.keys([DOWN])
-    eventually(browser, "an arrow goes to the next line", GET_FOCUSED_ROW, first_addresses[1])
+    eventually(browser, "the Down arrow selects the next row", GET_FOCUSED_ROW, first_addresses[1])
     browser.keys([UP, UP])
-    eventually(browser, "an arrow at the first line", GET_FOCUSED_ROW, "000")
+    eventually(browser, "the Up arrow stays at the first row", GET_FOCUSED_ROW, "000")
     seen_addresses = set(first_addresses)
     for _ in range(200):
         last_address = shown_addresses(browser)[-1]
@@ -121,55 +126,58 @@ def check_listing(browser):
         seen_addresses.update(rows)
         if last_address > "2FF":
             break
-    verdict("page by page each line of the program is shown", program_addresses(browser) - seen_addresses, set())
+    verdict("the instructions of the program that PageDown did not show", program_addresses(browser) - seen_addresses, set())
     focus_row(browser, 3)
     browser.keys([END])
-    eventually(browser, "End goes to FFF", GET_FOCUSED_ROW, re.compile("FF[EF]"))
+    eventually(browser, "End shows the last address", GET_FOCUSED_ROW, re.compile("FF[EF]"))
     for _ in range(4):
         browser.keys([PAGE_DOWN], 1, 1)
-    verdict("and PageDown stays there", browser.script(GET_FOCUSED_ROW)[:2], "FF")
+    verdict("PageDown stays at the last address", browser.script(GET_FOCUSED_ROW)[:2], "FF")
     browser.keys([PAGE_UP, PAGE_UP])
     eventually(browser, "PageUp goes back", "return Number(document.activeElement.textContent.slice(0, 4) < '\u25cfFF') && 1", re.compile("[01]"))
     check_scroll_bar(browser)
 
 
 def program_addresses(browser):
-    """Returns the addresses up to 23F, the end of the program, at which instructions begin, as `list` shows them from 000."""
+    """Returns the addresses at which the instructions of the calculator's program begin, up to its end at 23F, as `list` shows them."""
     answers = send_lines(browser, "list 0 256\nlist 0x100 256\nlist 0x200 256")
     return {address for address in re.findall(r"(?<![0-9A-F])([0-2][0-9A-F]{2}) (?:[0-9A-F]{2} ){1,2}", answers) if address <= "23F"} - {"list"}
 
 
 def check_scroll_bar(browser):
+    """Checks that the scroll bar and the field Go to bring an address into view."""
     browser.script("document.getElementById('lines-of-program').scrollTop = arguments[0] * 24", 0x100)
-    eventually(browser, "the scroll bar goes to 100", GET_ROWS, re.compile(r"^\['\W*10[0-3]"))
+    eventually(browser, "the scroll bar shows address 100", GET_ROWS, re.compile(r"^\['\W*10[0-3]"))
     browser.script("document.getElementById('lines-of-program').scrollTop = 1e9")
-    eventually(browser, "the scroll bar goes to the end", GET_ROWS, re.compile(r"FF[EF][^,]*\]$"))
+    eventually(browser, "the scroll bar shows the last address", GET_ROWS, re.compile(r"FF[EF][^,]*\]$"))
     browser.type_into("#go-to", f"0x010{ENTER}")
-    eventually(browser, "go to brings an address to the top", GET_ROWS, re.compile(r"^\['\W*010"))
-    eventually(browser, "and the box is scrolled there", GET_SCROLL_TOP, 16 * 24)
+    eventually(browser, "Go to shows an address in the first row", GET_ROWS, re.compile(r"^\['\W*010"))
+    eventually(browser, "the scroll position after Go to", GET_SCROLL_TOP, 16 * 24)
 
 
 GET_NEXT_LINE = "const next = document.querySelector('#lines-of-program .next'); return next ? next.textContent : ''"
 
 
 def check_follow(browser):
+    """Checks that the disassembly moves with the program counter only if Follow is on."""
     browser.click("#step")
     value_before = shown_addresses(browser)
     browser.click("#step")
-    verdict("without follow the listing stays", shown_addresses(browser), value_before)
+    verdict("the disassembly does not move without Follow", shown_addresses(browser), value_before)
     browser.click("#follow")
-    eventually(browser, "with follow it shows the counter", GET_NEXT_LINE, re.compile("."))
+    eventually(browser, "Follow shows the row of the program counter", GET_NEXT_LINE, re.compile("."))
     for _ in range(5):
         value_before = text_of(browser, "pc")
         browser.click("#step")
-        eventually(browser, "a step changes the counter", f"return document.getElementById('value-pc').textContent !== '{value_before}'", True)
-        eventually(browser, "a line begins at the counter at each step", IS_AT_COUNTER, True)
+        eventually(browser, "a step changes the program counter", f"return document.getElementById('value-pc').textContent !== '{value_before}'", True)
+        eventually(browser, "a row begins at the program counter after each step", IS_AT_COUNTER, True)
     browser.click("#run")
-    eventually(browser, "while time is running it follows, too", GET_NEXT_LINE, re.compile("."))
+    eventually(browser, "Follow shows the row of the program counter while the program is running", GET_NEXT_LINE, re.compile("."))
     stop_time(browser)
 
 
 def text_of(browser, name):
+    """Returns the text of a cell of the processor, such as `pc` or `R5`."""
     return browser.script("return document.getElementById(arguments[0]).textContent", f"value-{name}")
 
 
@@ -184,7 +192,7 @@ new MutationObserver((all) => { window.marks += all.filter((each) => each.target
 SLOW_PROGRAM = "FIM P0, 0x00\\nLDM 7\\nXCH R5\\nwait: ISZ R0, wait\\nISZ R1, wait\\nISZ R2, wait\\nISZ R3, wait\\nend: IAC\\nJUN end\\n"
 
 
-def check_marks(browser):
+def check_change_marks(browser):
     """Checks that after a pause, everything that differs from the previous pause is marked, even if it changed long before."""
     choose_example(browser, "three lamps")
     stop_time(browser)
@@ -192,15 +200,15 @@ def check_marks(browser):
     eventually(browser, "the status after a reset", GET_STATUS, "The board was reset; the program counter is at 000.")
     browser.script(COUNT_MARKS)
     browser.click("#run")
-    eventually(browser, "a long run ends at its breakpoint", GET_STATUS, "Paused at 00C, at a breakpoint.", 40)
-    verdict("while it ran nothing was marked but at the stop", browser.script("return window.marks") < 12, True)
-    verdict("what changed at its start is marked", "R5" in browser.script(GET_MARKED_REGISTERS).split(), True)
-    verdict("what came back to what it was is not", "R0" in browser.script(GET_MARKED_REGISTERS).split(), False)
+    eventually(browser, "the program stops at its breakpoint after a long run", GET_STATUS, "Paused at 00C, at a breakpoint.", 40)
+    verdict("nothing was marked during the run, except at the stop", browser.script("return window.marks") < 12, True)
+    verdict("a register that changed at the beginning of the run is marked", "R5" in browser.script(GET_MARKED_REGISTERS).split(), True)
+    verdict("a register that has its old value again is not marked", "R0" in browser.script(GET_MARKED_REGISTERS).split(), False)
     browser.click("#step")
     browser.until(GET_STATUS, STEPPED)
-    verdict("the next stop marks what it changed alone", "R5" in browser.script(GET_MARKED_REGISTERS).split(), False)
+    verdict("a step removes the mark of a register that it does not change", "R5" in browser.script(GET_MARKED_REGISTERS).split(), False)
     browser.click("#reset")
-    eventually(browser, "Reset says where the board stands", GET_STATUS, "The board was reset; the program counter is at 000.")
+    eventually(browser, "the status after Reset", GET_STATUS, "The board was reset; the program counter is at 000.")
 
 
 GET_EDITED_CELL = "return document.getElementById('cell-editor').hidden ? '' : document.querySelector('#cell-editor label').textContent"
@@ -208,6 +216,7 @@ GET_CELL_STATUS = "return document.getElementById('cell-status').textContent"
 
 
 def edit_cell(browser, cell, opening_key, typed_keys):
+    """Opens the editor of a cell with a key, and types keys into it."""
     browser.script("document.querySelector(arguments[0]).focus()", cell)
     browser.keys([opening_key])
     browser.until(GET_EDITED_CELL, re.compile("."))
@@ -215,62 +224,64 @@ def edit_cell(browser, cell, opening_key, typed_keys):
 
 
 def double_click(browser, selector):
+    """Dispatches the events of a double click on an element."""
     browser.scroll_to(selector)
     browser.script("const cell = document.querySelector(arguments[0]); for (const [kind, detail] of [['click', 1], ['click', 2], "
                    "['dblclick', 2]]) cell.dispatchEvent(new MouseEvent(kind, { bubbles: true, detail }))", selector)
 
 
-def check_cells(browser):
+def check_edited_cells(browser):
     """Checks that registers and RAM are edited in place, that an error appears at the cell, and that a read-only cell shows a message."""
     edit_cell(browser, "#value-R5", F2, ["b", ENTER])
-    eventually(browser, "F2 and a digit poke a register", "return document.getElementById('value-R5').textContent", "B")
-    verdict("the focus is back at the cell", browser.script("return document.activeElement.id"), "value-R5")
+    eventually(browser, "F2, a digit and Enter set a register", "return document.getElementById('value-R5').textContent", "B")
+    verdict("the cell has the focus again", browser.script("return document.activeElement.id"), "value-R5")
     edit_cell(browser, "#value-pc", ENTER, ["0", "1", "0", ENTER])
-    eventually(browser, "the counter is written as it is shown", "return document.getElementById('value-pc').textContent", "010")
+    eventually(browser, "the program counter is typed in the format in which it is shown", "return document.getElementById('value-pc').textContent", "010")
     edit_cell(browser, "#value-cy", ENTER, ["2", ENTER])
     eventually(browser, "a value out of range is rejected at the cell", GET_CELL_STATUS, re.compile("."))
-    verdict("with the bench's message", browser.script(GET_CELL_STATUS), re.compile("value|range|number", re.I))
+    verdict("the message about the value", browser.script(GET_CELL_STATUS), re.compile("value|range|number", re.I))
     browser.keys([ESCAPE])
     eventually(browser, "Escape cancels the edit", GET_EDITED_CELL, "")
-    verdict("and the value is unchanged", text_of(browser, "cy"), "0")
+    verdict("the value is unchanged after Escape", text_of(browser, "cy"), "0")
     edit_cell(browser, "#value-acc", ENTER, ["x", ENTER])
     eventually(browser, "a character that is not a digit is rejected", GET_CELL_STATUS, re.compile("hexadecimal"))
     browser.keys([ESCAPE])
     nibble = ".ram button:nth-child(3)"
     double_click(browser, nibble)
-    eventually(browser, "a double click opens a nibble of RAM", GET_EDITED_CELL, re.compile(r"bank 0, chip 0, register 0, character 2: SRC byte 02"))
+    eventually(browser, "a double click edits a RAM nibble", GET_EDITED_CELL, re.compile(r"bank 0, chip 0, register 0, character 2: SRC byte 02"))
     browser.keys(["9", ENTER])
-    eventually(browser, "and Enter pokes it", f"return document.querySelector('{nibble}').textContent", "9")
-    verdict("it is not watched", browser.script(f"return document.querySelector('{nibble}').getAttribute('aria-pressed')"), "false")
-    verdict("the log has its line", "poke ram.0.0x02 0x9" in browser.text("#log"), True)
+    eventually(browser, "Enter sets the RAM nibble", f"return document.querySelector('{nibble}').textContent", "9")
+    verdict("the double click does not watch the nibble", browser.script(f"return document.querySelector('{nibble}').getAttribute('aria-pressed')"), "false")
+    verdict("the log has the line that sets the nibble", "poke ram.0.0x02 0x9" in browser.text("#log"), True)
     edit_cell(browser, ".ram button.status", F2, ["4", ENTER])
-    eventually(browser, "a status character, too", "return document.querySelector('.ram button.status').textContent", "4")
+    eventually(browser, "a status nibble can be edited", "return document.querySelector('.ram button.status').textContent", "4")
     double_click(browser, ".ram .port span")
-    eventually(browser, "a port says why it cannot be poked", GET_POPUP, re.compile("WMP"))
+    eventually(browser, "a double click on a port shows why it cannot be set", GET_POPUP, re.compile("WMP"))
 
 
 def check_click_on_changing_text(browser):
-    """Checks that a click on an element works even if its text changes during the click. (WebKit loses the click if the text node is replaced.)"""
+    """Checks that a click on an element works even if its text changes during the click. (In WebKit, a click is lost if the page replaces the text
+    node.)"""
     browser.until(GET_STATUS, re.compile("^Running"))
     browser.script("window.pressed = 0; document.getElementById('value-acc').addEventListener('click', () => { window.pressed++; })")
     browser.hold("#value-acc", 400)
-    eventually(browser, "a value that changes is pressed while time is running", "return window.pressed", 1)
+    eventually(browser, "a click on a changing value works while the program is running", "return window.pressed", 1)
 
 
 GET_POPUP = "const shown = document.querySelector('.popup-message'); return shown.hidden ? '' : shown.textContent"
 
 
-def check_refusals(browser):
+def check_limit_messages(browser):
     """Checks that the errors about a ninth watch and a thirty-third breakpoint appear at the clicked element."""
     send_lines(browser, "\n".join(f"watch 7 {address}" for address in range(8)))
     browser.click(".ram button:nth-child(5)")
-    eventually(browser, "a watch too many is rejected at its cell", GET_POPUP, re.compile("8 characters"))
+    eventually(browser, "a ninth watch is rejected with a message", GET_POPUP, re.compile("8 nibbles"))
     is_popup_near = "const [a, b] = [arguments[0], '.popup-message'].map((selector) => document.querySelector(selector).getBoundingClientRect()); " \
         "return Math.abs(a.left - b.left) + Math.abs(a.bottom - b.top) < 260"
-    verdict("the message is near the cell", browser.script(is_popup_near, ".ram button:nth-child(5)"), True)
+    verdict("the message is near the clicked cell", browser.script(is_popup_near, ".ram button:nth-child(5)"), True)
     send_lines(browser, "\n".join([*(f"unwatch 7 {address}" for address in range(8)), *(f"break {0x300 + address}" for address in range(32))]))
     browser.click("#lines-of-program button:nth-child(2)")
-    eventually(browser, "a breakpoint too many is rejected at its line", GET_POPUP, re.compile("32 breakpoints"))
+    eventually(browser, "a thirty-third breakpoint is rejected with a message", GET_POPUP, re.compile("32 breakpoints"))
     send_lines(browser, "\n".join(f"unbreak {0x300 + address}" for address in range(32)))
 
 
@@ -289,14 +300,15 @@ for (const each of places) {
 }"""
 
 
-def check_names(browser):
-    verdict("each RAM nibble has its value as its name, and its address beside it", browser.script(GET_WRONGLY_NAMED_CELLS), 0)
-    verdict("the tab has the session's name", browser.script("return document.title"), re.compile("^three lamps"))
+def check_accessible_names(browser):
+    """Checks that the RAM cells and the browser tab have the right names, and that a running program causes only a few announcements."""
+    verdict("the number of RAM cells with a wrong name", browser.script(GET_WRONGLY_NAMED_CELLS), 0)
+    verdict("the title of the browser tab", browser.script("return document.title"), re.compile("^three lamps"))
     choose_example(browser, "stopwatch")
     time.sleep(1)
     browser.script(COUNT_ANNOUNCEMENTS)
     time.sleep(3)
-    verdict("three seconds of running time are announced in a few words", browser.script("return window.said") <= 6, True)
+    verdict("at most six announcements in three seconds of running", browser.script("return window.said") <= 6, True)
 
 
 SWIPE_KEY = """
@@ -314,17 +326,17 @@ def check_swipe(browser):
     choose_example(browser, "calculator")
     browser.until(GET_STATUS, re.compile("^Running"))
     answer_before = send_lines(browser, "seq")
-    verdict("keys let a finger scroll", browser.script("return getComputedStyle(document.querySelector('.key')).touchAction"), "pan-y")
+    verdict("a finger can scroll on a key", browser.script("return getComputedStyle(document.querySelector('.key')).touchAction"), "pan-y")
     for speed, milliseconds in (("quick", 20), ("slow", 200)):
         browser.script(SWIPE_KEY, key("7"), milliseconds)
         time.sleep(0.5)
-        eventually(browser, f"after a {speed} swipe no key is down", COUNT_KEYS_DOWN, 0)
+        eventually(browser, f"no key is down after a {speed} swipe while running", COUNT_KEYS_DOWN, 0)
     stop_time(browser)
     for speed, milliseconds in (("quick", 20), ("slow", 200)):
         browser.script(SWIPE_KEY, key("7"), milliseconds)
         time.sleep(0.5)
-        eventually(browser, f"after a {speed} swipe while time is paused no key is down", COUNT_KEYS_DOWN, 0)
-    verdict("the bench has served lines meanwhile", send_lines(browser, "seq") != answer_before, True)
+        eventually(browser, f"no key is down after a {speed} swipe while paused", COUNT_KEYS_DOWN, 0)
+    verdict("the swipes have pressed keys", send_lines(browser, "seq") != answer_before, True)
 
 
 FIND_SMALL_TEXT = """
@@ -340,21 +352,23 @@ return [...small].join("; ")"""
 
 
 def check_text_sizes(browser):
-    verdict("no letters below 11 pixels", browser.script(FIND_SMALL_TEXT), "")
+    """Checks that no visible text has letters below 11 pixels."""
+    verdict("texts with letters below 11 pixels", browser.script(FIND_SMALL_TEXT), "")
     show_text(browser, "board")
-    verdict("nor with the board's text", browser.script(FIND_SMALL_TEXT), "")
+    verdict("texts with letters below 11 pixels, with the board's text", browser.script(FIND_SMALL_TEXT), "")
     show_text(browser, "program")
 
 
 # --- sizes, print and colours, through Chromium's driver ---
 
 def set_size(browser, width, height, mobile=False):
+    """Sets the size of the page, and scrolls the page to its upper left corner."""
     browser.resize(width, height, mobile)
     time.sleep(0.3)
     browser.script("scrollTo(0, 0)")
 
 
-GET_BOXES = """
+GET_PANEL_BOXES = """
 const ids = ["toolbar", "front", "keys", "texts", "program-editor", "dock", "side", "processor", "calls", "watched", "breakpoints", "memory",
   "statusbar", "regions"];
 return Object.fromEntries(ids.map((id) => {
@@ -369,7 +383,7 @@ const boxes = shown.map((each) => [each.id, each.getBoundingClientRect()]);
 return boxes.flatMap(([id, a], k) => boxes.slice(k + 1)
   .filter(([, b]) => Math.min(a.right, b.right) - Math.max(a.left, b.left) > 1 && Math.min(a.bottom, b.bottom) - Math.max(a.top, b.top) > 1)
   .map(([other]) => `${id} ${other}`))"""
-# The controls of the toolbar and the status bar that are partly outside the window while there is a notice.
+# The controls of the toolbar and the status bar that are partly outside the window or their bar while there is a notice.
 FIND_OUTSIDE = """
 document.getElementById("notices-button").hidden = false;
 return [...document.querySelectorAll("#toolbar :is(button, input, select):not([role=menu] *), #statusbar button")].filter(isShown).filter((control) => {
@@ -377,7 +391,7 @@ return [...document.querySelectorAll("#toolbar :is(button, input, select):not([r
   return left < Math.max(0, room.left) || right > Math.min(innerWidth, room.right);
 }).map(({ id }) => id)"""
 MEASURE_OVERFLOW = "return document.documentElement.scrollWidth - document.documentElement.clientWidth"
-# Returns the pixels by which the page itself is too wide and too high, and those by which a script can scroll it to the right and down.
+# Returns four numbers of pixels: how much the page itself is too wide and too high, and how far a script can scroll it to the right and down.
 TRY_TO_SCROLL = """
 const { scrollHeight, clientHeight, scrollWidth, clientWidth } = document.documentElement;
 scrollTo(1000, 1000);
@@ -387,42 +401,45 @@ return [scrollWidth - clientWidth, scrollHeight - clientHeight, ...moved]"""
 
 
 def check_sizes(browser):
-    """Checks that the page itself never scrolls. From 1,000 pixels, the front panel, the texts and the debugger's panels are side by side."""
+    """Checks that the page itself does not scroll at several window sizes. In wide windows, the front panel, the texts and the debugger's panels
+    must be side by side."""
     choose_example(browser, "traffic light")
     for width, height in ((1024, 640), (1200, 720), (1280, 720), (1440, 900), (1920, 1080)):
         set_size(browser, width, height)
-        boxes = browser.script(GET_BOXES)
+        boxes = browser.script(GET_PANEL_BOXES)
         verdict(f"the page does not scroll at {width}", browser.script(TRY_TO_SCROLL), [0, 0, 0, 0])
-        verdict(f"the toolbar is one row at {width}", boxes["toolbar"]["bottom"] - boxes["toolbar"]["top"], 44)
-        verdict(f"no control of the toolbar covers another one at {width}", browser.script(FIND_OVERLAPS), [])
-        verdict(f"and each one is whole at {width}", browser.script(FIND_OUTSIDE), [])
-        verdict(f"three columns are side by side at {width}",
+        verdict(f"the height of the toolbar at {width}", boxes["toolbar"]["bottom"] - boxes["toolbar"]["top"], 44)
+        verdict(f"toolbar controls that overlap at {width}", browser.script(FIND_OVERLAPS), [])
+        verdict(f"controls that are partly outside the window at {width}", browser.script(FIND_OUTSIDE), [])
+        verdict(f"the front panel, the texts and the debugger are side by side at {width}",
                 boxes["front"]["right"] <= boxes["texts"]["left"] and boxes["texts"]["right"] <= boxes["side"]["left"], True)
         verdict(f"the dock is below the texts at {width}", boxes["texts"]["bottom"] <= boxes["dock"]["top"], True)
-        verdict(f"the status bar ends the window at {width}", boxes["statusbar"]["bottom"], height)
-        verdict(f"so do the panels above it at {width}", {boxes[name]["bottom"] for name in ("front", "dock", "side")}, {boxes["statusbar"]["top"]})
-        verdict(f"keys are in view at {width}", boxes["keys"]["bottom"] < height, True)
-        verdict(f"the width is used at {width}", (boxes["front"]["left"], boxes["side"]["right"]), (0, width))
-    check_not_covered(browser, 999, 820, 700)
+        verdict(f"the status bar is at the bottom at {width}", boxes["statusbar"]["bottom"], height)
+        verdict(f"the panels end at the status bar at {width}", {boxes[name]["bottom"] for name in ("front", "dock", "side")}, {boxes["statusbar"]["top"]})
+        verdict(f"the keys are visible at {width}", boxes["keys"]["bottom"] < height, True)
+        verdict(f"the panels use the whole width at {width}", (boxes["front"]["left"], boxes["side"]["right"]), (0, width))
+    check_controls_in_view(browser, 999, 820, 700)
     check_drawer(browser)
     browser.restore_size()
 
 
 def check_narrow_sizes(browser):
-    """Checks widths that are too small for a browser window. The driver sets the width of the page without resizing the window."""
-    check_not_covered(browser, 699, 320)
+    """Checks that the page's controls are in view at widths that are too small for a browser window. The driver sets the width of the page without
+    resizing the window."""
+    check_controls_in_view(browser, 699, 320)
     browser.restore_size()
 
 
-def check_not_covered(browser, *widths):
+def check_controls_in_view(browser, *widths):
+    """Checks that at each width the page does not scroll, and that no control overlaps another one or is partly outside the window."""
     for width in widths:
         set_size(browser, width, 800)
         verdict(f"the page does not scroll at {width}", browser.script(TRY_TO_SCROLL), [0, 0, 0, 0])
-        verdict(f"no control of the toolbar covers another one at {width}", browser.script(FIND_OVERLAPS), [])
-        verdict(f"and each one is whole at {width}", browser.script(FIND_OUTSIDE), [])
+        verdict(f"toolbar controls that overlap at {width}", browser.script(FIND_OVERLAPS), [])
+        verdict(f"controls that are partly outside the window at {width}", browser.script(FIND_OUTSIDE), [])
 
 
-# Returns the controls in the visible rows of controls that are cut off or overlap.
+# Describes the controls of the visible bars that are cut off or overlap.
 FIND_WRONG_CONTROLS = """
 const rows = [...document.querySelectorAll("#wave-bar, .editor > .bar, #wiring > .bar, #statusbar")].filter(isShown);
 return rows.flatMap((row) => {
@@ -449,7 +466,7 @@ def check_controls(browser):
             if width < 700:
                 browser.click(f"#region-{'more' if tab == 'waves' else 'source'}")
             show_text(browser, tab)
-            verdict(f"the controls of {tab} are whole at {width}", browser.script(FIND_WRONG_CONTROLS), [])
+            verdict(f"controls of {tab} that are cut off or overlap at {width}", browser.script(FIND_WRONG_CONTROLS), [])
     browser.command("Emulation.setTouchEmulationEnabled", enabled=False)
     browser.restore_size()
 
@@ -458,14 +475,14 @@ IS_DRAWER_SHOWN = "return isShown(document.getElementById('processor'))"
 
 
 def check_drawer(browser):
-    """Checks that in a narrow window the debugger's panels are a drawer."""
+    """Checks that in a narrow window the debugger's panels are a drawer, which its button opens and Escape closes."""
     set_size(browser, 820, 1180)
-    verdict("the drawer is shut", browser.script(IS_DRAWER_SHOWN), False)
+    verdict("the drawer is closed", browser.script(IS_DRAWER_SHOWN), False)
     browser.click("#drawer-button")
-    verdict("its button opens it", browser.script(IS_DRAWER_SHOWN), True)
+    verdict("the drawer's button opens it", browser.script(IS_DRAWER_SHOWN), True)
     browser.script("document.getElementById('value-acc').focus()")
     browser.keys([ESCAPE])
-    verdict("Escape shuts it", browser.script(IS_DRAWER_SHOWN), False)
+    verdict("Escape closes the drawer", browser.script(IS_DRAWER_SHOWN), False)
 
 
 IS_IN_VIEW = """
@@ -487,20 +504,20 @@ return `${word.getAttribute("aria-expanded")} ${isShown(item)}`"""
 
 def check_menu(browser):
     """Checks that on a phone the session's buttons are in a menu, which a choice or Escape closes."""
-    verdict("the menu is shut", browser.script(GET_MENU_STATE), "false false")
+    verdict("the menu is closed", browser.script(GET_MENU_STATE), "false false")
     browser.click("#menu-button")
-    verdict("the menu opens", browser.script(GET_MENU_STATE), "true true")
+    verdict("the button opens the menu", browser.script(GET_MENU_STATE), "true true")
     browser.keys([ESCAPE])
-    verdict("Escape shuts it", browser.script(GET_MENU_STATE), "false false")
+    verdict("Escape closes the menu", browser.script(GET_MENU_STATE), "false false")
     browser.click("#menu-button")
     browser.click("#help-narrow")
-    verdict("what is chosen is done", browser.script("return isShown(document.getElementById('help'))"), True)
-    verdict("and the menu is shut", browser.script(GET_MENU_STATE), "false false")
+    verdict("Help in the menu opens the help", browser.script("return isShown(document.getElementById('help'))"), True)
+    verdict("the menu is closed after the choice", browser.script(GET_MENU_STATE), "false false")
     browser.click("#help-close")
     browser.click("#menu-button")
     browser.click("#examples-narrow")
     measure_overflow = "const box = document.getElementById('sessions'); return box.open && box.scrollWidth - box.clientWidth"
-    eventually(browser, "the dialog of sessions does not scroll sideways", measure_overflow, 0)
+    eventually(browser, "the sessions dialog does not scroll sideways", measure_overflow, 0)
     browser.click("#close-sessions")
 
 
@@ -517,29 +534,30 @@ def check_phone(browser):
     check_menu(browser)
     for width, height in ((390, 844), (360, 640), (320, 640), (375, 667)):
         set_size(browser, width, height, True)
-        boxes = browser.script(GET_BOXES)
-        verdict(f"at {width} a phone's page does not scroll", browser.script(TRY_TO_SCROLL), [0, 0, 0, 0])
-        verdict(f"the tabs are at the bottom at {width}", boxes["regions"]["bottom"], height)
-        verdict(f"and are large enough at {width}", boxes["regions"]["bottom"] - boxes["regions"]["top"] >= 44, True)
+        boxes = browser.script(GET_PANEL_BOXES)
+        verdict(f"the page does not scroll on a phone at {width}", browser.script(TRY_TO_SCROLL), [0, 0, 0, 0])
+        verdict(f"the region tabs are at the bottom at {width}", boxes["regions"]["bottom"], height)
+        verdict(f"the region tabs are at least 44 pixels high at {width}", boxes["regions"]["bottom"] - boxes["regions"]["top"] >= 44, True)
     for region, panel in (("source", "texts"), ("debug", "side"), ("more", "dock"), ("board", "front")):
         browser.click(f"#region-{region}")
-        verdict(f"{region} shows its panel alone", browser.script(GET_PHONE_PANELS), panel)
+        verdict(f"the tab {region} shows only its panel", browser.script(GET_PHONE_PANELS), panel)
     browser.click("#region-debug")
     verdict("RAM does not scroll sideways", browser.script("const box = document.getElementById('banks'); return box.scrollWidth - box.clientWidth"), 0)
     browser.click("#region-board")
     for selector in (".bulb", ".key", "#run"):
-        verdict(f"{selector} is in view on a phone", browser.script(IS_IN_VIEW, selector), True)
+        verdict(f"{selector} is visible on a phone", browser.script(IS_IN_VIEW, selector), True)
     stop_time(browser)
     set_size(browser, 375, 420, True)
     box = browser.script("const box = document.querySelector('.key').getBoundingClientRect(); return [box.x + 20, box.y + 15]")
     swipe_up(browser, *box)
     eventually(browser, "a swipe that begins on a key scrolls the front panel", "return document.getElementById('front').scrollTop > 50", True)
-    eventually(browser, "and presses nothing that stays down", COUNT_KEYS_DOWN, 0)
+    eventually(browser, "no key is down after the swipe", COUNT_KEYS_DOWN, 0)
     browser.command("Emulation.setTouchEmulationEnabled", enabled=False)
     browser.restore_size()
 
 
-def emulate(browser, media="", **features):
+def emulate_media(browser, media="", **features):
+    """Emulates a medium such as print and media features such as forced colours. Without arguments, ends the emulation."""
     media_features = [{"name": name.replace("_", "-"), "value": value} for name, value in features.items()]
     browser.command("Emulation.setEmulatedMedia", media=media, features=media_features)
     time.sleep(0.2)
@@ -552,12 +570,13 @@ return lit !== dark && !lit.startsWith("rgba(0, 0, 0, 0)")"""
 
 
 def check_forced_colours(browser):
+    """Checks that in forced colours, lamps that are on differ from the others, and changed values have an outline."""
     step_with_marks(browser)
-    emulate(browser, forced_colors="active")
-    verdict("where the system forces colours a lit lamp is full", browser.script(ARE_LAMPS_DISTINCT), True)
+    emulate_media(browser, forced_colors="active")
+    verdict("in forced colours lamps that are on differ from the others", browser.script(ARE_LAMPS_DISTINCT), True)
     get_outline = "return getComputedStyle(document.querySelector('.changed')).outlineStyle"
-    verdict("and marks have a line", browser.script(get_outline), "solid")
-    emulate(browser)
+    verdict("in forced colours marks have an outline", browser.script(get_outline), "solid")
+    emulate_media(browser)
 
 
 COUNT_PRINTED_CONTROLS = """
@@ -566,13 +585,14 @@ return [...document.querySelectorAll("#bench *")].filter((node) => isShown(node)
 
 
 def check_print(browser):
+    """Checks that a printout has the source, the board's text and the lamps, but no buttons, fields and editors."""
     has_board = browser.script("return document.querySelector('#board-title') !== null")
-    emulate(browser, media="print")
-    eventually(browser, "print has the texts", "return document.querySelectorAll('#print h2').length", 2)
+    emulate_media(browser, media="print")
+    eventually(browser, "the number of printed texts", "return document.querySelectorAll('#print h2').length", 2)
     printed_text = browser.text("#print")
-    verdict("the source whole", "JMS" in printed_text or "JUN" in printed_text, True)
-    verdict("and the board", has_board and "lamp = [" in printed_text and "[[rom]]" in printed_text, True)
-    verdict("lamps are printed", browser.script("return isShown(document.querySelector('.bulb'))"), True)
-    verdict("and no buttons, fields or editors", browser.script(COUNT_PRINTED_CONTROLS), 0)
-    emulate(browser)
-    verdict("the page is unchanged", browser.script("return isShown(document.getElementById('texts'))"), True)
+    verdict("the printout has the source", "JMS" in printed_text or "JUN" in printed_text, True)
+    verdict("the printout has the board's text", has_board and "lamp = [" in printed_text and "[[rom]]" in printed_text, True)
+    verdict("the printout has the lamps", browser.script("return isShown(document.querySelector('.bulb'))"), True)
+    verdict("the number of printed buttons, fields and editors", browser.script(COUNT_PRINTED_CONTROLS), 0)
+    emulate_media(browser)
+    verdict("the texts are visible again after printing", browser.script("return isShown(document.getElementById('texts'))"), True)

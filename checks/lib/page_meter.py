@@ -1,7 +1,7 @@
 """Scripts that measure a page from outside without changing its own scripts."""
 
-# A script to insert before the page's own. For each real-time frame, it stores the milliseconds of work on the main thread and in the worker in
-# `frames`. A handler's work continues in promises, so the script waits for eight more promises before it stops the time.
+# A script to insert before the page's own. For each real-time frame, it adds a pair to `frames`: the milliseconds of work on the main thread and in
+# the worker. A handler's work continues in promises, so the script waits for eight more promises before it stops the clock.
 INSTALL_PAGE_METER = """
 window.frames = [];
 let workTime = 0;
@@ -70,7 +70,7 @@ Worker.prototype.addEventListener = function (kind, handler) {
 };"""
 GET_MODULE_FRACTIONS = "return window.fractions"
 
-# Starts another worker with the page's module, for RUN_MODULE_ALONE.
+# Starts another worker with the page's module, for RUN_MODULE_ALONE, and lets it make its first long call.
 START_SEPARATE_WORKER = """
 const work = `
 let instance, file, size, input, bufferSize, answers, report;
@@ -124,8 +124,8 @@ new MutationObserver((_, observer) => {
 }).observe(document.getElementById("digits"), { childList: true, characterData: true, subtree: true })"""
 GET_KEY_TIME = "return window.keyTime"
 
-# Clicks a button that searches for a goal, and stores the cycles per second in `searchSpeed`. A search for a change is for a value that never
-# changes.
+# Clicks a button that searches for a goal, and stores the cycles per second in `searchSpeed`. The arguments are the button's id and the number of
+# cycles of the search. A search for a change watches a value that never changes.
 START_SEARCH = """
 window.searchSpeed = 0;
 document.getElementById("change-place").value = "st.0.3.3";

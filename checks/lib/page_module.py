@@ -6,7 +6,7 @@ import zlib
 
 
 def part_of_page(text, name):
-    """Returns the contents of the hidden element with an id."""
+    """Returns the contents of the script element with an id, in which page/build has embedded data."""
     return re.search(rf'<script type="[a-z/]+" id="{name}">(.*?)</script>', text, re.S).group(1)
 
 
@@ -18,7 +18,7 @@ def module_of_page(page):
 
 
 def with_worker_code(text, code):
-    """Returns a page's text with `code` before the worker's script. (In older pages, that script is not compressed.)"""
+    """Returns a page's text with `code` inserted before the worker's script. (In older pages, that script is not compressed.)"""
     encoded = part_of_page(text, "worker")
     if not re.fullmatch("[A-Za-z0-9+/=]+", encoded):
         return text.replace(encoded, code + encoded, 1)

@@ -10,8 +10,8 @@ from verdicts import eventually, verdict
 
 TOP = pathlib.Path(__file__).resolve().parent.parent.parent
 PROGRAM = TOP / "examples/calculator/calculator.asm"
-STEPS = 60
-STEPS_AT_ONCE = 6
+STEP_COUNT = 60
+STEPS_PER_SCRIPT = 6
 GET_SOURCE_STATUS = "return document.getElementById('source-status').textContent"
 GET_POPUP = "const shown = document.querySelector('.popup-message'); return shown.hidden ? '' : shown.textContent"
 GET_GO_TO_STATUS = "return document.getElementById('go-to-status').textContent"
@@ -28,7 +28,8 @@ GET_LABELS = "return [...document.querySelectorAll('#lines-of-program .labels')]
 GET_BREAKPOINT_LINES = """
 return document.querySelector("#program-editor .cm-editor").lineEditor.marksIn("breakpoints").map((line) => line + 1).join(" ")"""
 
-# Steps several times. Returns for each step the counter, and the marked visible source line with its number.
+# Steps as often as the argument says. Returns for each step the program counter, and the marked source line with its number, or `not seen` if the
+# line is out of view.
 STEP_THROUGH = """
 // Omits the values that the page shows after a line, which are not a part of the line.
 const textOf = (line) => {
@@ -73,7 +74,8 @@ const { left, top, width, height } = node.getBoundingClientRect();
 const at = { clientX: left + width / 2, clientY: top + height / 2, button: 0, buttons: 1, bubbles: true, cancelable: true, detail: 1 };
 for (const kind of ["mousedown", "mouseup", "click"]) node.dispatchEvent(new MouseEvent(kind, at));"""
 
-# Scrolls a line into view, and returns the position of a word in it.
+# Scrolls a line into view, and returns the position of a word in it, in pixels from the window's upper left corner. The arguments are the line's
+# number, from 1, and the word.
 SCROLL_TO_WORD = """
 const editor = document.querySelector("#program-editor .cm-editor").lineEditor;
 const [line, word] = arguments;
@@ -87,12 +89,14 @@ GET_EXPLANATION = "return document.querySelector('#program-editor .meaning').tex
 
 
 def listing_of(mcs4, *options):
+    """Returns the output of `mcs4 listing` for the calculator's program."""
     environment = dict(os.environ, MCS4=str(mcs4))
     return subprocess.run([TOP / "mcs4", "listing", *options, PROGRAM], stdout=subprocess.PIPE, text=True, check=True, env=environment).stdout
 
 
 def read_listing(mcs4):
-    """Reads the output of `mcs4 listing`. Returns the number and text of the source line that begins at each address, and the values of the names."""
+    """Reads the output of `mcs4 listing`. Returns two dictionaries: the number and text of the source line that begins at each address, and the
+    value of each name."""
     listing = listing_of(mcs4).splitlines()
     # Continuation rows of a line have no text.
     rows = [row for row in listing if row[17:] or not re.match("[0-9A-F]{3} ", row)]
@@ -101,79 +105,86 @@ def read_listing(mcs4):
 
 
 def with_single_spaces(text):
+    """Returns a text with one space between its words."""
     return " ".join(text.split())
 
 
 def go_to(browser, text):
+    """Types a name or an address into the field Go to."""
     browser.script("document.getElementById('go-to').value = ''")
     browser.type_into("#go-to", text + ENTER)
 
 
-def check_steps(browser, source):
+def check_marked_lines(browser, source):
+    """Checks that after each of many steps, the page marks the source line that `mcs4 listing` shows at the program counter."""
     stop_time(browser)
     send_lines(browser, "reset")
     rows = []
-    for chunk in range(STEPS // STEPS_AT_ONCE):
-        rows += browser.script(STEP_THROUGH, STEPS_AT_ONCE)
+    for chunk in range(STEP_COUNT // STEPS_PER_SCRIPT):
+        rows += browser.script(STEP_THROUGH, STEPS_PER_SCRIPT)
         # Start each chunk in another routine.
         send_lines(browser, f"run {20 + 61 * chunk}")
     expected = [[counter, with_single_spaces("{} {}".format(*source[counter]))] for counter, _ in rows]
-    verdict(f"the source line at each of {STEPS} steps", [[counter, with_single_spaces(line)] for counter, line in rows], expected)
-    verdict("they go through several routines", len({counter for counter, _ in rows}) > STEPS // 3, True)
+    verdict(f"the marked source line at each of {STEP_COUNT} steps", [[counter, with_single_spaces(line)] for counter, line in rows], expected)
+    verdict("the steps reach many addresses", len({counter for counter, _ in rows}) > STEP_COUNT // 3, True)
 
 
 def check_breakpoint_at_name(browser, source, values, lines):
+    """Checks that a breakpoint can be set at a name, that the program stops there, and that the return addresses are shown with names."""
     go_to(browser, "scan")
-    eventually(browser, "go to a name", f"{GET_ADDRESSES}.includes('{values['scan']}')", True)
-    verdict("and the listing follows no more", browser.script(IS_FOLLOW_CHECKED), False)
+    eventually(browser, "Go to shows the address of a name", f"{GET_ADDRESSES}.includes('{values['scan']}')", True)
+    verdict("Go to switches Follow off", browser.script(IS_FOLLOW_CHECKED), False)
     browser.click("#break-there")
     line = source[values["scan"]][0]
-    eventually(browser, "a breakpoint at a name stands in the source's margin", GET_BREAKPOINT_LINES, str(line))
+    eventually(browser, "a breakpoint that is set at a name is in the source's margin", GET_BREAKPOINT_LINES, str(line))
     browser.click("#run")
-    eventually(browser, "a run stops there", GET_STATUS, f"Paused at {values['scan']}, at a breakpoint.")
+    eventually(browser, "the program stops at the name", GET_STATUS, f"Paused at {values['scan']}, at a breakpoint.")
     call = next(number for number, text in enumerate(lines, 1) if "JMS scan" in text.expandtabs(1))
-    eventually(browser, "the counter and the return addresses by name", GET_STACK, re.compile(
+    eventually(browser, "the counter and the return addresses are shown with names", GET_STACK, re.compile(
         rf"^\['pc {values['scan']} scan, line {line}', 'ret 1 {int(values['await'], 16) + 2:03X} await \+ 2, call in line {call}', "
         r"'ret 2 ... stale', 'ret 3 ... stale'\]$"))
     browser.click("#break-there")
-    eventually(browser, "the same button clears it", GET_BREAKPOINT_LINES, "")
+    eventually(browser, "the same button clears the breakpoint", GET_BREAKPOINT_LINES, "")
 
 
-def check_margin(browser, source, values):
+def check_margin_clicks(browser, source, values):
+    """Checks that clicks in the source's margin set and clear breakpoints. At a line without bytes, the breakpoint must move to the next
+    instruction."""
     show_line = source[values["show"]][0]
     browser.script(CLICK_MARGIN, show_line)
-    eventually(browser, "a breakpoint by a click in the margin", GET_BREAKPOINT_LINES, str(show_line))
+    eventually(browser, "a click in the margin sets a breakpoint", GET_BREAKPOINT_LINES, str(show_line))
     browser.click("#reset")
     browser.click("#run")
-    eventually(browser, "a run stops at that line", GET_STATUS, f"Paused at {values['show']}, at a breakpoint.")
+    eventually(browser, "the program stops at the breakpoint's line", GET_STATUS, f"Paused at {values['show']}, at a breakpoint.")
     browser.script(CLICK_MARGIN, show_line)
-    eventually(browser, "another click clears it", GET_BREAKPOINT_LINES, "")
+    eventually(browser, "another click clears the breakpoint", GET_BREAKPOINT_LINES, "")
     browser.script(CLICK_MARGIN, 1)
-    eventually(browser, "at a line without bytes it goes to the next instruction, with a message", GET_POPUP,
+    eventually(browser, "a breakpoint at a line without bytes moves to the next instruction, with a message", GET_POPUP,
                re.compile("^Line 1 puts no bytes into ROM: its breakpoint is at the next instruction, line "))
     breakpoint_line = browser.until(GET_BREAKPOINT_LINES, re.compile("[0-9]"))
     browser.script(CLICK_MARGIN, int(breakpoint_line))
-    eventually(browser, "which a click there takes away", GET_BREAKPOINT_LINES, "")
+    eventually(browser, "a click at its new line clears the breakpoint", GET_BREAKPOINT_LINES, "")
 
 
-def check_inside(browser, source, values, lines):
-    """Checks that a breakpoint inside an instruction moves to the next instruction, and that a run stops there."""
+def check_breakpoint_inside_instruction(browser, source, values, lines):
+    """Checks that a breakpoint inside an instruction moves to the next instruction, in the source, the disassembly and the bench. Clicks must clear
+    breakpoints."""
     call = next(number for number, text in enumerate(lines, 1) if "JMS scan" in text.expandtabs(1))
     address = next(candidate for candidate, (number, _) in source.items() if number == call)
     second_address, next_address = (f"{int(address, 16) + offset:03X}" for offset in (1, 2))
     go_to(browser, address)
     send_lines(browser, f"break 0x{second_address}")
     browser.script(SHOW_MARGIN, call)
-    eventually(browser, "a breakpoint inside an instruction goes to the next one", GET_BREAKPOINT_LINES, str(source[next_address][0]))
-    eventually(browser, "in the listing, too", GET_MARKS, ["\u25cf breakpoint", "\u25cf"])
-    verdict("and in the bench", send_lines(browser, "breaks"), re.compile(f"breaks {next_address}$"))
+    eventually(browser, "a breakpoint inside an instruction moves to the next instruction", GET_BREAKPOINT_LINES, str(source[next_address][0]))
+    eventually(browser, "the mark of the breakpoint in the source and in the disassembly", GET_MARKS, ["\u25cf breakpoint", "\u25cf"])
+    verdict("the address of the breakpoint in the bench", send_lines(browser, "breaks"), re.compile(f"breaks {next_address}$"))
     browser.script(CLICK_MARGIN, source[next_address][0])
-    eventually(browser, "a click in the margin clears it", GET_BREAKPOINT_LINES, "")
-    verdict("no breakpoint is left", send_lines(browser, "breaks"), re.compile("breaks -$"))
+    eventually(browser, "a click in the margin clears the breakpoint", GET_BREAKPOINT_LINES, "")
+    verdict("the bench has no breakpoints", send_lines(browser, "breaks"), re.compile("breaks -$"))
     send_lines(browser, f"break 0x{address}")
     browser.until(GET_BREAKPOINT_LINES, str(call))
     browser.script("document.querySelector('#lines-of-program button[aria-pressed=true]').click()")
-    eventually(browser, "and so does one on its row of the listing", GET_BREAKPOINT_LINES, "")
+    eventually(browser, "a click on its row in the disassembly clears the breakpoint", GET_BREAKPOINT_LINES, "")
 
 
 def point_at(browser, line, word):
@@ -183,8 +194,8 @@ def point_at(browser, line, word):
         {"type": "pointerMove", "duration": 0, "x": int(x) + shift, "y": int(y)} for shift in (1, 2)]})
 
 
-def check_pointing(browser, source, values, lines):
-    """Checks the description of the word under the pointer: a label's address and line, a named number's value, an instruction, a register."""
+def check_word_descriptions(browser, source, values, lines):
+    """Checks that the page describes the word under the pointer: a label's address and line, a named number's value, an instruction, a register."""
     line_of = {word: next(number for number, text in enumerate(lines, 1) if re.search(pattern, text)) for word, pattern in {
         "scan": r"JMS scan\b", "nonzero": r"^nonzero\s*=", "JMS": r"JMS scan\b", "P1": r"FIM P1,"}.items()}
     for word, expected in {
@@ -194,59 +205,64 @@ def check_pointing(browser, source, values, lines):
         "P1": re.compile(r"^(?:P1 = ([0-9A-F])([0-9A-F]): R2 \1, R3 \2\. )?P1: the pair of R2 \(upper four bits\) and R3 \(lower four bits\)\.$"),
     }.items():
         point_at(browser, line_of[word], word)
-        eventually(browser, f"the pointer on {word} shows what it is", GET_EXPLANATION, expected)
+        eventually(browser, f"the description of {word} under the pointer", GET_EXPLANATION, expected)
 
 
 def check_go_to(browser):
+    """Checks that Go to shows addresses in all formats, and reports other input."""
     for text, address in (("01E", "01E"), ("0x11E", "11E"), ("30", "01E"), ("100", "100")):
         go_to(browser, text)
-        eventually(browser, f"go to {text}", f"{GET_ADDRESSES}.includes('{address}')", True)
+        eventually(browser, f"Go to {text} shows the address", f"{GET_ADDRESSES}.includes('{address}')", True)
     for text, pattern in (("nosuch", "^nosuch is neither a name of the program nor an address"), ("4096", "^4096 is not an address")):
         go_to(browser, text)
-        eventually(browser, f"{text} is not an address, with a message", GET_GO_TO_STATUS, re.compile(pattern))
-        verdict("and the field is marked", browser.script("return document.getElementById('go-to').getAttribute('aria-invalid')"), "true")
+        eventually(browser, f"Go to {text} is rejected with a message", GET_GO_TO_STATUS, re.compile(pattern))
+        verdict("the field is marked as invalid", browser.script("return document.getElementById('go-to').getAttribute('aria-invalid')"), "true")
     go_to(browser, "scan")
-    eventually(browser, "an address takes the words away", GET_GO_TO_STATUS, "")
+    eventually(browser, "a valid address removes the message", GET_GO_TO_STATUS, "")
 
 
 def check_names_in_lines(browser, values):
-    verdict("a name in a line", send_lines(browser, "list @scan 1"), re.compile(rf"^list 0x{values['scan']} 1{values['scan']} "))
+    """Checks that `@NAME` in a line of the console is replaced by the name's address, and that an unknown name is reported."""
+    verdict("the answer to a line with a name", send_lines(browser, "list @scan 1"), re.compile(rf"^list 0x{values['scan']} 1{values['scan']} "))
     show_text(browser, "console")
     browser.type_into("#lines", "break @nosuch" + ENTER)
-    eventually(browser, "one that the program lacks, with a message", GET_NOTICE, "@nosuch: the program has no such name.")
-    verdict("and the line can be corrected", browser.script("return document.getElementById('lines').value"), "break @nosuch")
+    eventually(browser, "the message about a name that the program lacks", GET_NOTICE, "@nosuch: the program has no such name.")
+    verdict("the rejected line stays in the field", browser.script("return document.getElementById('lines').value"), "break @nosuch")
     browser.script("document.getElementById('lines').value = ''")
     browser.click("#notice button")
     show_text(browser, "disassembly")
 
 
 def set_source(browser, text):
+    """Replaces the text of the program's editor."""
     show_text(browser, "program")
     browser.script(PUT_INTO_EDITOR, "#program-editor", text)
 
 
-def check_difference(browser, source, lines):
+def check_source_differs_from_rom(browser, source, lines):
+    """Checks that the page reports the first line at which source and ROM differ, and shows no names then. Errors in the source must also be
+    reported."""
     line = source["106"][0]
     changed_lines = [*lines[:line - 1], "\tLDM 3", *lines[line:]]
     set_source(browser, "\n".join(["; one line more", *changed_lines]) + "\n")
     message = f"Source and ROM differ from line {line + 1} (0x106). Assemble to update."
-    eventually(browser, "a text that is not in ROM says where it differs", GET_SOURCE_STATUS, message)
-    eventually(browser, "and names nothing", GET_LABELS, "")
+    eventually(browser, "the first line at which source and ROM differ is reported", GET_SOURCE_STATUS, message)
+    eventually(browser, "the disassembly shows no names", GET_LABELS, "")
     browser.script(CLICK_MARGIN, line)
-    eventually(browser, "a breakpoint in it stops nothing yet, with a message", GET_POPUP, f"{message} Until then this breakpoint stops nothing.")
+    eventually(browser, "the message about a breakpoint while source and ROM differ", GET_POPUP, f"{message} Until then this breakpoint stops nothing.")
     browser.script(CLICK_MARGIN, line)
-    eventually(browser, "a second click takes it away", GET_BREAKPOINT_LINES, "")
+    eventually(browser, "another click clears the breakpoint", GET_BREAKPOINT_LINES, "")
     set_source(browser, "\n".join(["; one line more", *lines]) + "\n")
-    eventually(browser, "another comment alone makes no difference", GET_SOURCE_STATUS, "")
-    eventually(browser, "and names are there", GET_LABELS, re.compile("scan:"))
+    eventually(browser, "a source with another comment does not differ from ROM", GET_SOURCE_STATUS, "")
+    eventually(browser, "the disassembly shows the names again", GET_LABELS, re.compile("scan:"))
     send_lines(browser, "poke rom.0x106 0xD3")
-    eventually(browser, "nor is it in ROM where a byte was poked", GET_SOURCE_STATUS, message)
+    eventually(browser, "a changed byte in ROM is reported", GET_SOURCE_STATUS, message)
     send_lines(browser, "poke rom.0x106 0xD2")
-    eventually(browser, "as long as it is there", GET_SOURCE_STATUS, "")
+    eventually(browser, "the report disappears when the byte is restored", GET_SOURCE_STATUS, "")
     set_source(browser, "\tLDM 3\n\tJUN nowhere\n")
-    eventually(browser, "a text with an error says so", GET_SOURCE_STATUS, re.compile("^The source has an error in line 2: no 32"))
+    eventually(browser, "an error in the source is reported", GET_SOURCE_STATUS, re.compile("^The source has an error in line 2: no 32"))
     set_source(browser, "\tORG 0xF00\n\tNOP\n")
-    eventually(browser, "and one that has no ROM", GET_SOURCE_STATUS, "The board has no ROM at 0xF00, where line 2 of the source goes.")
+    eventually(browser, "a source line for a missing ROM chip is reported", GET_SOURCE_STATUS, "The board has no ROM at 0xF00, where line 2 of the source goes.")
 
 
 def check(browser, page, _folder, mcs4):
@@ -256,12 +272,12 @@ def check(browser, page, _folder, mcs4):
     until_ready(browser)
     choose_example(browser, "calculator")
     show_text(browser, "program")
-    check_steps(browser, source)
+    check_marked_lines(browser, source)
     check_breakpoint_at_name(browser, source, values, lines)
-    check_margin(browser, source, values)
-    check_inside(browser, source, values, lines)
-    check_pointing(browser, source, values, lines)
+    check_margin_clicks(browser, source, values)
+    check_breakpoint_inside_instruction(browser, source, values, lines)
+    check_word_descriptions(browser, source, values, lines)
     check_go_to(browser)
     check_names_in_lines(browser, values)
-    check_difference(browser, source, lines)
+    check_source_differs_from_rom(browser, source, lines)
     choose_example(browser, "calculator")

@@ -1,5 +1,5 @@
-"""The part of checks/page about unusual input: markup in each field and each name, files of all kinds, numbers out of range, many clicks at once, and
-a reload right after an edit. No input may become an element or a script, and the bench must still answer afterwards."""
+"""The part of checks/page about unusual input: markup in fields and names, files of all kinds, and numbers out of range. Also about many clicks at
+once, and a reload immediately after an edit. No input may become an element or a script, and the bench must still answer afterwards."""
 
 import base64
 import re
@@ -11,7 +11,7 @@ from verdicts import eventually, verdict
 INJECTED_MARKUP = "<img src=x onerror=\"window.injected=1\"><script>window.injected=1</script>"
 # Markup without spaces and quotes, for use as a name.
 INJECTED_NAME = "<img/src=x/onerror=injected=1>"
-# The editor's own images have no address.
+# True if no injected script has run, and no input has become an element. (The editor's own images have no address.)
 IS_HARMLESS = "return !window.injected && document.querySelectorAll('img[src], body script[src], iframe, object').length === 0"
 IS_DIALOG_OPEN = "const box = document.getElementById('ask'); return box !== null && box.open"
 CLOSE_ALL = """
@@ -25,7 +25,7 @@ SEND_SEQ = """
 window.before = document.getElementById("log").textContent.length;
 document.getElementById("lines").value = "seq";
 document.getElementById("send").click()"""
-# Another session begins with an empty log.
+# True if the line of SEND_SEQ is answered. If the log is shorter than before, another session was opened, whose log began empty.
 IS_SEQ_ANSWERED = """
 const text = document.getElementById("log").textContent;
 return /seq \\d+/.test(text.slice(window.before > text.length ? 0 : window.before))"""
@@ -37,7 +37,7 @@ PROGRAM = " NOP\n JUN 0\n"
 BOARD = '[[rom]]\nchip = 0\nport = "0000"\n'
 
 
-def check_alive(browser, description):
+def check_bench_answers(browser, description):
     """Checks that the bench answers, and that the input has not become an element or a script."""
     if browser.script(IS_DIALOG_OPEN):
         browser.script("document.getElementById('ask').close('')")
@@ -46,24 +46,25 @@ def check_alive(browser, description):
         if browser.until(IS_SEQ_ANSWERED, True, 10):
             break
     verdict(f"the bench answers after {description}", browser.script(IS_SEQ_ANSWERED), True)
-    verdict(f"{description} makes no element and no script", browser.script(IS_HARMLESS), True)
+    verdict(f"{description} adds no element and no script", browser.script(IS_HARMLESS), True)
 
 
-def check_fields(browser):
+def check_markup_in_fields(browser):
+    """Checks that markup in texts, names, fields and lines does not become an element or a script."""
     choose_example(browser, "empty bench")
     browser.script(SET_FIELD, "name", INJECTED_MARKUP)
     front_panel = f"# title: {INJECTED_MARKUP}\n# row 0: {INJECTED_NAME} b\n# lamp 0: {INJECTED_NAME}\n# port rom0: {INJECTED_MARKUP}\n# test: button {INJECTED_NAME}\n"
     browser.script(PUT_INTO_EDITOR, "#board-editor", front_panel + BOARD)
     show_text(browser, "board")
     browser.click("#board-editor .send")
-    check_alive(browser, "a board of markup")
+    check_bench_answers(browser, "a board of markup")
     texts = {"program": f"{INJECTED_NAME}: NOP ; {INJECTED_MARKUP}\nx = \"{INJECTED_MARKUP}\n{INJECTED_MARKUP}\n", "tests": f"test {INJECTED_MARKUP}\n  expect lamp {INJECTED_NAME} on\n",
              "properties": f"test {INJECTED_MARKUP}\nnever {INJECTED_MARKUP}\n"}
     for name, text in texts.items():
         show_text(browser, name)
         browser.script(PUT_INTO_EDITOR, f"#{name}-editor", text)
         browser.click(f"#{name}-editor .send")
-        check_alive(browser, f"markup in {name}")
+        check_bench_answers(browser, f"markup in {name}")
     show_text(browser, "program")
     for field in ("watched-field", "go-to", "change-place", "step-count"):
         browser.script(SET_FIELD, field, "")
@@ -71,15 +72,15 @@ def check_fields(browser):
     show_text(browser, "disassembly")
     for field in ("watched-field", "go-to", "change-place", "step-count"):
         browser.type_into(f"#{field}", INJECTED_MARKUP + ENTER)
-        check_alive(browser, f"markup in {field}")
+        check_bench_answers(browser, f"markup in {field}")
     show_text(browser, "waves")
     browser.script(SET_FIELD, "trigger", INJECTED_MARKUP)
     browser.script(SET_FIELD, "signal-search", INJECTED_MARKUP)
     browser.click("#record")
-    check_alive(browser, "markup in the trigger")
+    check_bench_answers(browser, "markup in the trigger")
     show_text(browser, "console")
     browser.script("document.getElementById('lines').value = arguments[0]; document.getElementById('send').click()", INJECTED_MARKUP)
-    check_alive(browser, "a line of markup")
+    check_bench_answers(browser, "a line of markup")
 
 
 def file_drops():
@@ -96,23 +97,25 @@ def file_drops():
     return [*({name: data} for name, data in single_files.items()), files_of_each_kind, many_files]
 
 
-def check_files(browser):
+def check_dropped_files(browser):
+    """Checks that each set of dropped files is opened, causes a question, or is rejected with a message."""
     choose_example(browser, "three lamps")
     for drop in file_drops():
         browser.script(CLOSE_ALL)
         browser.until(GET_NOTICE, "")
         browser.script(DROP_FILES, [[name, base64.b64encode(data).decode()] for name, data in drop.items()])
         description = " and ".join([*drop][:2]) + (" .." if len(drop) > 2 else "")
-        eventually(browser, f"{description} is opened, asked for or refused in words",
+        eventually(browser, f"{description} is opened, causes a question, or is rejected with a message",
               f"{IS_DIALOG_OPEN.replace('return', 'const asks =')}; {GET_NOTICE.replace('return', 'const text =')}; return asks || text !== ''", True)
-        check_alive(browser, description)
+        check_bench_answers(browser, description)
     # The last drop has 60 programs, which the page reads one after another. The last program closes any dialog that is still open.
     browser.until(GET_NOTICE, re.compile(r"^59\.asm is in Source"))
     until_ready(browser)
     browser.script(CLOSE_ALL)
 
 
-def check_numbers(browser):
+def check_invalid_numbers(browser):
+    """Checks that numbers out of range and other texts are rejected in the fields for numbers."""
     choose_example(browser, "three lamps")
     browser.click("#run")
     browser.until(GET_STATUS, re.compile("^Paused"))
@@ -129,7 +132,7 @@ def check_numbers(browser):
     show_text(browser, "properties")
     browser.script(SET_FIELD, "explore-seconds", "abc")
     browser.click("#explore")
-    check_alive(browser, "numbers out of range")
+    check_bench_answers(browser, "numbers out of range")
     show_text(browser, "program")
 
 
@@ -141,30 +144,32 @@ return document.getElementById("name").value !== "" && document.title.startsWith
   && document.getElementById("status").textContent !== "" """
 
 
-def check_clicks(browser):
+def check_many_clicks(browser):
+    """Checks that the bench still answers after 240 clicks on its buttons, and after twelve examples were opened at once."""
     choose_example(browser, "calculator")
     browser.script(CLICK_MANY, ["run", "step", "reset", "back-stop", "forward", "test"])
-    check_alive(browser, "240 clicks in one go")
+    check_bench_answers(browser, "240 clicks in one go")
     browser.click("#sessions-button")
     browser.script(CLICK_EXAMPLES)
     browser.script("document.getElementById('sessions').close()")
-    eventually(browser, "after twelve examples at once one is shown", IS_SAME_SESSION, True)
-    check_alive(browser, "twelve examples at once")
+    eventually(browser, "one of twelve examples that were opened at once is shown", IS_SAME_SESSION, True)
+    check_bench_answers(browser, "twelve examples at once")
 
 
-def check_reload(browser):
+def check_reload_after_edit(browser):
+    """Checks that a text that was typed immediately before a reload is restored."""
     choose_example(browser, "three lamps")
     browser.script(PUT_INTO_EDITOR, "#program-editor", PROGRAM)
     browser.reload()
     until_ready(browser)
-    eventually(browser, "what was typed right before a reload is kept", GET_TEXT_OF_EDITOR.replace("arguments[0]", "'#program-editor'"), PROGRAM)
+    eventually(browser, "a text that was typed immediately before a reload is restored", GET_TEXT_OF_EDITOR.replace("arguments[0]", "'#program-editor'"), PROGRAM)
 
 
 def check(browser, page, _folder, _mcs4):
     reopen_page(browser, page)
-    check_fields(browser)
+    check_markup_in_fields(browser)
     browser.keys([ESCAPE])
-    check_files(browser)
-    check_numbers(browser)
-    check_clicks(browser)
-    check_reload(browser)
+    check_dropped_files(browser)
+    check_invalid_numbers(browser)
+    check_many_clicks(browser)
+    check_reload_after_edit(browser)

@@ -14,7 +14,7 @@ PULSES_PROGRAM = "FIM P0, 0\nSRC P0\nloop: LDM 5\nWRR\nNOP\nLDM 6\nWRR\nFIM P1, 
 # A board with a display, and a program that shifts the number 42 into it again and again, segment by segment.
 REFRESHED_BOARD, REFRESHED_PROGRAM = ((TOP / f"js/test/two_digits.{kind}").read_text() for kind in ("toml", "asm"))
 GET_BRIGHTNESS_STATUS = "return document.getElementById('brightness-status').textContent"
-# Records in each frame the brightness of each lamp and the text of the display.
+# Records the brightness of each lamp and the text of the display in each frame, for as many milliseconds as the argument says.
 RECORD_BRIGHTNESS = """
 window.shines = [];
 window.numbers = [];
@@ -44,6 +44,7 @@ def lit_fractions(answer):
 
 
 def record_brightness(browser, milliseconds):
+    """Records the brightness for a time in milliseconds, and waits for the end."""
     browser.script(RECORD_BRIGHTNESS, milliseconds)
     browser.until("return window.watched", True)
 
@@ -55,73 +56,79 @@ def shown_fractions(browser):
 
 
 def check_pulses(browser, speed):
+    """Checks that each lamp's brightness at one speed is within 2 % of the fraction of time for which it is on in the trace."""
     browser.script(SET_SPEED, speed)
-    eventually(browser, f"at {speed} speed lamps have their perceived brightness", GET_BRIGHTNESS_STATUS, re.compile("averaged over 30 ms"))
+    eventually(browser, f"at {speed} speed the status reports the averaged brightness", GET_BRIGHTNESS_STATUS, re.compile("averaged over 30 ms"))
     record_brightness(browser, 500)
     record_brightness(browser, 1500)
     ranges = shown_fractions(browser)
     expected = lit_fractions(send_lines(browser, "trace 4100 lamps"))
-    verdict(f"at {speed} speed each lamp shines as trace reports it, to 2 %: {ranges} of {expected}",
+    verdict(f"at {speed} speed the brightness is within 2 % of the fractions in the trace: {ranges} of {expected}",
             all(abs(bound - fraction) < 0.02 for limits, fraction in zip(ranges, expected) for bound in limits), True)
 
 
-def check_instant(browser):
+def check_lamps_while_paused(browser):
+    """Checks that while paused, each lamp is either on or off, as the bench reports it."""
     browser.click("#run")
-    eventually(browser, "time is paused", GET_STATUS, re.compile("^Paused"))
+    eventually(browser, "the program is paused", GET_STATUS, re.compile("^Paused"))
     marks = re.search(r"lamps ([.*]+)", send_lines(browser, "lamps")).group(1)
-    verdict("then lamps are as they are at this instant", browser.script(GET_BRIGHTNESS), [1 if mark == "*" else 0 for mark in marks])
-    verdict("and that is reported", browser.script(GET_BRIGHTNESS_STATUS), "Paused: lamps show this instant.")
+    verdict("while paused, a lamp is either on or off", browser.script(GET_BRIGHTNESS), [1 if mark == "*" else 0 for mark in marks])
+    verdict("the status reports that the lamps show one instant", browser.script(GET_BRIGHTNESS_STATUS), "Paused: lamps show this instant.")
     browser.click("#run")
 
 
-def check_refreshed(browser):
+def check_rewritten_display(browser):
+    """Checks that a display that the program rewrites all the time shows the same number in each frame."""
     status_of(browser, "#board-editor", REFRESHED_BOARD)
     status_of(browser, "#program-editor", REFRESHED_PROGRAM)
-    eventually(browser, "a display that is rewritten all the time shows its number", GET_DIGITS, "42")
+    eventually(browser, "a display that the program rewrites in each iteration shows its number", GET_DIGITS, "42")
     record_brightness(browser, 2000)
-    verdict("in each frame", browser.script("return [...new Set(window.numbers)].join(' ')"), "42")
+    verdict("the display shows the same number in each frame", browser.script("return [...new Set(window.numbers)].join(' ')"), "42")
     count_lit_segments = "return [...document.querySelectorAll('#glass svg')].map((digit) => digit.querySelectorAll('.lit').length).join(' ')"
-    verdict("and its segments have outlines", [browser.script(count_lit_segments), browser.script("return document.querySelectorAll('.smeared').length")],
+    verdict("the segments that are on, and the number of outlined digits", [browser.script(count_lit_segments), browser.script("return document.querySelectorAll('.smeared').length")],
             ["4 5", 2])
 
 
-def check_shifted(browser):
+def check_shifted_display(browser):
+    """Checks that the calculator's display shows a digit only after it was shifted in completely."""
     choose_example(browser, "calculator")
-    eventually(browser, "a calculator shows 0", GET_DIGITS, "0")
+    eventually(browser, "the calculator shows 0", GET_DIGITS, "0")
     browser.script(RECORD_BRIGHTNESS, 2000)
     browser.keys(["1", "2", "3"], 40, 60)
     browser.until("return window.watched", True)
-    verdict("digits that are shifted in are shown when they stand, and nothing between",
+    verdict("the display shows digits only after they are shifted in completely",
             browser.script("return [...new Set(window.numbers)].join(' ')"), "0 1 12 123")
 
 
 def check_clock(browser):
+    """Checks that the clock's multiplexed display shows the time while running, and at most one digit while paused."""
     choose_example(browser, "clock")
-    eventually(browser, "four digits that are on in turn show a time", GET_DIGITS, re.compile(r"^12\.?00$"))
+    eventually(browser, "the multiplexed display shows the time", GET_DIGITS, re.compile(r"^12\.?00$"))
     record_brightness(browser, 1500)
-    verdict("in each frame, with its point or without", browser.script("return [...new Set(window.numbers)].sort().join(' ')"), "12.00 1200")
+    verdict("the display shows the time in each frame, with or without its point", browser.script("return [...new Set(window.numbers)].sort().join(' ')"), "12.00 1200")
     browser.script(SET_SPEED, "full")
-    eventually(browser, "at full speed, too", GET_DIGITS, re.compile(r"^(1[2-9]|[02][0-9])\.?[0-5][0-9]$"))
+    eventually(browser, "the display shows the time at full speed", GET_DIGITS, re.compile(r"^(1[2-9]|[02][0-9])\.?[0-5][0-9]$"))
     browser.script(SET_SPEED, "real")
     browser.click("#run")
-    eventually(browser, "time is paused", GET_STATUS, re.compile("^Paused"))
+    eventually(browser, "the program is paused", GET_STATUS, re.compile("^Paused"))
     count_lit_digits = "return [...document.querySelectorAll('#glass svg')].filter((digit) => digit.querySelector('.lit')).length"
-    verdict("at an instant at most one digit is on", browser.script(count_lit_digits) <= 1, True)
+    verdict("while paused, at most one digit is on", browser.script(count_lit_digits) <= 1, True)
 
 
 def check_pictures(browser):
+    """Checks that a multiplexed matrix of lamps shows its pictures while running, and at most one row while paused."""
     choose_example(browser, "pictures")
     get_rows = ("const bulbs = [...document.querySelectorAll('.matrix .bulb')].map((bulb) => (bulb.classList.contains('lit') ? '*' : '.'));"
             "return Array.from({ length: 8 }, (_, row) => bulbs.slice(8 * row, 8 * row + 8).join('')).join(' ')")
-    eventually(browser, "a matrix whose rows are on in turn shows a heart", get_rows,
+    eventually(browser, "the multiplexed matrix shows a heart", get_rows,
                "........ .**..**. ******** ******** .******. ..****.. ...**... ........")
-    verdict("each lamp names both of its lines", browser.script("return document.querySelectorAll('.matrix .bulb')[13].title"),
+    verdict("the title of a lamp names both of its lines", browser.script("return document.querySelectorAll('.matrix .bulb')[13].title"),
             "ram0.1.2 and ram0.2.1")
     browser.keys(["n"], 100)
-    eventually(browser, "NEXT brings another picture", get_rows, "..****.. .*....*. *.*..*.* *......* *.*..*.* *..**..* .*....*. ..****..")
+    eventually(browser, "NEXT shows another picture", get_rows, "..****.. .*....*. *.*..*.* *......* *.*..*.* *..**..* .*....*. ..****..")
     browser.click("#run")
-    eventually(browser, "time is paused", GET_STATUS, re.compile("^Paused"))
-    verdict("at an instant at most one row is on", sum("*" in row for row in browser.script(get_rows).split()) <= 1, True)
+    eventually(browser, "the program is paused", GET_STATUS, re.compile("^Paused"))
+    verdict("while paused, at most one row is on", sum("*" in row for row in browser.script(get_rows).split()) <= 1, True)
 
 
 def check(browser, page, _folder, _mcs4):
@@ -132,8 +139,8 @@ def check(browser, page, _folder, _mcs4):
     for speed in ("real", "tenth", "full"):
         check_pulses(browser, speed)
     browser.script(SET_SPEED, "real")
-    check_instant(browser)
-    check_refreshed(browser)
-    check_shifted(browser)
+    check_lamps_while_paused(browser)
+    check_rewritten_display(browser)
+    check_shifted_display(browser)
     check_clock(browser)
     check_pictures(browser)

@@ -23,8 +23,8 @@ wait:   ISZ R3, wait
         ISZ R2, wait
         JUN loop
 """
-# A sound block arrives about every 50 ms, 90 ms before it is heard. If it arrives more than this time in seconds after the previous block, the host
-# was too busy.
+# A sound block arrives about every 45 ms, 90 ms before it is heard. If it arrives more than MAX_BLOCK_INTERVAL seconds after the previous block, the
+# host was too busy.
 MAX_BLOCK_INTERVAL = 0.1
 # Records each block of samples that is played: its start by the audio clock, its arrival by the audio clock and by the page's clock, and its edges.
 RECORD_SOUND = """
@@ -44,16 +44,16 @@ REPLACE_CLOCK = """
 const begun = performance.now();
 Object.defineProperty(BaseAudioContext.prototype, "currentTime", { get: () => (performance.now() - begun) / 1000 });
 """
-IS_TIME_PAUSED = "return window.played.every(({ now }) => now === 0)"
+IS_AUDIO_CLOCK_STOPPED = "return window.played.every(({ now }) => now === 0)"
 IS_SOUND_PRESSED = "return document.getElementById('sound-button').getAttribute('aria-pressed')"
 GET_SOUND_STATUS = "return document.getElementById('sound-status').textContent"
 COUNT_PLAYED = "return window.played.length"
-# The first block must arrive at least EARLY seconds before it is heard, in at least one of TRIES attempts.
+# The first block must arrive more than MIN_LEAD_SECONDS before it is heard, in at least one of MAX_ATTEMPTS + 1 attempts.
 MIN_LEAD_SECONDS, MAX_ATTEMPTS = 0.08, 5
 
 
 def is_first_block_early(browser, block):
-    """Returns true if the first block is sent early enough. Makes several attempts, because other work on the machine can delay the page."""
+    """Returns true if the first block arrives early enough. Makes several attempts, because other work on the machine can delay the page."""
     for _ in range(MAX_ATTEMPTS):
         if block["when"] - block["now"] > MIN_LEAD_SECONDS:
             return True
@@ -66,54 +66,57 @@ def is_first_block_early(browser, block):
 
 
 def check_tone(browser):
+    """Checks that after a press of the button, the page plays a program's tone with the expected pitch, and without gaps unless the host was too
+    busy."""
     status_of(browser, "#board-editor", BOARD)
     status_of(browser, "#program-editor", TONE_PROGRAM)
-    eventually(browser, "a board with a buzzer has a button for it", "return document.getElementById('sound').hidden", False)
-    verdict("with its name, and it is muted", [browser.text("#sound-button"), browser.script(IS_SOUND_PRESSED)], ["Sound of the buzzer", "false"])
+    eventually(browser, "a board with a buzzer has a sound button", "return document.getElementById('sound').hidden", False)
+    verdict("the sound button has a name, and is not pressed", [browser.text("#sound-button"), browser.script(IS_SOUND_PRESSED)], ["Sound of the buzzer", "false"])
     browser.script(RECORD_SOUND)
     browser.click("#sound-button")
-    eventually(browser, "it is heard once that is confirmed first", COUNT_PLAYED, re.compile("^[5-9]$|^..$"))
-    if browser.script(IS_TIME_PAUSED):
+    eventually(browser, "several blocks are played after a press of the button", COUNT_PLAYED, re.compile("^[5-9]$|^..$"))
+    if browser.script(IS_AUDIO_CLOCK_STOPPED):
         browser.click("#sound-button")
         browser.script(REPLACE_CLOCK + "window.played = [];")
         browser.click("#sound-button")
-        eventually(browser, "with a clock it is heard, too", COUNT_PLAYED, re.compile("^[5-9]$|^..$"))
+        eventually(browser, "several blocks are played with the page's clock", COUNT_PLAYED, re.compile("^[5-9]$|^..$"))
     time.sleep(1)
     played = browser.script("return window.played")
     lengths = [block["count"] / block["rate"] for block in played]
     edges = sum(len(block["edges"]) for block in played)
     pitch = edges / 2 / sum(lengths)
-    verdict(f"its pitch is right to 1 %: {pitch:.1f} Hz", abs(pitch - EXPECTED_PITCH) < EXPECTED_PITCH / 100, True)
-    verdict("a sample is a cycle", sorted({block["rate"] for block in played}), [92593])
-    verdict("the first one begins so much later that the next one comes in time", is_first_block_early(browser, played[0]), True)
+    verdict(f"the pitch is within 1 % of the expected one: {pitch:.1f} Hz", abs(pitch - EXPECTED_PITCH) < EXPECTED_PITCH / 100, True)
+    verdict("the sample rate is that of the cycles", sorted({block["rate"] for block in played}), [92593])
+    verdict("the first block arrives early enough", is_first_block_early(browser, played[0]), True)
     gaps = [(previous, following) for previous, following, length in zip(played, played[1:], lengths) if abs(previous["when"] + length - following["when"]) > 1e-6]
     intervals = [f"{following['at'] - previous['at']:.3f} s" for previous, following in gaps]
-    verdict(f"{len(played)} pieces follow each other without a gap, but where the host held one up: {intervals}",
+    verdict(f"gaps between {len(played)} blocks are only where the host was too slow: {intervals}",
             all(following["at"] - previous["at"] > MAX_BLOCK_INTERVAL for previous, following in gaps), True)
-    verdict("and most of them follow", 2 * len(gaps) < len(played), True)
+    verdict("most blocks follow the previous one without a gap", 2 * len(gaps) < len(played), True)
 
 
-def check_speeds(browser):
+def check_sound_at_speeds(browser):
+    """Checks that there is sound only in real time, and that a second press of the button mutes it."""
     browser.script(SET_SPEED, "tenth")
-    eventually(browser, "at other speeds it is silent, which is reported", GET_SOUND_STATUS, "silent: there is sound only in real time")
+    eventually(browser, "at other speeds the status reports that there is no sound", GET_SOUND_STATUS, "silent: there is sound only in real time")
     browser.script("window.played = []")
-    eventually(browser, "and stays on", IS_SOUND_PRESSED, "true")
+    eventually(browser, "the button stays pressed", IS_SOUND_PRESSED, "true")
     browser.script(SET_SPEED, "real")
-    eventually(browser, "in real time it is heard again", COUNT_PLAYED, re.compile("^[1-9]"))
-    verdict("and nothing is reported", browser.script(GET_SOUND_STATUS), "")
+    eventually(browser, "blocks are played again in real time", COUNT_PLAYED, re.compile("^[1-9]"))
+    verdict("the status reports nothing in real time", browser.script(GET_SOUND_STATUS), "")
     browser.click("#sound-button")
-    verdict("a second press mutes it", browser.script(IS_SOUND_PRESSED), "false")
+    verdict("a second press mutes the sound", browser.script(IS_SOUND_PRESSED), "false")
 
 
 def check(browser, page, _folder, _mcs4):
     browser.go(page.as_uri() + "#example=empty%20bench")
     until_ready(browser)
-    verdict("a board without a buzzer has no button for it", browser.script("return document.getElementById('sound').hidden"), True)
+    verdict("a board without a buzzer has no sound button", browser.script("return document.getElementById('sound').hidden"), True)
     check_tone(browser)
-    check_speeds(browser)
+    check_sound_at_speeds(browser)
     choose_example(browser, "music box")
-    eventually(browser, "a music box has a buzzer", "return document.getElementById('sound').hidden", False)
+    eventually(browser, "the music box has a sound button", "return document.getElementById('sound').hidden", False)
     browser.script("window.AudioContext = undefined")
     browser.click("#sound-button")
-    verdict("without Web Audio it is reported where else it is heard", browser.script(GET_SOUND_STATUS), re.compile("no sound .Web Audio.*mcs4 wave --wav"))
-    verdict("and nothing is pressed", browser.script(IS_SOUND_PRESSED), "false")
+    verdict("without Web Audio the status names another way to hear the sound", browser.script(GET_SOUND_STATUS), re.compile("no sound .Web Audio.*mcs4 wave --wav"))
+    verdict("without Web Audio the button is not pressed", browser.script(IS_SOUND_PRESSED), "false")

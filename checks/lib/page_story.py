@@ -5,7 +5,7 @@ opens an example that is a project, and corrects the error in the example's prog
 import re
 import time
 
-from page_editor import GET_CARET, GET_ERRORS, GET_STATUS_OF, PROGRAM, SET_CARET
+from page_editor import GET_CARET, GET_ERRORS, GET_STATUS_OF, PROGRAM_EDITOR, SET_CARET
 from page_in_browser import DOWN, ENTER, ESCAPE, GET_NOTICE, GET_STATUS, GET_TEXT_OF_EDITOR, STEPPED, TAB, move_focus_until, send_lines, until_ready
 from page_names import GET_BREAKPOINT_LINES, GET_SOURCE_STATUS
 from page_texts import GET_NAME, GET_PROGRAM_TEXT, GET_QUESTION, GET_TEXTS, wait_for_download
@@ -19,7 +19,8 @@ IS_BOARD_OFFERED = "return document.getElementById('board-offer').checkVisibilit
 IS_SESSIONS_OPEN = "return document.getElementById('sessions').open"
 IS_IN_SOURCE = "e.closest('#program-editor .cm-editor') !== null"
 GET_REGISTERS = "return document.getElementById('registers').textContent"
-# A program whose lamps show which keys are down. Its comment distinguishes it from a source that is disassembled from ROM.
+# A program that shows on the lamps which keys are down, with an error in its fifth line. The comment distinguishes it from a source that is
+# disassembled from ROM.
 TYPED_LINES = ["; my first program", "LDM 3", "WRR", "read: RDR", "WMQ", "JUN read"]
 ERROR_MESSAGE = "line 5: WMQ is not an instruction; WMP?"
 DROP_FILE = """
@@ -29,10 +30,12 @@ document.body.dispatchEvent(new DragEvent("drop", { dataTransfer: data, bubbles:
 
 
 def go_by_tab(browser, description, code, max_presses=90):
-    verdict(f"Tab comes to {description}", move_focus_until(browser, TAB, code, max_presses), True)
+    """Presses the Tab key until a script about the focused element `e` returns true. Checks that this happens within `max_presses` presses."""
+    verdict(f"the Tab key reaches {description}", move_focus_until(browser, TAB, code, max_presses), True)
 
 
 def type_keys(browser, text):
+    """Types a text on the keyboard."""
     browser.keys([*text], 2, 2)
 
 
@@ -44,48 +47,49 @@ def choose_by_keyboard(browser, name):
     browser.until(IS_SESSIONS_OPEN, True)
     go_by_tab(browser, f"the example {name}", f"e.getAttribute('aria-label') === 'new session: {name}'")
     browser.keys([ENTER])
-    eventually(browser, f"Enter opens {name}", GET_NAME, name)
+    eventually(browser, f"Enter opens the example {name}", GET_NAME, name)
     browser.until(IS_SESSIONS_OPEN, False)
 
 
 def go_to_source(browser):
+    """Moves the focus to the program's editor by keyboard."""
     browser.script("document.querySelector('#text-tabs [aria-selected=true]').focus()")
     browser.keys([HOME], 5, 5)
     go_by_tab(browser, "the source", IS_IN_SOURCE)
 
 
-def check_board(browser):
-    """Checks that an empty bench shows how to begin."""
+def check_offered_board(browser):
+    """Checks that an empty bench offers a board, and that the keyboard can choose it."""
     choose_by_keyboard(browser, "empty bench")
-    verdict("an empty bench offers a beginning", browser.script(IS_BOARD_OFFERED), True)
+    verdict("an empty bench offers a board", browser.script(IS_BOARD_OFFERED), True)
     go_by_tab(browser, "a board to begin with", "e.id === 'first-board'")
     browser.keys([ENTER])
-    eventually(browser, "it has four lamps", GET_LAMPS, "....")
-    verdict("and is offered no more", browser.script(IS_BOARD_OFFERED), False)
-    verdict("the keyboard continues in that panel", browser.script("return document.activeElement.closest('#front') !== null"), True)
+    eventually(browser, "the board has four lamps", GET_LAMPS, "....")
+    verdict("the board is not offered again", browser.script(IS_BOARD_OFFERED), False)
+    verdict("the focus is in the front panel", browser.script("return document.activeElement.closest('#front') !== null"), True)
 
 
-def check_program(browser):
-    """Checks that a program can be typed, is rejected, corrected, and run."""
+def check_typed_program(browser):
+    """Checks that a typed program with an error is rejected, and that it can be corrected and run."""
     go_to_source(browser)
     for line in TYPED_LINES:
         type_keys(browser, line)
         browser.keys([ENTER], 2, 2)
-    eventually(browser, "an error is reported during typing", GET_ERRORS.format(PROGRAM), ERROR_MESSAGE)
-    caret_before = browser.script(GET_CARET, PROGRAM)
+    eventually(browser, "the error is reported while the user types", GET_ERRORS.format(PROGRAM_EDITOR), ERROR_MESSAGE)
+    caret_before = browser.script(GET_CARET, PROGRAM_EDITOR)
     browser.press_chord(CONTROL, ENTER)
-    eventually(browser, "Control and Enter assemble nothing then", GET_STATUS_OF.format(PROGRAM), ERROR_MESSAGE)
-    verdict("and the caret stays", browser.script(GET_CARET, PROGRAM), caret_before)
+    eventually(browser, "Ctrl+Enter does not assemble a program with an error", GET_STATUS_OF.format(PROGRAM_EDITOR), ERROR_MESSAGE)
+    verdict("the caret is unchanged", browser.script(GET_CARET, PROGRAM_EDITOR), caret_before)
     browser.keys([UP, UP, END, BACKSPACE, "P"], 5, 5)
-    eventually(browser, "corrected, it has no error", GET_ERRORS.format(PROGRAM), "")
+    eventually(browser, "the corrected program has no error", GET_ERRORS.format(PROGRAM_EDITOR), "")
     browser.press_chord(CONTROL, ENTER)
-    eventually(browser, "and is assembled and run", GET_STATUS_OF.format(PROGRAM), "Assembled 6 bytes; running from 000.")
-    eventually(browser, "time is running", GET_STATUS, re.compile("^Running"))
-    eventually(browser, "the source is what is in ROM", GET_SOURCE_STATUS, "")
+    eventually(browser, "Ctrl+Enter assembles and runs the program", GET_STATUS_OF.format(PROGRAM_EDITOR), "Assembled 6 bytes; running from 000.")
+    eventually(browser, "the program is running", GET_STATUS, re.compile("^Running"))
+    eventually(browser, "the source does not differ from ROM", GET_SOURCE_STATUS, "")
 
 
-def check_keys(browser):
-    """Checks the board's keys through the keyboard. The lamps show the keys."""
+def check_board_key(browser):
+    """Checks that a key of the keyboard presses a key of the board, which changes the lamps."""
     browser.keys([ESCAPE, TAB], 5, 5)
     lamps_before = browser.script(GET_LAMPS)
     browser.script("window.shown = new Set()")
@@ -94,109 +98,111 @@ def check_keys(browser):
                    "{ subtree: true, attributes: true })")
     letter = browser.script("return document.querySelector('#keys kbd').textContent")
     browser.keys([letter], 300, 100)
-    eventually(browser, "a key lights a lamp", "return window.shown.size > 0 && [...window.shown].some((each) => each !== arguments[0])"
+    eventually(browser, "a key changes the lamps", "return window.shown.size > 0 && [...window.shown].some((each) => each !== arguments[0])"
                .replace("arguments[0]", f"'{lamps_before}'"), True)
-    eventually(browser, "and is up again", GET_KEYS_DOWN, "")
+    eventually(browser, "the key is up again", GET_KEYS_DOWN, "")
 
 
 def check_breakpoint(browser):
-    """Checks a pause at a breakpoint in the source, and a step."""
+    """Checks that the program stops at a breakpoint in the source, and that a step executes one instruction."""
     browser.keys([F8])
     browser.until(GET_STATUS, re.compile("^Paused"))
     go_to_source(browser)
-    browser.script(SET_CARET, PROGRAM, 3, 0)
+    browser.script(SET_CARET, PROGRAM_EDITOR, 3, 0)
     browser.keys([F9])
     eventually(browser, "F9 sets a breakpoint", GET_BREAKPOINT_LINES, "4")
     browser.keys([F8])
-    eventually(browser, "a run stops there", GET_STATUS, re.compile("^Paused at 002, at a breakpoint"))
+    eventually(browser, "the program stops at the breakpoint", GET_STATUS, re.compile("^Paused at 002, at a breakpoint"))
     browser.keys([F11])
-    eventually(browser, "F11 does one instruction", GET_STATUS, STEPPED)
-    verdict("the next one is WMP", browser.script(GET_REGISTERS), re.compile("pc003"))
+    eventually(browser, "F11 executes one instruction", GET_STATUS, STEPPED)
+    verdict("the next instruction is WMP", browser.script(GET_REGISTERS), re.compile("pc003"))
     browser.keys([F9])
-    eventually(browser, "F9 clears it", GET_BREAKPOINT_LINES, "")
+    eventually(browser, "F9 clears the breakpoint", GET_BREAKPOINT_LINES, "")
 
 
-def check_restoring(browser):
-    """Checks that a lost text can be restored."""
+def check_restored_source(browser):
+    """Checks that Ctrl+Z restores a source that was replaced by a disassembly of ROM."""
     own_source = browser.script(GET_PROGRAM_TEXT)
     browser.script("document.getElementById('from-rom').focus()")
     browser.keys([ENTER])
     browser.until(GET_QUESTION, "Replace the source?")
-    verdict("the keyboard is at the answer", browser.script("return document.activeElement.textContent"), "Replace it")
+    verdict("the button Replace it has the focus", browser.script("return document.activeElement.textContent"), "Replace it")
     browser.keys([ENTER])
     browser.until(GET_QUESTION, "")
-    eventually(browser, "a source of the ROM has no comment", GET_PROGRAM_TEXT, re.compile(r"^\s*LDM 3\s+WRR\s+RDR\s+WMP\s+JUN 0x002\s*$"))
+    eventually(browser, "the source that is disassembled from ROM has no comment", GET_PROGRAM_TEXT, re.compile(r"^\s*LDM 3\s+WRR\s+RDR\s+WMP\s+JUN 0x002\s*$"))
     go_to_source(browser)
     browser.press_chord(CONTROL, "z")
-    eventually(browser, "Control and Z bring the text back", GET_PROGRAM_TEXT, own_source)
+    eventually(browser, "Ctrl+Z restores the text", GET_PROGRAM_TEXT, own_source)
 
 
 def save_by_keyboard(browser):
     """Saves through the File menu: Enter opens the menu, an arrow key moves to Save, Enter saves."""
     browser.script("document.getElementById('menu-button').focus()")
     browser.keys([ENTER, DOWN])
-    verdict("the arrow comes to Save", browser.script("return document.activeElement.id"), "save-button")
+    verdict("the Down arrow reaches Save", browser.script("return document.activeElement.id"), "save-button")
     browser.keys([ENTER])
 
 
-def check_file(browser, folder):
-    """Checks that a file is saved, that a wrong file is rejected, and that the saved file opens with the same bytes."""
+def check_project_file(browser, folder):
+    """Checks that a project is saved, that a file of another kind is rejected, and that the saved project opens and is saved again with the same
+    bytes."""
     texts = browser.script(GET_TEXTS)
     save_by_keyboard(browser)
     project_file = wait_for_download(folder, "My first board.mcsp")
     project_bytes = project_file.read_bytes()
     project_file.unlink()
-    verdict("a project has the text as it is", all(line in project_bytes.decode() for line in ("; my first program", "read: RDR")), True)
+    verdict("the saved project has the text", all(line in project_bytes.decode() for line in ("; my first program", "read: RDR")), True)
     browser.script(DROP_FILE, "holiday.jpg", "no session at all")
-    eventually(browser, "a wrong file that is dropped is rejected with a message", GET_NOTICE,
+    eventually(browser, "a dropped file of another kind is rejected with a message", GET_NOTICE,
                re.compile(r"Cannot open holiday\.jpg: not a kind of text that the bench has; supported are projects .*The session shown is unchanged"))
-    verdict("and the texts are unchanged", browser.script(GET_TEXTS), texts)
+    verdict("the texts are unchanged", browser.script(GET_TEXTS), texts)
     go_to_source(browser)
-    browser.script(SET_CARET, PROGRAM, 0, 0)
+    browser.script(SET_CARET, PROGRAM_EDITOR, 0, 0)
     type_keys(browser, "; not this")
-    eventually(browser, "something else is typed", GET_TEXT_OF_EDITOR.replace("arguments[0]", f"'{PROGRAM}'"), re.compile("^; not this"))
+    eventually(browser, "the typed comment is in the source", GET_TEXT_OF_EDITOR.replace("arguments[0]", f"'{PROGRAM_EDITOR}'"), re.compile("^; not this"))
     browser.script(DROP_FILE, "mine.mcsp", project_bytes.decode())
-    eventually(browser, "the project is opened again", GET_TEXTS, texts)
-    eventually(browser, "what was left for it can be come back to", GET_NOTICE, re.compile('"My first board" is saved'))
+    eventually(browser, "the dropped project has the saved texts", GET_TEXTS, texts)
+    eventually(browser, "a notice offers to go back to the previous session", GET_NOTICE, re.compile('"My first board" is saved'))
     save_by_keyboard(browser)
-    verdict("and saved again it is the same, to the byte", wait_for_download(folder, "My first board.mcsp").read_bytes() == project_bytes, True)
+    verdict("the project that is saved again has the same bytes", wait_for_download(folder, "My first board.mcsp").read_bytes() == project_bytes, True)
     browser.script("document.querySelector(\"#notice button[aria-label^='Reopen']\").focus()")
     browser.keys([ENTER])
-    eventually(browser, "back to the other one", GET_PROGRAM_TEXT, re.compile("^; not this"))
+    eventually(browser, "the previous session is open again", GET_PROGRAM_TEXT, re.compile("^; not this"))
 
 
 def check_example(browser):
-    """Checks a project example: its texts have their comments, and its session is in the state that they describe."""
+    """Checks that the texts of an example that is a project have their comments, and that its session is in the state that they describe. Then
+    corrects the error in its program."""
     browser.script("for (const each of document.querySelectorAll('#notice .dismiss')) each.click()")
     choose_by_keyboard(browser, "a fault to find")
-    verdict("its source has its comments", browser.script(GET_PROGRAM_TEXT), re.compile("^; Four lamps should count from 0 to 9"))
-    eventually(browser, "it is what is in ROM", GET_SOURCE_STATUS, "")
-    eventually(browser, "its breakpoint is there", GET_BREAKPOINT_LINES, re.compile(r"^\d+$"))
-    eventually(browser, "it shows a 9", GET_LAMPS, "*..*")
-    verdict("and its count has just become ten", browser.script(GET_REGISTERS), re.compile("R5A"))
-    verdict("time is paused", browser.script("return document.getElementById('run').textContent"), "Continue")
-    eventually(browser, "no session is made before something is done", "return location.hash", "#example=a%20fault%20to%20find")
+    verdict("the example's source has its comments", browser.script(GET_PROGRAM_TEXT), re.compile("^; Four lamps should count from 0 to 9"))
+    eventually(browser, "the example's source does not differ from ROM", GET_SOURCE_STATUS, "")
+    eventually(browser, "the example has a breakpoint", GET_BREAKPOINT_LINES, re.compile(r"^\d+$"))
+    eventually(browser, "the lamps show 9", GET_LAMPS, "*..*")
+    verdict("R5 is ten", browser.script(GET_REGISTERS), re.compile("R5A"))
+    verdict("the program is paused", browser.script("return document.getElementById('run').textContent"), "Continue")
+    eventually(browser, "the example is not saved before the user does something", "return location.hash", "#example=a%20fault%20to%20find")
     source = browser.script(GET_PROGRAM_TEXT)
     line = source.split("\n").index("        SUB R4")
     go_to_source(browser)
-    browser.script(SET_CARET, PROGRAM, line, len("        SUB R4"))
+    browser.script(SET_CARET, PROGRAM_EDITOR, line, len("        SUB R4"))
     browser.keys([BACKSPACE, "5"], 5, 5)
     browser.press_chord(CONTROL, ENTER)
-    eventually(browser, "corrected, it is assembled and run", GET_STATUS_OF.format(PROGRAM), re.compile("^Assembled .* bytes; running from 000"))
+    eventually(browser, "Ctrl+Enter assembles and runs the corrected program", GET_STATUS_OF.format(PROGRAM_EDITOR), re.compile("^Assembled .* bytes; running from 000"))
     browser.until(GET_STATUS, re.compile("at a breakpoint"))
     script = "\n".join(["unbreak 8", "reset", *["run 91000"] * 10, "lamps", "run 97000", "lamps"])
-    verdict("and counts to 9, and then from 0 on", send_lines(browser, script), re.compile(r"lamps \*\.\.\*.*lamps \.\.\.\."))
+    verdict("the corrected program counts to 9 and begins again at 0", send_lines(browser, script), re.compile(r"lamps \*\.\.\*.*lamps \.\.\.\."))
 
 
 def check(browser, page, folder, _mcs4):
     browser.go("about:blank")
     browser.go(page.as_uri())
     until_ready(browser)
-    check_board(browser)
-    check_program(browser)
-    check_keys(browser)
+    check_offered_board(browser)
+    check_typed_program(browser)
+    check_board_key(browser)
     check_breakpoint(browser)
-    check_restoring(browser)
-    check_file(browser, folder)
+    check_restored_source(browser)
+    check_project_file(browser, folder)
     time.sleep(0.7)
     check_example(browser)

@@ -7,7 +7,7 @@ import time
 
 from page_in_browser import (GET_STATUS, GET_TEXT_OF_EDITOR, PUT_INTO_EDITOR, choose_example, send_lines, choose_from_file_menu, reopen_page, show_text,
                              until_ready)
-from page_texts import GET_NAME, wait_for_download, rename
+from page_texts import GET_NAME, wait_for_download, rename_session
 from verdicts import eventually, verdict
 
 EDITOR = "#tests-editor"
@@ -24,59 +24,63 @@ GET_SELECTED = "return document.querySelector('#tests-editor .cm-editor').lineEd
 
 
 def run_tests(browser):
+    """Runs the tests in the tab Tests."""
     show_text(browser, "tests")
     browser.click(f"{EDITOR} .send")
 
 
-def check_passing(browser):
+def check_passing_tests(browser):
+    """Checks that an example's tests pass, and that the page reports the coverage, the cycles below each label, and the counts beside the source."""
     choose_example(browser, "three lamps")
     run_tests(browser)
-    eventually(browser, "the tests of an example pass", GET_TESTS_STATUS, "All 2 tests passed.")
-    verdict("each has its row", browser.script(GET_RESULTS), ["ok the light goes", "ok each lamp is"])
-    verdict("the tab says so", browser.script(GET_MARK), "passed")
-    verdict("time is paused", browser.script(GET_STATUS), re.compile("^Paused"))
-    verdict("what was run is reported", browser.text("#coverage-status"),
+    eventually(browser, "the tests of the example pass", GET_TESTS_STATUS, "All 2 tests passed.")
+    verdict("the results of both tests", browser.script(GET_RESULTS), ["ok the light goes", "ok each lamp is"])
+    verdict("the tab reports that the tests passed", browser.script(GET_MARK), "passed")
+    verdict("the program is paused", browser.script(GET_STATUS), re.compile("^Paused"))
+    verdict("the page reports the coverage", browser.text("#coverage-status"),
             "20 of 20 instructions were run (100.0 %), 6 of 6 branch directions (100.0 %). Counts are in the margin.")
     browser.click("#profile summary")
-    verdict("the cycles by label", browser.script(GET_LABELS),
+    verdict("the cycles below each label", browser.script(GET_LABELS),
             ["turn 016 2,084 96.5", "next 005 60 2.8", "wait 014 8 0.4 4 2,092 523", "first 003 4 0.2", "(no label)  3 0.1"])
     show_text(browser, "program")
-    eventually(browser, "counts are next to the source", f"{GET_COUNTS}.slice(-5).join(' ')", "3 4 976 912/64 64 60/4 4")
+    eventually(browser, "the counts are beside the source", f"{GET_COUNTS}.slice(-5).join(' ')", "3 4 976 912/64 64 60/4 4")
 
 
-def check_failing(browser):
-    """Checks that a test fails if a delay loop has one iteration too few, and that the session opens at the failure, with the texts of the test."""
+def check_failing_test(browser):
+    """Checks that a test fails if a delay loop has one iteration too few, and that the session opens at the failure, with the tests but without
+    results."""
     program = browser.script(GET_TEXT_OF_EDITOR, "#program-editor")
     browser.script(PUT_INTO_EDITOR, "#program-editor", program.replace("0x0C", "0x0D"))
-    verdict("an edit takes the counts away", browser.script(GET_COUNTS), [])
+    verdict("an edit removes the counts", browser.script(GET_COUNTS), [])
     run_tests(browser)
     eventually(browser, "a test fails", GET_TESTS_STATUS, "1 of 2 tests failed.")
-    verdict("the tab says so", browser.script(GET_MARK), "1 failed")
-    verdict("with its line, and what is wrong", browser.script(GET_FAILURES), ["line 14 expect cycles 538: 536 cycles have passed, but the test expects 538"])
+    verdict("the tab reports the failure", browser.script(GET_MARK), "1 failed")
+    verdict("the message about the failure, with its line", browser.script(GET_FAILURES), ["line 14 expect cycles 538: 536 cycles have passed, but the test expects 538"])
     browser.click("#test-list .wrong button")
-    verdict("the line is shown", browser.script(GET_SELECTED), "  expect cycles 538")
+    verdict("a click on the failure selects its line", browser.script(GET_SELECTED), "  expect cycles 538")
     browser.click("#test-list details summary")
     trace_lines = browser.text("#test-list pre").split("\n")
-    verdict("the trace ends there", (trace_lines[0], trace_lines[-1]), ("lamps .*.", "     536  007 50 14 JMS wait         comes next"))
+    verdict("the first and the last line of the failure's trace", (trace_lines[0], trace_lines[-1]), ("lamps .*.", "     536  007 50 14 JMS wait         comes next"))
     browser.click("#test-list .bar button")
-    eventually(browser, "the session is opened as it is there", GET_NAME, "each lamp is lit for 538 cycles, line 14")
-    verdict("at the cycle of the failure", "pc 007 owed 0" in send_lines(browser, "regs"), True)
-    verdict("its text of tests is there, too", browser.script(GET_TEXT_OF_EDITOR, EDITOR).count("\ntest "), 2)
-    verdict("and nothing was run in it yet", browser.script(GET_RESULTS), [])
+    eventually(browser, "the failure opens as a session", GET_NAME, "each lamp is lit for 538 cycles, line 14")
+    verdict("the session is at the cycle of the failure", "pc 007 owed 0" in send_lines(browser, "regs"), True)
+    verdict("the session has the tests", browser.script(GET_TEXT_OF_EDITOR, EDITOR).count("\ntest "), 2)
+    verdict("the session has no results", browser.script(GET_RESULTS), [])
 
 
 def check_errors(browser):
+    """Checks that errors in tests are reported and that nothing is run then. The sample tests of three boards must pass."""
     browser.script(PUT_INTO_EDITOR, EDITOR, "test a\n  until lamps green within 10 ms\n  press x\n")
     show_text(browser, "tests")
-    eventually(browser, "errors are reported during typing", GET_ERRORS,
+    eventually(browser, "errors are reported while the user types", GET_ERRORS,
                ["line 2: the board has no lamp green; it has: left middle right (column 9)",
                 "line 3: the board has no key x; its text names no keys (`# row 0: NAME ..`)"])
-    verdict("the tab shows how many", browser.script(GET_MARK), "2 errors")
+    verdict("the tab shows the number of errors", browser.script(GET_MARK), "2 errors")
     browser.click(f"{EDITOR} .send")
-    eventually(browser, "nothing is run then", GET_TESTS_STATUS,
+    eventually(browser, "tests with errors are not run", GET_TESTS_STATUS,
                "Nothing was run: Tests, line 2: the board has no lamp green; it has: left middle right (column 9), and 1 more.")
     browser.script(PUT_INTO_EDITOR, EDITOR, "")
-    eventually(browser, "a sample text is offered", "return isShown(document.getElementById('first-test'))", True)
+    eventually(browser, "a sample test is offered for an empty text", "return isShown(document.getElementById('first-test'))", True)
     insert_sample(browser)
     browser.click(f"{EDITOR} .send")
     eventually(browser, "the sample test passes", GET_TESTS_STATUS, "The test passed.")
@@ -86,9 +90,9 @@ def check_errors(browser):
         show_text(browser, "tests")
         insert_sample(browser)
         text = browser.script(GET_TEXT_OF_EDITOR, EDITOR)
-        verdict(f"that of the {example} presses its first key", [line.strip() for line in text.split("\n")[3:-1]], lines)
+        verdict(f"the sample test of the {example} presses the first key", [line.strip() for line in text.split("\n")[3:-1]], lines)
         browser.click(f"{EDITOR} .send")
-        eventually(browser, "and passes, too", GET_TESTS_STATUS, "The test passed.")
+        eventually(browser, "the sample test with a key press passes", GET_TESTS_STATUS, "The test passed.")
     choose_example(browser, "three lamps")
     show_text(browser, "tests")
 
@@ -108,7 +112,7 @@ PASSED_MESSAGE = re.compile(r"^(The test|All \d+ tests) passed\.$")
 def check_examples(browser):
     """Checks that each example's tests pass, and so does the sample test of its board."""
     examples = browser.script(GET_EXAMPLES)
-    verdict("the page has its examples", len(examples) >= 17, True)
+    verdict("the page has at least 17 examples", len(examples) >= 17, True)
     for example in examples:
         choose_example(browser, example)
         show_text(browser, "tests")
@@ -121,22 +125,23 @@ def check_examples(browser):
 
 
 def check_cancelling(browser):
+    """Checks that a test that would take very long can be cancelled."""
     browser.script(PUT_INTO_EDITOR, EDITOR, "test for ever\n  until r15 9 within 10000 s\n")
     browser.click(f"{EDITOR} .send")
     browser.until("return isShown(document.getElementById('work'))", True)
     browser.click("#cancel")
-    eventually(browser, "a test that does not end is cancelled", GET_TESTS_STATUS, "It was cancelled; the results shown are from the previous run.")
+    eventually(browser, "a test that does not end can be cancelled", GET_TESTS_STATUS, "It was cancelled; the results shown are from the previous run.")
 
 
-def check_saving(browser, folder):
+def check_saved_tests(browser, folder):
     """Checks that the tests text is saved with its session and is in a project."""
     browser.script(PUT_INTO_EDITOR, EDITOR, "test mine\n  run 5")
     time.sleep(1)
     browser.reload()
     until_ready(browser)
     show_text(browser, "tests")
-    eventually(browser, "the text is there after a reload", GET_TEXT_OF_EDITOR.replace("arguments[0]", f"'{EDITOR}'"), "test mine\n  run 5")
-    rename(browser, "with tests")
+    eventually(browser, "the tests are unchanged after a reload", GET_TEXT_OF_EDITOR.replace("arguments[0]", f"'{EDITOR}'"), "test mine\n  run 5")
+    rename_session(browser, "with tests")
     choose_from_file_menu(browser, "#save-button")
     project_text = wait_for_download(folder, "with tests.mcsp").read_text()
     verdict("a project contains the tests", "\nunended test\n" in project_text and "\ntest\ntest mine\n  run 5\n.\n" in project_text, True)
@@ -144,9 +149,9 @@ def check_saving(browser, folder):
 
 def check(browser, page, folder, _mcs4):
     reopen_page(browser, page)
-    check_passing(browser)
-    check_failing(browser)
+    check_passing_tests(browser)
+    check_failing_test(browser)
     check_errors(browser)
     check_examples(browser)
     check_cancelling(browser)
-    check_saving(browser, folder)
+    check_saved_tests(browser, folder)

@@ -33,7 +33,7 @@ PROGRAM = "; my own light\nstart:\tFIM P0, 0x00\t; f\u00fcr the first lamp\n\tJU
 
 
 def wait_for_download(folder, name):
-    """Waits until a file that the page saves is complete, and returns its path."""
+    """Waits until the page has saved a file, for at most 20 seconds, and returns its path."""
     file = folder / "downloads" / name
     deadline = time.monotonic() + 20
     # Some browsers first create an empty file.
@@ -43,36 +43,38 @@ def wait_for_download(folder, name):
     return file
 
 
-def rename(browser, name):
+def rename_session(browser, name):
+    """Changes the name of the session."""
     browser.script("const field = document.getElementById('name'); field.value = arguments[0]; field.dispatchEvent(new Event('change'))", name)
 
 
 def check_project(browser, folder):
-    """Checks that a project is saved, and that it opens with the same bytes."""
+    """Checks that a saved project opens with its texts and watched values, and that saving it again writes the same bytes. Returns the path of a
+    copy of the file."""
     status_of(browser, "#board-editor", BOARD)
     status_of(browser, "#program-editor", PROGRAM)
     browser.type_into("#watched-field", "count = R5" + ENTER)
-    rename(browser, "my light")
+    rename_session(browser, "my light")
     choose_from_file_menu(browser, "#save-button")
     saved_file = wait_for_download(folder, "my light.mcsp")
     project_bytes = saved_file.read_bytes()
-    verdict("a project is a text with both texts in it", BOARD in project_bytes.decode() and PROGRAM in project_bytes.decode(), True)
+    verdict("the project file contains both texts", BOARD in project_bytes.decode() and PROGRAM in project_bytes.decode(), True)
     saved_file.unlink()
     copy = folder / "project.mcsp"
     copy.write_bytes(project_bytes)
-    rename(browser, "another one")
+    rename_session(browser, "another one")
     status_of(browser, "#program-editor", "\tNOP\n")
     browser.type_into("#file", str(copy))
-    eventually(browser, "a project is opened", GET_NAME, "my light")
-    verdict("with its texts", browser.script(GET_TEXTS), [BOARD, PROGRAM])
-    verdict("and its values", browser.script(GET_WATCHES), ["count = R5"])
-    verdict("Control and S are the page's", browser.script(PRESS_CONTROL_S), True)
-    verdict("and saved again it is the same, to the byte", wait_for_download(folder, "my light.mcsp").read_bytes() == project_bytes, True)
+    eventually(browser, "the project is opened", GET_NAME, "my light")
+    verdict("the texts of the opened project", browser.script(GET_TEXTS), [BOARD, PROGRAM])
+    verdict("the watched values of the opened project", browser.script(GET_WATCHES), ["count = R5"])
+    verdict("the page handles Ctrl+S", browser.script(PRESS_CONTROL_S), True)
+    verdict("the project that is saved again has the same bytes", wait_for_download(folder, "my light.mcsp").read_bytes() == project_bytes, True)
     return copy
 
 
-def check_damaged(browser, folder, project_bytes):
-    """Checks that incomplete, damaged and foreign files are rejected with a message, and that the current session stays."""
+def check_rejected_files(browser, folder, project_bytes):
+    """Checks that incomplete, damaged and foreign files are rejected with a message, and that the current texts stay unchanged."""
     texts_before = browser.script(GET_TEXTS)
     cut_file = folder / "cut.mcsp"
     cut_file.write_bytes(project_bytes[:-700])
@@ -90,41 +92,41 @@ def check_damaged(browser, folder, project_bytes):
     plain_file = folder / "plain"
     plain_file.write_text("hello")
     browser.type_into("#file", str(plain_file))
-    eventually(browser, "a text with an error in each line is no program unasked", GET_QUESTION, "Replace the source by plain?")
+    eventually(browser, "a file with an error in each line causes a question", GET_QUESTION, "Replace the source by plain?")
     browser.keys([ESCAPE])
-    eventually(browser, "the question is left", GET_QUESTION, "")
-    verdict("and the texts are unchanged", browser.script(GET_TEXTS), texts_before)
+    eventually(browser, "Escape closes the question", GET_QUESTION, "")
+    verdict("the texts are unchanged", browser.script(GET_TEXTS), texts_before)
 
 
-def check_undo(browser):
+def check_undoing_replacement(browser):
     """Checks that the page asks before it replaces a text, and that replacing can be undone."""
     own_source, rom_source = "; mine\n\tLDM 5\n\tJUN 0\n", "\tLDM 5\n\tJUN 0x000\n"
     status_of(browser, "#program-editor", own_source)
     texts_before = browser.script(GET_TEXTS)
     show_text(browser, "program")
     browser.click("#from-rom")
-    eventually(browser, "to replace a source is confirmed first", GET_QUESTION, "Replace the source?")
+    eventually(browser, "the page asks before it replaces a source", GET_QUESTION, "Replace the source?")
     browser.click("#ask .bar button:last-child")
-    verdict("what is rejected is not done", browser.script(GET_TEXTS), texts_before)
+    verdict("nothing changes if the user declines", browser.script(GET_TEXTS), texts_before)
     browser.click("#from-rom")
     browser.until(GET_QUESTION, re.compile("."))
     browser.click("#ask .bar button:first-child")
-    eventually(browser, "the source is that of the ROM", GET_PROGRAM_TEXT, rom_source)
+    eventually(browser, "the source is disassembled from ROM", GET_PROGRAM_TEXT, rom_source)
     browser.click(UNDO_BUTTON)
-    eventually(browser, "and is brought back", GET_PROGRAM_TEXT, own_source)
+    eventually(browser, "Undo restores the source", GET_PROGRAM_TEXT, own_source)
     browser.click(UNDO_BUTTON)
-    eventually(browser, "the undoing can be undone, too", GET_PROGRAM_TEXT, rom_source)
+    eventually(browser, "Undo can be undone", GET_PROGRAM_TEXT, rom_source)
     browser.click(UNDO_BUTTON)
     browser.until(GET_PROGRAM_TEXT, own_source)
     browser.script("document.querySelector('#program-editor .cm-editor').lineEditor.undo()")
-    verdict("after Undo, as after Ctrl Z, another Ctrl Z undoes what was before", browser.script(GET_PROGRAM_TEXT) in (own_source, rom_source), False)
+    verdict("Ctrl+Z after Undo undoes the edit before the replacement", browser.script(GET_PROGRAM_TEXT) in (own_source, rom_source), False)
     browser.script("document.querySelector('#program-editor .cm-editor').lineEditor.undoOrRedo('redo')")
     browser.until(GET_PROGRAM_TEXT, own_source)
     browser.click("#notice .dismiss")
     time.sleep(1)
     browser.reload()
     until_ready(browser)
-    verdict("the texts are kept", browser.script(GET_PROGRAM_TEXT), own_source)
+    verdict("the source is unchanged after a reload", browser.script(GET_PROGRAM_TEXT), own_source)
 
 
 def count_saved(browser):
@@ -134,46 +136,46 @@ def count_saved(browser):
     return browser.script(COUNT_SAVED)
 
 
-def check_examples(browser):
-    """Checks that an example becomes a saved session only after the user has done something in it."""
+def check_example_saved_later(browser):
+    """Checks that an example becomes a saved session only after the user has done something in it. Returns the number of saved sessions."""
     count_before = count_saved(browser)
     browser.click("#close-sessions")
     choose_example(browser, "die")
-    eventually(browser, "an example has its own address", "return location.hash", "#example=die")
-    eventually(browser, "the tab names the session", "return document.title", "die - Fethsaim")
-    verdict("it is not kept yet", count_saved(browser), count_before)
+    eventually(browser, "the address names the example", "return location.hash", "#example=die")
+    eventually(browser, "the title of the browser tab has the example's name", "return document.title", "die - Fethsaim")
+    verdict("the example is not saved yet", count_saved(browser), count_before)
     browser.click("#close-sessions")
     browser.click("#step")
-    eventually(browser, "once something is done it is", "return location.hash", re.compile("^#session="))
-    verdict("and is listed", count_saved(browser), count_before + 1)
+    eventually(browser, "the example is saved after a step", "return location.hash", re.compile("^#session="))
+    verdict("the number of saved sessions after the step", count_saved(browser), count_before + 1)
     browser.click("#close-sessions")
-    rename(browser, "my die")
-    verdict("its name stands in the tab", browser.script("return document.title"), "my die - Fethsaim")
+    rename_session(browser, "my die")
+    verdict("the title of the browser tab has the new name", browser.script("return document.title"), "my die - Fethsaim")
     choose_example(browser, "lamps")
-    verdict("an example's lines wait to be sent", browser.script(GET_LINES) != "", True)
+    verdict("the example's lines are in the console's field", browser.script(GET_LINES) != "", True)
     choose_example(browser, "die")
-    verdict("and go with it", browser.script(GET_LINES), "")
+    verdict("another example removes these lines", browser.script(GET_LINES), "")
     browser.script("document.getElementById('lines').value = 'poke r5 9'")
     choose_example(browser, "traffic light")
-    verdict("but not what was typed", browser.script(GET_LINES), "poke r5 9")
+    verdict("another example keeps typed lines", browser.script(GET_LINES), "poke r5 9")
     browser.script("document.getElementById('lines').value = ''")
     return count_before + 1
 
 
 def check_deleting(browser, count):
-    """Checks that several sessions can be deleted at once and restored."""
-    verdict("examples alone have made no session", count_saved(browser), count)
+    """Checks that several sessions can be deleted at once and restored. `count` is the number of saved sessions."""
+    verdict("the number of saved sessions after more examples were opened", count_saved(browser), count)
     browser.click("#choose-all")
     browser.click("#delete-chosen")
-    eventually(browser, "all are deleted at once", COUNT_SAVED, 0)
-    verdict("the keyboard continues in the dialog", browser.script("return document.activeElement.closest('#sessions') !== null"), True)
+    eventually(browser, "all chosen sessions are deleted", COUNT_SAVED, 0)
+    verdict("the focus stays in the dialog", browser.script("return document.activeElement.closest('#sessions') !== null"), True)
     browser.click(UNDO_BUTTON)
-    eventually(browser, "and brought back", COUNT_SAVED, count)
+    eventually(browser, "Undo restores the sessions", COUNT_SAVED, count)
     browser.click("#kept li button[aria-label^='delete']")
-    eventually(browser, "one is deleted", COUNT_SAVED, count - 1)
+    eventually(browser, "the number of sessions after one was deleted", COUNT_SAVED, count - 1)
     browser.click("#notice .dismiss")
     browser.click("#deleted button")
-    eventually(browser, "what was deleted is listed, too", COUNT_SAVED, count)
+    eventually(browser, "the list of deleted sessions restores the session", COUNT_SAVED, count)
     browser.click("#close-sessions")
 
 
@@ -188,12 +190,12 @@ def check_notices(browser, folder):
     browser.click("#from-rom")
     browser.until(GET_QUESTION, re.compile("."))
     browser.click("#ask .bar button:first-child")
-    eventually(browser, "a notice of another kind stands beside it", GET_NOTICE, re.compile("disassembled from ROM.*cut off"))
+    eventually(browser, "a notice of another kind is added", GET_NOTICE, re.compile("disassembled from ROM.*cut off"))
     browser.type_into("#file", str(folder / "changed.mcsp"))
-    eventually(browser, "one of the same kind takes its place", GET_NOTICE, re.compile("^Cannot open changed.mcsp.*disassembled from ROM[^f]*$"))
+    eventually(browser, "a notice of the same kind is replaced", GET_NOTICE, re.compile("^Cannot open changed.mcsp.*disassembled from ROM[^f]*$"))
     browser.click("#notice .dismiss")
     browser.click("#notice .dismiss")
-    eventually(browser, "each can be dismissed", GET_NOTICE, "")
+    eventually(browser, "all notices are dismissed", GET_NOTICE, "")
     send_lines(browser, "reset\nbreak 0x024")
     browser.click("#run")
     browser.until(GET_STATUS, re.compile("at a breakpoint"))
@@ -211,13 +213,13 @@ def check_many_notices(browser, folder):
         text.write_text(f" LDM {number}\n")
         browser.type_into("#file", str(text))
         browser.until(GET_PROGRAM_TEXT, f" LDM {number}\n")
-    eventually(browser, "the newest three notices are seen", GET_NOTICE, " ".join(reversed(notices[1:])))
-    eventually(browser, "what went well leaves by itself", GET_NOTICE, "", 30)
-    verdict("each notice can be read again", browser.script(GET_ALL_NOTICES)[:4], notices[::-1])
+    eventually(browser, "the newest three notices are shown", GET_NOTICE, " ".join(reversed(notices[1:])))
+    eventually(browser, "the notices disappear automatically", GET_NOTICE, "", 30)
+    verdict("the list has all notices", browser.script(GET_ALL_NOTICES)[:4], notices[::-1])
     browser.click("#notices-button")
     browser.click("#notices li:nth-child(2) button")
-    eventually(browser, "and undone in the list", GET_PROGRAM_TEXT, " LDM 1\n")
-    eventually(browser, "which has a notice, too", GET_NOTICE, "The source is restored.")
+    eventually(browser, "Undo in the list restores the source before the last two", GET_PROGRAM_TEXT, " LDM 1\n")
+    eventually(browser, "a notice reports the restored source", GET_NOTICE, "The source is restored.")
 
 
 def open_link(browser, page, link):
@@ -232,44 +234,44 @@ def check_link(browser, page):
     """Checks that a link contains the name and the texts, that a preview appears before it is opened, and that an incomplete link is rejected."""
     status_of(browser, "#board-editor", BOARD)
     status_of(browser, "#program-editor", PROGRAM)
-    rename(browser, "my light")
+    rename_session(browser, "my light")
     browser.script("navigator.clipboard.writeText = async (text) => { window.copied = text; }")
     browser.click("#share-button")
-    eventually(browser, "a link is copied", GET_NOTICE, re.compile("A link of [0-9,]+ characters was copied"))
+    eventually(browser, "a notice reports that the link was copied", GET_NOTICE, re.compile("A link of [0-9,]+ characters was copied"))
     link = browser.script("return window.copied").split("#")[1]
-    verdict("it is compressed, for the address", link, re.compile(r"^link=1\.[\w-]+$"))
+    verdict("the link is compressed", link, re.compile(r"^link=1\.[\w-]+$"))
     browser.click("#notice .dismiss")
     browser.script("navigator.clipboard.writeText = async () => { throw new DOMException('', 'NotAllowedError'); }")
     browser.click("#share-button")
-    eventually(browser, "where nothing may be copied it is shown, selected", "return document.getElementById('link')"
+    eventually(browser, "a link that cannot be copied is shown and selected", "return document.getElementById('link')"
                " ? document.getElementById('link').value.slice(document.getElementById('link').selectionStart).split('#')[1] : ''", link)
     browser.click("#ask .bar button:last-child")
     choose_example(browser, "die")
     stored_count = count_saved(browser)
     open_link(browser, page, link)
-    eventually(browser, "a link is shown before it is opened", GET_QUESTION, 'Open "my light" from a link?')
-    verdict("with what it holds", browser.text("#ask"), re.compile("Three lamps.*text has 1[0-9] lines, the source 3 lines.*1 ROM, 1 RAM chip, 3 lamps"))
+    eventually(browser, "the link causes a question with the name", GET_QUESTION, 'Open "my light" from a link?')
+    verdict("the question describes the contents of the link", browser.text("#ask"), re.compile("Three lamps.*text has 1[0-9] lines, the source 3 lines.*1 ROM, 1 RAM chip, 3 lamps"))
     browser.click("#ask .bar button:last-child")
-    eventually(browser, "what is not wanted is not opened", "return location.hash", re.compile("^#(session|example)="))
-    verdict("and nothing is made", count_saved(browser), stored_count)
+    eventually(browser, "the link is not opened if the user declines", "return location.hash", re.compile("^#(session|example)="))
+    verdict("the number of saved sessions is unchanged", count_saved(browser), stored_count)
     open_link(browser, page, link)
-    eventually(browser, "it is asked again", GET_QUESTION, re.compile("my light"))
+    eventually(browser, "the same link causes the question again", GET_QUESTION, re.compile("my light"))
     browser.click("#ask .bar button:first-child")
-    eventually(browser, "it becomes a session", GET_NAME, "my light")
+    eventually(browser, "the link opens as a session", GET_NAME, "my light")
     until_ready(browser)
-    verdict("with its texts", browser.script(GET_TEXTS), [BOARD, PROGRAM])
-    verdict("which is kept", count_saved(browser), stored_count + 1)
+    verdict("the session has the texts of the link", browser.script(GET_TEXTS), [BOARD, PROGRAM])
+    verdict("the session is saved", count_saved(browser), stored_count + 1)
     browser.click("#close-sessions")
     open_link(browser, page, f"{link}%20")
-    eventually(browser, "a blank behind a link is passed over", GET_QUESTION, re.compile("my light"))
+    eventually(browser, "a space after the link is ignored", GET_QUESTION, re.compile("my light"))
     browser.click("#ask .bar button:last-child")
     open_link(browser, page, "lnk=1")
-    eventually(browser, "an address that names nothing says so", GET_NOTICE, re.compile("^The address ends with #lnk=1, which names nothing here"))
-    for description, broken_link in (("a cut link", link[:-9]), ("a link that is made by hand", "link=1.aGVsbG8"), ("another one", "link=hello")):
+    eventually(browser, "an unknown address is reported", GET_NOTICE, re.compile("^The address ends with #lnk=1, which names nothing here"))
+    for description, broken_link in (("a truncated link", link[:-9]), ("a link without a board", "link=1.aGVsbG8"), ("a link without a version", "link=hello")):
         texts_before = browser.script(GET_TEXTS)
         open_link(browser, page, broken_link)
         eventually(browser, f"{description} is rejected with a message", GET_NOTICE, re.compile("Cannot open the link: it is cut off or was changed"))
-        verdict("and the bench is unchanged", browser.script(GET_TEXTS), texts_before)
+        verdict("the texts are unchanged", browser.script(GET_TEXTS), texts_before)
 
 
 def link_of(name, board, program):
@@ -282,34 +284,34 @@ def link_of(name, board, program):
 
 
 def check_foreign_links(browser, page):
-    """Checks links that would hang the page or mislead the user."""
+    """Checks that a link that would make the page hang is rejected, and that names from links are shortened and cannot mislead the user."""
     names = [f"n{number}" for number in range(12000)]
     hanging = f"# lamp 0: {' '.join(names)}\n# grid 0: {' '.join(f'-{name}' for name in names)}\n"
     texts_before = browser.script(GET_TEXTS)
     open_link(browser, page, link_of("a clock", hanging, ""))
     eventually(browser, "a link with a text that is too long is rejected with a message", GET_NOTICE, re.compile(
         rf"^Cannot open the link: the board's text has {len(hanging):,} characters; at most 65,536 are accepted\. Nothing was changed\.$"))
-    verdict("and the bench is unchanged", browser.script(GET_TEXTS), texts_before)
+    verdict("the texts are unchanged", browser.script(GET_TEXTS), texts_before)
     board = f"# title: {'long words ' * 20}\n# lamp 0: {' '.join(names[:400])}\n# grid 0: {' '.join(f'-{number}' for number in range(600))}\n"
     open_link(browser, page, link_of("\u202etxe\u2066\t" + "name " * 900, board, ""))
-    eventually(browser, "a long name is cut, and no letter turns it round", GET_QUESTION, f'Open "txe {"name " * 10}name…" from a link?')
-    verdict("and so is the title", browser.text("#ask"), re.compile("link\\?(long words ){5}long…The board's text has 3 lines"))
+    eventually(browser, "the name in the question is shortened and has no control characters", GET_QUESTION, f'Open "txe {"name " * 10}name…" from a link?')
+    verdict("the title in the question is shortened", browser.text("#ask"), re.compile("link\\?(long words ){5}long…The board's text has 3 lines"))
     browser.click("#ask .bar button:first-child")
-    eventually(browser, "it is opened", GET_NAME, re.compile("^txe name"))
-    eventually(browser, "and of its errors the first ones are reported", "return [...document.querySelectorAll('#face-faults li')].slice(20)"
+    eventually(browser, "the link opens as a session", GET_NAME, re.compile("^txe name"))
+    eventually(browser, "only the first errors of the front panel are listed", "return [...document.querySelectorAll('#face-faults li')].slice(20)"
                ".map((each) => each.textContent).join()", re.compile("^And [0-9,]+ more\\.$"))
     browser.go("about:blank")
     browser.go(f"{page.as_uri()}#example=%E2%80%AEhacked%2C%20go%20to%20evil.example%20{'x' * 100}")
-    eventually(browser, "nor has an address more words than that", GET_NOTICE, re.compile('^The address names an example, "hacked, go to evil.example x{32}…", that'))
+    eventually(browser, "the name of an unknown example is shortened and has no control characters", GET_NOTICE, re.compile('^The address names an example, "hacked, go to evil.example x{32}…", that'))
 
 
-def check_drop(browser, project):
-    """Checks that a file dropped on the page is opened."""
+def check_dropped_files(browser, project):
+    """Checks that a dropped project is opened, and that dropped files of a folder are opened as its mcs4.toml describes them."""
     browser.script("""
 const data = new DataTransfer();
 data.items.add(new File([arguments[0]], "dropped.mcsp"));
 document.body.dispatchEvent(new DragEvent("drop", { dataTransfer: data, bubbles: true, cancelable: true }))""", project.decode())
-    eventually(browser, "a project that is dropped is opened", GET_TEXTS, [BOARD, PROGRAM])
+    eventually(browser, "a dropped project is opened", GET_TEXTS, [BOARD, PROGRAM])
     # A script cannot drop a folder, but dropping its files has the same effect.
     drop_files = """
 const data = new DataTransfer();
@@ -318,18 +320,18 @@ document.body.dispatchEvent(new DragEvent("drop", { dataTransfer: data, bubbles:
     names = 'board = "own.toml"\nprogram = "own.asm"\nspeed = "tenth"\n'
     files = [["own.toml", BOARD], ["own.asm", "; my own\n" + PROGRAM], ["mcs4.toml", names]]
     browser.script(drop_files, files)
-    eventually(browser, "the files of a project are opened by its mcs4.toml", GET_TEXTS, [BOARD, "; my own\n" + PROGRAM])
-    eventually(browser, "at the speed that it names", "return document.getElementById('speed').value", "tenth")
+    eventually(browser, "the dropped files are opened as mcs4.toml describes them", GET_TEXTS, [BOARD, "; my own\n" + PROGRAM])
+    eventually(browser, "the project has the speed in mcs4.toml", "return document.getElementById('speed').value", "tenth")
     browser.script(drop_files, [*files[:2], ["mcs4.toml", names + "lamps = 1\n"]])
-    eventually(browser, "what is wrong in it is reported with its line", GET_NOTICE, re.compile(
+    eventually(browser, "an error in mcs4.toml is reported with its line", GET_NOTICE, re.compile(
         r"^Cannot open the folder: mcs4\.toml: line 4: a project has no key lamps; .*The session shown is unchanged"))
     browser.script(drop_files, files[2:])
-    eventually(browser, "alone it is rejected", GET_NOTICE, re.compile(r"^Cannot open mcs4\.toml: it names files of a project: drop its folder"))
+    eventually(browser, "mcs4.toml alone is rejected with a message", GET_NOTICE, re.compile(r"^Cannot open mcs4\.toml: it names files of a project: drop its folder"))
     browser.script("document.getElementById('speed').value = 'real'; document.getElementById('speed').dispatchEvent(new Event('change'))")
 
 
 def export_file(browser, folder, suffix):
-    """Returns the contents of a file that the Export dialog saves."""
+    """Saves a file through the Export dialog, returns its contents, and removes it."""
     choose_from_file_menu(browser, "#export-button")
     number = [".asm", ".toml", ".hex", ".bin"].index(suffix) + 1
     browser.click(f"#export li:nth-child({number}) button")
@@ -346,27 +348,27 @@ def answers_in_copy(mcs4, session, lines):
     return subprocess.run([mcs4, "open", copy], input=lines, stdout=subprocess.PIPE, check=True, text=True).stdout
 
 
-def check_files(browser, folder, mcs4):
-    """Checks that programs, boards, lines and ROM images can be opened and saved, in the formats that `mcs4 rom` reads and writes."""
+def check_opened_and_exported_files(browser, folder, mcs4):
+    """Checks that files of boards and programs can be opened, and that exported texts and ROM images are those of the files and of `mcs4 rom`."""
     example = TOP / "examples/three_lamps"
     for name in ("board.toml", "three_lamps.asm"):
         browser.type_into("#file", str(example / name))
-        eventually(browser, f"{name} is opened", GET_NOTICE, re.compile(f"^{name} is in (Board|Source)"))
+        eventually(browser, f"the file {name} is opened", GET_NOTICE, re.compile(f"^{name} is in (Board|Source)"))
     prose_file = folder / "notes"
     prose_file.write_text("hello there\nthis is no program\n")
     browser.type_into("#file", str(prose_file))
-    eventually(browser, "a text with an error in each line is confirmed first", GET_QUESTION, "Replace the source by notes?")
+    eventually(browser, "a file with an error in each line causes a question", GET_QUESTION, "Replace the source by notes?")
     browser.click("#ask .bar button:last-child")
-    eventually(browser, "their texts are in the editors", GET_TEXTS, [(example / "board.toml").read_text(), (example / "three_lamps.asm").read_text()])
+    eventually(browser, "the editors have the texts of the files", GET_TEXTS, [(example / "board.toml").read_text(), (example / "three_lamps.asm").read_text()])
     browser.click("#board-tab")
     browser.click("#board-editor .send")
     browser.until("return document.querySelector('#board-editor .status-text').textContent", "Board applied.")
     browser.click("#program-tab")
     browser.click("#assemble-only")
     browser.until("return document.querySelector('#program-editor .status-text').textContent", re.compile("ssembled"))
-    rename(browser, "my light")
-    verdict("the source is exported", export_file(browser, folder, ".asm"), (example / "three_lamps.asm").read_bytes())
-    verdict("and the board", export_file(browser, folder, ".toml"), (example / "board.toml").read_bytes())
+    rename_session(browser, "my light")
+    verdict("the exported source", export_file(browser, folder, ".asm"), (example / "three_lamps.asm").read_bytes())
+    verdict("the exported board", export_file(browser, folder, ".toml"), (example / "board.toml").read_bytes())
     image = export_file(browser, folder, ".bin")
     choose_from_file_menu(browser, "#save-session-button")
     session = wait_for_download(folder, "my light.mcs")
@@ -375,45 +377,45 @@ def check_files(browser, folder, mcs4):
     answers = answers_in_copy(mcs4, session, questions)
     for arguments, suffix, expected in ((["save"], ".bin", image), (["save", "--hex"], ".hex", None)):
         expected_file = subprocess.run([*rom, *arguments, "0", size], input=answers.encode(), stdout=subprocess.PIPE, check=True).stdout
-        verdict(f"ROM is exported as {suffix} as mcs4 rom has it", expected or export_file(browser, folder, suffix), expected_file)
-    check_image(browser, folder, image)
+        verdict(f"the exported {suffix} file is the output of mcs4 rom", expected or export_file(browser, folder, suffix), expected_file)
+    check_rom_image(browser, folder, image)
 
 
-def check_image(browser, folder, image):
+def check_rom_image(browser, folder, image):
     """Checks that an image is loaded into ROM, and that an image with bytes outside the board's ROM chips is rejected."""
     changed_image = folder / "other.bin"
     changed_image.write_bytes(bytes(byte ^ 0x80 if index < 4 else byte for index, byte in enumerate(image)))
     browser.type_into("#file", str(changed_image))
-    eventually(browser, "an image is opened", GET_NOTICE, re.compile(f"^{len(image):,} bytes of other.bin are in ROM, from 000; nothing was reset\\."))
-    verdict("it stands in ROM", export_file(browser, folder, ".bin"), changed_image.read_bytes())
+    eventually(browser, "an image is loaded into ROM", GET_NOTICE, re.compile(f"^{len(image):,} bytes of other.bin are in ROM, from 000; nothing was reset\\."))
+    verdict("the exported ROM is the image", export_file(browser, folder, ".bin"), changed_image.read_bytes())
     large = folder / "large.hex"
     large.write_text(":010F0000D11F\n:00000001FF\n")
     browser.type_into("#file", str(large))
-    eventually(browser, "an image for a ROM that is not there is rejected with a message", GET_NOTICE, re.compile("^Cannot open large.hex: the board has no ROM 15"))
+    eventually(browser, "an image for a missing ROM chip is rejected with a message", GET_NOTICE, re.compile("^Cannot open large.hex: the board has no ROM 15"))
     browser.script("for (const each of document.querySelectorAll('#notice .dismiss')) each.click()")
 
 
-def check_tool(folder, project):
+def check_project_tool(folder, project):
     """Checks that `mcs4 project` splits a project of the page and joins it again to the same bytes."""
     tool = [TOP / "mcs4", "project"]
     parts_folder, joined_file = folder / "parts", folder / "again.mcsp"
     subprocess.run([*tool, "split", project, parts_folder], check=True)
-    verdict("the tool finds the board's text", (parts_folder / "board.toml").read_text(), BOARD)
-    verdict("and the source", (parts_folder / "program.asm").read_text(), PROGRAM)
+    verdict("mcs4 project extracts the board's text", (parts_folder / "board.toml").read_text(), BOARD)
+    verdict("mcs4 project extracts the source", (parts_folder / "program.asm").read_text(), PROGRAM)
     subprocess.run([*tool, "join", parts_folder, joined_file], check=True)
-    verdict("and puts the project together to the byte", joined_file.read_bytes() == project.read_bytes(), True)
+    verdict("mcs4 project joins the same bytes", joined_file.read_bytes() == project.read_bytes(), True)
 
 
 def check_texts(browser, page, folder, mcs4):
     reopen_page(browser, page)
     stop_time(browser)
     project = check_project(browser, folder)
-    check_damaged(browser, folder, project.read_bytes())
-    check_tool(folder, project)
-    check_undo(browser)
-    check_deleting(browser, check_examples(browser))
+    check_rejected_files(browser, folder, project.read_bytes())
+    check_project_tool(folder, project)
+    check_undoing_replacement(browser)
+    check_deleting(browser, check_example_saved_later(browser))
     check_notices(browser, folder)
-    check_drop(browser, project.read_bytes())
-    check_files(browser, folder, mcs4)
+    check_dropped_files(browser, project.read_bytes())
+    check_opened_and_exported_files(browser, folder, mcs4)
     check_link(browser, page)
     check_foreign_links(browser, page)

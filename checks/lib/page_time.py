@@ -32,7 +32,7 @@ ALL_QUERIES = "seq\nstate\nram 0\nbreaks\nwatches"
 
 
 class Program:
-    """Runs the program and its tools on separate sessions, for comparison with the page."""
+    """The program mcs4 and its tools, which run on separate sessions for comparison with the page."""
 
     def __init__(self, folder, mcs4):
         self.folder = folder
@@ -40,6 +40,7 @@ class Program:
         self.environment = dict(os.environ, MCS4=str(mcs4))
 
     def tool(self, name, *arguments, lines=""):
+        """Returns the output of a tool of mcs4 with `lines` as its input."""
         tool = [TOP / "mcs4", name, *map(str, arguments)]
         return subprocess.run(tool, input=lines, stdout=subprocess.PIPE, text=True, check=True, env=self.environment).stdout
 
@@ -50,12 +51,13 @@ class Program:
         return file, subprocess.run([self.mcs4, "new", file], input=lines, stdout=subprocess.PIPE, text=True, check=True).stdout
 
     def cycles(self, answers):
-        """Returns the cycles of the last run in some answers, as mcs4 cycles counts them."""
+        """Returns the cycles of the last run in some answers, as `mcs4 cycles` counts them."""
         line = len(answers.splitlines())
         return int(self.tool("cycles", line, line, lines=answers).split(" ")[0])
 
 
 def texts_of(name):
+    """Returns the lines that apply an example's board and assemble its program."""
     folder = TOP / "examples" / name
     board, program = (folder / "board.toml").read_text(), (folder / f"{name}.asm").read_text()
     return f"wire\n{board}.\nasm\n{program}.\n"
@@ -95,38 +97,40 @@ def open_paused_example(browser, name):
 
 
 def query_state(browser):
-    """Returns the answers to all queries. If time was running, an entry about runs can precede them in the log."""
+    """Returns the answers to ALL_QUERIES, without an entry about runs, which can precede them in the log."""
     answers = send_lines(browser, ALL_QUERIES)
     return answers[answers.index("seqseq"):]
 
 
 def check_step_over(browser, program, name, example):
-    """Checks stepping over a JMS, into it, out of its subroutine, and to the next line. The cycles must match the trace. No breakpoint may remain."""
+    """Checks that a step over a JMS, with the button or with F10, takes the cycles that the trace shows. Steps into the subroutine and out of it
+    must take the same time. No breakpoint or watch may remain."""
     cycles_before, call_cycles, address, return_address = first_call(program, example)
     open_paused_example(browser, name)
     send_lines(browser, f"run {cycles_before}")
     browser.click("#over")
-    eventually(browser, f"{name}: Over comes back behind the JMS at {address}", GET_STATUS, f"Returned to {return_address}, after {cycles_text(call_cycles)}.")
-    verdict("the counter has the cycles since the stop", browser.script(GET_CYCLES_SINCE_STOP), cycles_text(call_cycles))
-    verdict("and those since the reset", browser.script(GET_CYCLES_SINCE_RESET), cycles_text(cycles_before + call_cycles))
-    verdict("no breakpoint and no watch stays", query_state(browser)[-len("breaksbreaks -watcheswatches -"):], "breaksbreaks -watcheswatches -")
-    for action, repeat_step in {"by F10": lambda: browser.script(PRESS_KEY, "F10", False),
-                        "into it by F11, and out by Shift and F11": lambda: step_into_and_out(browser)}.items():
+    eventually(browser, f"{name}: Over stops at the return address of the JMS at {address}", GET_STATUS, f"Returned to {return_address}, after {cycles_text(call_cycles)}.")
+    verdict("the cycles since the stop", browser.script(GET_CYCLES_SINCE_STOP), cycles_text(call_cycles))
+    verdict("the cycles since the reset", browser.script(GET_CYCLES_SINCE_RESET), cycles_text(cycles_before + call_cycles))
+    verdict("no breakpoints and watches are left", query_state(browser)[-len("breaksbreaks -watcheswatches -"):], "breaksbreaks -watcheswatches -")
+    for action, repeat_step in {"with F10": lambda: browser.script(PRESS_KEY, "F10", False),
+                        "into the subroutine with F11, and out with Shift+F11": lambda: step_into_and_out(browser)}.items():
         browser.click("#back-stop")
-        eventually(browser, f"{name}: back to the stop before", GET_STATUS, re.compile(f"^Back at the stop at {address}"))
+        eventually(browser, f"{name}: going back to the stop at the JMS", GET_STATUS, re.compile(f"^Back at the stop at {address}"))
         repeat_step()
-        eventually(browser, f"{name}: the same {action}", GET_STATUS, re.compile(f"^Returned to {return_address}, after "))
-        verdict("after as many cycles", browser.script(GET_CYCLES_SINCE_RESET), cycles_text(cycles_before + call_cycles))
+        eventually(browser, f"{name}: the same step {action}", GET_STATUS, re.compile(f"^Returned to {return_address}, after "))
+        verdict("the cycles since the reset after the same step", browser.script(GET_CYCLES_SINCE_RESET), cycles_text(cycles_before + call_cycles))
 
 
 def step_into_and_out(browser):
+    """Steps into a subroutine with F11, and out of it with Shift+F11."""
     browser.script(PRESS_KEY, "F11", False)
     browser.until(GET_STATUS, STEPPED)
     browser.script(PRESS_KEY, "F11", True)
 
 
-def check_run_to(browser):
-    """Checks a run to a line of the disassembly with Ctrl and a click."""
+def check_run_to_row(browser):
+    """Checks that Ctrl+click on a row of the disassembly runs to that row and sets no breakpoint."""
     browser.click("#back-stop")
     browser.until(GET_STATUS, re.compile("^Back at"))
     address = browser.script("""
@@ -134,40 +138,41 @@ const next = document.querySelector("#lines-of-program .next");
 const row = next.nextElementSibling;
 row.dispatchEvent(new MouseEvent("click", { ctrlKey: true, bubbles: true, cancelable: true }));
 return row.textContent.match(/[0-9A-F]{3}/)[0]""")
-    eventually(browser, "Control and a click run to a line", GET_STATUS, re.compile(f"^Paused at {address}, as requested, after [0-9,]+ cycles?, "))
-    verdict("it has no breakpoint", browser.script("return document.querySelectorAll('#lines-of-program [aria-pressed=true]').length"), 0)
+    eventually(browser, "Ctrl and a click run to a row of the disassembly", GET_STATUS, re.compile(f"^Paused at {address}, as requested, after [0-9,]+ cycles?, "))
+    verdict("the row has no breakpoint", browser.script("return document.querySelectorAll('#lines-of-program [aria-pressed=true]').length"), 0)
 
 
 def check_run_to_source(browser):
-    """Checks a run to the source line of the caret with Ctrl+F10, and a run until a named lamp changes."""
+    """Checks that Ctrl+F10 runs to the caret's source line, and that a run until a named lamp changes stops at the change."""
     open_paused_example(browser, "three lamps")
     browser.script("""
 const editor = document.querySelector("#program-editor .cm-editor").lineEditor;
 editor.setCursor({ line: editor.getValue().split("\\n").findIndex((line) => line.startsWith("turn:")), ch: 0 });
 editor.getInputField().dispatchEvent(new KeyboardEvent("keydown", { key: "F10", ctrlKey: true, bubbles: true, cancelable: true }))""")
-    eventually(browser, "Control and F10 in the source run to the label turn", GET_STATUS, re.compile("^Paused at 016, as requested, after 11 cycles, "))
+    eventually(browser, "Ctrl+F10 runs to the label `turn` in the source", GET_STATUS, re.compile("^Paused at 016, as requested, after 11 cycles, "))
     send_lines(browser, "reset")
     browser.script(CHANGE_FIELD, "#change-place", "right")
     browser.click("#until-change")
-    eventually(browser, "to a change of a lamp by its name", GET_STATUS, "Paused at 007, after lamp 2 changed, after 7 cycles, 0.076 ms.")
+    eventually(browser, "a run until a named lamp changes", GET_STATUS, "Paused at 007, after lamp 2 changed, after 7 cycles, 0.076 ms.")
 
 
 def check_many_steps(browser, program):
-    """Checks that a step of several instructions takes the number of cycles that the trace shows."""
+    """Checks that a step of several instructions takes the number of cycles that the trace shows, and that a wrong number of instructions is
+    rejected."""
     file, _ = program.session("many", texts_of("three_lamps"))
     lines = [line for line in program.tool("trace", file, 400).splitlines() if re.match(r" *\d+  [0-9A-F]{3} ", line)]
     open_paused_example(browser, "three lamps")
     browser.script(CHANGE_FIELD, "#step-count", "50")
     browser.click("#step-many")
-    eventually(browser, "50 instructions", GET_STATUS, f"50 instructions were done, after {cycles_text(int(lines[50].split()[0]))}.")
+    eventually(browser, "the cycles of 50 instructions", GET_STATUS, f"50 instructions were done, after {cycles_text(int(lines[50].split()[0]))}.")
     browser.script(CHANGE_FIELD, "#step-count", "many")
     browser.click("#step-many")
-    eventually(browser, "a text that is not a number is rejected with a message", GET_STATUS, re.compile("^Nothing was done: give a number"))
+    eventually(browser, "a wrong number of instructions is rejected with a message", GET_STATUS, re.compile("^Nothing was done: give a number"))
 
 
 def check_delay(browser):
-    """Checks a step over a delay of 24 seconds, whose cycles are computed here, and going back to changes within the delay. Checks that a search for
-    a change of a port that the board lacks is rejected."""
+    """Checks that a step over a delay of 24 seconds takes the computed number of cycles, and that going back reaches changes within the delay. A
+    change of a port that the board lacks must be rejected."""
     choose_example(browser, "empty bench")
     loops = "".join(f"ISZ R{register}, loop\n" for register in range(5))
     send_lines(browser, "wire\n[[rom]]\nchip = 0\nport = \"0000\"\n.\nasm\nJMS wait\nend: JUN end\n"
@@ -178,21 +183,22 @@ def check_delay(browser):
         cycles = 16 * (cycles + 2)
     browser.script(SET_SPEED, "full")
     browser.click("#over")
-    eventually(browser, "Over a delay", GET_STATUS, f"Returned to 002, after {cycles_text(cycles + 9)}.", 60)
+    eventually(browser, "the cycles of a step over a delay", GET_STATUS, f"Returned to 002, after {cycles_text(cycles + 9)}.", 60)
     browser.script(SET_SPEED, "real")
     browser.script(CHANGE_FIELD, "#change-place", "r2")
     browser.click("#back-change")
-    eventually(browser, "back to the last change in it", GET_STATUS, re.compile("^Back at .*: this instruction changes r2 from F to 0"), 60)
+    eventually(browser, "going back to the last change of R2 in the delay", GET_STATUS, re.compile("^Back at .*: this instruction changes r2 from F to 0"), 60)
     browser.script(CHANGE_FIELD, "#change-place", "R2 == 0xF")
     browser.click("#back-change")
-    eventually(browser, "back to where a condition became true", GET_STATUS, re.compile("^Back at .*: this instruction makes R2 == 0xF true"), 60)
+    eventually(browser, "going back to the instruction that makes a condition true", GET_STATUS, re.compile("^Back at .*: this instruction makes R2 == 0xF true"), 60)
     browser.script(CHANGE_FIELD, "#change-place", "ram0.0")
     browser.click("#until-change")
-    eventually(browser, "what the board lacks", GET_STATUS, "Nothing was done: this board has no ram0.0.")
+    eventually(browser, "a change of a missing port is rejected with a message", GET_STATUS, "Nothing was done: this board has no ram0.0.")
 
 
 def check_stopwatch(browser):
-    """Checks that a hundredth of a second of the stopwatch is 926 cycles, measured between two markers."""
+    """Checks that a hundredth of a second of the stopwatch is 926 cycles, measured between two marks. Also checks going back to a change of the
+    lamps, and missing names."""
     open_paused_example(browser, "stopwatch")
     send_lines(browser, "test 0")
     browser.script(CHANGE_FIELD, "#change-place", "lamps")
@@ -201,24 +207,25 @@ def check_stopwatch(browser):
         browser.click("#until-change")
         browser.until(GET_STATUS, re.compile("after lamps changed, after"))
         browser.click("#mark")
-    verdict("from one hundredth to the next", browser.script(GET_MARKED), re.compile(r"Between the marks 926 cycles, 10\.001 ms$"))
+    verdict("the cycles between two changes of the lamps", browser.script(GET_MARKED), re.compile(r"Between the marks 926 cycles, 10\.001 ms$"))
     lamps = send_lines(browser, "lamps")
     browser.click("#back-change")
-    eventually(browser, "back to the change of the lamps", GET_STATUS, re.compile("^Back at ..., 1 cycle, 0.011 ms earlier: this instruction changes lamps"))
-    verdict("it is not done yet", send_lines(browser, "lamps") != lamps, True)
+    eventually(browser, "going back to the change of the lamps", GET_STATUS, re.compile("^Back at ..., 1 cycle, 0.011 ms earlier: this instruction changes lamps"))
+    verdict("the lamps have not changed yet", send_lines(browser, "lamps") != lamps, True)
     browser.click("#step")
     browser.until(GET_STATUS, STEPPED)
-    verdict("and it does it", send_lines(browser, "lamps"), lamps)
+    verdict("the next step changes the lamps", send_lines(browser, "lamps"), lamps)
     browser.script(CHANGE_FIELD, "#change-place", "chain2.0")
     browser.click("#until-change")
-    eventually(browser, "a line that the board lacks", GET_STATUS, "Nothing was done: this board has no chain2.0.")
+    eventually(browser, "a change of a missing chain is rejected with a message", GET_STATUS, "Nothing was done: this board has no chain2.0.")
     browser.script(CHANGE_FIELD, "#change-place", "r99")
     browser.click("#back-change")
-    eventually(browser, "an unknown name", GET_STATUS, "Nothing was done: r99: no such place; the registers are r0 to r15 (column 1).")
+    eventually(browser, "an unknown name is rejected with a message", GET_STATUS, "Nothing was done: r99: no such place; the registers are r0 to r15 (column 1).")
 
 
 def check_going_back(browser):
-    """Checks going back and forward past key presses. Afterwards, the answers and the file must be the same as before."""
+    """Checks that going back past key presses and forward again leads to the same answers and the same saved file. A new command must remove the way
+    forward."""
     open_paused_example(browser, "calculator")
     browser.click("#run")
     for legend in "12":
@@ -229,56 +236,57 @@ def check_going_back(browser):
     browser.script(READ_SAVED_FILE)
     file = browser.until(GET_SAVED_FILE, re.compile("."))
     browser.click("#back-stop")
-    eventually(browser, "back before Run", GET_STATUS, re.compile("^Back at the stop at 000, [0-9,]+ cycles"))
-    verdict("the display is that of then", browser.script(GET_DIGITS), "0")
+    eventually(browser, "going back to the stop before the run", GET_STATUS, re.compile("^Back at the stop at 000, [0-9,]+ cycles"))
+    verdict("the display at that stop", browser.script(GET_DIGITS), "0")
     browser.click("#forward")
-    eventually(browser, "forward again", GET_STATUS, re.compile("^Forward again to ..., [0-9,]+ cycles"))
+    eventually(browser, "going forward to the end of the run", GET_STATUS, re.compile("^Forward again to ..., [0-9,]+ cycles"))
     browser.script(READ_SAVED_FILE)
-    verdict("the bytes that are kept are the same", browser.until(GET_SAVED_FILE, re.compile(".")) == file, True)
-    verdict("and so are the answers", query_state(browser), state_before)
+    verdict("the saved file is the same as before", browser.until(GET_SAVED_FILE, re.compile(".")) == file, True)
+    verdict("the answers are the same as before", query_state(browser), state_before)
     for _ in range(3):
         browser.script("document.getElementById('status').firstChild.data = ''")
         browser.click("#back-instruction")
         browser.until(GET_STATUS, re.compile("^Back at ..., [12] cycles?, .* earlier: this instruction has not run yet.$"))
-    verdict("three instructions back it is another moment", query_state(browser) != state_before, True)
-    verdict("Forward is possible", browser.script("return document.getElementById('forward').disabled"), False)
+    verdict("the answers differ three instructions earlier", query_state(browser) != state_before, True)
+    verdict("the button Forward is enabled", browser.script("return document.getElementById('forward').disabled"), False)
     for _ in range(3):
         browser.click("#forward")
-    eventually(browser, "forward as often, and no further", "return document.getElementById('forward').disabled", True)
-    verdict("leads to the same again", query_state(browser), state_before)
+    eventually(browser, "three steps forward reach the end", "return document.getElementById('forward').disabled", True)
+    verdict("the answers at the end are the same as before", query_state(browser), state_before)
     browser.click("#back-stop")
     browser.until("return document.getElementById('forward').disabled", False)
     send_lines(browser, "poke r5 9")
-    eventually(browser, "once something else is done, there is no forward", "return document.getElementById('forward').disabled", True)
+    eventually(browser, "a new command removes the way forward", "return document.getElementById('forward').disabled", True)
     browser.reload()
     until_ready(browser)
-    verdict("the present is what is kept", re.search("r [0-9A-F]{5}9", send_lines(browser, "regs")) is not None, True)
+    verdict("the saved session has the new command", re.search("r [0-9A-F]{5}9", send_lines(browser, "regs")) is not None, True)
     browser.click("#back-stop")
-    eventually(browser, "a page that was reloaded goes back through the reload", GET_STATUS, re.compile("^Back at the stop at 000"))
-    verdict("to what was then", re.search("r [0-9A-F]{5}9", send_lines(browser, "regs")), None)
+    eventually(browser, "going back after a reload leads to the stop before it", GET_STATUS, re.compile("^Back at the stop at 000"))
+    verdict("R5 at that stop", re.search("r [0-9A-F]{5}9", send_lines(browser, "regs")), None)
 
 
 def check_unreachable_goal(browser):
-    """Checks that Stop, F8 and a reload end a run to an unreachable goal, and that the session then contains only the runs."""
+    """Checks that Stop, F8 and a reload end a run to an unreachable goal. No breakpoint or watch may remain, and going back must still be
+    possible."""
     choose_example(browser, "empty bench")
     send_lines(browser, 'wire\n[[rom]]\nchip = 0\nport = "0000"\n.\nasm\nJMS round\nround: JUN round\n.\nstep')
     for action, stop in {"F8": lambda: browser.script(PRESS_KEY, "F8", False), "Stop": lambda: browser.click("#run")}.items():
         browser.click("#out")
-        eventually(browser, f"what never comes is running time, before {action}", GET_STATUS, "Running to the return from the subroutine.")
+        eventually(browser, f"Out runs towards a return that never happens, before {action}", GET_STATUS, "Running to the return from the subroutine.")
         browser.until(GET_RATE, re.compile("^[0-9,]+ cycles"))
         stop()
-        eventually(browser, f"{action} ends it", GET_STATUS,
+        eventually(browser, f"{action} ends the run to an unreachable goal", GET_STATUS,
                    re.compile("^Paused at 002, after [0-9,]+ cycles, .*; the return from the subroutine was not reached.$"))
     browser.click("#out")
     browser.until(GET_STATUS, re.compile("^Running to"))
     browser.reload()
     until_ready(browser)
-    eventually(browser, "a reload ends it, which is reported", GET_STATUS, re.compile("^Paused at 002: the return from the subroutine was not reached, because "
+    eventually(browser, "a reload ends the run, and the status reports that", GET_STATUS, re.compile("^Paused at 002: the return from the subroutine was not reached, because "
                                                                               "the page was reloaded"))
     browser.click("#back-stop")
     # The number of cycles before the last save depends on the browser.
-    eventually(browser, "and nothing is lost", GET_STATUS, re.compile("^Back at the stop at 002"))
-    verdict("no breakpoint and no watch is left", query_state(browser)[-len("breaksbreaks -watcheswatches -"):], "breaksbreaks -watcheswatches -")
+    eventually(browser, "the history is still there after the reload", GET_STATUS, re.compile("^Back at the stop at 002"))
+    verdict("no breakpoints and watches are left", query_state(browser)[-len("breaksbreaks -watcheswatches -"):], "breaksbreaks -watcheswatches -")
 
 
 # A program with a subroutine that waits for the second key of the first board.
@@ -301,46 +309,47 @@ BBL 6
 
 
 def check_wait_for_key(browser):
-    """Checks a step over a subroutine that waits for a key: time runs until the key is pressed. Also checks a step over a plain instruction, and one
-    over an instruction that jumps to itself."""
+    """Checks that a step over a subroutine that waits for a key runs until the key is pressed. Also checks steps over an instruction that is not a
+    call, and over a jump to itself."""
     choose_example(browser, "empty bench")
     browser.click("#first-board")
     browser.until("return document.querySelectorAll('#keys button').length", 2)
     send_lines(browser, f"{WAITING_PROGRAM}\nrun 8")
     browser.script(PRESS_KEY, "F10", False)
-    eventually(browser, "Over a subroutine that waits for a key is running time", GET_STATUS, "Running to the return from the subroutine.")
+    eventually(browser, "Over runs while the subroutine waits for a key", GET_STATUS, "Running to the return from the subroutine.")
     browser.until(GET_RATE, re.compile("^9[0-4],"))
     browser.touch_together([key("right")], 60)
-    eventually(browser, "it returns once the key is pressed", GET_STATUS, re.compile("^Returned to 00A, after [0-9,]+ cycles, "))
-    verdict("no breakpoint and no watch stays", query_state(browser)[-len("breaksbreaks -watcheswatches -"):], "breaksbreaks -watcheswatches -")
+    eventually(browser, "Over stops after the key is pressed", GET_STATUS, re.compile("^Returned to 00A, after [0-9,]+ cycles, "))
+    verdict("no breakpoints and watches are left", query_state(browser)[-len("breaksbreaks -watcheswatches -"):], "breaksbreaks -watcheswatches -")
     browser.script(PRESS_KEY, "F10", False)
-    eventually(browser, "Over a plain instruction says where it is", GET_STATUS, "At 00B, after 1 cycle, 0.011 ms.")
+    eventually(browser, "the status after a step over an instruction that is not a call", GET_STATUS, "At 00B, after 1 cycle, 0.011 ms.")
     browser.script(PRESS_KEY, "F10", False)
-    eventually(browser, "and so at one that jumps to itself", GET_STATUS, "At 00B, after 2 cycles, 0.022 ms.")
-    verdict("the lamps have what it gave", send_lines(browser, "lamps"), re.compile(r"lamps \.\*\*\."))
+    eventually(browser, "the status after a step over an instruction that jumps to itself", GET_STATUS, "At 00B, after 2 cycles, 0.022 ms.")
+    verdict("the lamps show the result of the subroutine", send_lines(browser, "lamps"), re.compile(r"lamps \.\*\*\."))
 
 
 def check_slow_motion(browser):
-    """Checks slow motion, and that the page follows the running line."""
+    """Checks that the rate of cycles is that of the chosen speed, and that the marked row follows the program counter. At one instruction a second,
+    a pause must be between two instructions."""
     open_paused_example(browser, "three lamps")
-    verdict("the speeds", browser.script("return [...document.getElementById('speed').options].map((each) => each.textContent).join(', ')"),
+    verdict("the options of the speed field", browser.script("return [...document.getElementById('speed').options].map((each) => each.textContent).join(', ')"),
             "real time, 1/10, 1/100, 1/1,000, an instruction a second, full speed")
     browser.click("#run")
     for speed, rate in {"tenth": "^9,?[12]..$", "hundredth": "^9[0-4].$", "thousandth": "^(8[89]|9[0-6])$"}.items():
         browser.script(SET_SPEED, speed)
-        eventually(browser, f"cycles a second at 1/{speed}", GET_RATE, re.compile(rate.replace(",?", "")))
-    eventually(browser, "the line that runs is marked", "return document.querySelectorAll('#lines-of-program .next').length", 1)
+        eventually(browser, f"the rate of cycles at speed {speed}", GET_RATE, re.compile(rate.replace(",?", "")))
+    eventually(browser, "the row of the program counter is marked", "return document.querySelectorAll('#lines-of-program .next').length", 1)
     browser.script("window.firstLine = document.querySelector('#lines-of-program .next').textContent")
-    eventually(browser, "and followed", "return document.querySelector('#lines-of-program .next').textContent !== window.firstLine", True)
+    eventually(browser, "the marked row follows the program counter", "return document.querySelector('#lines-of-program .next').textContent !== window.firstLine", True)
     pause_time(browser)
     browser.script(SET_SPEED, "instruction")
     browser.click("#run")
     browser.until(GET_CYCLES_SINCE_STOP, re.compile("^[3-9] cycles"))
     pause_time(browser)
-    verdict("an instruction a second ends between instructions", re.search("owed 0", send_lines(browser, "regs")) is not None, True)
+    verdict("at one instruction a second, a pause is between two instructions", re.search("owed 0", send_lines(browser, "regs")) is not None, True)
     browser.script(SET_SPEED, "real")
     browser.click("#run")
-    eventually(browser, "and real time is held again", GET_RATE, re.compile("^9[0-4]...$"))
+    eventually(browser, "the rate of cycles in real time", GET_RATE, re.compile("^9[0-4]...$"))
     pause_time(browser)
 
 
@@ -350,7 +359,7 @@ def check(browser, page, folder, mcs4):
     until_ready(browser)
     check_step_over(browser, program, "three lamps", "three_lamps")
     check_step_over(browser, program, "calculator", "calculator")
-    check_run_to(browser)
+    check_run_to_row(browser)
     check_run_to_source(browser)
     check_many_steps(browser, program)
     check_stopwatch(browser)

@@ -4,11 +4,11 @@ import collections
 import struct
 import zlib
 
-COLOURS = 64
+MAX_COLOURS = 64
 
 
 def chunks_of(data):
-    """Yields the chunks of a PNG with their names."""
+    """Yields the name and the contents of each chunk of a PNG."""
     offset = 8
     while offset < len(data):
         length, name = struct.unpack(">I4s", data[offset:offset + 8])
@@ -17,12 +17,13 @@ def chunks_of(data):
 
 
 def paeth(left, above, corner):
+    """Returns the one of three neighbouring bytes that is closest to left + above - corner, as the Paeth filter of PNG defines it."""
     estimate = left + above - corner
     return min((left, above, corner), key=lambda value: abs(estimate - value))
 
 
 def unfilter(filter_type, row, above, bytes_per_pixel):
-    """Reverses the filter of a row."""
+    """Reverses the filter of a row in place, and returns the row. `above` is the row above it."""
     for offset in range(len(row)):
         left = row[offset - bytes_per_pixel] if offset >= bytes_per_pixel else 0
         corner = above[offset - bytes_per_pixel] if offset >= bytes_per_pixel else 0
@@ -46,22 +47,24 @@ def rows_of(data):
 
 
 def palette_of(rows):
-    """Returns the most frequent colours that differ clearly from each other."""
+    """Returns the most frequent colours that differ clearly from each other, at most MAX_COLOURS."""
     counts = collections.Counter(colour for row in rows for colour in row)
     palette = []
     for colour, _ in counts.most_common():
-        if all(distance(colour, other) > 150 for other in palette):
+        if all(colour_distance(colour, other) > 150 for other in palette):
             palette.append(colour)
-        if len(palette) == COLOURS:
+        if len(palette) == MAX_COLOURS:
             break
     return palette
 
 
-def distance(first, second):
+def colour_distance(first, second):
+    """Returns the squared distance between two colours."""
     return sum((first_channel - second_channel) ** 2 for first_channel, second_channel in zip(first, second))
 
 
 def write_picture(data, path):
+    """Reduces the colours of a screenshot, and writes it to a PNG file."""
     rows = list(rows_of(data))
     palette = palette_of(rows)
     nearest = {}
@@ -70,7 +73,7 @@ def write_picture(data, path):
         lines.append(0)
         for colour in row:
             if colour not in nearest:
-                nearest[colour] = min(range(len(palette)), key=lambda number: distance(colour, palette[number]))
+                nearest[colour] = min(range(len(palette)), key=lambda number: colour_distance(colour, palette[number]))
             lines.append(nearest[colour])
     header = struct.pack(">IIBBBBB", len(rows[0]), len(rows), 8, 3, 0, 0, 0)
     colours = bytes(value for colour in palette for value in colour)

@@ -1,4 +1,4 @@
-"""Finds errors in the sentences of a document: sentences that are too long, and words that have a better replacement."""
+"""Finds errors in the sentences of documents, comments and shown texts: sentences that are too long, and words that have a better replacement."""
 
 import re
 
@@ -38,10 +38,14 @@ BETTER_WORDS = list(REPLACEMENTS.values())
 ANY_AVOIDED = re.compile("|".join(rf"\b(?P<word{n}>{words})\b" for n, words in enumerate(REPLACEMENTS)), re.I)
 # The beginnings of the sentences that are exempt, with the reasons.
 EXCEPTIONS = {
+    "places are acc,": "a list of the places",
+    "acc, cy, dcl, r0 to r15,": "a list of the places",
+    "a fault to find": "the name of an example",
+    "continue takes no argument; run TIME": "`run TIME` is a command",
     "*Whatever bytes the shell reads, and wherever the machine stops,": "the headline of PROOF stays word for word",
 }
 # Matches a piece of code, or a list of them, which counts as one word.
-CODE = r"`[^`]*`(?:(?:,| and|, and)? \(?`[^`]*`\)?)*"
+CODE_SPANS = r"`[^`]*`(?:(?:,| and|, and)? \(?`[^`]*`\)?)*"
 # The beginning of a new block: a table row, a list item, a heading.
 BLOCK_BEGIN = r"\s*(?:\||- |\d+\. )|#"
 
@@ -68,7 +72,7 @@ def sentences_of(text):
     """Yields each sentence with the number of the first line of its block. Omits the targets of links, and the rest of a block after an em dash: in
     PROOF's promises, the contracts follow one."""
     for number, block in blocks_of(text):
-        prose = re.sub(CODE, "CODE", re.sub(r"\]\([^)]*\)", "]", block)).partition(" \u2014 ")[0]
+        prose = re.sub(CODE_SPANS, "CODE", re.sub(r"\]\([^)]*\)", "]", block)).partition(" \u2014 ")[0]
         yield from ((number, sentence) for sentence in re.split(r"(?<=[.?!])[*)\"]*\s+", prose))
 
 

@@ -10,9 +10,9 @@ import re
 import sys
 
 TOP = pathlib.Path(__file__).resolve().parent.parent.parent
-LIST = TOP / "checks/lib/public_calls.txt"
+LIST_FILE = TOP / "checks/lib/public_calls.txt"
 # Matches the end of a function's signature: a clause, the body, or a semicolon.
-END = re.compile(r"^\s*(?:requires|ensures|ghost|decreases)\b|[{;]\s*$")
+SIGNATURE_END = re.compile(r"^\s*(?:requires|ensures|ghost|decreases)\b|[{;]\s*$")
 
 
 def without_comments(text):
@@ -22,7 +22,7 @@ def without_comments(text):
 
 
 def parts_of(text):
-    """Returns the parts of a list, split at the commas outside of brackets."""
+    """Returns the parts of a list, split at the commas outside brackets."""
     depth, parts, part = 0, [], ""
     for previous, char in zip(" " + text, text):
         # The `>` of an arrow does not close a bracket.
@@ -52,7 +52,7 @@ def signature_at(lines, index):
     """Returns the signature of the function that begins at a line."""
     signature_lines = []
     for line in lines[index:]:
-        end = END.search(line)
+        end = SIGNATURE_END.search(line)
         if end and not re.match(r"^\s*(?:requires|ensures|ghost|decreases)\b", line):
             signature_lines.append(line[:end.start()])
         if end:
@@ -106,7 +106,7 @@ def items_of_file(path):
 
 
 def reexported_names(text):
-    """Yields the names that a crate's root file re-exports by `pub use`. Each comes with the first word of its path."""
+    """Yields the first word of the path and the name of each item that a crate's root file re-exports by `pub use`."""
     for path, names in re.findall(r"^pub use ((?:\w+::)*)(\{[^}]*\}|\w+);", text, re.M):
         for name in re.findall(r"\w+", names):
             yield path.partition("::")[0], name
@@ -125,9 +125,9 @@ def calls_of(crate):
 
 
 def listed_calls():
-    """Reads public_calls.txt. Returns the lines for each crate."""
+    """Reads public_calls.txt. Returns the lines of each crate by its name."""
     crates = {}
-    for line in LIST.read_text().splitlines():
+    for line in LIST_FILE.read_text().splitlines():
         if line.startswith("    "):
             lines.append(line.strip())
         elif line and not line.startswith("#"):
@@ -136,7 +136,7 @@ def listed_calls():
 
 
 def missing_calls():
-    """Yields the lines of public_calls.txt that the crate's interface no longer contains, each with its crate."""
+    """Yields the crate and the line for each line of public_calls.txt that is no longer in the crate's interface."""
     for crate, lines in listed_calls().items():
         current_calls = set(calls_of(crate))
         yield from ((crate, line) for line in lines if line not in current_calls)

@@ -1,6 +1,7 @@
 /* Records the calls of the C library that a program makes on its files, its input and its output. The program is started with this library loaded
    before the C library (LD_PRELOAD). These environment variables control it. CALLS names the file to which a line for each call is written. CALL is
    the number of one call, counted from 1, and CALL_DOES says how this call is changed:
+
      fail E      it does nothing and returns the error with number E
      head K      a write writes only its first K bytes, and the program is killed
      tail K      a write writes only its bytes from the K-th on, and the program is killed
@@ -9,6 +10,7 @@
      remove      before a lock, the name of the locked file is removed
      cut K       before a read, the file is truncated to its first K bytes
      other K     before a read, the byte of the file at offset K is changed
+
    CALL_MOST=M limits each read or write of a file to M bytes. With CALL_AGAIN=1, each call on a file first fails once with EINTR. These failures
    are not recorded. */
 #define _GNU_SOURCE
@@ -25,7 +27,7 @@
 
 static char names[64][256]; /* the file name of each descriptor; empty if the program did not open it */
 static int calls;           /* the number of calls that were recorded */
-static int record = -1;
+static int record_fd = -1;
 
 static ssize_t (*real_write)(int, const void *, size_t);
 static int (*real_close)(int);
@@ -37,7 +39,7 @@ __attribute__((constructor)) static void begin(void) {
     if (file) {
         int (*real_open)(const char *, int, ...) = dlsym(RTLD_NEXT, "open");
         int low = real_open(file, O_WRONLY | O_CREAT | O_TRUNC | O_CLOEXEC, 0666);
-        record = fcntl(low, F_DUPFD_CLOEXEC, 100);
+        record_fd = fcntl(low, F_DUPFD_CLOEXEC, 100);
         real_close(low);
     }
 }
@@ -46,12 +48,12 @@ static const char *name_of(int fd) {
     return fd >= 0 && fd < 64 ? names[fd] : "";
 }
 
-static void put(const char *line) {
-    if (record >= 0 && real_write(record, line, strlen(line)) < 0) _exit(99);
+static void write_record(const char *line) {
+    if (record_fd >= 0 && real_write(record_fd, line, strlen(line)) < 0) _exit(99);
 }
 
-/* Records a call. If it is the call with the number CALL, returns the change that CALL_DOES names; otherwise returns NULL. */
-static const char *does(const char *form, ...) {
+/* Records a call. Returns the change that CALL_DOES names if the call has the number CALL; otherwise returns NULL. */
+static const char *record_call(const char *form, ...) {
     char line[1024];
     va_list parts;
     const char *number = getenv("CALL"), *what = getenv("CALL_DOES");
@@ -59,27 +61,27 @@ static const char *does(const char *form, ...) {
     vsnprintf(line, sizeof line - 1, form, parts);
     va_end(parts);
     strcat(line, "\n");
-    put(line);
+    write_record(line);
     calls++;
     return number && what && atoi(number) == calls ? what : NULL;
 }
 
-/* Returns true and sets errno if the change is that the call fails. */
-static int fails(const char *what) {
+/* Returns true and sets errno if the change is `fail`. */
+static int must_fail(const char *what) {
     if (!what || strncmp(what, "fail ", 5) != 0) return 0;
     errno = atoi(what + 5);
     return 1;
 }
 
-/* Returns true and sets errno if a call on a file must fail with EINTR first. */
-static int interrupts(int fd) {
+/* Returns true and sets errno if a call on a file must fail with EINTR. With CALL_AGAIN, every second call on a file does. */
+static int must_interrupt(int fd) {
     static int answered;
     answered = !answered && *name_of(fd) && getenv("CALL_AGAIN");
     if (answered) errno = EINTR;
     return answered;
 }
 
-static size_t most(size_t length) {
+static size_t limited_length(size_t length) {
     const char *limit = getenv("CALL_MOST");
     return limit && (size_t)atol(limit) < length ? (size_t)atol(limit) : length;
 }
@@ -93,7 +95,7 @@ int open(const char *file, int flags, ...) {
     va_end(parts);
     if (!real) real = dlsym(RTLD_NEXT, "open");
     const char *how = flags & O_TRUNC ? "empty" : flags & O_CREAT ? "make" : (flags & O_ACCMODE) == O_RDONLY ? "look at" : "open";
-    if (fails(does("%s %s", how, file))) return -1;
+    if (must_fail(record_call("%s %s", how, file))) return -1;
     int fd = real(file, flags, mode);
     if (fd >= 0 && fd < 64) snprintf(names[fd], sizeof names[fd], "%s", file);
     return fd;
@@ -108,11 +110,11 @@ int unlink(const char *file) {
     static int (*real)(const char *);
     if (!real) real = dlsym(RTLD_NEXT, "unlink");
     const char *end = strrchr(file, '/');
-    return fails(does("remove %s", end ? end + 1 : file)) ? -1 : real(file);
+    return must_fail(record_call("remove %s", end ? end + 1 : file)) ? -1 : real(file);
 }
 
 /* Replaces or removes the file of a descriptor under its name, if the change is `rename` or `remove`. */
-static void renames(int fd, const char *what) {
+static void replace_file(int fd, const char *what) {
     int (*real_unlink)(const char *) = dlsym(RTLD_NEXT, "unlink");
     if (what && strncmp(what, "rename ", 7) == 0 && rename(what + 7, name_of(fd)) < 0) _exit(99);
     if (what && strcmp(what, "remove") == 0 && real_unlink(name_of(fd)) < 0) _exit(99);
@@ -121,35 +123,35 @@ static void renames(int fd, const char *what) {
 int flock(int fd, int how) {
     static int (*real)(int, int);
     if (!real) real = dlsym(RTLD_NEXT, "flock");
-    if (interrupts(fd)) return -1;
-    const char *what = does("%s %s", how == (LOCK_EX | LOCK_NB) ? "lock" : "lock otherwise", name_of(fd));
-    renames(fd, what);
-    return fails(what) ? -1 : real(fd, how);
+    if (must_interrupt(fd)) return -1;
+    const char *what = record_call("%s %s", how == (LOCK_EX | LOCK_NB) ? "lock" : "lock otherwise", name_of(fd));
+    replace_file(fd, what);
+    return must_fail(what) ? -1 : real(fd, how);
 }
 
 int ftruncate(int fd, off_t size) {
     static int (*real)(int, off_t);
     if (!real) real = dlsym(RTLD_NEXT, "ftruncate");
-    if (interrupts(fd)) return -1;
-    return fails(does("size %s %lld", name_of(fd), (long long)size)) ? -1 : real(fd, size);
+    if (must_interrupt(fd)) return -1;
+    return must_fail(record_call("size %s %lld", name_of(fd), (long long)size)) ? -1 : real(fd, size);
 }
 
 int fsync(int fd) {
     static int (*real)(int);
     if (!real) real = dlsym(RTLD_NEXT, "fsync");
-    if (interrupts(fd)) return -1;
-    return fails(does("sync %s", name_of(fd))) ? -1 : real(fd);
+    if (must_interrupt(fd)) return -1;
+    return must_fail(record_call("sync %s", name_of(fd))) ? -1 : real(fd);
 }
 
 int fdatasync(int fd) {
     static int (*real)(int);
     if (!real) real = dlsym(RTLD_NEXT, "fdatasync");
-    if (interrupts(fd)) return -1;
-    return fails(does("sync data %s", name_of(fd))) ? -1 : real(fd);
+    if (must_interrupt(fd)) return -1;
+    return must_fail(record_call("sync data %s", name_of(fd))) ? -1 : real(fd);
 }
 
 /* Truncates the file of a descriptor, or changes one of its bytes, if the change is `cut` or `other`. */
-static void spoils(int fd, const char *what) {
+static void change_file(int fd, const char *what) {
     int (*real_ftruncate)(int, off_t) = dlsym(RTLD_NEXT, "ftruncate");
     ssize_t (*real_pread)(int, void *, size_t, off_t) = dlsym(RTLD_NEXT, "pread");
     ssize_t (*real_pwrite)(int, const void *, size_t, off_t) = dlsym(RTLD_NEXT, "pwrite");
@@ -164,10 +166,10 @@ static void spoils(int fd, const char *what) {
 ssize_t pread(int fd, void *bytes, size_t length, off_t at) {
     static ssize_t (*real)(int, void *, size_t, off_t);
     if (!real) real = dlsym(RTLD_NEXT, "pread");
-    if (interrupts(fd)) return -1;
-    const char *what = does("read %s %lld %zu", name_of(fd), (long long)at, length);
-    spoils(fd, what);
-    return fails(what) ? -1 : real(fd, bytes, most(length), at);
+    if (must_interrupt(fd)) return -1;
+    const char *what = record_call("read %s %lld %zu", name_of(fd), (long long)at, length);
+    change_file(fd, what);
+    return must_fail(what) ? -1 : real(fd, bytes, limited_length(length), at);
 }
 
 ssize_t pwrite(int fd, const void *bytes, size_t length, off_t at) {
@@ -176,11 +178,11 @@ ssize_t pwrite(int fd, const void *bytes, size_t length, off_t at) {
     char text[64] = "";
     size_t i, k;
     if (!real) real = dlsym(RTLD_NEXT, "pwrite");
-    if (interrupts(fd)) return -1;
+    if (must_interrupt(fd)) return -1;
     for (i = 0; length <= 16 && i < length; i++) sprintf(text + 3 * i, " %02x", given[i]);
-    const char *what = does("write %s %lld %zu%s", name_of(fd), (long long)at, length, text);
-    if (fails(what)) return -1;
-    if (!what) return real(fd, bytes, most(length), at);
+    const char *what = record_call("write %s %lld %zu%s", name_of(fd), (long long)at, length, text);
+    if (must_fail(what)) return -1;
+    if (!what) return real(fd, bytes, limited_length(length), at);
     k = (size_t)atol(strchr(what, ' '));
     if (k > length) k = length;
     if (strncmp(what, "head ", 5) == 0 && real(fd, given, k, at) < 0) _exit(99);
@@ -197,7 +199,7 @@ ssize_t pwrite(int fd, const void *bytes, size_t length, off_t at) {
 ssize_t read(int fd, void *bytes, size_t length) {
     static ssize_t (*real)(int, void *, size_t);
     if (!real) real = dlsym(RTLD_NEXT, "read");
-    return fails(fd == 0 ? does("in") : does("read on %s", name_of(fd))) ? -1 : real(fd, bytes, length);
+    return must_fail(fd == 0 ? record_call("in") : record_call("read on %s", name_of(fd))) ? -1 : real(fd, bytes, length);
 }
 
 ssize_t write(int fd, const void *bytes, size_t length) {
@@ -207,5 +209,5 @@ ssize_t write(int fd, const void *bytes, size_t length) {
     for (i = 0; i < shown; i++)
         if (text[i] == '\n') text[i] = '/';
     text[shown] = 0;
-    return fails(does("%s %s", fd == 1 ? "out" : fd == 2 ? "err" : "write on", text)) ? -1 : real_write(fd, bytes, length);
+    return must_fail(record_call("%s %s", fd == 1 ? "out" : fd == 2 ? "err" : "write on", text)) ? -1 : real_write(fd, bytes, length);
 }

@@ -1,12 +1,12 @@
 """A second implementation of mcs4-prove, which runs the board of board4004.py and shares no code with the program. It searches breadth-first through
-all states that a machine can reach with any keys and any level of TEST that the question allows, and tests the question's conditions in each cycle.
+all states that a machine can reach with any keys and any level of TEST that the question allows. It tests the question's conditions in each cycle.
 
 A state is everything in a machine except its inputs. It includes the number of cycles that the stopwatch shows, if the question has a stopwatch, and
 the number of marks that were seen, if the question has marks. (A mark is a key that the program must read as up or as down.)
 
 The search saves a state at power-on, before each cycle that reads an input (RDR, or JCN with TEST), and after a fixed number of cycles without such a
-read. From each state it continues once for each value that the next cycle can read, with keys and TEST that produce this value, until the next state
-or until the machine repeats an earlier state. It tests the conditions after each cycle.
+read. From each state it continues once for each value that the next cycle can read, with keys and TEST that produce this value. It stops at the next
+state, or when the machine repeats an earlier state. It tests the conditions after each cycle.
 """
 
 from __future__ import annotations
@@ -23,6 +23,7 @@ from board4004 import ADDRESS_COUNT, CODES, TWO_WORDS, Board
 Comparison = tuple[str, str, int, str, int, int]
 # The condition that the next cycle makes one of these mistakes: `mistake`, then their names.
 Mistakes = tuple[str, ...]
+# A row of conditions, which is met when all its conditions are met.
 Row = list[Comparison | Mistakes]
 # A mark: `up` or `down`, and the row and the column of a key. The program sees the mark when it reads a value that shows that the key is up or down.
 Mark = tuple[str, int, int]
@@ -36,7 +37,7 @@ LEVELS_AT_POWER_ON: Levels = (frozenset(), 1)
 
 
 def condition_lines(word: str, rows: list[Row]) -> list[str]:
-    """Returns the lines of a question for rows of conditions. Each row begins with a line of this word."""
+    """Returns the lines of a question for rows of conditions. Each row begins with a line that contains only `word`."""
     return [line for row in rows for line in (word, *(" ".join(map(str, condition)) for condition in row))]
 
 
@@ -134,7 +135,7 @@ def cell_value(board: Board, name: str, index: int) -> int:
         "romport": lambda: chips.rom_latch.get(index, 0),
         "banksrc": lambda: chips.bank_src[index],
         "register": lambda: board.r[index],
-        "counter": lambda: [board.acc, board.cy, board.dcl, board.owed, *address_bytes(board), chips.rom_src, calls_of(board),
+        "counter": lambda: [board.acc, board.cy, board.dcl, board.owed, *address_bytes(board), chips.rom_src, open_call_count(board),
                             *elapsed_of(board).to_bytes(3, "big"), marks_seen(board)][index],
     }[name]()
 
@@ -142,35 +143,35 @@ def cell_value(board: Board, name: str, index: int) -> int:
 # ---- mistakes, by the instruction table of the manual
 
 # The maximum number of open calls, which is the number of the processor's return addresses.
-OPEN_CALLS = 3
-# The instructions that access a RAM chip: its characters, its status characters and its port.
-FOR_RAM = {"WRM", "RDM", "ADM", "SBM", "WMP", *(f"{way}{k}" for way in ("WR", "RD") for k in range(4))}
+MAX_OPEN_CALLS = 3
+# The instructions that access a RAM chip: its nibbles, its status nibbles and its port.
+RAM_INSTRUCTIONS = {"WRM", "RDM", "ADM", "SBM", "WMP", *(f"{way}{k}" for way in ("WR", "RD") for k in range(4))}
 MISTAKES = ("code", "call", "return", "ram", "rom", "rdr", "wrr")
-# The attributes that the search adds to a board: the number of open calls, the stopwatch, the cycles that it shows, the marks to see, the number of
-# marks that were seen, and the limits of the inputs.
+# The attributes that the search adds to a board: the number of open calls, the stopwatch and its cycles, the marks and the number of marks seen. The
+# last one has the limits of the inputs.
 CALLS, STOPWATCH, ELAPSED, MARK_SEQUENCE, SEEN, LIMITS = "calls", "stopwatch", "elapsed", "mark_sequence", "seen", "limits"
 
 
-def calls_of(board: Board) -> int:
+def open_call_count(board: Board) -> int:
     """Returns the number of open calls."""
     return getattr(board, CALLS, 0)
 
 
-def set_calls(board: Board, calls: int) -> None:
+def set_open_call_count(board: Board, call_count: int) -> None:
     """Sets the number of open calls."""
-    setattr(board, CALLS, calls)
+    setattr(board, CALLS, call_count)
 
 
 @dataclass
 class Stopwatch:
-    """Counts cycles from the time at which `begins` becomes true until `ends` becomes true."""
+    """A stopwatch that counts cycles from the time at which `begins` becomes true until `ends` becomes true."""
 
     begins: Condition
     ends: Condition
 
 
 def stopwatch_of(board: Board) -> Stopwatch | None:
-    """Returns the stopwatch of a board."""
+    """Returns the stopwatch of a board, or None if the question has no stopwatch."""
     return getattr(board, STOPWATCH, None)
 
 
@@ -270,7 +271,7 @@ def addresses_read(board: Board, name: str) -> list[int]:
 
 
 def mistakes_of_next_cycle(board: Board) -> set[str]:
-    """Returns the mistakes that the next cycle makes. There are none in the second cycle of an instruction."""
+    """Returns the names of the mistakes that the next cycle makes. There are none in the second cycle of an instruction."""
     if board.owed:
         return set()
     if board.is_at_invalid_code():
@@ -278,9 +279,9 @@ def mistakes_of_next_cycle(board: Board) -> set[str]:
     name, chips = CODES[board.rom[board.pc]][0], board.chips
     port = chips.masks.get(chips.rom_src >> 4, "")
     return {mistake for mistake, is_made in {
-        "call": name == "JMS" and calls_of(board) == OPEN_CALLS,
-        "return": name == "BBL" and calls_of(board) == 0,
-        "ram": name in FOR_RAM and not chips.has_ram(board.dcl, chips.bank_src[board.dcl]),
+        "call": name == "JMS" and open_call_count(board) == MAX_OPEN_CALLS,
+        "return": name == "BBL" and open_call_count(board) == 0,
+        "ram": name in RAM_INSTRUCTIONS and not chips.has_ram(board.dcl, chips.bank_src[board.dcl]),
         "rom": any(address >> 8 not in chips.masks for address in addresses_read(board, name)),
         "rdr": name == "RDR" and "i" not in port,
         "wrr": name == "WRR" and port.strip("i") == "",
@@ -294,7 +295,7 @@ def run_cycle(board: Board) -> None:
     if board.owed or not board.is_at_invalid_code():
         name = "" if board.owed else CODES[board.rom[board.pc]][0]
         change = {"JMS": 1, "BBL": -1}.get(name, 0)
-        set_calls(board, min(max(calls_of(board) + change, 0), OPEN_CALLS))
+        set_open_call_count(board, min(max(open_call_count(board) + change, 0), MAX_OPEN_CALLS))
         board.cycle()
     set_elapsed(board, elapsed)
     set_marks_seen(board, seen)
@@ -324,8 +325,8 @@ def is_late(board: Board, within: int | None) -> bool:
 
 
 def failure_condition(question: Question) -> Condition:
-    """Returns a function that returns true if the question's property fails: a row of `nevers` is met, the stopwatch exceeds its limit, or a row of
-    `opens` is met before its marks were seen."""
+    """Returns a function that returns true if the question's property fails. It fails if a row of `nevers` is met, the stopwatch exceeds its limit, or
+    a row of `opens` is met before its marks were seen."""
     is_bad = condition_of(question.nevers)
     return lambda board: is_bad(board) or is_late(board, question.within) or is_early(board)
 
@@ -370,8 +371,8 @@ def is_reading(board: Board) -> bool:
 
 
 def port_values(board: Board) -> dict[int, Levels]:
-    """Returns the values that RDR can read, each with allowed levels that produce it. Tries all sets of allowed keys that are small enough. Keys that
-    pull the same lines are interchangeable, so the sets contain one of them. Keys that pull no line are omitted."""
+    """Returns the values that RDR can read, each with allowed levels that produce it. Tries all sets of allowed keys up to the maximum number of
+    keys. Keys that pull the same lines are interchangeable, so the sets contain one of them. Keys that pull no line are omitted."""
     test, value_without_keys = allowed_test_levels(board)[-1], value_with(board, [])
     keys_by_value = {value_with(board, [key]): key for key in allowed_keys(board)}
     keys = [key for value, key in keys_by_value.items() if value != value_without_keys]
@@ -383,7 +384,7 @@ def port_values(board: Board) -> dict[int, Levels]:
 
 
 def values_read(board: Board) -> dict[int, Levels]:
-    """Returns the values that the next cycle can read, each with allowed levels that produce it. If it reads none, the only value is 0."""
+    """Returns the values that the next cycle can read, each with allowed levels that produce it. If the cycle reads no input, the only value is 0."""
     name, low = next_instruction(board)
     if name == "RDR":
         return port_values(board)
@@ -392,8 +393,8 @@ def values_read(board: Board) -> dict[int, Levels]:
 
 
 def values_by_enumeration(board: Board, max_keys: int) -> set[int] | None:
-    """Returns the values that the next cycle can read. Tries all levels of keys and TEST that the limits allow. Returns None if the board has more
-    than `max_keys` keys."""
+    """Returns the values that the next cycle can read (0 if it reads no input). Tries all levels of keys and TEST that the limits allow. Returns
+    None if the board has more than `max_keys` keys."""
     keys, (name, low) = all_keys(board), next_instruction(board)
     if len(keys) > max_keys:
         return None
@@ -412,15 +413,15 @@ def state_of(board: Board) -> tuple:
     chips = board.chips
     return (board.acc, board.cy, board.pc, board.dcl, board.owed, tuple(board.r), tuple(board.ret), chips.rom_src, tuple(chips.bank_src),
             tuple(chips.rom_latch.values()), tuple(chips.ram_latch.values()), tuple(map(tuple, chips.chains)),
-            tuple((bytes(chips.ram[bank]), *map(bytes, chips.status[bank])) for bank in sorted(chips.chips)), calls_of(board), elapsed_of(board),
+            tuple((bytes(chips.ram[bank]), *map(bytes, chips.status[bank])) for bank in sorted(chips.chips)), open_call_count(board), elapsed_of(board),
             marks_seen(board))
 
 
 def load_state(board: Board, state: tuple) -> None:
     """Loads a state into a machine."""
     chips = board.chips
-    board.acc, board.cy, board.pc, board.dcl, board.owed, r, ret, chips.rom_src, srcs, roms, rams, chains, banks, calls, elapsed, seen = state
-    set_calls(board, calls)
+    board.acc, board.cy, board.pc, board.dcl, board.owed, r, ret, chips.rom_src, srcs, roms, rams, chains, banks, call_count, elapsed, seen = state
+    set_open_call_count(board, call_count)
     set_elapsed(board, elapsed)
     set_marks_seen(board, seen)
     board.r, board.ret, chips.bank_src, chips.chains = list(r), list(ret), list(srcs), [list(chain) for chain in chains]
@@ -430,8 +431,8 @@ def load_state(board: Board, state: tuple) -> None:
 
 
 def run_to_next_state(board: Board, levels: Levels, is_bad: Condition, pause: int) -> tuple[int, bool]:
-    """Executes one cycle with these levels of keys and TEST, and then continues to the next state. Returns the number of cycles, and true if the
-    property failed after the last one."""
+    """Executes one cycle with these levels of keys and TEST, and then continues to the next state, or until the property fails. Returns the number
+    of cycles, and true if the property failed after the last one."""
     board.chips.pressed_keys, board.test = set(levels[0]), levels[1]
     start_address, start_state = board.pc, state_of(board)
     for cycles in range(1, pause + 2):
@@ -452,7 +453,7 @@ def power_on(question: Question) -> Board:
     board.wire("\n".join(question.board))
     bench4004.load(board, question.program)
     board.power_on()
-    set_calls(board, 0)
+    set_open_call_count(board, 0)
     setattr(board, LIMITS, question.limits)
     if question.within is not None:
         setattr(board, STOPWATCH, Stopwatch(condition_of(question.begins), condition_of(question.ends)))
@@ -512,7 +513,7 @@ def is_met_when_driven(question: Question, rng: random.Random, cycles: int) -> b
 # ---- replaying a counterexample
 
 def commands(levels: Levels, previous: Levels) -> list[str]:
-    """Returns the session lines that set keys and TEST to these levels."""
+    """Returns the session lines that change keys and TEST from the previous levels to new ones."""
     lines = [f"release {row} {column}" for row, column in sorted(previous[0] - levels[0])]
     lines += [f"press {row} {column}" for row, column in sorted(levels[0] - previous[0])]
     return lines + ([f"test {levels[1]}"] if levels[1] != previous[1] else [])

@@ -1,7 +1,7 @@
-"""Random boards, programs and commands, reproducible by a seed. All of them are texts as a user types them.
+"""Random boards, programs and commands, reproducible from a seed. All of them are texts as a user types them.
 
-Many contain details that tools once reported incorrectly: addresses such as 0E0 and 1E2 and the names `inf` and `nan`, which some parsers read as
-numbers, and a chain of up to 80 bits that is clocked often.
+Many contain details that tools once reported incorrectly. Some parsers read addresses such as 0E0 and 1E2, and the names `inf` and `nan`, as numbers.
+A chain of up to 80 bits is clocked often.
 """
 
 from __future__ import annotations
@@ -16,7 +16,7 @@ JUMPS = ("JUN", "JMS", "JCN", "ISZ")
 NAMES = ("inf", "nan", "INFINITY", "infinity", "NaN", "INF", "e0", "E1", "_0E0", "x1e2")
 ORIGINS = (0x00, 0x02, 0x1E, 0x40, 0xD9, 0xDE, 0xE0, 0xE1, 0xF0, 0xF9)
 # The maximum number of bytes in the text of a board or of a program.
-LONGEST = 16384
+MAX_TEXT_BYTES = 16384
 
 
 class Wiring:
@@ -25,7 +25,7 @@ class Wiring:
     def __init__(self, rng: random.Random) -> None:
         self.rng = rng
         pages = {0, *rng.choices([1, 1, 2, 14, 15, rng.randrange(16)], k=rng.randrange(1, 3))}
-        # Often adds the page after a page, because instructions at the end of a page continue on the next page.
+        # Often add the page after a page, because instructions at the end of a page continue on the next page.
         self.pages = sorted(pages | {(page + 1) % 16 for page in pages if rng.random() < 0.4})
         ports = {*self.pages, *rng.sample(range(16), rng.randrange(4))}
         self.ports = {chip: rng.choice(["0000", "0000", "1111", "".join(rng.choices("i01", k=4)), "iiii"]) for chip in sorted(ports)}
@@ -77,20 +77,21 @@ class Program:
         self.rng, self.wiring = rng, wiring
         # The text of the statement at each address. The targets of jumps are added later.
         self.statements: dict[int, str] = {}
+        # The addresses of jumps that end a loop, each with the address of the loop's beginning.
         self.loops: dict[int, int] = {}
         self.free = set(range(ADDRESS_COUNT))
         for page in wiring.pages:
             for word in {0, *rng.sample(ORIGINS, 2)} if page == 0 else rng.sample(ORIGINS, rng.randrange(1, 4)):
-                self.put_part(256 * page + word, rng.randrange(4, 30))
+                self.put_phrases(256 * page + word, rng.randrange(4, 30))
             if rng.random() < 0.5:
                 self.put_end_of_page(256 * page)
         self.begins = [address for address, statement in self.statements.items() if not statement.startswith("DB")]
-        self.names = self.some_names()
+        self.names = self.random_labels()
 
-    def put_part(self, address: int, phrases: int) -> None:
+    def put_phrases(self, address: int, phrase_count: int) -> None:
         """Adds phrases (short sequences of instructions) from an address on, as far as there is room. Usually ends them by a jump, or by a code that
         is not an instruction."""
-        statement = [word for _n in range(phrases) for word in self.phrase()]
+        statement = [word for _n in range(phrase_count) for word in self.phrase()]
         self.put(address, statement + self.rng.choice([["JUN"], ["JUN"], ["BBL 3"], [f"DB 0x{self.rng.choice(INVALID_CODES):02X}"], []]))
 
     def put(self, address: int, statements: list[str]) -> None:
@@ -109,21 +110,22 @@ class Program:
             address += size
 
     def put_end_of_page(self, page: int) -> None:
-        """Adds NOPs and one more instruction in the last words of a page. The page to which this instruction refers is usually the next one."""
+        """Adds two or three NOPs and then a jump within a page, or a FIN, at the end of a page. Adds nothing if there is no room, or if the board
+        lacks the next page. The last instruction usually refers to the next page, because the word after it is there."""
         if (page >> 8) + 1 in self.wiring.pages and {page + 0xFC, page + 0xFD, page + 0xFE, page + 0xFF, page + 0x100} <= self.free:
             name = self.rng.choice(["ISZ R3", "JCN 12", "JCN 4", "JIN P2", "FIN P2"])
             self.put(page + 0xFC, [*self.rng.randrange(2, 4) * ["NOP"], name])
 
     def phrase(self) -> list[str]:
-        """Returns a few instructions that belong together, or a single one of any kind."""
+        """Returns a few instructions that belong together, or a single instruction of any kind."""
         kind = self.rng.random()
         value, pair = self.rng.randrange(16), self.rng.randrange(8)
         if kind < 0.15:
-            return [f"FIM P{pair}, 0x{self.selected():02X}", f"SRC P{pair}"]
+            return [f"FIM P{pair}, 0x{self.src_byte():02X}", f"SRC P{pair}"]
         if kind < 0.20:
             return [f"LDM {self.rng.choice([*self.wiring.banks, value])}", "DCL"]
         if kind < 0.40 and self.wiring.chains:
-            return self.clocked(pair)
+            return self.clock_pulses(pair)
         if kind < 0.45:
             return [f"FIM P0, 0x{self.rng.randrange(256):02X}", f"FIN P{pair}"]
         if kind < 0.48:
@@ -132,11 +134,11 @@ class Program:
             return [f"LDM {value}", self.rng.choice(["WRM", "WMP", "WRR", f"WR{value % 4}"])]
         return [self.any_instruction(value, pair)]
 
-    def selected(self) -> int:
+    def src_byte(self) -> int:
         """Returns an SRC byte, usually that of an existing chip."""
         return self.rng.choice([16 * self.rng.choice([*self.wiring.ports]), self.rng.randrange(64), self.rng.randrange(256)])
 
-    def clocked(self, pair: int) -> list[str]:
+    def clock_pulses(self, pair: int) -> list[str]:
         """Returns instructions that clock a chain several times."""
         clock, data, _chips = self.rng.choice(self.wiring.chains)
         numbers = [int(word) for word in clock[3:].split(".")]
@@ -149,20 +151,20 @@ class Program:
         return begin + (self.rng.randrange(1, 6) * pulse if self.rng.random() < 0.5 else [*pulse, f"ISZ R{self.rng.randrange(16)} ^5"])
 
     def any_instruction(self, value: int, pair: int) -> str:
-        """Returns one of the 45 instructions."""
+        """Returns a random instruction of any kind. The target of a jump is added later."""
         name = self.rng.choice([*CODES_WITHOUT_OPERAND, *CODES_ON_REGISTER, *CODES_ON_PAIR, *JUMPS, "FIM", "LDM", "BBL", "ISZ", "JMS"])
         if name == "FIM":
             return f"FIM P{pair}, 0x{self.rng.randrange(256):02X}"
         operand = f" P{pair}" if name in CODES_ON_PAIR else f" R{value}" if name in (*CODES_ON_REGISTER, "ISZ") else ""
         return name + (operand or (f" {value}" if name in ("LDM", "BBL", "JCN") else ""))
 
-    def some_names(self) -> dict[int, str]:
+    def random_labels(self) -> dict[int, str]:
         """Returns labels for some of the addresses. Some of the labels look like numbers."""
         labelled = self.rng.sample(self.begins, min(len(self.begins), self.rng.choice([0, 2, 12])))
         return {address: NAMES[i] if i < len(NAMES) else f"l{address:03X}" for i, address in enumerate(labelled)}
 
     def target(self, address: int, name: str) -> str:
-        """Returns the target of a jump, usually an instruction."""
+        """Returns the target of a jump as a name or a number, usually that of an instruction."""
         if address in self.loops:
             return self.names.get(self.loops[address], f"0x{self.loops[address]:03X}")
         page = (address + 2) % ADDRESS_COUNT >> 8 if name in ("JCN", "ISZ") else self.rng.choice(self.wiring.pages)
@@ -200,11 +202,11 @@ class Seeded:
         self.board_text = self.wiring.text()
         self.program_text = self.program.text()
 
-    def begun(self) -> list[str]:
+    def setup_lines(self) -> list[str]:
         """Returns the session lines that set up the board and the program."""
         return ["wire", *self.board_text, ".", "asm", *self.program_text, "."]
 
-    def somewhere(self) -> int:
+    def address(self) -> int:
         """Returns an address, usually of an instruction, and often before a loop that clocks a chain, or at the end of a page."""
         loops = [goal - 3 for goal in self.program.loops.values()]
         if loops and self.rng.random() < 0.3:
@@ -214,17 +216,17 @@ class Seeded:
             return self.rng.choice(ends)
         return self.rng.choice(self.program.begins) if self.rng.random() < 0.95 else self.rng.randrange(ADDRESS_COUNT)
 
-    def character(self) -> tuple[int, int]:
-        """Returns a RAM nibble, usually of an existing chip."""
+    def ram_nibble(self) -> tuple[int, int]:
+        """Returns the bank and the SRC byte of a RAM nibble, usually of an existing chip."""
         bank = self.rng.choice([*self.wiring.banks, self.rng.randrange(8)])
-        return bank, self.rng.choice([self.program.selected(), self.rng.randrange(256)])
+        return bank, self.rng.choice([self.program.src_byte(), self.rng.randrange(256)])
 
-    def change(self) -> str:
+    def random_command(self) -> str:
         """Returns a command that changes something. Some of these commands are rejected."""
         rng = self.rng
-        bank, src = self.character()
+        bank, src = self.ram_nibble()
         value = rng.randrange(16)
-        kinds = [f"poke pc 0x{self.somewhere():03X}"] * 4 + [
+        kinds = [f"poke pc 0x{self.address():03X}"] * 4 + [
             f"poke acc {value}", f"poke cy {value % 2}", f"poke dcl {value % 8}", f"poke r{rng.randrange(16)} {value}",
             f"poke ram.{bank}.{src} {value}", f"poke st.{bank}.{src >> 4}.{rng.randrange(4)} {value}", f"test {value % 2}"]
         if self.wiring.columns:
@@ -232,30 +234,30 @@ class Seeded:
             kinds += [f"press {key}"] * 3 + [f"release {key}"]
         return rng.choice(kinds)
 
-    def stop(self, board: Board) -> str:
+    def stop_command(self, board: Board) -> str:
         """Returns a command that sets or removes a breakpoint or a watch, usually one that the program soon reaches, or at which it has stopped."""
-        ahead, visited, written = board.copy(), [board.pc], [self.character()]
+        ahead, visited, written = board.copy(), [board.pc], [self.ram_nibble()]
         ahead.breaks = set()
 
-        def begun(_done: int, address: int) -> None:
+        def note_address(_done: int, address: int) -> None:
             visited.append(address)
             written.extend([(ahead.dcl, ahead.chips.bank_src[ahead.dcl])] if ahead.rom[address] == 0xE0 else [])
 
-        ahead.run(300, begun)
-        address, (bank, src) = self.rng.choice([board.pc, self.somewhere(), *visited[-20:]]), self.rng.choice(written)
+        ahead.run(300, note_address)
+        address, (bank, src) = self.rng.choice([board.pc, self.address(), *visited[-20:]]), self.rng.choice(written)
         return self.rng.choice([f"break {address}"] * 2 + [f"unbreak {address}"] + [f"watch {bank} {src}"] * 2 + [f"unwatch {bank} {src}"])
 
-    def place(self) -> str:
-        """Returns a place for a trace."""
+    def trace_place(self) -> str:
+        """Returns a place for `trace`, which the board does not always have."""
         rng = self.rng
-        bank, src = self.character()
+        bank, src = self.ram_nibble()
         line = rng.choice(self.wiring.lines + self.wiring.inputs + [f"chain{rng.randrange(4)}.{rng.randrange(80)}"])
         ram_line = f"ram{rng.randrange(8)}.{rng.randrange(4)}.{rng.randrange(4)}"
-        return rng.choice(["acc", "cy", "pc", "dcl", f"r{rng.randrange(16)}", f"rom.0x{self.somewhere():x}", f"ram.{bank}.{src}",
+        return rng.choice(["acc", "cy", "pc", "dcl", f"r{rng.randrange(16)}", f"rom.0x{self.address():x}", f"ram.{bank}.{src}",
                               f"st.{bank}.{src >> 4}.{rng.randrange(4)}", "ret", "lamps", "src", line, line, line, ram_line,
                               line.rpartition(".")[0], line.rpartition(".")[0], ram_line.rpartition(".")[0], f"rom{rng.randrange(16)}",
                               f"chain{rng.randrange(4)}"])
 
-    def cycles(self) -> int:
-        """Returns the length of a run."""
+    def run_length(self) -> int:
+        """Returns the length of a run in cycles."""
         return self.rng.choice([1, 2, 3, self.rng.randrange(1, 60), self.rng.randrange(1, 400), self.rng.randrange(1, 1500)])

@@ -1,7 +1,7 @@
-"""Programs for the checks: those of the examples, and random ones, some of which have errors.
+"""Programs for the checks: those of the examples, and random ones, with and without errors.
 
-As a command, `seeded_programs.py FOLDER ACCEPTED REFUSED` writes random programs into a folder, as `NUMBER.asm`. ACCEPTED of them are accepted by the
-second assembler (assembler.py), and REFUSED of them are rejected, in random order.
+As a command, `seeded_programs.py FOLDER ACCEPTED REJECTED` writes random programs into a folder, as `NUMBER.asm`. ACCEPTED of them are accepted by
+the second assembler (assembler.py), and REJECTED of them are rejected, in random order.
 """
 
 import itertools
@@ -14,8 +14,8 @@ from assembler import map_of
 TOP = pathlib.Path(__file__).resolve().parent.parent.parent
 
 
-def examples():
-    """Yields the programs of the examples: files, and the texts after `asm` in scripts."""
+def example_programs():
+    """Yields the programs of the examples, each as a file name and its lines: files, and the texts after `asm` in scripts."""
     for path in sorted(TOP.glob("examples/**/*.asm")):
         yield path.name, path.read_text().splitlines()
     for path in sorted(TOP.glob("examples/**/*.txt")):
@@ -24,8 +24,8 @@ def examples():
             yield path.name, lines[start:lines.index(".", start)]
 
 
-def seeded(number):
-    """Returns a random program. Most have no error, and some have one or more."""
+def random_program(number):
+    """Returns the lines of a random program, with `number` as the seed. Most programs have no error, and some have one or more."""
     rng = random.Random(number)
     names = [f"n{i}" for i in range(8)]
     # The names that no line has defined so far. The remaining names are defined at the end, so that most programs are accepted.
@@ -56,15 +56,16 @@ def seeded(number):
 
 
 # Lines with each kind of error. Some are always wrong, and others only in most programs.
-WRONG = ("FOO", "LDM", "NOP NOP", "1: NOP", "DB 1,, 2", "ORG 4096", "n9 = 5000", "n0: NOP", "n1 = 7", "P1 = 3", "ORG 4095", "JUN n20", "LDM 16",
+WRONG_LINES = ("FOO", "LDM", "NOP NOP", "1: NOP", "DB 1,, 2", "ORG 4096", "n9 = 5000", "n0: NOP", "n1 = 7", "P1 = 3", "ORG 4095", "JUN n20", "LDM 16",
          "DB 256", "FIM P0, 300", "ISZ R1, 0xF00", "JCN 4, 2000", "BBL n21")
 
 
-def wrong(number):
-    """Returns a random program with wrong lines. In half of the programs, only the assembler's second pass finds these errors."""
+def wrong_program(number):
+    """Returns the lines of a random program with wrong lines, with `number` as the seed. In half of the programs, only the assembler's second pass
+    finds the errors of these lines."""
     rng = random.Random(number)
-    lines = seeded(number)
-    rows = WRONG if rng.random() < 0.5 else WRONG[11:]
+    lines = random_program(number)
+    rows = WRONG_LINES if rng.random() < 0.5 else WRONG_LINES[11:]
     count = rng.choice([1, 2, 3, 5, 150])
     for _n in range(count):
         line = rng.choice(rows)
@@ -78,7 +79,7 @@ def main():
     for seed in itertools.count():
         if max(missing_counts.values()) == 0:
             break
-        lines = seeded(seed)
+        lines = random_program(seed)
         is_accepted = not map_of(lines)[0].startswith("no ")
         if missing_counts[is_accepted] > 0:
             missing_counts[is_accepted] -= 1

@@ -1,8 +1,7 @@
-"""Random questions to mcs4-prove, reproducible by a seed. Each has a random board (seeded_boards.py), a short program that reads keys and TEST in
-loops, and comparisons of values that such a program changes. Some of the comparisons become true, and some never do. Some questions also ask for
-mistakes of the program. A quarter of the questions have a stopwatch, and a quarter have marks (second_search.py explains these words). The same
-questions can get limits of the inputs.
-"""
+"""Random questions for mcs4-prove, reproducible from a seed. Each has a random board (seeded_boards.py), a short program that reads keys and TEST in
+loops, and comparisons of values that such a program changes. Some of the comparisons become true, and some never do. Some questions also ask about
+mistakes in the program. A quarter of the questions have a stopwatch, and a quarter have marks (second_search.py explains these words). The same
+questions can also be asked with limits on the inputs."""
 
 from __future__ import annotations
 
@@ -19,10 +18,11 @@ from second_search import (
 from seeded_boards import INVALID_CODES, Program, Seeded, Wiring
 
 # Most of the instructions that do not access a chip.
-CHIPLESS = ["CLB", "CLC", "IAC", "CMC", "CMA", "RAL", "RAR", "TCC", "DAC", "TCS", "STC", "DAA", "KBP"]
-LENGTHS = {"character": 2048, "status": 512, "ramport": 32, "romport": 16, "banksrc": 8, "register": 16, "counter": 14,
+CHIPLESS_INSTRUCTIONS = ["CLB", "CLC", "IAC", "CMC", "CMA", "RAL", "RAR", "TCC", "DAC", "TCS", "STC", "DAA", "KBP"]
+# The number of cells in each list that a comparison can name.
+CELL_COUNTS = {"character": 2048, "status": 512, "ramport": 32, "romport": 16, "banksrc": 8, "register": 16, "counter": 14,
            "chain0": 256, "chain1": 256, "chain2": 256, "chain3": 256}
-# The maximum length of a random walk in states (twice as long in `marks_on_way`), and the number of random walks that measure a time.
+# The maximum length of a random walk in states (twice as long in `marks_on_walk`), and the number of random walks that measure a time.
 MAX_WALK_STATES, TIMED_WALKS = 12, 8
 
 
@@ -41,14 +41,14 @@ class ReadingProgram(Program):
         self.begins = [at for at, statement in self.statements.items() if not statement.startswith("DB")]
 
     def phrases_before_loop(self) -> list[str]:
-        """Returns the phrases before the program's loop. They shift bits into a chain, or write a value to a port."""
+        """Returns instructions before the program's loop. They shift bits into a chain, or write a value to a port or to RAM."""
         if self.wiring.chains and self.rng.random() < 0.8:
             clock, data, _chips = self.rng.choice([self.wiring.chains[self.wiring.driver], self.rng.choice(self.wiring.chains)])
-            return self.pulses(clock, data)
-        return self.selected_by(self.rng.randrange(8)) + [f"LDM {self.rng.randrange(16)}", self.rng.choice(["WRR", "WMP", "WRM", "WR1"])]
+            return self.clock_phrases(clock, data)
+        return self.selection_phrases(self.rng.randrange(8)) + [f"LDM {self.rng.randrange(16)}", self.rng.choice(["WRR", "WMP", "WRM", "WR1"])]
 
-    def pulses(self, clock: str, data: str) -> list[str]:
-        """Returns phrases that clock a chain, usually with its data line at 1."""
+    def clock_phrases(self, clock: str, data: str) -> list[str]:
+        """Returns instructions that clock a chain up to three times, usually with its data line at 1."""
         numbers = [int(word) for word in clock[3:].split(".")]
         pair = self.rng.randrange(8)
         begin = [f"FIM P{pair}, 0x{16 * numbers[0] if clock.startswith('rom') else 64 * numbers[1]:02X}", f"SRC P{pair}"]
@@ -58,20 +58,20 @@ class ReadingProgram(Program):
         data_bit = 1 << int(data[-1]) if self.rng.random() < 0.7 else 0
         return begin + self.rng.randrange(1, 4) * [f"LDM {data_bit}", write, f"LDM {data_bit | 1 << numbers[-1]}", write]
 
-    def selected_by(self, pair: int) -> list[str]:
-        """Returns phrases that select a chip, usually one with inputs."""
+    def selection_phrases(self, pair: int) -> list[str]:
+        """Returns instructions that select a chip, usually one with inputs."""
         inputs = [16 * int(line[3:].split(".")[0]) for line in self.wiring.inputs]
-        return [f"FIM P{pair}, 0x{self.rng.choice(inputs) if inputs and self.rng.random() < 0.8 else self.selected():02X}", f"SRC P{pair}"]
+        return [f"FIM P{pair}, 0x{self.rng.choice(inputs) if inputs and self.rng.random() < 0.8 else self.src_byte():02X}", f"SRC P{pair}"]
 
     def loop_phrases(self) -> list[str]:
-        """Returns the phrases of the loop."""
+        """Returns instructions for the loop, usually a read of keys or TEST with a use of the value."""
         rng = self.rng
         register = rng.choice(self.registers)
         kind = rng.random()
         if kind < 0.30:
-            return self.selected_by(rng.randrange(8)) + ["RDR"] + self.used(register)
+            return self.selection_phrases(rng.randrange(8)) + ["RDR"] + self.use_phrases(register)
         if kind < 0.55:
-            return [f"JCN {rng.choice([1, 1, 9, 9, 3, 5, 7, 11, 13, 15])}", *self.used(register)]
+            return [f"JCN {rng.choice([1, 1, 9, 9, 3, 5, 7, 11, 13, 15])}", *self.use_phrases(register)]
         if kind < 0.65:
             return [f"INC R{register}"] if rng.random() < 0.5 else [f"ISZ R{register}"]
         if kind < 0.75:
@@ -79,16 +79,16 @@ class ReadingProgram(Program):
         if kind < 0.80:
             return [rng.choice(["JMS", "BBL 1", f"LDM {rng.randrange(16)}", "JUN"])]
         if kind < 0.88:
-            return [rng.choice(["RDM", "ADM", "SBM", "RD0", "RD1"]), *self.used(register)]
-        return [self.any_instruction(register, register // 2)] if rng.random() < 0.3 else [rng.choice(CHIPLESS)]
+            return [rng.choice(["RDM", "ADM", "SBM", "RD0", "RD1"]), *self.use_phrases(register)]
+        return [self.any_instruction(register, register // 2)] if rng.random() < 0.3 else [rng.choice(CHIPLESS_INSTRUCTIONS)]
 
-    def used(self, register: int) -> list[str]:
-        """Returns phrases that use a value that was read."""
+    def use_phrases(self, register: int) -> list[str]:
+        """Returns instructions that use a value that was read."""
         rng = self.rng
         written = [name for name in CODES_WITHOUT_OPERAND if name.startswith("W") and name != "WPM"]
         return rng.choice([
             [], ["KBP"], [f"XCH R{register}"], [rng.choice(written)], [rng.choice(written)], [f"JCN {rng.choice([4, 12])}"],
-            ["RAR", f"JCN {rng.choice([2, 10])}"], [f"ADD R{register}"], [rng.choice(CHIPLESS)], [f"INC R{register}"], ["RAR", "TCC", "WMP"]])
+            ["RAR", f"JCN {rng.choice([2, 10])}"], [f"ADD R{register}"], [rng.choice(CHIPLESS_INSTRUCTIONS)], [f"INC R{register}"], ["RAR", "TCC", "WMP"]])
 
 
 class KeyWiring(Wiring):
@@ -109,13 +109,13 @@ class KeyReadingProgram(ReadingProgram):
     """A short program that drives the rows of a key matrix and reads the columns."""
 
     def phrases_before_loop(self) -> list[str]:
-        """Returns phrases that drive rows of the key matrix."""
-        return [phrase for _n in range(2) for phrase in self.pulses("rom0.0", "rom0.1")]
+        """Returns instructions that drive rows of the key matrix."""
+        return [phrase for _n in range(2) for phrase in self.clock_phrases("rom0.0", "rom0.1")]
 
     def loop_phrases(self) -> list[str]:
-        """Returns the phrases of the loop."""
+        """Returns instructions for the loop, usually a read of the columns with a use of the value."""
         if self.rng.random() < 0.6:
-            return self.selected_by(self.rng.randrange(8)) + ["RDR"] + self.used(self.rng.choice(self.registers))
+            return self.selection_phrases(self.rng.randrange(8)) + ["RDR"] + self.use_phrases(self.rng.choice(self.registers))
         return super().loop_phrases()
 
 
@@ -139,16 +139,16 @@ def cells_of(wiring: Wiring) -> list[tuple[str, int]]:
     return cells + [(f"chain{n}", bit) for n in range(len(wiring.chains)) for bit in range(4)]
 
 
-def comparison(rng: random.Random, wiring: Wiring, boards: list[dict[tuple[str, int], int]]) -> Comparison:
-    """Returns a comparison, usually of a cell that changes on a random walk. It compares the cell with one of its values there, or with another
-    value."""
+def random_comparison(rng: random.Random, wiring: Wiring, boards: list[dict[tuple[str, int], int]]) -> Comparison:
+    """Returns a random comparison, usually of a cell that changes on a random walk. It compares the cell with one of its values on that walk, or
+    with another value."""
     name, index = rng.choice(cells_of(wiring))
     changing = [each for each in boards[0] if len({seen[each] for seen in boards}) > 1]
     if changing and rng.random() < 0.8:
         name, index = rng.choice(changing)
     elif rng.random() < 0.1:
-        name = rng.choice([*LENGTHS])
-        index = rng.randrange(LENGTHS[name])
+        name = rng.choice([*CELL_COUNTS])
+        index = rng.randrange(CELL_COUNTS[name])
     numbers = [seen.get((name, index), 0) for seen in boards]
     others = [number for number in numbers if number != numbers[0]] or numbers
     number = rng.choice(others) if rng.random() < 0.5 else rng.randrange(256 if name == "counter" else 16)
@@ -164,7 +164,7 @@ def at_address(seen: dict[tuple[str, int], int]) -> Row:
     return [("in", "counter", 3, "whole", 0, 0), *(("in", "counter", n, "whole", *[seen["counter", n]] * 2) for n in (4, 5))]
 
 
-def opposite(words: Comparison) -> Comparison:
+def opposite_comparison(words: Comparison) -> Comparison:
     """Returns the comparison that is true when another one is false."""
     return ("out" if words[0] == "in" else "in", *words[1:])
 
@@ -176,15 +176,15 @@ def add_stopwatch(question: Question, rng: random.Random, wiring: Wiring, boards
         question.nevers = []
     kind = rng.random()
     if kind < 0.4:
-        condition = comparison(rng, wiring, boards)
-        question.begins, question.ends = [[condition]], [[opposite(condition)]]
+        condition = random_comparison(rng, wiring, boards)
+        question.begins, question.ends = [[condition]], [[opposite_comparison(condition)]]
     elif kind < 0.8:
         question.begins, question.ends = [at_address(rng.choice(boards))], [at_address(rng.choice(boards))]
     else:
-        question.begins = [[comparison(rng, wiring, boards)] for _row in range(rng.choice([1, 2]))]
-        question.ends = [[comparison(rng, wiring, boards), *([("mistake", *MISTAKES)] if rng.random() < 0.2 else [])] for _row in range(rng.choice([1, 2]))]
+        question.begins = [[random_comparison(rng, wiring, boards)] for _row in range(rng.choice([1, 2]))]
+        question.ends = [[random_comparison(rng, wiring, boards), *([("mistake", *MISTAKES)] if rng.random() < 0.2 else [])] for _row in range(rng.choice([1, 2]))]
     if rng.random() < 0.15:
-        # Compares the lowest byte of the number that the stopwatch shows.
+        # Compare the lowest byte of the number that the stopwatch shows.
         question.ends.append([("in", "counter", 16, "whole", rng.randrange(1, 6), 255)])
     question.within = max(0, longest_seen(question, rng) + rng.choice([-1, 0, 0, 0, 1, 3]))
 
@@ -210,21 +210,21 @@ def add_marks(question: Question, rng: random.Random, wiring: Wiring) -> None:
     usually show these marks."""
     if rng.random() < 0.5:
         question.nevers = []
-    cells, way = cells_of(wiring), marks_on_way(question, rng)
-    there = [{each: cell_value(board, *each) for each in cells} for board, _marks in way]
-    firsts = [(each, at) for each in cells for at in range(1, len(way)) if there[at][each] not in {seen[each] for seen in there[:at]}]
-    (name, index), at = rng.choice(firsts) if firsts else (rng.choice(cells), 1)
-    value = there[min(at, len(way) - 1)][name, index]
+    cells, walk = cells_of(wiring), marks_on_walk(question, rng)
+    cell_values = [{each: cell_value(board, *each) for each in cells} for board, _marks in walk]
+    first_changes = [(each, at) for each in cells for at in range(1, len(walk)) if cell_values[at][each] not in {seen[each] for seen in cell_values[:at]}]
+    (name, index), at = rng.choice(first_changes) if first_changes else (rng.choice(cells), 1)
+    value = cell_values[min(at, len(walk) - 1)][name, index]
     question.opens = [[("in", name, index, "whole", value, value)]]
     if rng.random() < 0.2:
-        question.opens.append([comparison(rng, wiring, there)])
-    shown = [rng.choice(marks) for _board, marks in way[:at] if marks]
+        question.opens.append([random_comparison(rng, wiring, cell_values)])
+    shown = [rng.choice(marks) for _board, marks in walk[:at] if marks]
     if rng.random() < 0.3:
         shown = [(rng.choice(["up", "down"]), row, column) for row in range(wiring.rows) for column in range(len(wiring.columns))]
-    places = sorted(rng.sample(range(len(shown)), min(len(shown), rng.choice([1, 1, 1, 2, 2, 3]))))
-    question.marks = [shown[place] for place in places] or [("up", 0, 0), ("down", 0, 0)][:rng.choice([1, 2])]
+    chosen_indexes = sorted(rng.sample(range(len(shown)), min(len(shown), rng.choice([1, 1, 1, 2, 2, 3]))))
+    question.marks = [shown[index_of_mark] for index_of_mark in chosen_indexes] or [("up", 0, 0), ("down", 0, 0)][:rng.choice([1, 2])]
     if rng.random() < 0.15:
-        # Compares the number of marks that were seen.
+        # Compare the number of marks that were seen.
         question.nevers.append([("in", "counter", 17, "whole", rng.randrange(1, len(question.marks) + 2), 255)])
 
 
@@ -250,7 +250,7 @@ def key_waiting_question(rng: random.Random, wiring: Wiring) -> Question:
     return Question(wiring.text(), [*program, f" LDM {number}", f" XCH R{register}", " JUN loop"], opens=opens, marks=marks)
 
 
-def marks_on_way(question: Question, rng: random.Random) -> list[tuple[Board, list[Mark]]]:
+def marks_on_walk(question: Question, rng: random.Random) -> list[tuple[Board, list[Mark]]]:
     """Returns the machine at some states of a random walk, each with the marks that the next cycle shows."""
     board, way = power_on(question), []
     for _n in range(2 * MAX_WALK_STATES):
@@ -263,8 +263,8 @@ def marks_on_way(question: Question, rng: random.Random) -> list[tuple[Board, li
     return way
 
 
-def seeded_question(seed: int, most: int) -> Question:
-    """Returns a random question. One in eight has a long program of arbitrary instructions."""
+def seeded_question(seed: int, max_states: int) -> Question:
+    """Returns a random question whose search may visit at most `max_states` states. One in eight has a long program of arbitrary instructions."""
     rng = random.Random(seed)
     wiring: Wiring
     if seed % 8 == 7:
@@ -279,15 +279,15 @@ def seeded_question(seed: int, most: int) -> Question:
     else:
         wiring = Wiring(rng)
         question = Question(wiring.text(), ReadingProgram(rng, wiring).text())
-    question.max_states, question.pause = most, rng.choice([1, 2, 7, 30, 100, 300])
+    question.max_states, question.pause = max_states, rng.choice([1, 2, 7, 30, 100, 300])
     if seed % 8 == 6:
         return question
     cells = cells_of(wiring)
     boards = [{each: cell_value(board, *each) for each in cells} for board in random_walk(question, rng)]
-    question.nevers = [[comparison(rng, wiring, boards) for _each in range(rng.choice([1, 2, 2, 3]))] for _row in range(rng.choice([0, 1, 1, 1, 2]))]
+    question.nevers = [[random_comparison(rng, wiring, boards) for _each in range(rng.choice([1, 2, 2, 3]))] for _row in range(rng.choice([0, 1, 1, 1, 2]))]
     if rng.random() < 0.5:
         mistake_condition = ("mistake", *rng.sample(MISTAKES, rng.choice([1, 1, 2, len(MISTAKES)])))
-        question.nevers.append([mistake_condition, *([comparison(rng, wiring, boards)] if rng.random() < 0.2 else [])])
+        question.nevers.append([mistake_condition, *([random_comparison(rng, wiring, boards)] if rng.random() < 0.2 else [])])
     if seed % 4 == 1:
         add_stopwatch(question, rng, wiring, boards)
     if seed % 8 == 2:
@@ -332,29 +332,29 @@ def chord_question(rng: random.Random, wiring: Wiring) -> Question:
     return Question(wiring.text(), [*program, f" LDM {number}", f" XCH R{register}", " JUN loop"], nevers)
 
 
-def unlimited(question: Question) -> Question:
+def without_limits(question: Question) -> Question:
     """Returns the question without limits of the inputs."""
     return dataclasses.replace(question, limits=InputLimits())
 
 
-def random_limited_question(rng: random.Random, most: int) -> Question:
+def random_limited_question(rng: random.Random, max_states: int) -> Question:
     """Returns a random question with limits of the inputs. Half of these questions are about keys that are down together."""
     if rng.random() < 0.5:
         question = chord_question(rng, KeyWiring(rng))
-        question.max_states, question.pause = most, rng.choice([1, 7, 100])
+        question.max_states, question.pause = max_states, rng.choice([1, 7, 100])
     else:
-        question = seeded_question(rng.randrange(100000), most)
+        question = seeded_question(rng.randrange(100000), max_states)
     question.limits = random_limits(rng, all_keys(power_on(question)))
     return question
 
 
-def limited_question(seed: int, most: int) -> Question:
+def limited_question(seed: int, max_states: int) -> Question:
     """Returns a random question with limits of the inputs. If a few attempts find one, the limits change the result of a short search."""
     rng = random.Random(f"limits {seed}")
     for _attempt in range(MAX_ATTEMPTS):
-        question = random_limited_question(rng, most)
+        question = random_limited_question(rng, max_states)
         few_states = dataclasses.replace(question, max_states=30)
-        if search(few_states) != search(unlimited(few_states)):
+        if search(few_states) != search(without_limits(few_states)):
             break
     return question
 
@@ -365,7 +365,7 @@ def lines_in_random_order(question: Question, rng: random.Random) -> list[str]:
     limits = question.limits.lines()
     together = [line for line in limits if line.startswith("together")]
     others = [line for line in limits if line not in together]
-    parts = unlimited(question).parts()
+    parts = without_limits(question).parts()
     for line in [*others, *rng.sample(others, min(len(others), 1))]:
         parts.insert(rng.randrange(len(parts)), [line])
     for line in together:

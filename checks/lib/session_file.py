@@ -19,20 +19,24 @@ MAX_CYCLES = 4_000_000
 
 
 def number(value, count):
+    """Returns a number as `count` bytes, the highest one first."""
     return value.to_bytes(count, "big")
 
 
 # --- boards and states
 
 def rom_line(chip, line):
+    """Returns the bytes of a line of a ROM chip's port."""
     return bytes([0, chip, line, 0])
 
 
 def ram_line(bank, chip, line):
+    """Returns the bytes of a line of a RAM chip's port."""
     return bytes([1, bank, chip, line])
 
 
 def chain_line(chain, bit):
+    """Returns the bytes of an output of a chain."""
     return bytes([2, chain, bit, 0])
 
 
@@ -53,6 +57,7 @@ class Board:
     lamps: list = dataclasses.field(default_factory=list)
 
     def bytes(self):
+        """Returns the bytes of the board in a state or in a record."""
         encoded = "".join(self.roms.get(chip, "----") for chip in range(16)).encode()
         encoded += bytes(self.banks.get(bank, 0) for bank in range(8))
         encoded += bytes([len(self.chains)])
@@ -66,6 +71,7 @@ class Board:
         return encoded + bytes([len(self.lamps)]) + b"".join(self.lamps)
 
     def key_count(self):
+        """Returns the number of keys."""
         return self.keys[2] * len(self.keys[3]) if self.keys else 0
 
     def tables(self):
@@ -90,6 +96,7 @@ class Board:
 
 @dataclasses.dataclass
 class State:
+    """The state of a session, with the parts that a snapshot stores."""
     seq: int = 0
     board: Board = dataclasses.field(default_factory=Board)
     rom: bytearray = dataclasses.field(default_factory=lambda: bytearray(4096))
@@ -113,7 +120,7 @@ class State:
     watches: list = dataclasses.field(default_factory=list)
 
     def bytes(self, version=2):
-        """Returns the bytes of the state. Version 1 has no byte for the version, no watches and no number of watches."""
+        """Returns the bytes of the state. Version 1 lacks the version byte, and the watches with their count."""
         assert version == 2 or not self.watches
         encoded = number(self.seq, 4) + (b"\x02" if version == 2 else b"") + self.board.bytes()
         encoded += self.rom + self.ram + self.status + self.ram_ports + self.rom_ports
@@ -191,8 +198,8 @@ class State:
 
 @dataclasses.dataclass
 class Command:
-    """A command: its lines, its record, the function that applies it to a state and returns what the answer has after `ok N`, and the number of
-    cycles that it contributes to the cycles of a log."""
+    """A command: its lines, and its record. The function `do` applies it to a state, and returns what the answer has after `ok N`. `cycles` is the
+    number of cycles that it contributes to the cycles of a log."""
     text: str
     record: bytes
     do: object
@@ -200,6 +207,7 @@ class Command:
 
 
 def wire(text, board):
+    """Returns the command that replaces the board. `text` is the board's text."""
     def do(state):
         state.board = board
         state.chains = [bytearray(10 * chips) for _, _, chips in board.chains]
@@ -212,7 +220,7 @@ def wire(text, board):
 
 
 def load(text, image):
-    """Returns the command that loads a program with these bytes."""
+    """Returns the command that loads a program with these bytes. `text` is the program's text."""
     addresses = sorted(image)
     bitmap = bytearray(512)
     for address in addresses:
@@ -237,30 +245,35 @@ def step():
 
 
 def poke_register(register, value):
+    """Returns the command that sets a register."""
     def do(state):
         state.registers[register] = value
     return Command(f"poke r{register} {value}\n", bytes([7, 3, register, value]), do)
 
 
 def press(row, column):
+    """Returns the command that presses a key."""
     def do(state):
         state.keys[row * len(state.board.keys[3]) + column] = 1
     return Command(f"press {row} {column}\n", bytes([3, row, column]), do)
 
 
 def test_level(level):
+    """Returns the command that sets the level of TEST."""
     def do(state):
         state.test = level
     return Command(f"test {level}\n", bytes([8, level]), do)
 
 
 def break_at(address):
+    """Returns the command that sets a breakpoint."""
     def do(state):
         state.breakpoints = sorted({*state.breakpoints, address})
     return Command(f"break {address}\n", bytes([10]) + number(address, 2), do)
 
 
 def watch(bank, source):
+    """Returns the command that sets a watch."""
     def do(state):
         state.watches = sorted({*state.watches, (bank, source)})
     return Command(f"watch {bank} {source}\n", bytes([12, bank, source]), do)
@@ -317,6 +330,7 @@ class ExpectedSession:
         self.file[:16] = NAME + bytes([slot]) + bytes(7)
 
     def _put_snapshot(self, slot, version):
+        """Writes the current state to a slot, with an empty log, and continues with this slot."""
         snapshot = self.state.bytes(version)
         start = SLOTS[slot]
         end = start + LENGTH_BYTES + len(snapshot)
@@ -348,10 +362,11 @@ class ExpectedSession:
         return f"ok {self.state.seq}{answer}\n"
 
     def accept_all(self, commands):
+        """Accepts commands, and returns their answers."""
         return "".join(self.accept(command) for command in commands)
 
     def difference_from(self, file):
-        """Returns a description of the error if a file differs from this one, or "" if it does not."""
+        """Describes the first difference between a file and the expected bytes, or returns "" if there is none."""
         if len(file) != SIZE:
             return f"it has {len(file)} bytes"
         expected = bytearray(self.file)
@@ -364,4 +379,5 @@ class ExpectedSession:
         return f"from {offset} on it has {bytes(file[offset:offset + 12]).hex(' ')}, and not {bytes(expected[offset:offset + 12]).hex(' ')}"
 
     def copy(self):
+        """Returns an independent copy of the session."""
         return copy.deepcopy(self)

@@ -30,7 +30,7 @@ def require(condition):
 
 
 class Reader:
-    """Reads numbers and bytes from data, in order."""
+    """A reader of numbers and bytes from data, in order. It rejects the file if they are missing or too large."""
 
     def __init__(self, data):
         self.data, self.offset = bytes(data), 0
@@ -92,6 +92,7 @@ def is_board(board):
 
 
 def read_board(reader, version):
+    """Parses the bytes of a board. Rejects an invalid board."""
     ports = [reader.take(4).decode("latin-1") for _chip in range(16)]
     roms = {chip: port for chip, port in enumerate(ports) if port != "----"}
     banks = {bank: chips for bank, chips in enumerate(reader.numbers(8, 4)) if chips}
@@ -166,8 +167,8 @@ def bench_of(state):
 # --- commands
 
 def read_command(record, version):
-    """Converts a record to the words of its session line. Returns them with the number of cycles that the log counts for the record. The text of a
-    program is a list of lines, and the text of a board is a single string."""
+    """Converts a record to the words of its session line, in which a text is a list of lines. Returns them with the number of cycles that the log
+    counts for the record."""
     reader = Reader(record)
     tag = reader.number(13 if version == 2 else 11)
     if tag == 1:
@@ -189,7 +190,7 @@ def read_command(record, version):
 
 
 class ParsedFile:
-    """The contents of a session file: a bench in its state, the text of its board, and the version of the format."""
+    """The contents of a session file: a bench in the file's state, the text of the board, and the version of the format."""
 
     def __init__(self, file):
         """Reads a file. Raises `RejectedFile` if the program must reject the file."""
@@ -215,7 +216,7 @@ class ParsedFile:
             self.board = words[1]
 
     def answers_to(self, queries):
-        """Returns the first line of a session and the answers to questions."""
+        """Returns the first line of a session and the answers to queries."""
         answers = [f"session {self.bench.seq}"]
         for query in queries:
             answers += ["board", *self.board] if query == "board" else self.bench.answer(*query.split())

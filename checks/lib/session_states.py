@@ -9,10 +9,10 @@ WORKED = Board({0: "0000", 1: "iiii", 2: "iiii"}, {0: 1, 1: 1}, [(rom_line(0, 0)
 LARGEST = Board(dict.fromkeys(range(16), "1i0i"), dict.fromkeys(range(8), 4), [(rom_line(0, 1), rom_line(0, 3), 8)] * 4,
                 (3, 70, 10, [rom_line(15, 0)] * 8), [chain_line(3, 79)] * 64)
 # The first and the last index in each part of a state that is stored as a list.
-ENDS = {"rom": (0, 4_095), "ram": (0, 2_047), "status": (0, 511), "ram_ports": (0, 31), "rom_ports": (0, 15), "bank_sources": (0, 7)}
+FIRST_AND_LAST_INDEXES = {"rom": (0, 4_095), "ram": (0, 2_047), "status": (0, 511), "ram_ports": (0, 31), "rom_ports": (0, 15), "bank_sources": (0, 7)}
 
 
-def zeros_but(size, values):
+def zeros_except(size, values):
     """Returns `size` bytes that are 0 except at the offsets in `values`."""
     data = bytearray(size)
     for offset, value in values.items():
@@ -20,18 +20,19 @@ def zeros_but(size, values):
     return data
 
 
-def registers(values):
-    return zeros_but(16, values)
+def register_values(values):
+    """Returns the 16 registers with these values, and 0 in the others."""
+    return zeros_except(16, values)
 
 
-def chained(count, chips):
+def state_with_chains(count, chips):
     """Returns a state on a board with ROM 0 and `count` chains of `chips` chips each, and nothing else."""
     return State(board=Board({0: "0000"}, {}, [(rom_line(0, 1), rom_line(0, 3), chips)] * count), chains=[bytearray(10 * chips)] * count)
 
 
 def on_worked_board(**parts):
     """Returns a state on the worked board, with a 1 in the last bit of its chain and its last key down."""
-    return State(board=WORKED, chains=[zeros_but(10, {9: 1})], keys=zeros_but(80, {79: 1}), **parts)
+    return State(board=WORKED, chains=[zeros_except(10, {9: 1})], keys=zeros_except(80, {79: 1}), **parts)
 
 
 def in_rom_0(port):
@@ -45,28 +46,28 @@ STATES = [
     ("a count of commands of four bytes", State(seq=0xFF00_0000), "seq\n", "seq 4278190080\n"),
     ("the maximum count of commands", State(seq=0xFFFF_FFFF), "reset\nrun 0\nseq\n", "no 46\nno 46\nseq 4294967295\n"),
     ("an accumulator of 15, and a carry", State(accumulator=15, carry=1), "", ""),
-    ("registers of 15", State(registers=registers({7: 15, 15: 15})), "", ""),
+    ("registers of 15", State(registers=register_values({7: 15, 15: 15})), "", ""),
     ("the last counter", State(counter=0xFFF), "", ""),
     ("a counter on the last page", State(counter=0xF00), "", ""),
     ("return addresses", State(returns=[0xFFF, 0x123, 0xFFE]), "", ""),
     ("bank 7", State(bank=7), "", ""),
     ("an SRC byte of the ROMs", State(rom_source=0xFF), "trace 1 src\n", "trace ran 1 end lines 0 FF\n"),
     ("a pending cycle", State(owed=1), "", ""),
-    ("a pending cycle of a jump", State(seq=4, board=Board({0: "0000"}), rom=zeros_but(4_096, {0: 0x41, 1: 0x23}), counter=0x123, owed=1),
+    ("a pending cycle of a jump", State(seq=4, board=Board({0: "0000"}), rom=zeros_except(4_096, {0: 0x41, 1: 0x23}), counter=0x123, owed=1),
      "list 0 1\n", "000 41 23 JUN 0x123\n"),
     ("TEST at 0", State(test=0), "", ""),
     ("two breakpoints", State(breakpoints=[9, 300]), "breaks\n", "breaks 009 12C\n"),
     ("two other breakpoints", State(breakpoints=[3, 0x123]), "breaks\n", "breaks 003 123\n"),
     *((f"a ROM of {port}", in_rom_0(port), "board\n", f'board\n[[rom]]\nchip = 0\nport = "{port}"\n') for port in ("iiii", "0000", "1111")),
-    ("the worked board", on_worked_board(rom_ports=zeros_but(16, {0: 8})), "", ""),
+    ("the worked board", on_worked_board(rom_ports=zeros_except(16, {0: 8})), "", ""),
     ("the worked board, with all its parts set",
-     on_worked_board(rom_ports=zeros_but(16, {0: 8}), ram=zeros_but(2_048, {256 + 63: 15}), status=zeros_but(512, {64 + 15: 14}), bank=7,
+     on_worked_board(rom_ports=zeros_except(16, {0: 8}), ram=zeros_except(2_048, {256 + 63: 15}), status=zeros_except(512, {64 + 15: 14}), bank=7,
                      test=0, returns=[0, 0x123, 0]), "state\nram 1\n",
      "state seq 0 acc 0 cy 0 pc 000 owed 0 dcl 7 test 0 r 0000000000000000 ret 000,123,000 src 00 banks 0.00,1.00 roms 0.8.0,1.0.0,2.0.8 "
      "rams 0.0.0,1.0.0 chains 0000000001 keys 9.7 lamps ... breaks - watches -\n"
      "ram 1 chips 1\n1.0.0 0000000000000000 0000\n1.0.1 0000000000000000 0000\n1.0.2 0000000000000000 0000\n"
      "1.0.3 000000000000000F 000E\n1.0 out 0\n"),
-    ("two chains of four chips", chained(2, 4), "", ""),
+    ("two chains of four chips", state_with_chains(2, 4), "", ""),
 ]
 # States that only version 2 can store, in the same form.
 LATER_STATES = [
@@ -75,17 +76,17 @@ LATER_STATES = [
     ("a watch of bank 7", State(watches=[(7, 0)]), "watches\n", "watches 7.00\n"),
     ("eight watches", State(watches=[(0, source) for source in range(8)]), "watches\n",
      "watches 0.00 0.01 0.02 0.03 0.04 0.05 0.06 0.07\n"),
-    ("three chains", chained(3, 1), "", ""),
-    ("a chain of five chips", chained(1, 5), "", ""),
-    ("four chains of eight chips", chained(4, 8), "", ""),
-    ("the largest board", State(board=LARGEST, chains=[zeros_but(80, {79: 1})] * 4, keys=zeros_but(80, {79: 1})), "lamps\n",
+    ("three chains", state_with_chains(3, 1), "", ""),
+    ("a chain of five chips", state_with_chains(1, 5), "", ""),
+    ("four chains of eight chips", state_with_chains(4, 8), "", ""),
+    ("the largest board", State(board=LARGEST, chains=[zeros_except(80, {79: 1})] * 4, keys=zeros_except(80, {79: 1})), "lamps\n",
      f"lamps {64 * '*'}\n"),
 ]
 
 # Invalid states in both versions, with their names.
 WRONG_STATES = [
-    ("R0 at 16", State(registers=registers({0: 16}))),
-    ("R7 at 16", State(registers=registers({7: 16}))),
+    ("R0 at 16", State(registers=register_values({0: 16}))),
+    ("R7 at 16", State(registers=register_values({7: 16}))),
     ("an accumulator of 16", State(accumulator=16)),
     ("a carry of 2", State(carry=2)),
     ("a counter of 4,096", State(counter=0x1000)),
@@ -94,21 +95,21 @@ WRONG_STATES = [
     ("bank 8", State(bank=8)),
     ("two pending cycles", State(owed=2)),
     ("TEST at 2", State(test=2)),
-    ("a ROM byte without a ROM", State(rom=zeros_but(4_096, {5: 1}))),
-    ("an SRC byte of a bank without chips", State(bank_sources=zeros_but(8, {3: 1}))),
-    *((f"byte {offset} of {part} without its chip", State(**{part: zeros_but(last + 1, {offset: 1})}))
-      for part, (first, last) in ENDS.items() for offset in (first, last)),
-    ("an input line that stores a bit", on_worked_board(rom_ports=zeros_but(16, {1: 8}))),
+    ("a ROM byte without a ROM", State(rom=zeros_except(4_096, {5: 1}))),
+    ("an SRC byte of a bank without chips", State(bank_sources=zeros_except(8, {3: 1}))),
+    *((f"byte {offset} of {part} without its chip", State(**{part: zeros_except(last + 1, {offset: 1})}))
+      for part, (first, last) in FIRST_AND_LAST_INDEXES.items() for offset in (first, last)),
+    ("an input line that stores a bit", on_worked_board(rom_ports=zeros_except(16, {1: 8}))),
     ("a breakpoint twice", State(breakpoints=[9, 300, 300])),
     ("a breakpoint of one byte twice", State(breakpoints=[3, 3])),
     ("breakpoints in descending order", State(breakpoints=[3, 2])),
     ("33 breakpoints", State(breakpoints=list(range(33)))),
     ("a bank of five chips", State(board=Board(banks={0: 5}))),
     ("65 lamps", State(board=Board({0: "0000"}, lamps=[rom_line(0, 0)] * 65))),
-    ("five chains", chained(5, 1)),
-    ("a chain of nine chips", chained(1, 9)),
-    ("a bit of a chain at 2", State(board=WORKED, chains=[zeros_but(10, {9: 2})], keys=bytearray(80))),
-    ("a key at 2", State(board=WORKED, chains=[bytearray(10)], keys=zeros_but(80, {79: 2}))),
+    ("five chains", state_with_chains(5, 1)),
+    ("a chain of nine chips", state_with_chains(1, 9)),
+    ("a bit of a chain at 2", State(board=WORKED, chains=[zeros_except(10, {9: 2})], keys=bytearray(80))),
+    ("a key at 2", State(board=WORKED, chains=[bytearray(10)], keys=zeros_except(80, {79: 2}))),
 ]
 # Invalid watches, which only version 2 has.
 WRONG_WATCHES = [
@@ -123,6 +124,7 @@ WRONG_WATCHES = [
 
 
 def with_byte(snapshot, offset, byte):
+    """Returns a snapshot with another byte at an offset."""
     return snapshot[:offset] + bytes([byte]) + snapshot[offset + 1:]
 
 
@@ -147,5 +149,5 @@ WRONG_SNAPSHOTS = [
 
 # The number of bytes in the longest state, and the commands that lead to it: the largest board, the maximum number of breakpoints and watches, and a
 # pressed key. The breakpoints stop runs immediately.
-LONGEST = 7_632
+LONGEST_STATE_BYTES = 7_632
 LONGEST_COMMANDS = [wire(LARGEST.text(), LARGEST), *map(break_at, range(32)), *(watch(7, source) for source in range(8)), press(9, 7)]

@@ -5,11 +5,11 @@ Environment variables name the program to check. Without a gate, it is MCS4. Aft
 gate runs, it is SHIPPED_PROGRAM. If that is empty, the checks start after the gate.
 
 As many checks run at the same time as there are processors, the longest first. While the gate runs, one check runs at a time, or more while
-processors are idle, and none on fewer than four processors. Checks that read what the gate builds run after it. Checks that measure, that type at a
-terminal, or that need the whole machine, run at the end, one after another. The whole output of a check is printed when the check has ended. The
-output of the gate is printed line by line. On a terminal, a line shows what is running and the remaining time, estimated from the times of the last
-run (in the cache folder) or from the table below. As root, it installs missing packages with apt-get; otherwise the check counts as not run. A
-process that a check leaves is ended. FOLDER/summed gets the numbers of passed and failed verdicts, and FOLDER/left_out the lines 'not run: ..'.
+processors are idle, and none on fewer than four processors. Checks that read what the gate builds run after it. Checks that type at a terminal run at
+the end, beside each other but beside no other check, because one of them measures time. The whole output of a check is printed when the check has
+ended. The output of the gate is printed line by line. On a terminal, a line shows what is running and the remaining time, estimated from the times of
+the last run (in the cache folder) or from the table below. As root, it installs missing packages with apt-get; otherwise the check counts as not run.
+A process that a check leaves is ended. FOLDER/summed gets the numbers of passed and failed verdicts, and FOLDER/left_out the lines 'not run: ..'.
 
 Status 0: all checks have ended, with any results. 130: interrupted. The results so far are printed.
 """
@@ -37,7 +37,7 @@ MIN_SECONDS, TIME_FACTOR = 900, 5
 END_TIMEOUT = 5
 # The minimum number of processors for running checks at the same time as the gate.
 MIN_PROCESSORS = 4
-SUMMED = re.compile(r"^(\d+) passed, (\d+) failed", re.M)
+COUNTS_PATTERN = re.compile(r"^(\d+) passed, (\d+) failed", re.M)
 
 # The Debian packages of commands and files. A command that is not listed is in the package of the same name.
 PACKAGES = {
@@ -55,9 +55,9 @@ PACKAGES = {
 
 @dataclass(frozen=True)
 class Check:
-    """A script in checks/, with the commands and files that it needs, and those that only some parts of it need. Also: its usual time in seconds, and
-    the seconds that each installed browser adds; its arguments, by mode if they differ; whether it must run alone; whether it reads what the gate
-    builds; and which part of the script this is, if its parts run in parallel."""
+    """A script in checks/, with the commands and files that it needs, and those that only some parts of it need. Its times are the usual seconds,
+    and the seconds that each installed browser adds. Its arguments can differ by mode. It may type at a terminal, or read what the gate builds. If
+    the parts of a script run in parallel, each part is a separate check, named by `part`."""
 
     name: str
     needs: str = ""
@@ -65,7 +65,7 @@ class Check:
     arguments: str = ""
     long: str | None = None
     quick: str | None = None
-    alone: bool = False
+    at_terminal: bool = False
     reads_built: bool = False
     parts_need: str = ""
     part: str = ""
@@ -73,60 +73,65 @@ class Check:
 
     @property
     def label(self):
-        """Returns the name of the check, with the part of it."""
+        """Returns the name of the check, followed by its part if it has one."""
         return f"{self.name} {self.part}".rstrip()
 
     def command(self, mode):
+        """Returns the command line of the check in a mode."""
         arguments = self.long if mode == "long" and self.long is not None else self.quick if mode == "quick" else self.arguments
         # The page's module is compiled again if the kit is installed.
         return [f"checks/{self.name}", *(word for word in shlex.split(arguments or "") if word != "--anew" or shutil.which("rt"))]
 
     def title(self, mode):
+        """Returns the command line of the check in a mode as text."""
         return " ".join(self.command(mode))
 
-    def usual(self):
+    def usual_seconds(self):
         """Returns the usual time of the check in seconds, with the installed browsers."""
         return self.seconds + self.browser_seconds * len(installed_browsers())
 
-    def limit(self):
+    def limit_seconds(self):
         """Returns the number of seconds after which the check is ended."""
-        return int(os.environ.get("CHECK_SECONDS", MIN_SECONDS + TIME_FACTOR * self.usual()))
+        return int(os.environ.get("CHECK_SECONDS", MIN_SECONDS + TIME_FACTOR * self.usual_seconds()))
 
 
 CHECKS = [
     Check("page", "python3 node esbuild", 20, "--half 1", quick="--only layout use --browser Chromium", part="1", browser_seconds=350),
     Check("page", "python3 node esbuild", 20, "--half 2 --scripts 100", long="--half 2 --scripts 400 --anew", part="2", browser_seconds=350),
-    Check("explore", "node parallel", 230, "3", long="60"),
-    Check("power", "python3 cc", 240, "--seconds 240", long="--long", alone=True),
-    Check("installed", "prove flock lintian zsh fish", 300),
-    Check("page_source", "python3 node", 120, parts_need="tsc eslint esbuild", quick=""),
-    Check("tools", "flock", 120),
+    Check("power", "python3 cc", 240, "--seconds 240", long="--long"),
+    Check("page_source", "python3 node", 150, parts_need="tsc eslint esbuild", quick=""),
+    Check("prove", "python3", 150, "200", long="2000", quick="30"),
+    Check("tools", "flock", 130),
+    Check("explore", "node parallel", 110, "2", long="60"),
+    Check("installed", "flock", 90, "tools", part="tools"),
+    Check("installed", "lintian", 60, "package", part="package"),
     Check("allocations", "cc", 60, reads_built=True),
-    Check("assembler", "python3", 60, "300", long="2000", quick="30"),
-    Check("wiring", "python3", 20, "2000", long="20000", quick="200"),
     Check("time", "python3", 60, "300 30", long="2000 200", quick="30 5"),
-    Check("prove", "python3", 40, "200", long="2000", quick="30"),
-    Check("calculator", "", 60, "300", long="2000", quick="30"),
-    Check("hostile", "python3", 60, quick=""),
-    Check("host", "cc", 50),
-    Check("runs", "python3", 50, quick=""),
-    Check("locks", "", 45, "100", long="1000", alone=True),
-    Check("testing", "prove", 40, quick=""),
+    Check("installed", "zsh fish", 45, "use rejected lists elsewhere upgrade kept", part="files"),
+    Check("hostile", "python3", 45, quick=""),
+    Check("host", "cc", 45),
+    Check("debugging", "node", 45, quick=""),
     Check("aarch64", "aarch64-linux-gnu-gcc /usr/aarch64-linux-gnu/lib/libc.a", 40, reads_built=True),
-    Check("project", "node", 30, quick=""),
-    Check("scripts", "python3", 30, quick=""),
-    Check("panel", "tmux node", 30, alone=True),
-    Check("session_prompt", "python3 node", 60, quick="", alone=True),
-    Check("prompt", "python3 node", 30, quick="", alone=True),
+    Check("session_prompt", "python3 node", 40, quick="", at_terminal=True),
+    Check("installed", "prove", 30, "testing", part="testing"),
+    Check("locks", "", 30, "100", long="1000"),
+    Check("panel", "tmux node", 30, at_terminal=True),
+    Check("prompt", "python3 node", 30, quick="", at_terminal=True),
+    Check("testing", "prove", 25, quick=""),
     Check("waves", "vcd2fst sigrok-cli sox", 25),
     Check("shipped", "", 25, quick="", reads_built=True),
     Check("stopped", "python3", 25),
+    Check("wiring", "python3", 20, "2000", long="20000", quick="200"),
     Check("editors", "node nvim", 20, quick=""),
-    Check("debugging", "node", 50, quick=""),
     Check("grammars", "python3 node nvim esbuild", 20, quick=""),
     Check("back", "flock", 20, quick=""),
+    Check("project", "node", 15, quick=""),
     Check("documents", "python3", 15, quick=""),
+    Check("runs", "python3", 10, quick=""),
     Check("sizes", "python3", 10, quick=""),
+    Check("assembler", "python3", 5, "300", long="2000", quick="30"),
+    Check("calculator", "", 5, "300", long="2000", quick="30"),
+    Check("scripts", "python3", 5, quick=""),
     Check("memory", "", 5, quick=""),
 ]
 # The gate, `rt ci`. It has no time limit, because without cached proofs it takes an hour or more.
@@ -136,29 +141,41 @@ GATE = Check("lib/gate", "rt", 3000)
 @dataclass
 class Running:
     """A running check: its process, the file for its output, and its start time. Its mark is a variable in the environment of all processes that the
-    check starts."""
+    check starts. After its end, `processor_seconds` is its processor time, with that of the processes for which it has waited."""
 
     check: Check
     process: subprocess.Popen
     output: pathlib.Path
     mark: str
     start_time: float = field(default_factory=time.monotonic)
+    processor_seconds: float = 0
 
     def seconds(self):
+        """Returns the number of seconds since the start."""
         return time.monotonic() - self.start_time
 
+    def is_over(self, options=os.WNOHANG):
+        """Returns true if the process has ended. With 0 as `options`, waits for its end."""
+        if self.process.returncode is None:
+            number, status, usage = os.wait4(self.process.pid, options)
+            if number:
+                self.process.returncode = os.waitstatus_to_exitcode(status)
+                self.processor_seconds = usage.ru_utime + usage.ru_stime
+        return self.process.returncode is not None
+
     def is_late(self):
-        return self.check is not GATE and self.seconds() > self.check.limit()
+        """Returns true if a check exceeds its time limit. The gate has none."""
+        return self.check is not GATE and self.seconds() > self.check.limit_seconds()
 
 
-def is_there(need):
+def is_available(need):
     """Returns true if a command, or a file named by its path, exists."""
     return pathlib.Path(need).exists() if need.startswith("/") else shutil.which(need) is not None
 
 
-def install(checks):
-    """As root, installs the missing packages of these checks, with a single apt-get."""
-    missing = sorted({PACKAGES.get(need, need) for check in checks for need in f"{check.needs} {check.parts_need}".split() if not is_there(need)})
+def install_packages(checks):
+    """As root, installs the missing packages of these checks, each with a separate apt-get."""
+    missing = sorted({PACKAGES.get(need, need) for check in checks for need in f"{check.needs} {check.parts_need}".split() if not is_available(need)})
     if not missing or os.geteuid() != 0 or not shutil.which("apt-get"):
         return
     print(f"test: apt-get installs {' '.join(missing)}", flush=True)
@@ -169,7 +186,7 @@ def install(checks):
 
 
 def processes_with(mark):
-    """Returns the processes that have this mark in their environment."""
+    """Returns the ids of the processes that have this mark in their environment."""
     processes = []
     for folder in pathlib.Path("/proc").glob("[0-9]*"):
         try:
@@ -212,11 +229,12 @@ class Run:
         self.mode = mode
         self.folder = folder
         self.checks = [] if mode == "gate" else [check for check in CHECKS if mode != "quick" or check.quick is not None]
-        self.usual = {**{check.label: check.usual() for check in [*CHECKS, GATE]}, **last_times(mode)}
-        self.waiting = sorted(self.checks, key=lambda check: -self.usual[check.label])
+        self.expected_seconds = {**{check.label: check.usual_seconds() for check in [*CHECKS, GATE]}, **last_times(mode)}
+        self.waiting = sorted(self.checks, key=lambda check: -self.expected_seconds[check.label])
         self.gate = None
         self.processors = len(os.sched_getaffinity(0))
         self.running, self.ended, self.times = [], [], {}
+        self.processor_seconds = 0
         self.passed = self.failed = 0
         self.left_out = []
         self.start_time = time.monotonic()
@@ -243,7 +261,7 @@ class Run:
 
     def start(self, check):
         """Starts a check, or records that it is not run."""
-        missing = [PACKAGES.get(need, need) for need in check.needs.split() if not is_there(need)]
+        missing = [PACKAGES.get(need, need) for need in check.needs.split() if not is_available(need)]
         if missing:
             self.left_out.append(f"not run: checks/{check.name} (Debian's packages: {' '.join(missing)})")
             self.ended.append(check)
@@ -257,8 +275,9 @@ class Run:
         end_processes(running.mark)
         self.ended.append(running.check)
         status, seconds = running.process.returncode, running.seconds()
+        self.processor_seconds += running.processor_seconds
         text = running.output.read_text(errors="replace")
-        sums = SUMMED.findall(text)
+        sums = COUNTS_PATTERN.findall(text)
         passed, failed = map(int, sums[-1]) if sums else (0, 1)
         self.passed += passed
         self.failed += failed if status == 0 or failed else 1
@@ -270,12 +289,13 @@ class Run:
             if self.waiting and not pathlib.Path(os.environ["BUILT_PROGRAM"]).exists():
                 self.waiting.clear()
                 self.show("test: the gate built no program, so no more checks run")
-            self.show(f"the gate took {seconds / 60:.0f} min on {self.processors} processors, load {os.getloadavg()[2]:.0f}; {self.gate.anew} of "
+            self.show(f"the gate took {seconds / 60:.0f} min on {self.processors} processors, load {os.getloadavg()[2]:.0f}; {self.gate.proved_count} of "
                       f"{self.gate.passed} crates were proved anew")
             if self.checks:
                 self.show(f"the checks run on {self.program()}")
         else:
-            self.show(f"== {running.check.title(self.mode)}\n{text}checks/{running.check.label} took {seconds:.0f} s")
+            self.show(f"== {running.check.title(self.mode)}\n{text}checks/{running.check.label} took {seconds:.0f} s, "
+                      f"{running.processor_seconds:.0f} s of processor time")
 
     def max_running(self):
         """Returns the number of checks that may run now, including the gate."""
@@ -286,28 +306,28 @@ class Run:
         return self.processors if os.getloadavg()[0] < self.processors - 1 else 2
 
     def next(self):
-        """Removes and returns the next waiting check that can start now."""
+        """Removes and returns the next waiting check that can start now, or returns None."""
         is_gate_over = self.gate is None or self.gate.is_over
         if len(self.running) >= self.max_running():
             return None
         for check in self.waiting:
-            if not check.alone and (is_gate_over or not check.reads_built):
+            if not check.at_terminal and (is_gate_over or not check.reads_built):
                 self.waiting.remove(check)
                 return check
-        if is_gate_over and not self.running and self.waiting:
+        if is_gate_over and self.waiting and all(running.check.at_terminal for running in self.running):
             return self.waiting.pop(0)
         return None
 
     def turn(self):
         """Ends checks that exceed their time limit, counts the checks that have ended, and starts the next one."""
         for running in list(self.running):
-            if running.process.poll() is None and running.is_late():
+            if not running.is_over() and running.is_late():
                 with running.output.open("a") as file:
-                    file.write(f"checks/{running.check.label}: not done after {running.check.limit()} s. It was running:\n")
+                    file.write(f"checks/{running.check.label}: not done after {running.check.limit_seconds()} s. It was running:\n")
                     file.writelines(f"  {command_of(process)}\n" for process in processes_with(running.mark))
                 end_processes(running.mark)
-                running.process.wait()
-            is_over = running.process.poll() is not None
+                running.is_over(options=0)
+            is_over = running.is_over()
             if running.check is GATE:
                 self.gate.show(self.show)
             if is_over:
@@ -316,11 +336,11 @@ class Run:
             self.start(check)
 
     def run_all(self):
-        """Runs the gate and all checks. The checks that run alone come last."""
+        """Runs the gate and all checks. The checks that type at a terminal come last."""
         if self.mode in ("all", "gate"):
             self.show("== rt ci")
             self.gate = Gate(self.begin(GATE, [f"checks/{GATE.name}"]).output)
-        install(self.checks)
+        install_packages(self.checks)
         while self.waiting or self.running:
             self.turn()
             self.progress()
@@ -335,7 +355,7 @@ class Run:
         if not sys.stdout.isatty():
             return
         spent = {running.check.label: running.seconds() for running in self.running}
-        remaining = {check: max(self.usual[check.label] - spent.get(check.label, 0), 5)
+        remaining = {check: max(self.expected_seconds[check.label] - spent.get(check.label, 0), 5)
                      for check in [*self.checks, GATE] if check in self.waiting or check.label in spent}
         check_seconds = sum(seconds for check, seconds in remaining.items() if check is not GATE) / min(self.processors, max(len(remaining), 1))
         names = ", ".join(name for name in spent if name != GATE.label)
@@ -351,7 +371,8 @@ class Run:
         (self.folder / "left_out").write_text("".join(f"{line}\n" for line in self.left_out))
         longest = sorted(self.times.items(), key=lambda pair: -pair[1])[:10]
         self.show("longest: " + ", ".join(f"{name} {seconds:.0f} s" for name, seconds in longest))
-        self.show(f"all took {(time.monotonic() - self.start_time) / 60:.0f} min on {self.processors} processors")
+        self.show(f"all took {(time.monotonic() - self.start_time) / 60:.0f} min on {self.processors} processors, and "
+                  f"{self.processor_seconds / 60:.0f} min of processor time")
 
 
 class Gate:
@@ -360,7 +381,7 @@ class Gate:
     def __init__(self, output):
         self.output = output
         self.shown = 0
-        self.passed = self.anew = 0
+        self.passed = self.proved_count = 0
         self.is_over = False
         self.crates = len(re.findall(r"^\w+:", (TOP / "crates.txt").read_text(), re.M))
 
@@ -374,7 +395,7 @@ class Gate:
             self.shown += len(lines)
             ends = re.findall(rb"^rt: \w+ (proved|is kept)", lines, re.M)
             self.passed += len(ends)
-            self.anew += ends.count(b"proved")
+            self.proved_count += ends.count(b"proved")
             show(lines.decode(errors="replace").rstrip("\n"))
 
     def end(self):
@@ -383,7 +404,7 @@ class Gate:
 
 
 def last_times(mode):
-    """Returns the number of seconds that each check took last time, by their names."""
+    """Returns the number of seconds that each check took in the last run in a mode, by the check's label. Returns no times if they cannot be read."""
     try:
         times = json.loads(CACHE.read_text())[mode]
         return {name: float(seconds) for name, seconds in times.items()}

@@ -1,5 +1,5 @@
 # The common functions of the checks in shell. They count the passed and failed verdicts, report the failed ones, and run all or some parts of a
-# check. A check reads this file by `.`, after it has set `top`, the folder of the repository.
+# check. A check reads this file with `.`, after it has set `top`, the folder of the repository.
 # shellcheck shell=sh disable=SC1090,SC2154
 
 check=checks/${0##*/}
@@ -49,7 +49,8 @@ verdict_of_files() {
     fi
 }
 
-# Runs a client that prints lines `ok ..` and `failed: ..`, and counts them as verdicts. Arguments: a file for the client's output, and the command.
+# Runs a client that prints lines `ok ..` and `failed: ..`, and counts them as verdicts. A status other than 0 counts as one more failed verdict.
+# Arguments: a file for the client's output, and the command.
 run_client() {
     report=$1
     shift
@@ -85,7 +86,7 @@ status 2"
     verdict "$(outcome "$@" | shorten_usage)" "$expected" "$*"
 }
 
-# Shortens a usage message to the name of the command.
+# Copies standard input to standard output. Shortens the usage of a command to its first line, up to the name of the command.
 shorten_usage() {
     sed '/^       mcs4 /d; s/^\(usage: mcs4 [a-z]*\).*/\1/'
 }
@@ -145,7 +146,7 @@ run_part() {
     rm -rf -- "${whole:?}/$part"
 }
 
-# Prints the numbers of passed and failed verdicts, and exits.
+# Prints the numbers of passed and failed verdicts, and exits: with status 0 if none failed, otherwise with 1.
 end_check() {
     echo "$passed passed, $failed failed"
     exit $((failed > 0))

@@ -53,7 +53,7 @@ class Range {
   }
 }
 
-/** A collection of test items, which have ids. */
+/** The stand-in for `TestItemCollection` of the editor: test items by their ids. */
 class Items {
   constructor(parent) {
     this.parent = parent;

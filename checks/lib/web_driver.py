@@ -41,6 +41,7 @@ class WebDriver(BrowserDriver):
     there."""
 
     def _ask(self, method, path, body=None):
+        """Sends a request to the driver, and returns the value in its answer. Raises DriverError if the driver answers with an error."""
         data = None if body is None else json.dumps(body).encode()
         request = urllib.request.Request(self.root + path, data, {"Content-Type": "application/json"}, method=method)
         try:
@@ -51,33 +52,43 @@ class WebDriver(BrowserDriver):
             raise DriverError(f"{fault_value['error']}: {fault_value['message']}".split("\n")[0]) from None
 
     def do(self, method, path, body=None):
+        """Sends a request for the browser's session, and returns the value in the answer."""
         return self._ask(method, self.session + path, body)
 
     def go(self, address):
+        """Opens a page at an address."""
         self.do("POST", "/url", {"url": address})
 
     def reload(self):
+        """Reloads the page."""
         self.do("POST", "/refresh", {})
 
     def back(self):
+        """Goes back to the previous page."""
         self.do("POST", "/back", {})
 
     def script(self, code, *words):
+        """Runs a script in the page, and returns its result."""
         return self.do("POST", "/execute/sync", {"script": BEFORE_SCRIPTS + code, "args": list(words)})
 
     def find(self, selector):
+        """Returns the id of the first element that a selector matches."""
         return self.do("POST", "/element", {"using": "css selector", "value": selector})[ELEMENT]
 
     def click_element(self, element):
+        """Clicks the element with an id."""
         self.do("POST", f"/element/{element}/click", {})
 
     def send_to_element(self, element, text):
+        """Types a text into the element with an id."""
         self.do("POST", f"/element/{element}/value", {"text": text})
 
     def actions(self, *sources):
+        """Performs sequences of input actions, one for each input device, at the same time."""
         self.do("POST", "/actions", {"actions": list(sources)})
 
     def window_size(self):
+        """Returns the width and the height of the window in pixels."""
         rect = self.do("GET", "/window/rect")
         return rect["width"], rect["height"]
 
@@ -85,6 +96,7 @@ class WebDriver(BrowserDriver):
         self.do("POST", "/window/rect", {"x": 0, "y": 0, "width": width, "height": height})
 
     def tab(self):
+        """Returns the handle of the current tab."""
         return self.do("GET", "/window")
 
     def new_tab(self):
@@ -92,14 +104,16 @@ class WebDriver(BrowserDriver):
         self.show_tab(self.do("POST", "/window/new", {"type": "tab"})["handle"])
 
     def show_tab(self, handle):
+        """Switches to the tab with a handle."""
         self.do("POST", "/window", {"handle": handle})
 
     def close_tab(self, handle):
-        """Closes this tab, and shows the other one."""
+        """Closes the current tab, and shows the tab `handle`."""
         self.do("DELETE", "/window")
         self.show_tab(handle)
 
     def picture(self):
+        """Returns a screenshot as the bytes of a PNG file."""
         return base64.b64decode(self.do("GET", "/screenshot"))
 
     def process(self):
@@ -107,6 +121,7 @@ class WebDriver(BrowserDriver):
         return self.driver.pid
 
     def end(self):
+        """Closes the browser, and ends its driver."""
         try:
             self.do("DELETE", "")
         except (DriverError, OSError):
@@ -116,6 +131,7 @@ class WebDriver(BrowserDriver):
 
 
 class Chromium(WebDriver):
+    """Chromium, which chromedriver controls."""
     name = "Chromium"
     # With these settings, Chromium stores no site data.
     blocks_data = {"profile.default_content_setting_values.cookies": 2}
@@ -147,6 +163,7 @@ class Chromium(WebDriver):
         self.command("Emulation.clearDeviceMetricsOverride")
 
     def log(self):
+        """Returns the messages in the browser's log."""
         return [entry["message"] for entry in self.do("POST", "/se/log", {"type": "browser"})]
 
 
@@ -184,7 +201,7 @@ class WebKit(WebDriver):
         self.script(TOUCH_ELEMENT, selector, time_down)
 
     def click_secondary(self, x, y):
-        # Dispatches the events by script, because after a press of this button the driver would type every character without Shift.
+        # Dispatch the events by script, because after a press of this button the driver would type every character without Shift.
         self.script(CLICK_SECONDARY, x, y)
 
     def _display(self):
@@ -197,6 +214,7 @@ class WebKit(WebDriver):
         return f":{number}"
 
     def _begin(self):
+        """Starts a session of the driver, which can need a minute to start. Returns the driver's answer."""
         browser = os.environ.get("MINIBROWSER") or glob.glob("/usr/lib/*/webkit2gtk-4.*/MiniBrowser")[0]
         options = {"binary": browser, "args": ["--automation"]}
         request = {"capabilities": {"alwaysMatch": {"browserName": "MiniBrowser", "webkitgtk:browserOptions": options}}}
@@ -210,6 +228,7 @@ class WebKit(WebDriver):
                 time.sleep(0.2)
 
     def end(self):
+        """Closes the browser, and ends its driver and its display."""
         super().end()
         self.screen.terminate()
         self.screen.wait()

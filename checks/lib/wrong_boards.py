@@ -1,11 +1,11 @@
-"""Random texts of boards with errors, reproducible by a seed. Most have an error in one part, and some are not TOML."""
+"""Random texts of boards with errors, reproducible from a seed. Most have an error in one part, and some are not TOML."""
 
 import random
 
 from board_spellings import TEXT_ENDS, EQUALS, KINDS, RawValue, seeded_board, random_tables_text
 
 # Wrong values for each key, besides those in INVALID_VALUES, which are wrong for every key.
-WRONG = {
+WRONG_VALUES = {
     "chip": [16, -1, 99], "port": ["000", "00000", "iii2", "IIII", "o000"], "bank": [8, -1], "chips": [0, 9, 5], "clock": ["chain0.0", "rom00.1"],
     "data": ["ram0.4.0", "rom0"], "chain": [4, -1], "first": [80, -1], "rows": [0, 11], "line": ["rom16.0", "chain4.0", "ram8.0.0", "led"],
     "columns": [[], ["rom0.4"], ["chain0.0"], ["ram0.0.0"]],
@@ -15,7 +15,7 @@ UNKNOWN_KEYS = ["lamps", "chip", "bank", "line", "port", "x", "Rom", "a-b", "a b
 CHARACTERS = "\"'[]{}=.,#\\ \t0123456789abcdeiorxINF_-+:"
 
 
-def other_line(rng, tables):
+def random_line_name(rng, tables):
     """Returns the name of a line, usually one of a part that the board has."""
     present_chips = [table.get("chip") for table in tables["rom"]] if rng.random() < 0.7 else []
     chip = rng.choice([*present_chips, rng.randrange(16)])
@@ -23,48 +23,54 @@ def other_line(rng, tables):
                           f"ram{rng.randrange(8)}.{rng.randrange(4)}.{rng.randrange(4)}", f"chain{rng.randrange(4)}.{rng.randrange(80)}"])
 
 
-def table_of(rng, tables):
+def random_table(rng, tables):
     """Returns one of the tables at random, or None if there is none."""
     section = rng.choice([kind for kind in KINDS if tables[kind]] or [None])
     return rng.choice(tables[section]) if section else None
 
 
 def remove_key(rng, tables):
-    if table := table_of(rng, tables):
+    """Removes a key from one of the tables."""
+    if table := random_table(rng, tables):
         table.pop(rng.choice(list(table)), None)
 
 
 def add_key(rng, tables):
-    if table := table_of(rng, tables):
+    """Adds a key to one of the tables. The key is usually unknown, or belongs to another kind of table."""
+    if table := random_table(rng, tables):
         table[rng.choice(UNKNOWN_KEYS)] = rng.choice([1, "a", INVALID_VALUES[0]])
 
 
 def set_wrong_value(rng, tables):
-    if (table := table_of(rng, tables)) and (key := rng.choice([*table])) in WRONG:
-        table[key] = rng.choice([*WRONG[key], rng.choice(INVALID_VALUES)])
+    """Usually sets a key of one of the tables to a wrong value."""
+    if (table := random_table(rng, tables)) and (key := rng.choice([*table])) in WRONG_VALUES:
+        table[key] = rng.choice([*WRONG_VALUES[key], rng.choice(INVALID_VALUES)])
 
 
 def replace_line(rng, tables):
     """Replaces the name of a line with another one. The board can lack that line, or the line can have the wrong direction."""
-    if table := table_of(rng, tables):
+    if table := random_table(rng, tables):
         for key in {"clock", "data", "line"} & {*table}:
-            table[key] = other_line(rng, tables)
+            table[key] = random_line_name(rng, tables)
         if "columns" in table:
-            table["columns"] = [*table["columns"][:rng.randrange(8)], other_line(rng, tables)] if isinstance(table["columns"], list) else []
+            table["columns"] = [*table["columns"][:rng.randrange(8)], random_line_name(rng, tables)] if isinstance(table["columns"], list) else []
 
 
 def remove_table(rng, tables):
+    """Removes the first table of a random kind."""
     kind = rng.choice(KINDS)
     tables[kind] = tables[kind][1:]
 
 
 def repeat_table(rng, tables):
+    """Adds a copy of a ROM, RAM or chain table."""
     kind = rng.choice(KINDS[:3])
     if tables[kind]:
         tables[kind].append(dict(rng.choice(tables[kind])))
 
 
 def exceed_limit(rng, tables):
+    """Adds too many tables of one kind, or too many columns of keys."""
     kind = rng.choice(["rom", "ram", "chain", "lamp", "keys"])
     if kind == "keys" and tables["keys"]:
         columns = tables["keys"][0].get("columns", [])
@@ -74,6 +80,7 @@ def exceed_limit(rng, tables):
 
 
 def move_keys(rng, tables):
+    """Sets the chain, the first bit or the number of rows of the keys to another value."""
     if tables["keys"]:
         tables["keys"][0][rng.choice(["chain", "first", "rows"])] = rng.choice([0, 1, 3, 9, 10, 70, 79])
 
@@ -82,7 +89,7 @@ CHANGES = (remove_key, add_key, set_wrong_value, set_wrong_value, replace_line, 
 
 
 def spoil_text(rng, text):
-    """Returns a text with characters added, removed or replaced, or with one line more or fewer."""
+    """Returns a text with characters added, removed or replaced, with one line more or fewer, or without its end."""
     for _n in range(rng.choice([1, 1, 2, 5])):
         index = rng.randrange(len(text) + 1)
         lines = text.split("\n")
@@ -102,7 +109,7 @@ def top_line(rng):
 
 
 def wrong_board(number):
-    """Returns the lines of a random board's text, usually with an error in it."""
+    """Returns the lines of a random board's text, usually with an error in it. `number` is the seed."""
     rng = random.Random(number)
     board = seeded_board(rng)
     tables = {section: [dict(table) for kind, table in board.tables() if kind == section] for section in KINDS}

@@ -42,26 +42,27 @@ class BenchCommand {
   }
 
   /**
-   * Runs a command to its end. Resolves to its exit status and its output.
+   * Runs a command to its end. Resolves to its output, its text on standard error, and its exit status. The status is null if the command
+   * did not start or a signal ended it.
    * @param {string[]} args the name of the command and its arguments
    * @param token the cancellation token
    */
   run(args, token) {
     return new Promise((settle) => {
       const child = this.start(args, "pipe");
-      const printed = { output: "", errors: "" };
+      const streams = { output: "", errors: "" };
       child.stdout.setEncoding("utf8").on("data", (text) => {
-        printed.output += text;
+        streams.output += text;
       });
       child.stderr.setEncoding("utf8").on("data", (text) => {
-        printed.errors += text;
+        streams.errors += text;
       });
       child.stdin.on("error", () => {});
       child.stdin.end();
       const cancellation = token && token.onCancellationRequested(() => child.kill());
       const finish = (status, startError) => {
         if (cancellation) cancellation.dispose();
-        settle({ status, output: printed.output, errors: printed.errors + startError });
+        settle({ status, output: streams.output, errors: streams.errors + startError });
       };
       child.on("error", ({ message }) => finish(null, message));
       child.on("close", (status) => finish(status, ""));

@@ -36,8 +36,9 @@ function listProjectTests(folder) {
 }
 
 /**
- * Returns the arguments with which mcs4 runs a test file. The test files before this one in the project run first, because they can define steps
- * that this file uses. The last results in the output belong to this file.
+ * Returns the arguments with which mcs4 runs a test file. The test files before this one in the project run first, because they can define
+ * steps that this file uses. The last results in the output belong to this file. Without a project, mcs4 uses the board in the file's
+ * folder and the program with the file's name.
  * @param {string} file
  */
 function testArguments(file) {

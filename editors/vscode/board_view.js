@@ -14,9 +14,10 @@ class BoardView {
     this.folder = folder;
     /** The open web views, in the side bar and in panels. */
     this.pages = new Set();
-    /** The debug session whose board the view draws, and the values that the session has reported about the board; both null if there is none. */
+    /** The debug session whose board the view draws, or null if there is none. */
     this.session = null;
-    this.shown = null;
+    /** The values that the session has reported about the board, or null if there is no session. */
+    this.boardState = null;
   }
 
   /** Fills a web view in the side bar or in a panel. The editor calls this method when it shows the view. */
@@ -37,8 +38,8 @@ class BoardView {
   }
 
   /**
-   * Opens a panel. If no program is being debugged, starts to debug the program in the active editor, or the first project of the workspace, in real
-   * time.
+   * Opens a panel. If no program is being debugged, starts to debug in real time: the project or the program of the active editor, or the
+   * first project of the workspace.
    */
   async open() {
     const { window, debug, ViewColumn } = this.vscode;
@@ -48,7 +49,7 @@ class BoardView {
     if (this.session) return;
     const configuration = await this.launchConfiguration();
     if (configuration) await debug.startDebugging(undefined, configuration);
-    else window.showInformationMessage("There is no MCS-4 program here: open one, or a folder with mcs4.toml.");
+    else window.showInformationMessage("No MCS-4 program is open: open one, or a folder with mcs4.toml.");
   }
 
   /** Resolves to the launch configuration with which a new panel starts debugging; null if there is no program. */
@@ -67,46 +68,47 @@ class BoardView {
   /** Handles a message of a web view: the view is ready, or the user has pressed or released a key or cleared the printout. */
   async handleMessage(message, webview) {
     if (message.isReady) {
-      webview.postMessage({ kind: "boardShown", news: this.shown });
+      webview.postMessage({ kind: "boardShown", update: this.boardState });
       return;
     }
     if (!this.session) return;
     try {
-      if (message.isTorn) await this.session.customRequest("clearPrintout");
+      if (message.clearsPrintout) await this.session.customRequest("clearPrintout");
       else await this.session.customRequest("changeKey", { place: message.place, isDown: message.isDown });
     } catch (error) {
       this.vscode.window.showErrorMessage(error.message);
     }
   }
 
-  /** Sends values of the board to all web views. */
-  post(news) {
-    for (const webview of this.pages) webview.postMessage({ kind: "boardShown", news });
+  /** Sends values of the board to all web views; null after the end of debugging. */
+  post(update) {
+    for (const webview of this.pages) webview.postMessage({ kind: "boardShown", update });
   }
 
   /** Draws the board of a debug session that has started. */
   async followSession(session) {
     try {
-      const news = await session.customRequest("watchBoard");
+      const boardState = await session.customRequest("watchBoard");
       this.session = session;
-      this.shown = news;
-      this.post(news);
+      this.boardState = boardState;
+      this.post(boardState);
     } catch (error) {
       this.vscode.window.showErrorMessage(error.message);
     }
   }
 
-  /** Sends the changes of the board that the debug session has reported to the web views. */
+  /** Sends to the web views the changes of the board that the debug session has reported. */
   handleEvent({ session, event, body }) {
     if (event !== "boardShown" || session !== this.session) return;
-    this.shown = { ...this.shown, ...body };
+    this.boardState = { ...this.boardState, ...body };
     this.post(body);
   }
 
-  end(session) {
+  /** Clears the web views if the session whose board they draw has ended. */
+  handleSessionEnd(session) {
     if (session !== this.session) return;
     this.session = null;
-    this.shown = null;
+    this.boardState = null;
     this.post(null);
   }
 
@@ -117,7 +119,7 @@ class BoardView {
       commands.registerCommand("mcs4.openPanel", () => this.open()),
       window.registerWebviewViewProvider("mcs4.board", this),
       debug.onDidReceiveDebugSessionCustomEvent((event) => this.handleEvent(event)),
-      debug.onDidTerminateDebugSession((session) => this.end(session)),
+      debug.onDidTerminateDebugSession((session) => this.handleSessionEnd(session)),
       debug.registerDebugAdapterTrackerFactory("mcs4", {
         createDebugAdapterTracker: (session) => ({
           onDidSendMessage: ({ type, event }) => {

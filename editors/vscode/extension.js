@@ -11,8 +11,8 @@ const { TestExplorer } = require("./test_explorer.js");
 const LANGUAGES = ["mcs4", "mcs4-board", "mcs4-test", "mcs4-props"];
 
 /**
- * Returns a complete debug configuration. If the user has no launch configuration and presses F5, returns a configuration for the program in the
- * active editor.
+ * Returns the debug configuration to use. If the user has no launch configuration and presses F5, this is a configuration for the program
+ * in the active editor, if there is one.
  */
 function resolveConfiguration(folder, configuration) {
   if (configuration.type) return configuration;
@@ -24,10 +24,10 @@ function resolveConfiguration(folder, configuration) {
 async function pressKey() {
   const session = vscode.debug.activeDebugSession;
   if (!session || session.type !== "mcs4") {
-    vscode.window.showInformationMessage("No program is being debugged.");
+    vscode.window.showInformationMessage("No program is being debugged: start one with F5.");
     return;
   }
-  const key = await vscode.window.showInputBox({ prompt: "The name of the key in the board's text" });
+  const key = await vscode.window.showInputBox({ prompt: "Name of the key, as in the board's text" });
   if (!key) return;
   try {
     await session.customRequest("pressKey", { key });
@@ -51,7 +51,7 @@ exports.activate = (context) => {
     ...new TestExplorer(vscode, bench).register(),
     ...new BoardView(vscode, __dirname).register(),
   );
-  return client.begin();
+  return client.activate();
 };
 
-exports.deactivate = () => (client ? client.end() : undefined);
+exports.deactivate = () => (client ? client.shutDown() : undefined);

@@ -21,9 +21,9 @@ class LanguageClient {
     this.vscode = vscode;
     this.bench = bench;
     this.languages = languages;
-    this.input = Buffer.alloc(0);
+    this.receivedBytes = Buffer.alloc(0);
     this.pendingRequests = new Map();
-    this.id = 0;
+    this.lastRequestId = 0;
     this.child = null;
     this.disposables = [];
   }
@@ -31,33 +31,36 @@ class LanguageClient {
   // --- the server
 
   /** Starts the server, and registers the providers of the language features. */
-  async begin() {
+  async activate() {
     const { vscode } = this;
     this.diagnostics = vscode.languages.createDiagnosticCollection("mcs4");
     this.disposables.push(this.diagnostics);
-    await this.start();
+    await this.startServer();
     const workspaceFolders = (vscode.workspace.workspaceFolders || []).map(({ uri, name }) => ({ uri: uri.toString(), name }));
     const params = { processId: process.pid, rootUri: null, workspaceFolders, capabilities: CAPABILITIES };
     const { capabilities } = await this.request("initialize", params);
     this.notify("initialized", {});
-    this.listen();
-    this.provide(capabilities);
+    this.listenToDocuments();
+    this.registerProviders(capabilities);
   }
 
-  /** Starts the server. If the program in the user setting does not start, starts the extension's own program instead. */
-  async start() {
+  /**
+   * Starts the server. If the program in the user setting does not start, starts the extension's own program instead. Throws an error if no
+   * server starts.
+   */
+  async startServer() {
     const { bench } = this;
     const { configuredCommand } = bench;
-    if (await this.tryToStart()) return;
-    if (configuredCommand === "") throw new Error("The language server was not started.");
+    if (await this.tryToStartServer()) return;
+    if (configuredCommand === "") throw new Error("cannot start the language server");
     bench.hasSettingFailed = true;
-    const message = `The command ${configuredCommand} was not started; the setting mcs4.command names it. The extension's own commands take its place.`;
+    const message = `Cannot start the command ${configuredCommand} (setting mcs4.command). The extension uses its own commands instead.`;
     this.vscode.window.showErrorMessage(message);
-    if (!(await this.tryToStart())) throw new Error("The language server was not started.");
+    if (!(await this.tryToStartServer())) throw new Error("cannot start the language server");
   }
 
   /** Tries to start the server. Resolves to true if the program has started. */
-  async tryToStart() {
+  async tryToStartServer() {
     const child = this.bench.start(["lsp"], "ignore");
     const hasStarted = await new Promise((settle) => {
       child.on("spawn", () => settle(true));
@@ -79,27 +82,27 @@ class LanguageClient {
   }
 
   /** Ends the server. */
-  async end() {
+  async shutDown() {
     if (!this.child) return;
     await this.request("shutdown").catch(() => {});
     this.notify("exit");
   }
 
   dispose() {
-    this.end();
+    this.shutDown();
     for (const disposable of this.disposables) disposable.dispose();
   }
 
   /** Adds received bytes, and handles the messages that are complete. */
   receive(bytes) {
-    this.input = Buffer.concat([this.input, bytes]);
+    this.receivedBytes = Buffer.concat([this.receivedBytes, bytes]);
     for (;;) {
-      const end = this.input.indexOf("\r\n\r\n");
+      const end = this.receivedBytes.indexOf("\r\n\r\n");
       if (end < 0) return;
-      const size = Number(/content-length: *(\d+)/i.exec(this.input.subarray(0, end).toString())[1]);
-      if (this.input.length < end + 4 + size) return;
-      const message = JSON.parse(this.input.subarray(end + 4, end + 4 + size).toString());
-      this.input = this.input.subarray(end + 4 + size);
+      const size = Number(/content-length: *(\d+)/i.exec(this.receivedBytes.subarray(0, end).toString())[1]);
+      if (this.receivedBytes.length < end + 4 + size) return;
+      const message = JSON.parse(this.receivedBytes.subarray(end + 4, end + 4 + size).toString());
+      this.receivedBytes = this.receivedBytes.subarray(end + 4 + size);
       if (message.method === "textDocument/publishDiagnostics") this.showDiagnostics(message.params);
       if (message.method === "window/showMessage") this.showMessage(message.params);
       const pending = message.method === undefined && this.pendingRequests.get(message.id);
@@ -128,10 +131,10 @@ class LanguageClient {
     this.send({ method, params });
   }
 
-  /** Sends a request. Resolves to its result. */
+  /** Sends a request. Resolves to its result. Rejects if the server reports an error or has ended. */
   request(method, params) {
-    this.id += 1;
-    const { id } = this;
+    this.lastRequestId += 1;
+    const id = this.lastRequestId;
     if (!this.child) return Promise.reject(new Error("the language server has ended"));
     return new Promise((resolve, reject) => {
       this.pendingRequests.set(id, { resolve, reject });
@@ -147,7 +150,7 @@ class LanguageClient {
   }
 
   /** Sends the server the documents that are opened, changed and closed. */
-  listen() {
+  listenToDocuments() {
     const { workspace } = this.vscode;
     const serverIdOf = ({ languageId }) => SERVER_LANGUAGE_IDS[languageId] || languageId;
     const sendOpened = (document) => {
@@ -181,8 +184,8 @@ class LanguageClient {
   // --- conversions between the types of the editor and of the protocol
 
   toProtocolRange({ start, end }) {
-    const plain = ({ line, character }) => ({ line, character });
-    return { start: plain(start), end: plain(end) };
+    const toProtocolPosition = ({ line, character }) => ({ line, character });
+    return { start: toProtocolPosition(start), end: toProtocolPosition(end) };
   }
 
   toEditorRange({ start, end }) {
@@ -208,7 +211,7 @@ class LanguageClient {
   // --- requests of the editor
 
   /** Registers the providers of the language features. */
-  provide(capabilities) {
+  registerProviders(capabilities) {
     const { languages } = this.vscode;
     const selector = this.languages.map((language) => ({ language }));
     this.disposables.push(
@@ -235,11 +238,11 @@ class LanguageClient {
       languages.registerDocumentSymbolProvider(selector, { provideDocumentSymbols: (document) => this.symbols(document) }),
       languages.registerCodeActionsProvider(selector, { provideCodeActions: (document, range) => this.actions(document, range) }),
     );
-    this.provideColours(selector, capabilities.semanticTokensProvider.legend);
+    this.registerColours(selector, capabilities.semanticTokensProvider.legend);
     this.disposables.push(...new LanguageFeatures(this, selector).register());
   }
 
-  provideColours(selector, { tokenTypes, tokenModifiers }) {
+  registerColours(selector, { tokenTypes, tokenModifiers }) {
     const { vscode } = this;
     const legend = new vscode.SemanticTokensLegend(tokenTypes, tokenModifiers);
     const toTokens = (tokens) => new vscode.SemanticTokens(new Uint32Array(tokens ? tokens.data : []), tokens ? tokens.resultId : undefined);

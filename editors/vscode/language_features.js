@@ -71,9 +71,9 @@ class LanguageFeatures {
   }
 
   async selections(document, positions) {
-    const plain = positions.map(({ line, character }) => ({ line, character }));
+    const protocolPositions = positions.map(({ line, character }) => ({ line, character }));
     const selectionOf = ({ range, parent }) => new this.vscode.SelectionRange(this.client.toEditorRange(range), parent && selectionOf(parent));
-    return (await this.request("textDocument/selectionRange", document, { positions: plain })).map(selectionOf);
+    return (await this.request("textDocument/selectionRange", document, { positions: protocolPositions })).map(selectionOf);
   }
 
   async signature(document, position) {

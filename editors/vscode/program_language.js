@@ -27,7 +27,7 @@ class ProgramLanguage {
     if (uri.scheme !== "file" || !language || languageId === language) return;
     if (this.assignedFiles.has(fileName) || !belongsToBench(fileName)) return;
     this.assignedFiles.add(fileName);
-    // The request fails if the user has closed the document meanwhile. Such an error is ignored.
+    // The request fails if the user has closed the document in the meantime. Ignore that error.
     this.vscode.languages.setTextDocumentLanguage(document, language).then(undefined, () => {});
   }
 }

@@ -37,7 +37,10 @@ class Tasks {
     return task;
   }
 
-  /** Returns a task of tasks.json that the editor can run. If the task names no folder, the task runs in the workspace folder. */
+  /**
+   * Returns a task of tasks.json that the editor can run. If the task names no folder, the task runs in the workspace folder. Returns
+   * undefined if the command is unknown or there is no folder.
+   */
   completeTask({ definition, scope }) {
     const { vscode } = this;
     const [first] = vscode.workspace.workspaceFolders || [];

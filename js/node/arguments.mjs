@@ -72,7 +72,8 @@ export function requireProjectFiles(project, kind) {
 }
 
 /**
- * Resolves to the file names of board, program and properties, from the arguments or from the project.
+ * Resolves to the file names of the board, the program and the properties. In a project, `words` contains only the names of properties
+ * files, or is empty for the file of the project.
  * @param {string | undefined} folder
  * @param {string[]} words
  */

@@ -10,7 +10,7 @@ import { CommandError } from "./output.mjs";
 /** @typedef {import("./input_texts.mjs").InputText} InputText */
 
 /**
- * Reads a board and its front panel. Resolves to both, and to the bench's answer lines to `board`.
+ * Reads a board and its front panel. Resolves to both, and to the bench's answer lines to `board`. Rejects if one of them has errors.
  * @param {import("../core/engine/engine_host.js").EngineHost} engine
  * @param {InputText} boardFile
  */
@@ -31,7 +31,7 @@ export async function readBoardAndFace(engine, boardFile) {
  * @param {import("../core/testing/press_lines.js").Pace} pace
  */
 export function makeKeyLines(face, boardName, keys, pace) {
-  const { lines, unknown: unknownKey } = pressLines(face, keys, pace);
+  const { lines, unknownName: unknownKey } = pressLines(face, keys, pace);
   if (unknownKey === null) return lines;
   const hasNames = face.test !== null || [...face.keys.values()].some(({ text }) => text !== "");
   throw new CommandError(hasNames ? noKeyOnBoardMessage(boardName, unknownKey) : keysWithoutNames(boardName));

@@ -24,6 +24,7 @@ const KILL_DELAYS = { command: 1000, tool: 10000 };
 
 /** @type {Map<number, { child: import("node:child_process").ChildProcess, hasGroup: boolean }>} the running children, by process id */
 const runningChildren = new Map();
+/** True after `endAll` has started to end this process. */
 let isEnding = false;
 
 /** Returns a promise that never resolves, for callers that must wait while the process is ending. */
@@ -44,7 +45,7 @@ function sendSignal(pid, signal) {
 }
 
 /**
- * Tracks a child until it ends.
+ * Tracks a child until it ends. Resolves to its end.
  * @param {import("node:child_process").ChildProcess} child
  * @param {boolean} hasGroup true if the child has its own process group
  * @returns {Promise<ChildEnd>}
@@ -115,8 +116,8 @@ export function yieldToMessages() {
 }
 
 /**
- * Ends all children, then this process.
- * @param {number} status
+ * Ends all children, then this process. Kills a child that does not end in time.
+ * @param {number} status the exit status of this process
  */
 async function endAll(status) {
   if (isEnding) return;

@@ -37,8 +37,8 @@ async function createUnknownOptionError(word, options) {
 }
 
 /**
- * @type {(value: string | undefined, isInline: boolean) => boolean} true if an option has no value, or if its value is the next argument
- * and looks like another option
+ * @type {(value: string | undefined, isInline: boolean) => boolean} true if an option has no value or an empty value, or if its value is
+ *   the next argument and looks like another option
  */
 const lacksValue = (value, isInline) => value === undefined || value === "" || (!isInline && /^-[^\d]/.test(value));
 
@@ -86,7 +86,8 @@ function printErrorLines(name, message) {
 }
 
 /**
- * Reports an error and resolves to the exit status. Rethrows an unexpected error.
+ * Reports an error and resolves to the exit status. If there is no room for temporary files, reports that instead of the error. Rethrows an
+ * unexpected error.
  * @param {string} name
  * @param {unknown} error
  */

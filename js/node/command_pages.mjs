@@ -93,7 +93,10 @@ function listCompletions() {
 /** @type {(text: string) => string} */
 const quoteForShell = (text) => `'${text.replace(/'/g, "'\\''")}'`;
 
-/** @param {ReturnType<typeof listCompletions>} words */
+/**
+ * Returns the completion script for bash.
+ * @param {ReturnType<typeof listCompletions>} words
+ */
 function formatBashCompletion(words) {
   const commands = words.filter((word) => word.words.length > 0);
   const cases = commands.map((word) => `            ${word.name}) words=${quoteForShell(word.words.join(" "))} ;;`);
@@ -116,7 +119,10 @@ complete -o default -F _mcs4 mcs4
 `;
 }
 
-/** @param {ReturnType<typeof listCompletions>} words */
+/**
+ * Returns the completion script for zsh.
+ * @param {ReturnType<typeof listCompletions>} words
+ */
 function formatZshCompletion(words) {
   const otherCommands = words.filter((word) => word.name !== "help" && word.words.length > 0);
   return `#compdef mcs4
@@ -138,7 +144,10 @@ _files
 `;
 }
 
-/** @param {ReturnType<typeof listCompletions>} words */
+/**
+ * Returns the completion script for fish.
+ * @param {ReturnType<typeof listCompletions>} words
+ */
 function formatFishCompletion(words) {
   const quoteForFish = (/** @type {string} */ text) => `'${text.replace(/\\/g, "\\\\").replace(/'/g, "\\'")}'`;
   const completeAfter = (/** @type {string} */ name) => `complete -c mcs4 -n '__fish_seen_subcommand_from ${name}'`;

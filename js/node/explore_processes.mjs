@@ -41,7 +41,7 @@ let isStopped = false;
 
 /**
  * Returns the text of the tests that save the start state of a campaign; "" if the campaign has no start state. If the campaign names no
- * test file, reads the `.test` file next to the properties file.
+ * test file, reads the `.test` file next to the properties file. Throws an error if the file cannot be read.
  * @param {Campaign} campaign
  * @param {string} name the name of the properties file
  */
@@ -57,6 +57,7 @@ function readStartTests({ from }, name) {
 
 /**
  * Asks a model about key sequences. The model is a shell command that reads a line for each sequence and prints what the display must show.
+ * Resolves to these texts, or to an error message if the command fails or prints a different number of lines.
  * @param {string} command
  * @param {string[]} keySequences
  * @returns {Promise<import("../core/explore/model.js").ModelOutput>}
@@ -85,7 +86,7 @@ class Exploration {
 
   /**
    * Reads the texts. Resolves to the subject of the search (the board and its program in the start state), the campaign, and all texts that
-   * determine the result.
+   * determine the result. Throws an error if one of the texts is rejected.
    */
   async readTexts() {
     const { engine, settings: { texts: { board, program, properties } } } = this;
@@ -125,7 +126,7 @@ class Exploration {
   }
 
   /**
-   * Runs one search, with the seed in the settings. Resolves to the report.
+   * Runs one search, with the seed in the settings. Prints each counterexample when it is found. Resolves to the report.
    * @param {Awaited<ReturnType<Exploration["readTexts"]>>} search
    * @returns {Promise<Report>}
    */
@@ -170,7 +171,7 @@ class Exploration {
     return { status: await rerunCommand({ ...process.env, [JOB_VARIABLE]: name }), report };
   }
 
-  /** Runs all jobs in parallel. Resolves to the combined report. */
+  /** Runs all jobs in parallel, or a single job in this process. Resolves to the combined report. Throws an error if a job fails. */
   async searchAll() {
     const { files, settings: { jobs, seed, texts } } = this;
     writeFileSync(files.board, texts.board.text);

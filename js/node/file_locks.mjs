@@ -11,7 +11,10 @@ const LOCKED_STATUS = 75;
 /** Matches a lock in /proc/locks. Captures the process that holds the lock, and the device and inode of the file. */
 const FLOCK_LINE = /^\d+: FLOCK +\w+ +\w+ +(\d+) +([0-9a-f]+):([0-9a-f]+):(\d+) /;
 
-/** @param {string} name the name of a file in /proc */
+/**
+ * Returns the text of a file in /proc, or "" if it cannot be read.
+ * @param {string} name
+ */
 function readProcFile(name) {
   try {
     return readFileSync(name, "utf8");

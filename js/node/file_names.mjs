@@ -15,7 +15,10 @@ export function expandTilde(name) {
   return name === "~" || name.startsWith("~/") ? homedir() + name.slice(1) : name;
 }
 
-/** @param {string} name */
+/**
+ * Returns true if a name refers to a folder. Returns false if there is no such folder, or if it cannot be read.
+ * @param {string} name
+ */
 function isFolder(name) {
   try {
     return statSync(name).isDirectory();
@@ -25,8 +28,8 @@ function isFolder(name) {
 }
 
 /**
- * Returns the paths that start with a prefix. The path of a folder ends with a slash. Hidden files are included only if the prefix includes their
- * initial dot.
+ * Returns the first MAX_COMPLETIONS paths that start with a prefix; none if the folder cannot be read. The path of a folder ends with a
+ * slash. Hidden files are included only if the prefix includes their initial dot. Names with control characters are omitted.
  * @param {string} prefix
  */
 export function completePath(prefix) {

@@ -106,7 +106,7 @@ export class InputTexts {
 
   /**
    * Returns the text of a board (`wire`) or of a program (`asm`). If the file is a session script, returns the text after the first such
-   * command, otherwise the complete file.
+   * command, otherwise the complete file. Throws an error if this file is too long.
    * @param {string} name
    * @param {"wire" | "asm"} word
    * @returns {InputText}
@@ -131,7 +131,8 @@ export class InputTexts {
   }
 
   /**
-   * Returns the bench's answer lines on standard input. Ignores a last line without a line feed, because it is truncated.
+   * Returns the bench's answer lines on standard input. Ignores a last line without a line feed, because it is truncated. Throws an error
+   * if standard input is empty.
    * @param {string} command the command that reads the answers
    */
   readAnswers(command) {

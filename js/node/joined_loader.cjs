@@ -55,7 +55,10 @@ function belongsToUser(name) {
   return stat !== undefined && stat.isDirectory() && (!process.getuid || stat.uid === process.getuid());
 }
 
-/** Returns the path of mcs4's private cache folder, and creates the folder if necessary. Returns "" if it cannot be created. */
+/**
+ * Returns the path of mcs4's private cache folder, and creates the folder if necessary. Returns "" if it cannot be created, belongs to
+ * another user, or is accessible to other users.
+ */
 function findCacheFolder() {
   const { XDG_CACHE_HOME = "", HOME = "", LOCALAPPDATA = "" } = process.env;
   const cache = IS_WINDOWS ? LOCALAPPDATA : XDG_CACHE_HOME.startsWith("/") ? XDG_CACHE_HOME : /^\/./.test(HOME) ? join(HOME, ".cache") : "";
@@ -180,7 +183,8 @@ function runJoinedFile(file, path, checksum) {
 }
 
 /**
- * Returns the checksum of a joined file and its sources. Returns "" if the joined file was built from other sources.
+ * Returns the checksum of a joined file and its sources. Returns "" if the joined file was built from other sources, or if its list of
+ * sources cannot be read. If the tree has no sources, does not compare them.
  * @param {string} folder the cache folder; "" for none
  * @param {string} name the name of a command
  * @param {string} file

@@ -61,7 +61,7 @@ export function listenToInput(connection, onEnd) {
       end(errorMessage(error));
       return;
     }
-    if (connection.reader.incomplete !== "") timer = setTimeout(rejectIncomplete, MESSAGE_TIMEOUT, partCount);
+    if (connection.reader.incompleteMessage !== "") timer = setTimeout(rejectIncomplete, MESSAGE_TIMEOUT, partCount);
   });
   process.stdin.on("end", () => !hasEnded && end(connection.reportIncomplete()));
 }

@@ -1,9 +1,9 @@
 // An engine that uses the native program to run sessions, with blocking system calls. js/core/engine/engine_host.js describes the interface.
 //
-// A state is represented by a token: the index of a node in a tree. A node stores its parent, and the commands that lead from the parent to it. Each
-// running process is at one state. When a process executes commands, it moves to another state. To reach a state without a process, the
-// engine starts a process on the nearest copy of a session file above the state in the tree, and repeats the commands since then. The
-// engine therefore copies a file only when it needs a state for the second time.
+// The bytes of a state are a token: the index of a node in a tree. A node stores its parent, and the commands that lead from the parent to the node.
+// Each running process is at one state. When a process executes commands, it moves to another state. To reach a state without a process, the
+// engine starts a process on a copy of a session file: on the nearest copy above the state in the tree. The process then executes the commands
+// between the two states. The engine therefore copies a file only when it needs a state for the second time.
 //
 // A shell starts a program for each session, ten times as fast as Node could start it. Node and the program communicate over named pipes. All files
 // are in a private folder of the user. The shell removes this folder when Node has ended, even after a signal.
@@ -35,7 +35,7 @@ import { TOP } from "./top_folder.mjs";
 
 /** The maximum number of processes, each at one state. */
 const MAX_PROCESSES = 3;
-/** The maximum number of copies that the engine makes by itself, in addition to the copies that calls of `keep` request. */
+/** The maximum number of copies that the engine makes by itself, in addition to the copies that calls of `prepareForRuns` request. */
 const MAX_COPIES = 32;
 /** The minimum number of bytes that a pipe accepts while nobody reads from it. */
 const PIPE_CAPACITY = 4096;
@@ -149,21 +149,21 @@ class Starter {
     }
     this.program = stdout;
     /** The file descriptor of the control pipe; -1 if the shell does not know a program. */
-    this.control = -1;
+    this.controlPipe = -1;
     if (status === UNKNOWN_PROGRAM_STATUS) removeFolder(this.folder);
     else if (status !== 0) throw new ProgramError(`cannot make pipes in ${this.folder}; TMPDIR names another place for temporary files`);
-    else this.control = openSync(join(this.folder, "control"), "w");
+    else this.controlPipe = openSync(join(this.folder, "control"), "w");
   }
 
   /**
-   * Starts a program on a session file. Returns the slot number of its pipes, and the open pipes.
+   * Starts a program on a session file. Returns the slot number of its pipes, and the open pipes. Throws an error if all pipes are in use.
    * @param {"new" | "open"} word
    * @param {string} name
    */
   start(word, name) {
     const slot = this.freeSlots.pop();
     if (slot === undefined) throw new Error("all pipes are in use");
-    writeSync(this.control, `${word} ${name} ${slot}\n`);
+    writeSync(this.controlPipe, `${word} ${name} ${slot}\n`);
     return { slot, input: openSync(join(this.folder, `in${slot}`), "w"), output: openSync(join(this.folder, `out${slot}`), "r") };
   }
 
@@ -176,7 +176,7 @@ class Starter {
   /** Removes the folder and ends the shell. */
   end() {
     removeFolder(this.folder);
-    closeSync(this.control);
+    closeSync(this.controlPipe);
   }
 }
 
@@ -343,7 +343,7 @@ export class NativeEngine {
   /** Returns an engine for the program that ./mcs4 starts, if start.sh knows the program without comparing all sources. Otherwise returns null. */
   static forKnownProgram() {
     const starter = new Starter("");
-    return starter.control < 0 ? null : new NativeEngine(starter.program, starter);
+    return starter.controlPipe < 0 ? null : new NativeEngine(starter.program, starter);
   }
 
   // --- the interface EngineHost ---
@@ -389,7 +389,7 @@ export class NativeEngine {
   }
 
   /** @param {State} state */
-  keep(state) {
+  prepareForRuns(state) {
     const stateIndex = this.readIndex(state);
     const { file } = this.sessionAt(stateIndex);
     this.automaticCopies = this.automaticCopies.filter((index) => index !== stateIndex);
@@ -432,7 +432,7 @@ export class NativeEngine {
   // --- reaching a state ---
 
   /**
-   * Reads the index of a state's node.
+   * Returns the index of a state's node. Throws an error if the bytes are not a state of this engine.
    * @param {State} state
    */
   readIndex(state) {
@@ -504,7 +504,7 @@ export class NativeEngine {
   }
 
   /**
-   * Returns a session at a state. Starts a new session if there is none.
+   * Returns a session at a state, and moves it to the front of the list. Starts a new session if there is none.
    * @param {number} stateIndex
    */
   sessionAt(stateIndex) {
@@ -534,8 +534,8 @@ export class NativeEngine {
   }
 
   /**
-   * Returns the path of the nearest copy at a state or above it in the tree ("" for a new session), and the commands that lead from this copy to the
-   * state.
+   * Finds the nearest copy at a state or above it in the tree. Returns its path ("" for a new session), and the commands that lead from this copy to
+   * the state.
    * @param {number} stateIndex
    */
   collectCommands(stateIndex) {

@@ -69,8 +69,9 @@ export function findProgramPath() {
 }
 
 /**
- * Returns the path of the prover: the program that the environment variable MCS4_PROVE names, a local build, or the shipped program. Returns "" if
- * there is none for this system.
+ * Returns the path of the prover: the program that the environment variable MCS4_PROVE names, a local build, or the shipped program.
+ * Returns "" if there is none for this system. Throws an error if the program that MCS4_PROVE names does not exist, or if no prover is
+ * found on a supported system.
  */
 export function findProverPath() {
   const { MCS4_PROVE: proverName } = process.env;
@@ -135,7 +136,8 @@ export function findRoomError() {
 }
 
 /**
- * Resolves to the state of a session file. The engine works on a copy of the file. Error messages contain the name of the file.
+ * Resolves to the state of a session file. The engine works on a copy of the file. Throws an error with the name of the file if the file
+ * cannot be read or is in use, or if the engine rejects it.
  * @param {EngineHost} engine
  * @param {import("./input_texts.mjs").InputTexts} texts
  * @param {string} session the session's file name
@@ -192,7 +194,7 @@ export async function yieldToMessages() {
 
 /**
  * Assembles a program on a board with all possible ROM chips, instead of its own board. Resolves to the program's source map, and the byte
- * at each address.
+ * at each address. Throws an error if the program has errors.
  * @param {EngineHost} engine
  * @param {import("./input_texts.mjs").InputText} program
  */

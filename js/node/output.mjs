@@ -46,7 +46,7 @@ function writeAll(stream, bytes) {
   }
 }
 
-const NOT_WRITTEN_MESSAGE = "not all was written; is there room where it goes to?";
+const NOT_WRITTEN_MESSAGE = "not all output was written; is the disk full?";
 
 /**
  * Throws an error if standard output is closed. Node cannot detect this, because it opens another file instead. The starter therefore sets the
@@ -57,7 +57,8 @@ export function checkOutput() {
 }
 
 /**
- * Writes bytes to standard output.
+ * Writes bytes to standard output. Ends the process if no process reads them any more. Throws an error if they cannot be written for
+ * another reason.
  * @param {Uint8Array} bytes
  */
 export function printBytes(bytes) {

@@ -5,7 +5,7 @@ import { inflateRawSync } from "node:zlib";
 const PAGE = new URL("../../page/fethsaim.html", import.meta.url);
 
 /**
- * Returns the text of a script element of the page.
+ * Returns the text of a script element of the page. Throws an error if the page does not have the element.
  * @param {string} id
  */
 function readPagePart(id) {

@@ -66,6 +66,7 @@ export class PanelTerminal {
     this.keys = [];
     /** @type {string[]} the rows that are currently on the screen */
     this.drawnRows = [];
+    /** Ends the current call of `wait`. */
     this.wake = () => {};
     this.onResize = () => {};
   }
@@ -130,7 +131,7 @@ export class PanelTerminal {
   }
 
   /**
-   * Waits until a key is typed, the size of the terminal changes, or the time has elapsed.
+   * Waits until a key is typed, the size of the terminal changes, the terminal is gone, or the time has elapsed.
    * @param {number} milliseconds the maximum time to wait
    */
   async wait(milliseconds) {

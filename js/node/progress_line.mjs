@@ -25,7 +25,7 @@ export class ProgressLine {
    * Starts a step of the command.
    * @param {(seconds: number) => string} makeText returns the text of the line, given the number of seconds since the step started
    */
-  begin(makeText) {
+  beginStep(makeText) {
     this.makeText = makeText;
     this.startTime = performance.now();
   }

@@ -1,6 +1,6 @@
-// The history of lines typed at prompts, in a private file of the user: $XDG_STATE_HOME/mcs4/history. Several prompts can add lines at the
-// same time, because each of them holds a lock while it writes. A new prompt shortens a file that has become too long. If a prompt cannot
-// create or use the file, only readline stores the lines, until the prompt ends.
+// The history of lines typed at prompts, in a private file of the user: $XDG_STATE_HOME/mcs4/history, or ~/.local/state/mcs4/history. Several
+// prompts can add lines at the same time, because each of them waits for a lock before it writes. A new prompt shortens a file that has become
+// too long. If a prompt cannot create or use the file, only readline stores the lines, until the prompt ends.
 import { closeSync, constants, existsSync, fchmodSync, fstatSync, mkdirSync, openSync, readSync, rmSync, statSync, writeSync } from "node:fs";
 import { dirname, isAbsolute, join } from "node:path";
 import { escapeControls } from "../core/text/control_escapes.js";
@@ -52,7 +52,8 @@ function makeFolder(folder) {
 }
 
 /**
- * Opens the history file, which must be a regular file that belongs to the user. Removes the access rights of other users.
+ * Opens the history file, and creates it if it does not exist. Removes the access rights of other users. Returns the file descriptor.
+ * Throws an error if it is not a regular file that belongs to the user.
  * @param {string} name
  */
 function openFile(name) {

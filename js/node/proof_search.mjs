@@ -38,8 +38,8 @@ class ProofSession {
     process.on("SIGINT", interruptChildren);
   }
 
-  /** Reads the texts. Resolves to an object that proves or disproves their properties. */
-  async begin() {
+  /** Reads the texts. Resolves to an object that proves or disproves their properties. Throws an error if one of the texts is rejected. */
+  async createJudge() {
     const engine = await startEngine();
     if (this.program === "") this.module = (await import("./module_prover.mjs")).makeModuleProver();
     const { board, program, properties } = this.texts;
@@ -80,7 +80,7 @@ class ProofSession {
   }
 
   /**
-   * Asks the prover a question. Resolves to the parsed answer.
+   * Asks the prover a question. Resolves to the parsed answer. Throws an error if the prover ended without an answer.
    * @param {import("../core/prove/question.js").Question} question
    * @param {import("../core/prove/question.js").QuestionLimits} limits
    */
@@ -96,7 +96,7 @@ class ProofSession {
    * Resolves to true if `mcs4 test` confirms a counterexample. A counterexample that consists of session lines needs no confirmation, because the
    * bench has already run it.
    * @param {import("../core/prove/counterexample.js").Counterexample} counterexample
-   * @param {boolean} isGoal
+   * @param {boolean} isGoal true if the property is a goal, whose test must pass
    */
   async confirm({ isTest, text }, isGoal) {
     if (!isTest) return true;
@@ -113,12 +113,11 @@ class ProofSession {
 }
 
 /**
- * Reads the texts and prepares the proof of their properties. Resolves to an object with which the caller then proves or disproves one property at a
- * time.
+ * Reads the texts and prepares the proof of their properties. Resolves to an object that proves or disproves one property at a time.
  * @param {Texts} texts
  * @param {Limits} limits
  * @returns {Promise<PropertyJudge>}
  */
 export function beginProving(texts, limits) {
-  return new ProofSession(texts, limits).begin();
+  return new ProofSession(texts, limits).createJudge();
 }

@@ -124,7 +124,7 @@ export class RejectedTexts {
   }
 
   /**
-   * Returns the message about an error, followed by the wrong line.
+   * Returns the message about an error, followed by the line with the error if this line is known.
    * @param {ProjectTextError} error
    */
   formatError(error) {

@@ -67,7 +67,7 @@ export class SessionProcess {
 
   /**
    * Resolves to the next answer lines. Throws ProgramEnded if the program ends before it has printed them.
-   * @param {number} count
+   * @param {number} count the number of lines
    */
   async readLines(count) {
     while (this.lines.length < count) {
@@ -121,7 +121,7 @@ export class SessionProcess {
 }
 
 /**
- * Resolves to an answer. Adds the meaning if the answer is a refusal. Loads the messages at the first refusal.
+ * Resolves to an answer, followed by its meaning if it is a refusal. Loads the messages at the first refusal.
  * @param {string} answer
  */
 async function addRefusalMessage(answer) {
@@ -132,7 +132,8 @@ async function addRefusalMessage(answer) {
 }
 
 /**
- * Starts the program on a session file. If the program rejects the file, throws an error with the program's message.
+ * Starts the program on a session file. Resolves to its process. If the program rejects the file, throws an error with the program's
+ * message.
  * @param {"new" | "open"} word
  * @param {string} name
  */

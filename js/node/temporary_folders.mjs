@@ -24,7 +24,7 @@ export function findTemporaryRoot() {
 }
 
 /**
- * Creates a temporary folder. Returns its path.
+ * Creates a temporary folder. Returns its path. Throws an error if the folder cannot be created.
  * @param {string} name the beginning of the folder's name
  */
 export function createTemporaryFolder(name) {

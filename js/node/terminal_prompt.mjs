@@ -14,9 +14,9 @@ import { isDumb, makePainter } from "./terminal.mjs";
 /**
  * The receiver of typed lines. `label` is the text of the prompt. `isEnded` is true after a line that ends the prompt. `enterLine` executes a
  * line. `complete` resolves to the completions of a line, and to the end of the line that they replace. `interrupt` stops the line in
- * progress, and returns false if it cannot be stopped. `drop` discards incomplete input and returns a message about it.
+ * progress, and returns false if it cannot be stopped. `discardUnfinished` discards incomplete input, and returns a message about it.
  * @typedef {{ label: string, isEnded: boolean, enterLine: (line: string) => Promise<boolean>,
- *   complete: (line: string) => Promise<[string[], string]>, interrupt: () => boolean, drop: () => string }} LinePrompt
+ *   complete: (line: string) => Promise<[string[], string]>, interrupt: () => boolean, discardUnfinished: () => string }} LinePrompt
  */
 
 /**
@@ -208,7 +208,7 @@ export class TerminalPrompt {
     this.resolveEnd();
   }
 
-  /** Switches off bracketed paste and callbacks `onLeave`. (Readline restores the terminal's mode when it closes, and Node when it ends.) */
+  /** Calls `onLeave` and switches off bracketed paste. (Readline restores the terminal's mode when it closes, and Node when it ends.) */
   releaseTerminal() {
     if (this.hasReleasedTerminal) return;
     this.hasReleasedTerminal = true;
@@ -307,7 +307,7 @@ export class TerminalPrompt {
       output.write("^C");
       terminal.clearLine();
     }
-    const message = isEmpty ? this.prompt.drop() : "";
+    const message = isEmpty ? this.prompt.discardUnfinished() : "";
     if (message !== "") this.print(message);
     this.show();
   }

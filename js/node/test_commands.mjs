@@ -14,10 +14,10 @@ import { CommandError, UsageError, print, printError } from "./output.mjs";
  * @typedef {import("../core/testing/test_run.js").Outcome} Outcome
  * @typedef {import("./input_texts.mjs").InputText} InputText
  *
- * The description of a command. `Counting` is the class of its recorder. `checkNames` checks the file names before the files are read.
+ * The description of a command. `RecorderClass` is the class of its recorder. `checkNames` checks the file names before the files are read.
  * `formatOutcome` formats the result of each test. `printCounts` prints the counts at the end.
- * @typedef {{ name: string, Counting: typeof import("../core/testing/recorders.js").ExecutionRecorder, checkNames?: (names: string[]) => void,
- *   formatOutcome?: (outcome: Outcome, number: number, total: number) => string,
+ * @typedef {{ name: string, RecorderClass: typeof import("../core/testing/recorders.js").ExecutionRecorder,
+ *   checkNames?: (names: string[]) => void, formatOutcome?: (outcome: Outcome, number: number, total: number) => string,
  *   printCounts?: (counts: { coverage: Coverage, profile: Profile }, program: InputText) => void }} Tool
  */
 
@@ -25,7 +25,8 @@ import { CommandError, UsageError, print, printError } from "./output.mjs";
 const MAX_CYCLES = 100000000;
 
 /**
- * Resolves to the file names of board, program and tests, from the arguments or from the project.
+ * Resolves to the file names of the board, the program and the tests. In a project, `givenNames` contains only the names of tests, or is
+ * empty for all tests of the project.
  * @param {string | undefined} folder
  * @param {string[]} givenNames
  */
@@ -38,12 +39,14 @@ async function resolveNames(folder, givenNames) {
 }
 
 /**
- * Runs tests. Resolves to the exit status: 0 if all tests pass, otherwise 1.
+ * Runs tests, and prints their results. Resolves to the exit status: 0 if all tests pass, otherwise 1. Throws an error if the board or the
+ * program is rejected.
  * @param {Tool} tool
  * @param {string | undefined} folder
  * @param {string[]} givenNames
  */
-export async function runTestCommand({ Counting, checkNames = () => {}, formatOutcome = () => "", printCounts = () => {} }, folder, givenNames) {
+export async function runTestCommand(tool, folder, givenNames) {
+  const { RecorderClass, checkNames = () => {}, formatOutcome = () => "", printCounts = () => {} } = tool;
   const allNames = await resolveNames(folder, givenNames);
   checkNames(allNames);
   const [boardName, programName, ...names] = allNames;
@@ -52,24 +55,26 @@ export async function runTestCommand({ Counting, checkNames = () => {}, formatOu
   const program = texts.readText(programName, "asm");
   const sources = names.map((fileName) => texts.readSource(fileName));
   const engine = await startEngine();
-  const printOutcome = (/** @type {Outcome} */ outcome, /** @type {number} */ number, /** @type {number} */ total) => {
+  const handleOutcome = (/** @type {Outcome} */ outcome, /** @type {number} */ number, /** @type {number} */ total) => {
     printError(failureLine(outcome));
     print(formatOutcome(outcome, number, total));
   };
   const suite = { boardText: board.text, programText: program.text, sources };
-  const { errors, outcomes, coverage, profile } = await runTests(engine, suite, yieldToMessages, { Counting, ended: printOutcome });
+  const options = { RecorderClass, handleOutcome };
+  const { errors, outcomes, coverage, profile } = await runTests(engine, suite, yieldToMessages, options);
   if (!coverage || !profile) throw await createRejectedTextsError(engine, { board, program }, errors);
   printCounts({ coverage, profile }, program);
   return outcomes.some(({ failure }) => failure) ? 1 : 0;
 }
 
 /**
- * Runs a copy of a session for a number of cycles, and reports the counts. Resolves to the exit status.
+ * Runs a copy of a session for a number of cycles, and prints the counts. Resolves to the exit status. Throws an error if the program is
+ * rejected, or if ROM contains another program.
  * @param {Tool} tool
  * @param {string} session
  * @param {string[]} givenNames
  */
-export async function countCycles({ name, Counting, checkNames = () => {}, printCounts = () => {} }, session, givenNames) {
+export async function countCycles({ name, RecorderClass, checkNames = () => {}, printCounts = () => {} }, session, givenNames) {
   checkArguments([session, ...givenNames], ["SESSION", "CYCLES", "PROGRAM"]);
   const [word, programName] = givenNames;
   const cycles = parseCount("CYCLES", word, MAX_CYCLES);
@@ -79,7 +84,7 @@ export async function countCycles({ name, Counting, checkNames = () => {}, print
   const program = texts.readText(programName, "asm");
   const engine = await startEngine();
   const state = await openSession(engine, texts, session);
-  const { errors, other: otherByte, counted: counts } = await countSession(engine, state, program.text, cycles, Counting);
+  const { errors, otherByte, counts } = await countSession(engine, state, program.text, cycles, RecorderClass);
   if (otherByte) {
     const { address, romByte, line, sourceByte } = otherByte;
     throw new CommandError(otherProgram(programName, address, romByte, line + program.linesBefore, sourceByte));

@@ -149,8 +149,8 @@ process.on("exit", () => {
 });
 
 /**
- * Follows the symbolic links of a path, even to a file that does not exist yet. Does not follow links in /proc, because they represent the open files
- * of a process.
+ * Returns the absolute path of the file that a name refers to through symbolic links, even if this file does not exist yet. Throws an error
+ * if there are more than MAX_LINKS links. Does not follow links in /proc, because they refer to the open files of a process.
  * @param {string} name
  */
 function followLinks(name) {
@@ -164,7 +164,7 @@ function followLinks(name) {
   }
 }
 
-/** Returns an unpredictable name. (Loads node:crypto only here, because this module is slow to load.) */
+/** Returns an unpredictable name. (Loads node:crypto only here, because node:crypto is slow to load.) */
 function randomName() {
   return createRequire(import.meta.url)("node:crypto").randomBytes(12).toString("hex");
 }
@@ -194,7 +194,7 @@ export class Replacement {
     }
   }
 
-  /** Renames the temporary file to the target. */
+  /** Renames the temporary file to the target. If that fails, removes the temporary file and throws the error. */
   replaceTarget() {
     try {
       renameSync(this.name, this.target);
@@ -371,7 +371,8 @@ function replaceTargets(replacements) {
 }
 
 /**
- * Writes new files into a folder, either all of them or none. Creates the folder if it does not exist.
+ * Writes new files into a folder, either all of them or none. Creates the folder if it does not exist. Throws an error if one of the files
+ * in `names` exists, or if a file cannot be written.
  * @param {string} folder
  * @param {{ name: string, content: string | Uint8Array }[]} files
  * @param {string[]} names the names of files that must not exist in the folder
@@ -396,7 +397,7 @@ export function writeNewFiles(folder, files, names) {
 }
 
 /**
- * Throws a UserFileError if a file does not exist or is not writable.
+ * Throws a UserFileError if a file does not exist, is a pipe or a device, or is not writable.
  * @param {string} name
  */
 export function checkWritableFile(name) {

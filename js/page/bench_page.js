@@ -128,22 +128,22 @@ export class Page {
    * Opens another session: shows its texts and clears everything that belongs to the previous session.
    * @param {SessionRecord} record
    */
-  begin(record) {
-    this.storedHistory.begin(record.id);
+  showSession(record) {
+    this.storedHistory.openSession(record.id);
     this.breakpoints.open(record);
-    this.keyPresser.forget();
-    this.scope.forget();
+    this.keyPresser.forgetKeys();
+    this.scope.discardRecording();
     this.scope.view.open(record.rows);
-    this.testsTab.forget();
+    this.testsTab.discardResults();
     this.mistakesView.clear();
-    this.historyView.begin();
+    this.historyView.resetFields();
     this.sourceValues.forget();
     this.heatView.clear();
     this.watchView.open(record.watched);
     this.textsController.show(record);
-    this.testsTab.begin();
-    this.drawingController.begin();
-    this.exploreTab.begin(record.id);
+    this.testsTab.offerFirstText();
+    this.drawingController.openSession();
+    this.exploreTab.openSession(record.id);
     this.source.forget();
     this.logView.clear();
     this.cyclesView.open(record.cycles);
@@ -171,7 +171,7 @@ export class Page {
     this.drawingController.handleBoard(board);
     this.historyView.draw(snapshotView.board, lampNames(new Face(wiredTexts.text), snapshotView.board.lamps.length));
     this.editors.checkTexts(board.length === 1);
-    this.heatView.updateWatch();
+    this.heatView.updateReporting();
     connectSound(this, wiredTexts.text);
     showNibbleNames(this);
   }
@@ -196,15 +196,16 @@ export class Page {
    * @param {boolean} [isIntermediate] true if time is running and another snapshot follows
    * @param {import("../core/engine/brightness_meter.js").LitShares | null} [litShares] the measured duty cycle of each lamp, from 0 to 1
    */
-  show({ snapshot, file, board, total, reset, future, past, waves, printed, waiting }, isIntermediate = false, litShares = null) {
+  show(state, isIntermediate = false, litShares = null) {
+    const { snapshot, file, board, total, reset, futureCount, past, waves, printed, waitingChanges } = state;
     const { session } = this.currentSession;
     if (!session) return;
     this.bench.returnBuffer(session.replaceFile(file));
-    this.runController.pendingKeys.waitingChanges = waiting;
+    this.runController.pendingKeys.waitingChanges = waitingChanges;
     this.storedHistory.addReport(past, { file: session.record.file, total, reset });
     this.cyclesView.update({ total, reset }, this.runController.clock.isRunning);
     session.record.cycles = this.cyclesView.cycles.storedCounts;
-    this.historyView.updateForwardButton(future);
+    this.historyView.updateForwardButton(futureCount);
     if (board) this.draw(session.record, board);
     this.snapshotView.show(snapshot, isIntermediate, litShares);
     if (printed) {

@@ -48,7 +48,7 @@ export function makeSnapshotView(page) {
       page.currentSession.markChanged();
       page.bench.call("clearPrintout", []).catch((error) => page.recovery.reportFailure(error));
     },
-    timeOf: (cycles) => runController.clock.displayDuration(cycles),
+    durationOf: (cycles) => runController.clock.displayDuration(cycles),
     reportFailure: (error) => page.recovery.reportFailure(error),
   });
 }
@@ -81,7 +81,7 @@ export function makeKeyPresser(page) {
  * @param {string} boardText
  */
 export function connectSound({ runController, snapshotView }, boardText) {
-  runController.sound.draw(findBuzzer(snapshotView.board, new Face(boardText)));
+  runController.sound.setBuzzer(findBuzzer(snapshotView.board, new Face(boardText)));
 }
 
 /**

@@ -5,7 +5,7 @@ import { COMMANDS, labelledCommand } from "./commands/command_table.js";
 import { fillEmptyPanels } from "./commands/empty_panels.js";
 import { listenToKeys } from "./commands/keys.js";
 import { PaletteView } from "./commands/palette_view.js";
-import { listDestinations } from "./commands/palette_places.js";
+import { listDestinations } from "./commands/palette_destinations.js";
 import { isAvailable } from "./commands/availability.js";
 import { WelcomeView } from "./session/welcome_view.js";
 import { ToolbarView } from "./commands/toolbar_view.js";
@@ -61,8 +61,8 @@ export function makePageFrame() {
 function makeProjectCalls({ exportView, notice, recovery, sessionsController, linkSharing }) {
   const { manager, view } = sessionsController;
   return {
-    open: () => field("file").click(),
-    save: () => void manager.save(),
+    openFile: () => field("file").click(),
+    saveProject: () => void manager.save(),
     saveSession: () => void manager.saveSession(),
     exportFiles: () => exportView.open(),
     openProjects: () => void view.open(),
@@ -86,7 +86,7 @@ function makeTimeCalls(page) {
     isRunning: () => runController.clock.isRunning,
     continueOrPause: () => runController.continueOrPause(),
     step: () => void runController.stepOnce(),
-    runToGoal: travel.goOn.bind(travel),
+    runToGoal: travel.runToGoal.bind(travel),
     goBack: travel.goBack.bind(travel),
     goForward: () => void travel.goForward(),
     canGoForward: () => !button("forward").disabled,
@@ -159,7 +159,7 @@ export class Commands {
     this.welcome = this.makeWelcome(guide);
     this.palette = new PaletteView({
       commands: () => [...COMMANDS, ...this.dynamicCommands()].map((command) => this.makeEntry(command)),
-      places: (query) => listDestinations(query, this.makePlaceCalls()),
+      destinations: (query) => listDestinations(query, this.makeDestinationCalls()),
     });
     theme.onChange = () => page.scope.view.requestDrawing();
     listenToKeys((command) => this.execute(command), isDialogOpen);
@@ -184,20 +184,20 @@ export class Commands {
       ...makeProjectCalls(page),
       setTheme: (name) => theme.set(name),
       show: (name) => show(page, name),
-      press: (id, containerName) => {
+      clickButton: (id, containerName) => {
         show(page, containerName);
         button(id).click();
       },
-      isOffered: (id) => isAvailable(button(id)),
-      enter: (id, containerName) => {
+      isButtonAvailable: (id) => isAvailable(button(id)),
+      focusField: (id, containerName) => {
         show(page, containerName);
         const details = block(id).closest("details");
         if (details) details.open = true;
         block(id).focus();
       },
-      toggle: (id) => field(id).click(),
+      toggleCheckBox: (id) => field(id).click(),
       togglePanel: (id) => page.layout.panels.toggle(id),
-      toggleMaximizedPanel: (id) => page.layout.panels.toggleFull(id),
+      toggleMaximizedPanel: (id) => page.layout.panels.toggleMaximized(id),
       insertKeyScan: () => insertKeyScan(page, page.snapshotView.board),
       hasKeys: () => page.snapshotView.board.matrix !== null,
       resetLayout: () => page.layout.panels.reset(),
@@ -212,8 +212,8 @@ export class Commands {
   makeWelcome(guide) {
     const { layout, sessionsController } = this.page;
     return new WelcomeView(this.examples, {
-      beginTour: () => void guide.tour.begin(),
-      begin: (name) => sessionsController.beginExampleByName(name),
+      startTour: () => void guide.tour.startTour(),
+      openExample: (name) => sessionsController.openExampleByName(name),
       showWiring: () => show(this.page, "wiring"),
       storeSeen: () => layout.preferences.set(WELCOME_SHOWN_KEY, "yes"),
     });
@@ -224,8 +224,8 @@ export class Commands {
     if (!this.page.layout.preferences.get(WELCOME_SHOWN_KEY)) this.welcome.open();
   }
 
-  /** @returns {import("./commands/palette_places.js").PlaceCalls} */
-  makePlaceCalls() {
+  /** @returns {import("./commands/palette_destinations.js").DestinationCalls} */
+  makeDestinationCalls() {
     const { page, calls, examples } = this;
     return {
       map: () => page.source.map,
@@ -237,7 +237,7 @@ export class Commands {
         page.programEditor.editor.goTo({ line: line - 1, ch: 0 });
       },
       showAddress: (address) => page.snapshotView.goTo.show(address),
-      beginExample: (name) => void page.sessionsController.beginExampleByName(name),
+      openExample: (name) => void page.sessionsController.openExampleByName(name),
       openProject: (id) => void page.sessionsController.open(id),
     };
   }
@@ -250,7 +250,7 @@ export class Commands {
     const { snapshotView, keyPresser, sessionsController } = this.page;
     return [
       ...this.examples.map((example) => labelledCommand(`example.${example.name}`, say.openExample(example.name), "example",
-        () => void sessionsController.begin(example), "examples")),
+        () => void sessionsController.openExample(example), "examples")),
       ...snapshotView.front.keys.map((key) => labelledCommand(`key.${formatKey(key.key)}`,
         say.pressKey(key.legend || formatKey(key.key)), "key", () => {
         keyPresser.pressOrRelease(key, false);

@@ -15,7 +15,7 @@ import { RunController } from "./time/run_controller.js";
  */
 export function makeCurrentSession(page) {
   return new CurrentSession(page.bench, page.store, {
-    begin: (record) => page.begin(record),
+    showSession: (record) => page.showSession(record),
     show: (state) => page.show(state),
     checkSource: () => page.checkSource(),
     checkTestsAndProperties: () => page.checkTestsAndProperties(),

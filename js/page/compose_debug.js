@@ -28,7 +28,7 @@ import { block } from "./ui/dom.js";
 export function runToLine({ source, runController, travel }, line) {
   const address = source.map ? source.map.addressOf(line) : undefined;
   if (address === undefined) runController.showMessage(NO_ADDRESS);
-  else travel.goOn({ kind: "here", address });
+  else travel.runToGoal({ kind: "here", address });
 }
 
 /**
@@ -73,7 +73,7 @@ export function makeTravel(page) {
     reasonOf: (stop, goal) => runController.describeStop(stop, goal),
     describeCounter: () => runController.counterText,
     breakpoint: (id) => page.breakpoints.manager.list.get(id),
-    showMessage: (words) => runController.showMessage(words),
+    showMessage: (message) => runController.showMessage(message),
   });
 }
 
@@ -81,16 +81,16 @@ export function makeTravel(page) {
 export function makeHistoryView(page) {
   const { travel, snapshotView, programEditor, runController } = page;
   listenForRunToLine(snapshotView.listing.block, (node) => snapshotView.listing.rows.addressAt(node), (address) => {
-    travel.goOn({ kind: "here", address });
+    travel.runToGoal({ kind: "here", address });
   });
   listenForRunToCaret(block("program-editor"), () => runToLine(page, programEditor.editor.editor.getCursor().line + 1));
   makeLastChangeView(page);
   return new HistoryView({
-    runToGoal: (goal) => travel.goOn(goal),
+    runToGoal: (goal) => travel.runToGoal(goal),
     goBack: (goal) => travel.goBack(goal),
     goForward: () => travel.goForward(),
     names: () => collectExpressionNames(page),
-    showMessage: (words) => runController.showMessage(words),
+    showMessage: (message) => runController.showMessage(message),
   });
 }
 
@@ -143,7 +143,7 @@ export function makeHeatView(page) {
       if (!(error instanceof CancelledError) && !(error instanceof WorkerDiedError)) recovery.reportFailure(error);
       return null;
     }),
-    setWatch: (isOn) => {
+    setReporting: (isOn) => {
       bench.call("watchRam", [isOn]).catch((error) => recovery.reportFailure(error));
     },
     showCells: (heatByPlace) => snapshotView.ram.showHeat(heatByPlace),

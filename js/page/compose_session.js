@@ -61,8 +61,8 @@ export function makeExportView(page) {
     name: () => page.currentSession.name,
     board: () => page.boardEditor.text,
     program: () => page.programEditor.text,
-    hex: () => page.romFiles.hex(),
-    image: () => page.romFiles.image(),
+    hex: () => page.romFiles.readHex(),
+    image: () => page.romFiles.readImage(),
     reportFailure: (error) => page.recovery.reportFailure(error),
   });
 }
@@ -76,7 +76,7 @@ export function makeLinkSharing(page) {
   return new LinkSharing(page.bench, page.confirmDialog, page.notice, page.errorMessages, {
     currentTexts: () => currentSession.session && currentSession.session.record,
     showSessionAddress: () => currentSession.showName(),
-    begin: (texts, file, runs) => sessionsController.manager.openNew(async () => newRecord(texts.name || "session", file, texts, runs)),
+    openTexts: (texts, file, runs) => sessionsController.manager.openNew(async () => newRecord(texts.name || "session", file, texts, runs)),
     save: () => sessionsController.manager.save(),
   });
 }
@@ -99,7 +99,7 @@ function makeStoryCalls({ layout, snapshotView, keyPresser, runController, sourc
       runController.run();
     },
     pause: () => runController.pause(),
-    goOn: (goal) => travel.goOn(goal),
+    runToGoal: (goal) => travel.runToGoal(goal),
     goBack: (goal) => travel.goBack(goal),
     goForward: () => travel.goForward(),
     goTo: (address) => {
@@ -127,7 +127,7 @@ export function makeGuide(page, manual) {
   const guide = new Guide(manual, {
     send: (lines) => page.lineServer.serveTyped(lines),
     formatAnswer: (answer) => page.logView.formatAnswer(answer),
-    begin: (example) => page.sessionsController.begin(example),
+    openExample: (example) => page.sessionsController.openExample(example),
     showSource: () => layout.tabs.choose("program"),
     program: () => programEditor.text,
     replaceSource: (program) => programEditor.replaceText(program),

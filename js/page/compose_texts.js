@@ -192,7 +192,7 @@ async function openWithLines(page, { name, lines, message }, texts) {
   const { boardText, programText } = texts;
   const makeRecord = async () => {
     const example = { name, title: "", board: boardText, program: programText, tests: "", properties: "", lines: "", project: "" };
-    return newRecord(name, await page.bench.call("make", [example]), { ...texts, testText: page.testsTab.editor.text });
+    return newRecord(name, await page.bench.call("createFile", [example]), { ...texts, testText: page.testsTab.editor.text });
   };
   const { sessionsController } = page;
   const previousSession = page.currentSession.session;

@@ -40,7 +40,7 @@ const keyPresser = new KeyPresser({
  */
 const front = new FrontView((node, key) => keyPresser.listen(node, key), () => {});
 /** The printer view. The debug adapter stores everything that was printed since the board was drawn. */
-const printer = new PrinterView({ setPrinter: () => {}, clear: () => editor.postMessage({ isTorn: true }) });
+const printer = new PrinterView({ setPrinter: () => {}, clear: () => editor.postMessage({ clearsPrintout: true }) });
 keyPresser.listenToKeyboard();
 button("test").addEventListener("click", () => sendKey(pinKey(front.testLevel === "1" ? 0 : 1), true));
 
@@ -52,11 +52,11 @@ function show(update) {
   block("front").hidden = update === null;
   block("nothing").hidden = update !== null;
   if (update === null) {
-    keyPresser.forget();
+    keyPresser.forgetKeys();
     return;
   }
   if (update.board) {
-    keyPresser.forget();
+    keyPresser.forgetKeys();
     const [board, face] = [readBoard(update.board), new Face(update.boardText || "")];
     front.draw(board, face);
     printer.draw(board, face);
@@ -75,7 +75,7 @@ function show(update) {
 }
 
 addEventListener("message", ({ data }) => {
-  if (data && data.kind === "boardShown") show(data.news);
+  if (data && data.kind === "boardShown") show(data.update);
 });
 show(null);
 editor.postMessage({ isReady: true });

@@ -33,7 +33,7 @@ import * as say from "../words/page.js";
 const BULK_MEMORY_MODULE = Uint8Array.of(0, 97, 115, 109, 1, 0, 0, 0, 1, 4, 1, 96, 0, 0, 3, 2, 1, 0, 5, 3, 1, 0, 1, 10, 13, 1, 11, 0,
   65, 0, 65, 0, 65, 0, 252, 11, 0, 11);
 
-/** Returns the name of a feature that the bench needs and this browser lacks, or "" if the browser has all of them. */
+/** Returns the name of a feature that the page needs and this browser lacks, or "" if the browser has all of them. */
 function findMissingFeature() {
   if (typeof WebAssembly !== "object" || !WebAssembly.validate(BULK_MEMORY_MODULE)) return say.BULK_MEMORY;
   if (typeof BigInt !== "function") return say.BIG_INTEGERS;
@@ -76,8 +76,8 @@ async function unpackEmbedded(id) {
 }
 
 /**
- * Resolves after the browser has handled the waiting events. Firefox needs them to load the script of a worker, and delays timers until the
- * page has loaded.
+ * Resolves after the browser has handled the waiting events. Firefox loads a worker's script only while it handles events. A timer would
+ * not help, because Firefox delays timers until the page has loaded.
  */
 function yieldToEvents() {
   return new Promise((resolve) => {
@@ -104,17 +104,17 @@ function prepareBench([script, module], examples) {
 function listenToButtons(page) {
   onClick(button("test"), () => page.lineServer.serveLines(`test ${page.snapshotView.testSwitch.isOn ? 0 : 1}\n`));
   onClick(button("from-rom"), () => page.textsController.disassembleRom());
-  listenToChoices(page);
+  listenToSettings(page);
 }
 
 /** @param {Page} page */
-function listenToChoices(page) {
+function listenToSettings(page) {
   const speedSelect = byId("speed", HTMLSelectElement);
   const typingField = field("typing");
   const { preferences } = page.layout;
   const storedSpeed = SPEEDS.find(({ id }) => id === preferences.get("speed"));
   if (storedSpeed) page.runController.clock.setSpeed(storedSpeed);
-  const show = () => {
+  const showSettings = () => {
     speedSelect.value = page.runController.clock.speed.id;
     typingField.checked = page.isTyping;
   };
@@ -126,9 +126,9 @@ function listenToChoices(page) {
   typingField.addEventListener("change", () => {
     page.isTyping = typingField.checked;
   });
-  show();
+  showSettings();
   // When the user returns to the page, a browser may restore old values of the fields.
-  addEventListener("pageshow", show);
+  addEventListener("pageshow", showSettings);
 }
 
 /**
@@ -152,7 +152,8 @@ function listenToWindow(page) {
 }
 
 /**
- * Creates the page with its commands and its guide, as soon as the session store is open. The bench may still be loading.
+ * Creates the page with its commands and its guide after the session store has been opened. The bench may still be loading. Resolves to
+ * these three, and to whether the store has sessions.
  * @param {Omit<import("./bench_page.js").PageServices, "store" | "locks">} services
  * @param {PageFrame} pageFrame
  * @param {Promise<Locks>} locksPromise
@@ -173,7 +174,7 @@ async function createPage(services, pageFrame, locksPromise, storePromise) {
   return { page, guide, commands, hasSessions: savedSessions.length > 0 };
 }
 
-/** Starts to unpack the embedded parts of the page, and to open the session store. */
+/** Starts unpacking the page's embedded parts, finding the locks and opening the session store. Returns the promises of the results. */
 function beginLoading() {
   const unpackingPromise = Promise.all([unpackEmbedded("worker"), unpackEmbedded("module")]);
   const locksPromise = Locks.find();
@@ -188,7 +189,7 @@ function beginLoading() {
  * @param {PageFrame} pageFrame
  * @param {Data} data
  */
-async function start({ unpackingPromise, locksPromise, storePromise }, errorMessages, notice, pageFrame, { examples, manual }) {
+async function startPage({ unpackingPromise, locksPromise, storePromise }, errorMessages, notice, pageFrame, { examples, manual }) {
   const makeBench = prepareBench(await unpackingPromise, examples);
   const bench = makeBench();
   const startingBench = bench.start();
@@ -207,7 +208,7 @@ async function start({ unpackingPromise, locksPromise, storePromise }, errorMess
   document.body.dataset.ready = String(Math.round(performance.now()));
   // The editors that no tab has shown yet get their views now.
   for (const { editor } of page.textEditors) setTimeout(() => editor.editor.prepare());
-  // When the user leaves the page, Firefox 153 runs a function only if it has run before, so save once now.
+  // When the user leaves the page, Firefox 153 often does not run functions that have never run before. Therefore, save once now.
   page.currentSession.saveNow();
 }
 
@@ -226,7 +227,7 @@ async function main() {
   const data = JSON.parse(new TextDecoder().decode(await unpackEmbedded("data")));
   const errorMessages = new ErrorMessages(data.refusals);
   try {
-    await start(loading, errorMessages, notice, pageFrame, data);
+    await startPage(loading, errorMessages, notice, pageFrame, data);
   } catch (error) {
     notice.show(say.cannotStartMessage(errorMessages.errorMessage(error), readEmbeddedText("needs")));
   }

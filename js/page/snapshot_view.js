@@ -45,8 +45,8 @@ import * as say from "../words/page.js";
  * @property {(address: number) => void} revealAddress Shows an address in the source after the disassembly has moved to it.
  * @property {(face: string, number: number) => void} watchLamps Asks the bench to measure the duty cycle of each lamp; `face` is the
  *   text of the front panel's comments and `number` the panel's serial number.
- * @property {(cycles: number) => number} timeOf Returns the duration of a number of cycles in milliseconds at the current speed; Infinity
- *   at full speed and at one instruction per second.
+ * @property {(cycles: number) => number} durationOf Returns the duration of a number of cycles in milliseconds at the current speed.
+ *   Returns Infinity at full speed and at one instruction per second.
  * @property {(error: unknown) => void} reportFailure Reports an error that a call threw.
  */
 
@@ -130,7 +130,7 @@ export class SnapshotView {
   draw(boardLines, boardText) {
     this.board = readBoard(boardLines);
     this.reader.forget();
-    this.changes.forget();
+    this.changes.forgetCells();
     this.editor.close(false);
     const face = new Face(boardText);
     this.face = face;
@@ -138,14 +138,14 @@ export class SnapshotView {
     this.printer.draw(this.board, face);
     this.ram.draw(this.board);
     this.ports.draw(this.board, face);
-    this.wiring.forget();
+    this.wiring.forgetLevels();
     this.forgetRom();
   }
 
   /** Discards the cached contents of ROM, which may have changed. */
   forgetRom() {
-    this.listing.forget();
-    this.stack.forget();
+    this.listing.discardLines();
+    this.stack.invalidateNotes();
   }
 
   /** @param {string} boardText the text of the same board, with another front panel */
@@ -198,7 +198,7 @@ export class SnapshotView {
   showLamps(lamps, litShares) {
     const { front } = this;
     const marks = lamps === undefined ? front.marks : lamps;
-    if (litShares && litShares.face === front.faceNumber) front.showBrightness(marks, litShares, this.calls.timeOf(litShares.cycles));
+    if (litShares && litShares.face === front.faceNumber) front.showBrightness(marks, litShares, this.calls.durationOf(litShares.cycles));
     else if (lamps !== undefined || front.showsBrightness) front.showLamps(marks);
   }
 

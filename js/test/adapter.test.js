@@ -13,7 +13,7 @@ test("responses have the order of the requests and consecutive numbers; an inval
   assert.equal((await getResponse("initialize", {})).message, "initialize can be sent only once");
   assert.equal((await getResponse("nothing")).message, "unsupported request: nothing");
   assert.equal((await getResponse("toString")).message, "unsupported request: toString");
-  assert.equal((await getResponse("stackTrace", { threadId: 1 })).message, "nothing is launched yet");
+  assert.equal((await getResponse("stackTrace", { threadId: 1 })).message, "nothing is launched yet: send launch or attach first");
   connection.receive(frameMessage({ seq: 70, type: "request" }));
   connection.receive(frameMessage([]));
   connection.receive(new TextEncoder().encode("Content-Length: 3\r\n\r\n{x}"));
@@ -37,7 +37,7 @@ test("a failed launch has an error message, and another launch can follow", asyn
   assert.match(await launchError(undefined), /^launch needs "project"/);
   assert.match(await launchError({ program: 3 }), /program must be a text/);
   assert.match(await launchError({ program: "/none.asm" }), /cannot read \/none.asm/);
-  assert.match(await launchError({ program: "/a.asm" }), /^a.asm, line 1: the assembler does not know the form of the line \(no 30\)$/);
+  assert.match(await launchError({ program: "/a.asm" }), /^a.asm, line 1: the assembler cannot read the line \(no 30\)$/);
   assert.match(await launchError({ program: "/b/b.asm" }), /^there is no board.toml next to \/b\/b.asm/);
   assert.match(await launchError({ session: "/none.mcs" }), /^\/none.mcs does not exist/);
   assert.match(await launchError({ project: "/b" }), /^there is no \/b\/mcs4.toml/);
@@ -344,7 +344,7 @@ test("a session file is created, or opened without a program; a different progra
   const otherClient = startAdapter(files, sessions);
   await otherClient.request("initialize", {});
   const response = await otherClient.getResponse("launch", { program: "/lock/other.asm", session: "/new.mcs" });
-  assert.match(response.message, /other.asm differs from the ROM of new.mcs: ROM has another byte at 0x000. "load": true puts it there/);
+  assert.match(response.message, /other.asm differs from the ROM of new.mcs: ROM has another byte at 0x000. "load": true puts the program/);
   sessions["/new.mcs"] = new FakeFile(sessions["/new.mcs"].currentBytes);
   const clientWithoutProgram = startAdapter(files, sessions);
   await clientWithoutProgram.startSession({ session: "/new.mcs" });

@@ -291,7 +291,7 @@ test("an incomplete message is reported to the client", () => {
   const { connection, messages } = startAdapter();
   connection.receive(frameMessage({ seq: 1, type: "request", command: "initialize", arguments: {} }).subarray(0, 60));
   assert.match(connection.reportIncomplete(), /^only \d+ of the \d+ bytes that Content-Length announces have arrived$/);
-  assert.equal(messages[0].message, connection.reader.incomplete);
+  assert.equal(messages[0].message, connection.reader.incompleteMessage);
   const otherClient = startAdapter();
   otherClient.connection.receive(new TextEncoder().encode("Content-Len"));
   assert.equal(otherClient.connection.reportIncomplete(), "only a part of the head of a message has arrived");

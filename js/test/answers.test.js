@@ -13,30 +13,30 @@ test("refusals with and without a line number", () => {
   for (const line of ["ok 5", "no", "no way", "no 34 line", "xno 34"]) assert.equal(parseRefusal(line), null);
 });
 
-test("the answer to a run", () => {
+test("the answer to a run has its cycles and the reason for the stop", () => {
   assert.deepEqual(readRun("ok 21 ran 11 watch"), { cycles: 11, end: "watch" });
   for (const line of ["ok 22", "no 41", "seq 3"]) assert.equal(readRun(line), null);
 });
 
-test("the answers that end a series of steps", () => {
+test("answers with an early stop or a refusal end a series of steps", () => {
   assert.deepEqual(["ok 23 ran 70 end", "ok 5", "ok 21 ran 11 watch", "no 41", "seq 3"].map(isStop), [false, false, true, true, false]);
 });
 
-test("registers", () => {
+test("the answer to `regs` is parsed", () => {
   assert.deepEqual(readRegisters("acc 6 cy 0 pc 00A owed 0 dcl 0 test 1 r 1000000000000000 ret 000 000 000"), {
     accumulator: "6", carry: "0", counter: "00A", owed: "0", bank: "0", test: "1", registers: [..."1000000000000000"],
     returns: ["000", "000", "000"],
   });
 });
 
-test("RAM", () => {
+test("the answer to `ram` is parsed", () => {
   const ram = readRam(["ram 0 chips 1", "0.0.0 2000000000000000 0000", "0.0.1 0000000000000000 0020", "0.0 out 1"]);
   assert.deepEqual([...ram.registers], [
     ["0.0.0", { characters: "2000000000000000", status: "0000" }], ["0.0.1", { characters: "0000000000000000", status: "0020" }]]);
   assert.deepEqual([...ram.ports], [["0.0", "1"]]);
 });
 
-test("the bytes of ROM, from listing lines with one and with two bytes", () => {
+test("the bytes of ROM are read from listing lines with one and with two bytes", () => {
   const answer = ["list 0 4", "000 D3    LDM 3", "001 24 5F FIM P2 0x5F", "003 40 0C JUN 0x00C", "FFE 50 A0 JMS 0x0A0", "ok 3"];
   const bytes = parseRomBytes(answer);
   const addressesWithBytes = [...bytes].flatMap((byte, address) => (byte === NO_BYTE ? [] : [[address, byte]]));
@@ -44,17 +44,17 @@ test("the bytes of ROM, from listing lines with one and with two bytes", () => {
   assert.equal(bytes.length, ADDRESS_COUNT);
 });
 
-test("breakpoints and watches", () => {
+test("the answers to `breaks` and `watches` are parsed", () => {
   assert.deepEqual(readItems("breaks 000 003"), ["000", "003"]);
   assert.deepEqual(readItems("watches -"), []);
 });
 
-test("the places that the bench watches", () => {
+test("the answer to `watches` names the watched nibbles", () => {
   assert.deepEqual(watchedPlaces("watches 0.3F 7.00"), ["ram.0.0x3F", "ram.7.0x00"]);
   assert.deepEqual(watchedPlaces("watches -"), []);
 });
 
-test("the addresses of a program's lines and names", () => {
+test("the answer to `map` has the addresses of a program's lines and names", () => {
   const answers = ["map lines 3 names 2", "line 1 000 0", "line 2 FFF 1", "line 3 1000 0", "name time 00C", "name go FFF"];
   assert.deepEqual(readMap(answers), {
     lines: [{ line: 1, address: 0, size: 0 }, { line: 2, address: 0xFFF, size: 1 }, { line: 3, address: 0x1000, size: 0 }],
@@ -65,7 +65,7 @@ test("the addresses of a program's lines and names", () => {
   }
 });
 
-test("forecasts of a run, among other answers", () => {
+test("forecasts of a run are read among other answers", () => {
   const answers = new ForecastAnswers([
     "trace ran 3 end lines 2 0 -", "0 000 1 -", "2 00A 2 *", "count ran 3 code lines 2", "000 1", "00A 12 3",
     "ok 7 ran 3 code", "no 11"]);
@@ -82,7 +82,7 @@ test("listing lines are read, and other answers between them are skipped", () =>
     [{ address: 0, line: "000 40 24 JUN 0x024" }, { address: 2, line: "002 00    NOP" }]);
 });
 
-test("a board", () => {
+test("the answer to `board` is parsed", () => {
   const board = readBoard(["board", "[[rom]]", "chip = 0", 'port = "00ii"', "[[ram]]", "bank = 1", "chips = 2", "[[chain]]",
     'clock = "rom0.0"', 'data = "rom0.1"', "chips = 1", "[keys]", "chain = 0", "first = 0", "rows = 3", 'columns = ["rom0.2", "rom0.3"]',
     "[[lamp]]", 'line = "ram1.0.2"']);

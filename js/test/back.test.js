@@ -98,7 +98,7 @@ test("going back to a distant change, made by a command or by an instruction", a
   const calls = await openExample("three lamps", `run 4000\npoke r9 5\n${"run 100000\n".repeat(30)}step\nrun 7\n`);
   const { cycles } = await calls.goBack({ kind: "change", place: "r9" });
   assert.ok(cycles > 3000007 && cycles < 3000010);
-  const [registers, pokeAnswer] = [calls.ask("regs\n")[0], (await calls.serve("poke r9 5\n")).first];
+  const [registers, pokeAnswer] = [calls.ask("regs\n")[0], (await calls.serve("poke r9 5\n")).firstAnswer];
   assert.match(registers, / r .{9}0/);
   assert.match(pokeAnswer, /^ok/);
   assert.equal((await calls.goBack({ kind: "change", place: "r9" })).line, "poke r9 5");
@@ -109,10 +109,10 @@ test("going back to a distant change, made by a command or by an instruction", a
 
 test("a command makes going forward impossible; a query does not", async () => {
   const calls = await openExample("three lamps", "run 100\n");
-  assert.equal((await calls.goBack({ kind: "stop" })).future, 1);
+  assert.equal((await calls.goBack({ kind: "stop" })).futureCount, 1);
   calls.ask("regs\n");
-  assert.equal((await calls.serve("regs\nfoo\n")).future, 1);
-  assert.equal((await calls.serve("poke r5 1\n")).future, 0);
+  assert.equal((await calls.serve("regs\nfoo\n")).futureCount, 1);
+  assert.equal((await calls.serve("poke r5 1\n")).futureCount, 0);
 });
 
 test("a timeline keeps the stops of a long past, and limits its segments and forward moves", async () => {

@@ -59,7 +59,7 @@ test("answers to `wiring` and `errors` are parsed", () => {
 
 test("the page's limits for boards are the limits of the bench", async () => {
   const calls = await openExample("three lamps");
-  const refusalNumberOf = async (text) => (parseRefusal((await calls.serve(`wire\n${text}.\n`)).first) || { number: 0 }).number;
+  const refusalNumberOf = async (text) => (parseRefusal((await calls.serve(`wire\n${text}.\n`)).firstAnswer) || { number: 0 }).number;
   const rom = (chip, port = "0000") => `[[rom]]\nchip = ${chip}\nport = "${port}"\n`;
   const chain = (chips) => `[[chain]]\nclock = "rom8.0"\ndata = "rom8.1"\nchips = ${chips}\n`;
   const keys = (columns, values = {}) => {
@@ -104,7 +104,7 @@ test("the page's limits for boards are the limits of the bench", async () => {
   assert.deepEqual(lines.map(({ name, isInput }) => `${name} ${isInput}`), ["rom3.0 false", "rom3.1 false", "rom3.2 false", "rom3.3 true"]);
 });
 
-test("texts that are not TOML", () => {
+test("texts that are not TOML are reported with their lines", () => {
   assert.equal(describeError("[[rom\n"), "1: 20 ] is missing: [[rom]]");
   assert.equal(describeError('[[rom]]\nchip 0\nport = "0000\n'), "2: 20 = is missing after chip");
   assert.equal(describeError("port = 0000\n"), '1: 20 a number has no leading zero; write a text in quotes: "0000"');
@@ -114,7 +114,7 @@ test("texts that are not TOML", () => {
   assert.equal(describeError("[[rom]]\n[rom]\n"), "2: 20 words of 20");
 });
 
-test("wrong keys and values", () => {
+test("wrong keys and values are reported", () => {
   assert.equal(describeError('[[rom]]\nchip = 16\nport = "0000"\n'), "2: 23 chip must be a unique number from 0 to 15");
   assert.equal(describeError('[[rom]]\nchip = "0"\nport = "0000"\n'), "2: 23 chip is a number: write 0 without quotes");
   assert.equal(errorText('[[rom]]\nchip = 16\nport = "0000"\n'), "16");
@@ -131,7 +131,7 @@ test("wrong keys and values", () => {
     "3: 23 chip must be a unique number from 0 to 15");
 });
 
-test("parts that the board lacks, and lines of the wrong direction", () => {
+test("parts that the board lacks, and lines of the wrong direction, are reported", () => {
   const lamp = (line) => `${ROM}${CHAIN}[[ram]]\nbank = 2\nchips = 1\n[[lamp]]\nline = ${line}\n`;
   assert.equal(describeError(`${ROM}${ROM}`), "5: 24 chip 0 is already in line 1");
   assert.equal(describeError(lamp('"rom9.0"')), "12: 25 the board has no line rom9.0: no [[rom]] has chip = 9");

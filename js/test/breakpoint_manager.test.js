@@ -1,4 +1,5 @@
-// Tests the breakpoint manager with a stand-in for the bench: setting and moving breakpoints, and adopting those that the bench reports.
+// Tests the breakpoint manager with a stand-in for the bench: setting and moving breakpoints, and adopting breakpoints that the bench
+// reports.
 import assert from "node:assert/strict";
 import { test } from "node:test";
 import { BreakpointManager } from "../core/debug/breakpoint_manager.js";
@@ -16,25 +17,25 @@ function createManager(savedBreakpoints, breaks = []) {
   const log = { messages: [], editCount: 0, setCalls: [], failures: [] };
   const bench = { breaks };
   const manager = new BreakpointManager({
-    set: async (breakpoints) => {
+    setBreakpoints: async (breakpoints) => {
       log.setCalls.push(breakpoints.map(({ line, address }) => [line, address]));
       bench.breaks = breakpoints.filter((breakpoint) => !isSoft(breakpoint)).map(({ address }) => hex(address, 3));
       manager.updateFromBench(bench.breaks);
       return breakpoints.filter(({ condition }) => condition === "no").map(({ id }) => [id, "it is none"]);
     },
-    changed: () => {},
-    counted: () => {},
-    listEdited: () => {
+    handleChange: () => {},
+    handleNewHits: () => {},
+    saveList: () => {
       log.editCount += 1;
     },
     showMessage: (message) => log.messages.push(message),
-    failed: (error) => log.failures.push(error),
+    reportFailure: (error) => log.failures.push(error),
   });
   manager.open("one", savedBreakpoints);
   manager.updateFromBench(bench.breaks);
   return { manager, log, bench };
 }
-/** Returns the edit that replaces one text with another. */
+/** Returns a list with the edit that replaces one text with another. */
 function replacementEdit(oldText, newText) {
   const removed = oldText.split("\n");
   const to = { line: removed.length - 1, ch: removed[removed.length - 1].length };
@@ -100,17 +101,17 @@ test("typed `break` and `unbreak` lines change the list", async () => {
 test("a `break` line that is typed during a request also changes the list", async () => {
   const { manager, bench } = createManager([]);
   manager.setSourceMap(MAP, "");
-  // The bench serves a line after it has received the request, and reports the line before the request has ended.
+  // The bench serves the typed line after it has received the request, and reports the new breakpoint before the request has ended.
   const { callbacks: calls } = manager;
-  const { set: originalSet } = calls;
-  calls.set = async (breakpoints) => {
+  const { setBreakpoints: originalSet } = calls;
+  calls.setBreakpoints = async (breakpoints) => {
     const errors = await originalSet(breakpoints);
     bench.breaks = [...bench.breaks, "000"];
     manager.updateFromBench(bench.breaks);
     return errors;
   };
   manager.toggleAddress(0x700);
-  calls.set = originalSet;
+  calls.setBreakpoints = originalSet;
   await manager.allSent;
   await manager.allSent;
   assert.deepEqual([linesAndAddresses(manager), bench.breaks], [[[2, 0], [0, 0x700]], ["000", "700"]]);
@@ -123,7 +124,7 @@ test("a change is sent before the previous one is answered, and the last change 
   const [{ id }] = manager.list.all;
   /** The requests that were sent to the bench, each with a function that answers it. */
   const requests = [];
-  manager.callbacks.set = ([{ condition }]) => new Promise((resolve) => {
+  manager.callbacks.setBreakpoints = ([{ condition }]) => new Promise((resolve) => {
     requests.push({ condition, answer: () => resolve([[id, condition]]) });
   });
   manager.change(id, { condition: "r4 = 7" });
@@ -157,10 +158,10 @@ test("a condition is stored as it is typed, and the bench gets it once it is ent
 test("a failure of the bench is reported once, and the next list is sent", async () => {
   const { manager, log, bench } = createManager([]);
   manager.setSourceMap(MAP, "");
-  const { set: originalSet } = manager.callbacks;
-  manager.callbacks.set = async () => { throw new Error("it died"); };
+  const { setBreakpoints: originalSet } = manager.callbacks;
+  manager.callbacks.setBreakpoints = async () => { throw new Error("it died"); };
   manager.toggleAddress(0x700);
-  manager.callbacks.set = originalSet;
+  manager.callbacks.setBreakpoints = originalSet;
   manager.toggleAddress(0x701);
   await manager.allSent;
   assert.deepEqual([log.failures.map(({ message }) => message), bench.breaks, manager.isApplying], [["it died"], ["700", "701"], false]);

@@ -47,7 +47,7 @@ const REFRESHED_EXAMPLE = { board: readText("two_digits.toml"), program: readTex
 async function openSession({ board, program }) {
   const calls = new BenchCalls(async () => true);
   await calls.load(pageModule, []);
-  calls.open(calls.make({ name: "own", title: "", board, program, tests: "", properties: "", lines: "", project: "" }));
+  calls.open(calls.createFile({ name: "own", title: "", board, program, tests: "", properties: "", lines: "", project: "" }));
   calls.watchLamps(board, 7);
   return calls;
 }
@@ -143,12 +143,12 @@ test("the edges of a line are reported exactly, and its sound samples have the r
   for (const cycles of [3, 40, FRAME_CYCLES, 1]) {
     const lampLines = calls.ask(`lamps\n${"run 1\nlamps\n".repeat(cycles)}`).filter((line) => line.startsWith("lamps")).slice(0, cycles);
     const expected = lampLines.map((line) => (line["lamps ".length] === "*" ? 1 : -1));
-    assert.deepEqual([...soundSamples(calls.advance(cycles).heard)], expected);
+    assert.deepEqual([...soundSamples(calls.advance(cycles).buzzerLevels)], expected);
   }
   const buffer = new SampleBuffer(4200);
   let [rises, count] = [0, 0];
   for (let frame = 0; frame < 60; frame++) {
-    for (const sample of buffer.add(calls.advance(FRAME_CYCLES).heard) || []) {
+    for (const sample of buffer.add(calls.advance(FRAME_CYCLES).buzzerLevels) || []) {
       rises += Number(sample > level && level === -1 && count > 0);
       level = sample;
       count += 1;
@@ -157,7 +157,7 @@ test("the edges of a line are reported exactly, and its sound samples have the r
   // An iteration of the program's loop takes 41 cycles.
   assert.ok(Math.abs(rises / count - 1 / 41) < 0.01 / 41, `${rises} in ${count}`);
   calls.listenTo("");
-  assert.equal(calls.advance(100).heard, null);
+  assert.equal(calls.advance(100).buzzerLevels, null);
 });
 
 /**

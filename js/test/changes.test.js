@@ -66,7 +66,7 @@ test("cells of a new board have no marks", () => {
   changes.set(cell, "1");
   changes.set(cell, "2");
   changes.handlePaused();
-  changes.forget();
+  changes.forgetCells();
   assert.equal(cell.isMarked(), false);
   changes.set(cell, "2");
   changes.handlePaused();

@@ -28,7 +28,7 @@ function openSession(program) {
   const text = sentText(program, ";");
   const debug = session.debugger;
   debug.commonMistakes.map = new SourceMap(readProgram(engine, text).map, text);
-  debug.begin();
+  debug.beginMove();
   return debug;
 }
 
@@ -84,7 +84,7 @@ test("the machine pauses before a selected mistake, and then continues", () => {
   debug.commonMistakes.stoppingKinds.add("lines");
   const frame = debug.advance(1543);
   assert.deepEqual([frame.cycles, frame.stop.reason, frame.tally.mistakes.length, debug.counter], [4, "usual", 1, 4]);
-  debug.begin();
+  debug.beginMove();
   const next = debug.advance(1543);
   assert.deepEqual([next.cycles, next.stop, next.tally.mistakes], [1543, null, []]);
   assert.deepEqual(Object.keys(KINDS).length, 6);
@@ -94,7 +94,7 @@ test("a mistake is reported once in each run", () => {
   const program = "turn: FIM P0, 0x10\nSRC P0\nWRR\nJUN turn\n";
   const debug = openSession(program);
   assert.equal(findMistakes(program, 5, debug).length, 1);
-  debug.begin();
+  debug.beginMove();
   assert.equal(findMistakes(program, 5, debug).length, 1);
 });
 
@@ -107,7 +107,7 @@ test("after a while only samples are checked, and all cycles again after a key p
   };
   assert.equal(countChecks(), 32);
   assert.equal(debug.commonMistakes.cyclesToCheck([{ line: "run 8000000", change: null }]), 50000 - 32 * 1543);
-  debug.begin();
+  debug.beginMove();
   assert.equal(debug.commonMistakes.cyclesToCheck([{ line: "run 8000000", change: null }]), 10000);
   debug.commonMistakes.remainingCycles = 0;
   assert.equal(countChecks(), 2);

@@ -116,7 +116,7 @@ before(() => {
 
 const randomBelow = (random, limit) => Math.floor(random() * limit);
 
-/** Sets the machine to a random state, and returns the bench's answers about that state. */
+/** Sets the machine to a random state. Resolves to the values that the bench then reports. */
 async function setRandomState(random) {
   const pokes = RANDOM_CELLS.map(([place, limit]) => `poke ${place} ${randomBelow(random, limit)}\n`).join("");
   const ports = `asm\n FIM P0, 0\n SRC P0\n LDM ${randomBelow(random, 16)}\n WMP\n`
@@ -346,7 +346,7 @@ test("random texts are parsed in limited time, and errors have a column in the t
     }
   }
   assert.ok(acceptedCount > 200, String(acceptedCount));
-  // The same parser also reads other contexts of conditions. Its error messages name the column.
+  // The same parser also reads conditions in other contexts. Its error messages name the column.
   for (let round = 0; round < 1500; round++) {
     const text = Array.from({ length: randomBelow(random, 12) }, () => pieces[randomBelow(random, pieces.length)]).join(" ");
     const prefixes = ["while ", "once ", "after press A, ", "after press A within 5 ms, ", "never ", "always ", ""];

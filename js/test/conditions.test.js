@@ -18,7 +18,7 @@ const BOARD_TABLES = [
 const BOARD_TEXT = `# lamp 0: _ _ locked open alarm\n# display 0: 1 digit\n${BOARD_TABLES}\n`;
 const PROGRAM = "limit = 5\nstart: FIM P0, 0\nSRC P0\nLDM 4\nWMP\nWRM\nFIM P1, 0x40\nSRC P1\nLDM 1\nWMP\nend: JUN end\n";
 
-/** Returns a session with the board BOARD_TEXT and the program PROGRAM after some session lines, and the names that both define. */
+/** Resolves to a session with the board BOARD_TEXT and the program PROGRAM after some session lines, and the names that both define. */
 async function openBench(lines = "") {
   const calls = await openExample("empty bench", `wire\n${BOARD_TEXT}.\nasm\n${PROGRAM}.\n${lines}`);
   const board = readBoard(calls.ask("board\n"));
@@ -146,7 +146,7 @@ test("conditions in tests can use values that no trace shows", () => {
   assert.equal(compileForTest("cycles").error, "write `cycles TIME`, `cycles at most TIME` or `cycles at least TIME`");
 });
 
-test("durations", () => {
+test("durations are parsed", () => {
   const cases = [["538", 538], ["538 cycles", 538], ["1 cycle", 1], ["20 ms", 1852], ["20ms", 1852], ["1.5 s", 138889], ["0", 0],
     ["1.5", 0], ["ms", 0], ["", 0],
     ["3 x", 0], ["1000000001", 0], ["-3", 0], ["1.5.2 ms", 0]];

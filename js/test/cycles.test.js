@@ -28,7 +28,7 @@ test("at a stop, the count since the last stop is that of the last run", () => {
   cycles.update({ total: 500, reset: 0 });
   cycles.update({ total: 900, reset: 0 });
   assert.equal(cycles.counts.sinceStop, 900);
-  cycles.stop();
+  cycles.recordPause();
   cycles.update({ total: 900, reset: 0 });
   assert.equal(cycles.counts.sinceStop, 900);
   cycles.update({ total: 902, reset: 0 });
@@ -39,13 +39,13 @@ test("at a stop, the count since the last stop is that of the last run", () => {
 test("markers: cycles since the first marker, then between two markers, then since a new marker", () => {
   const cycles = new Cycles({ total: 10, reset: 0, from: 0, marks: [] });
   assert.equal(cycles.counts.marked, null);
-  cycles.mark();
+  cycles.addMark();
   cycles.update({ total: 936, reset: 0 });
   assert.equal(cycles.counts.marked, 926);
-  cycles.mark();
+  cycles.addMark();
   cycles.update({ total: 2000, reset: 0 });
   assert.equal(cycles.counts.marked, 926);
-  cycles.mark();
+  cycles.addMark();
   assert.equal(cycles.counts.marked, 0);
 });
 

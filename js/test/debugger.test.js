@@ -53,8 +53,8 @@ test("a session in memory: breakpoints at lines, steps, values, and going back a
   const session = openSession();
   assert.deepEqual(session.rejectedTexts, []);
   session.breakpoints.add({ line: LINE.blank });
-  const { moved, errors } = await session.applyBreakpoints();
-  assert.deepEqual([moved, errors], [["Line 5 puts no bytes into ROM: its breakpoint is at the next instruction, line 6."], []]);
+  const { messages, errors } = await session.applyBreakpoints();
+  assert.deepEqual([messages, errors], [["Line 5 puts no bytes into ROM: its breakpoint is at the next instruction, line 6."], []]);
   const stop = await session.runToGoal();
   assert.deepEqual([stop.reason, stop.id, session.line], ["break", 1, LINE.increment]);
   assert.equal(stop.message, "Paused at 005 (turn + 2, line 6), at a breakpoint.");
@@ -73,7 +73,7 @@ test("a session in memory: breakpoints at lines, steps, values, and going back a
   assert.equal(session.line, LINE.increment);
 });
 
-/** Runs to the next stop, `count` times. Returns the value of a register or memory cell at each stop. */
+/** Runs to the next stop, `count` times. Resolves to the value of a register or memory cell at each stop. */
 async function collectValuesAtStops(session, count, place) {
   const values = [];
   for (let stop = 0; stop < count; stop++) {
@@ -178,7 +178,7 @@ test("going back keeps the current breakpoints, and running again repeats the sa
   assert.deepEqual([bench.count.total, session.values(["r4", "pc"])], end);
 });
 
-/** Runs to the next breakpoint, `count` times. Returns the total cycle count and the value of r4 at each stop. */
+/** Runs to the next breakpoint, `count` times. Resolves to the total cycle count and the value of r4 at each stop. */
 async function collectStatesAtBreakpoints(session, count) {
   const states = [];
   for (let stop = 0; stop < count; stop++) {
@@ -281,7 +281,7 @@ test("breakpoints move with their lines when a program is assembled again", asyn
   session.breakpoints.add({ line: LINE.back, isOn: false });
   await session.applyBreakpoints();
   const lines = PROGRAM.split("\n");
-  session.breakpoints.edit({ from: { line: 1, ch: 0 }, to: { line: 1, ch: 0 }, text: ["        NOP", ""], removed: [""] });
+  session.breakpoints.applyEdit({ from: { line: 1, ch: 0 }, to: { line: 1, ch: 0 }, text: ["        NOP", ""], removed: [""] });
   assert.equal(await session.setProgram([lines[0], "        NOP", ...lines.slice(1)].join("\n")), null);
   assert.deepEqual(session.breakpoints.all.map(({ line, address }) => [line, address]), [[7, 6], [13, 15]]);
   assert.deepEqual(session.debugger.session.ask("breaks\n"), ["breaks 006"]);
@@ -310,7 +310,7 @@ test("log messages show lamps by their names and ports as digits", () => {
 
 const linesAfterEdit = (lines, edit) => {
   const list = new BreakpointList(lines.map((line) => ({ line })));
-  list.edit(edit);
+  list.applyEdit(edit);
   return list.all.map(({ line }) => line);
 };
 const position = (line, ch = 0) => ({ line, ch });
@@ -334,18 +334,19 @@ test("breakpoints move with the lines of the text", () => {
 
 test("a deleted line removes its breakpoint, and undoing the deletion restores it", () => {
   const list = new BreakpointList([{ line: 2 }, { line: 4, condition: "r4 = 7" }, { line: 6 }]);
-  list.edit({ from: position(2), to: position(4), text: [""], removed: ["a", "b", ""], origin: "cut" });
+  list.applyEdit({ from: position(2), to: position(4), text: [""], removed: ["a", "b", ""], origin: "cut" });
   assert.deepEqual(list.all.map(({ line }) => line), [2, 4]);
-  assert.equal(list.edit({ from: position(2), to: position(2), text: ["a", "b", ""], removed: [""], origin: "undo" }), true);
+  assert.equal(list.applyEdit({ from: position(2), to: position(2), text: ["a", "b", ""], removed: [""], origin: "undo" }), true);
   assert.deepEqual(list.all.map(({ line, condition }) => [line, condition]), [[2, ""], [4, "r4 = 7"], [6, ""]]);
 });
 
 test("if the whole text is replaced, breakpoints keep their addresses", () => {
   const [removed, text] = [["a", "b", "c", "d"], ["new", "lines", "here", "x"]];
-  // First no text ends with a line feed, then both do. In the third case, lines below the edit stay, so it does not replace the whole text.
+  // In the first case, neither text ends with a line feed. In the second, both do. In the third, lines below the edit stay, so the edit
+  // does not replace the whole text.
   for (const [end, isWhole, lines] of [[[], true, [[3, -1], [0, 4]]], [[""], true, [[3, -1], [0, 4]]], [[], false, [[2, 4], [3, -1]]]]) {
     const list = new BreakpointList([{ line: 2, address: 4 }, { line: 3 }]);
-    list.edit({ from: position(0), to: position(3 + end.length), text: [...text, ...end], removed: [...removed, ...end], isWhole });
+    list.applyEdit({ from: position(0), to: position(3 + end.length), text: [...text, ...end], removed: [...removed, ...end], isWhole });
     assert.deepEqual(list.all.map(({ line, address }) => [line, address]), lines);
   }
 });

@@ -1,10 +1,10 @@
-// Tests the decoders of the logic analyser, with hand-written traces and with the bench's recording of a calculator.
+// Tests the decoders of the logic analyser, with manually written traces and with the bench's recording of a calculator.
 import assert from "node:assert/strict";
 import { test } from "node:test";
 import { readBoard } from "../core/bench/answers.js";
 import { createBoardLines } from "../core/waves/wave_lines.js";
 import { chooseFirstLines } from "../core/waves/wave_catalog.js";
-import { find, readSearch } from "../core/waves/wave_search.js";
+import { findMatch, readSearch } from "../core/waves/wave_search.js";
 import { readTrigger } from "../core/waves/trigger.js";
 import { vcdParts } from "../core/waves/vcd.js";
 import { Waves } from "../core/waves/wave_recording.js";
@@ -63,8 +63,8 @@ test("the value has the recording's number base", () => {
   assert.equal(valuesOfRow(waves, "shift.chain0")[7], "132 = 19");
 });
 
-// Row 0 is bit 1 of the chain, and column 0 is line 2 of ROM 1. The user presses a key of row 0, another one, and both. A key is also
-// pressed while the program drives two rows.
+// Row 0 is bit 1 of the chain, and column 0 is line 2 of ROM 1. In row 0, the user presses a key, then a second key, and releases both. A
+// key is also pressed while the program drives two rows, and then a key of row 1.
 const SCAN = {
   "chain0.1": [10, 60], "chain0.2": [50, 90],
   "rom1.2": [20, 40, 70, 80], "rom1.0": [30, 45, 55, 65],
@@ -106,7 +106,7 @@ test("a decoder can be searched for changes, and a key scan for keys; a decoder 
   const waves = createRecording(SCAN, 100);
   const findMoments = (text) => {
     const { search, error } = readSearch(text, waves, -1);
-    return search ? [find(waves, search, 0, true), find(waves, search, 100, false)] : error;
+    return search ? [findMatch(waves, search, 0, true), findMatch(waves, search, 100, false)] : error;
   };
   assert.deepEqual([findMoments("key scan = CE"), findMoments("scan.keys = 1.0"), findMoments("scan.keys changes")],
     [[30, 30], [70, 70], [10, 90]]);

@@ -63,7 +63,7 @@ const boardTextOf = (board) => [
   ...board.lamps.map((line) => `[[lamp]]\nline = "${line}"\n`),
 ].join("");
 
-/** Returns the board with one more wire, as the manual defines it. Uses no code of the page. */
+/** Returns the board after a wire was drawn from a line to a target, as the manual defines it. Uses no code of the page. */
 function addWire(board, line, target) {
   const next = structuredClone(board);
   const [kind, number] = [target.split(" ")[0], Number(target.split(" ")[1])];
@@ -457,8 +457,8 @@ testOnBench("a multiplexed display is added, renumbered, and deleted as a whole"
 testOnBench("a name that the front panel cannot have is rejected with a reason", () => {
   const { text } = examples.find(({ name }) => name === "lock");
   const refusalOf = (part, name) => applyAction(text, { kind: "name", part, name }).refusal;
-  assert.match(refusalOf("lamp 1", "alarm"), /^The lamp alarm is named/);
+  assert.match(refusalOf("lamp 1", "alarm"), /^The lamp alarm is already named/);
   assert.match(refusalOf("lamp 1", "**"), /pattern/);
-  assert.match(refusalOf("key 0 0", "9"), /^The key 9 is named/);
+  assert.match(refusalOf("key 0 0", "9"), /^The key 9 is already named/);
   assert.match(refusalOf("test", ""), /needs a name/);
 });

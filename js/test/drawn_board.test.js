@@ -18,7 +18,7 @@ const enginePromise = Engine.load(pageModule);
 const examples = examplesOfPage;
 const boardOf = (exampleName) => examples.find(({ name }) => name === exampleName).board;
 
-/** Returns a drawn board for a text, as the page creates it. */
+/** Resolves to a drawn board for a text, as the page creates it. */
 async function createDrawnBoard(text = "") {
   const engine = await enginePromise;
   const file = engine.begin();

@@ -106,14 +106,14 @@ testOnBothHosts("a VCD file is written piece by piece", async (engine) => {
   const state = copyWithoutStops(engine, stateAfter(engine, `${BOARD}${PROGRAM}`));
   const board = readBoard(engine.ask(state, "board\n").answers);
   const choice = chooseLines(board, "", false, ["ram0.0", "acc", "pc", "ram0.0[3:0]"]);
-  const { lines, chosen } = linesWithMembers(choice.lines, choice.chosenIndexes);
+  const { lines, chosenIndexes } = linesWithMembers(choice.lines, choice.chosenIndexes);
   let text = null;
   let file = "";
   for await (const waves of recordPieces(engine, state, { lines, program: null, cycles: 45000 }, async () => {})) {
-    if (!text) text = new VcdText(waves, chosen);
+    if (!text) text = new VcdText(waves, chosenIndexes);
     file += (file === "" ? text.formatHead() : "") + [...text.formatChanges()].join("");
   }
-  file += text.end();
+  file += text.formatEnd();
   assert.match(file, /\$var wire 4 H ram0\.0\[3:0\] \$end\n[^]*\n#4860000\n/);
   return file;
 });
@@ -125,7 +125,7 @@ testOnBothHosts("a copy is the same state, and the engine can return to any of m
     engine.serve(state, `run ${number}\n`, state);
     states.push(state);
   }
-  engine.keep(states[20]);
+  engine.prepareForRuns(states[20]);
   return [0, 50, 20, 3, 20, 49, 3, 50].map((index) => engine.ask(states[index].slice(), "state\n"));
 });
 
@@ -251,7 +251,7 @@ if (!native) {
       `process.kill(process.pid, "SIG${name}"); setTimeout(() => {}, 10000);`))]) {
       const { stdout } = runNode(script(end), folder);
       assert.equal(stdout, "700", end);
-      // After a signal, the shell removes the folder as soon as it detects that Node has ended.
+      // After a signal, the shell removes the folder when it detects that Node has ended.
       for (let tries = 0; tries < 500 && readdirSync(folder).length > 0; tries++) await new Promise((resume) => setTimeout(resume, 10));
       assert.deepEqual(readdirSync(folder), [], end);
     }

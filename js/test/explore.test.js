@@ -80,7 +80,7 @@ const errorsOf = (text) => campaignOf(text).errors.map(({ line, words }) => `${l
 /** The maximum number of cycles to simulate while a counterexample is minimised. */
 const MAX_MINIMISING_CYCLES = 5e6;
 
-/** Searches for at most some seconds. Resolves to the results. */
+/** Searches for at most `seconds` seconds, or until each property has a counterexample. Resolves to the campaign run. */
 async function explore(text, seconds = 20, confirm = () => true, seed = 1) {
   const { campaign, errors } = campaignOf(text);
   assert.deepEqual(errors, []);

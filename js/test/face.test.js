@@ -6,7 +6,8 @@ import { DisplayText } from "../core/board/display_text.js";
 import { Face, findFaceErrors, moreErrors } from "../core/board/face.js";
 import { missingParts } from "../core/board/face_board.js";
 
-/** Returns the contents of a sample file: the comments of a board (.face), or the expected description of the front panel (.expected). */
+/** Returns the contents of a sample file: the comments of a board (`NAME.face`), or the expected description of the front panel
+ * (`NAME.expected`). */
 const readSample = (name) => readFileSync(new URL(`../../checks/faces/${name}`, import.meta.url), "utf8");
 const board = readBoard(["board", ...readSample("board.toml").trim().split("\n")]);
 
@@ -65,7 +66,7 @@ test("only the first of many errors are reported", () => {
 
 /**
  * Returns the marks of the lamps of digits. Each digit has four lamps, the highest bit first. With `width` 5, a fifth lamp is the decimal
- * point.
+ * point, which is lit only in the digit with the index `point`.
  */
 const lampsOf = (digits, width, point = -1) => digits.map((digit, index) => (
   digit.toString(2).padStart(4, "0").replace(/0/g, ".").replace(/1/g, "*") + (width === 5 ? (index === point ? "*" : ".") : ""))).join("");

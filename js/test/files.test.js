@@ -110,8 +110,8 @@ test("an image is loaded into the ROMs of the board, and saved to a file", async
   image[256] = 209;
   assert.equal(await rom.load("x.hex", image), "1 byte of x.hex is in ROM, from 100; nothing was reset.");
   assert.deepEqual(actions, ["stop", "asm\nORG 0x100\nDB 209\n.\n"]);
-  const file = await rom.image();
+  const file = await rom.readImage();
   assert.deepEqual([file.length, file[0], file[256]], [512, 0, 209]);
-  assert.equal((await rom.hex()).split("\n").length, 18);
+  assert.equal((await rom.readHex()).split("\n").length, 18);
   assert.equal(parseRomBytes(lines)[511], 209);
 });

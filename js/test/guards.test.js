@@ -59,7 +59,7 @@ const INPUTS = "press START PRESS\nwait 20 to 200\nnote lamps\nheld at most 30\n
 const campaignOf = (text, program = PROGRAM) => readCampaign(INPUTS + text, createSubject(engine, BOARD, program));
 const errorsOf = (text) => campaignOf(text).errors.map(({ words }) => words).join();
 
-/** Searches for some seconds. Resolves to the counterexample of the first property, or to null if the search finds none. */
+/** Searches for at most `seconds` seconds. Resolves to the counterexample of the first property, or to null if the search finds none. */
 async function findCounterexample(text, program, seconds) {
   const subject = createSubject(engine, BOARD, program);
   const { campaign, errors } = readCampaign(INPUTS + text, subject);

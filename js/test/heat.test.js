@@ -42,7 +42,7 @@ const SETUP_CYCLES = 7;
 const LOOP_CYCLES = 8;
 const ALL_QUERIES = "seq\nstate\nram 0\nram 2\n";
 
-/** Returns a session in which the program has run for `cycles` cycles, 30 at a time. */
+/** Resolves to a session in which the program has run for `cycles` cycles, 30 at a time. */
 async function openSessionAfter(cycles) {
   const calls = await openExample("three lamps");
   await calls.serve(`wire\n${BOARD}.\nasm\n${PROGRAM}.\nreset\n`);
@@ -55,33 +55,34 @@ const FRAME_CYCLES = 1543;
 test("while the machine is running, frames report the same changes as a search of the past", async () => {
   const calls = await openExample("three lamps");
   await calls.serve(`wire\n${BOARD.split("[[ram]]\nbank = 2")[0]}.\nasm\n${PROGRAM}.\nreset\n`);
-  assert.equal(calls.advance(SETUP_CYCLES).warmed, null);
+  assert.equal(calls.advance(SETUP_CYCLES).chipHeat, null);
   calls.watchRam(true);
   const recentHeat = new RecentHeat();
   for (let frame = 0; frame < 20; frame++) {
     if (frame === 5) calls.press(pinKey(1));
-    const { warmed, cycles } = calls.advance(FRAME_CYCLES);
-    assert.deepEqual([warmed.cycles, warmed.chips], [cycles, 1]);
-    recentHeat.add(warmed, cycles, 20 * FRAME_CYCLES);
+    const { chipHeat, cycles } = calls.advance(FRAME_CYCLES);
+    assert.deepEqual([chipHeat.cycles, chipHeat.chipCount], [cycles, 1]);
+    recentHeat.add(chipHeat, cycles, 20 * FRAME_CYCLES);
   }
   assert.deepEqual(recentHeat.heat, await calls.heat(20 * FRAME_CYCLES));
-  for (let frame = 0; frame < 20; frame++) recentHeat.add({ cycles: FRAME_CYCLES, cells: [], chips: 1 }, FRAME_CYCLES, 20 * FRAME_CYCLES);
+  const emptyHeat = { cycles: FRAME_CYCLES, cells: [], chipCount: 1 };
+  for (let frame = 0; frame < 20; frame++) recentHeat.add(emptyHeat, FRAME_CYCLES, 20 * FRAME_CYCLES);
   assert.deepEqual(recentHeat.heat, { cycles: 20 * FRAME_CYCLES, cells: [] }, "old changes are forgotten");
   calls.watchRam(false);
-  assert.equal(calls.advance(FRAME_CYCLES).warmed, null);
+  assert.equal(calls.advance(FRAME_CYCLES).chipHeat, null);
 });
 
 test("each frame reports one of several chips, and full speed reports samples", async () => {
   const calls = await openSessionAfter(SETUP_CYCLES);
   calls.watchRam(true);
-  const reports = Array.from({ length: 6 }, () => calls.advance(80).warmed);
+  const reports = Array.from({ length: 6 }, () => calls.advance(80).chipHeat);
   assert.deepEqual(reports.map(({ cells }) => cells.map(({ place, count }) => `${place} ${count}`)), [
     ["ram.0.0x12 10"], [], [], ["ram.0.0x12 10"], [], []]);
-  assert.equal(calls.advance(50000).warmed, null);
-  const { warmed } = calls.bench.session.forecastMeters();
-  assert.deepEqual([warmed.chips, warmed.cycles, warmed.cells.length], [3, 2778, 1]);
-  assert.equal(describeHeatStatus(warmed, false), "Counted while running, in one of 3 chips at a time, at full speed in samples.");
-  assert.equal(describeHeatStatus({ chips: 1 }, true), "Counted while running.");
+  assert.equal(calls.advance(50000).chipHeat, null);
+  const { chipHeat } = calls.bench.session.forecastMeters();
+  assert.deepEqual([chipHeat.chipCount, chipHeat.cycles, chipHeat.cells.length], [3, 2778, 1]);
+  assert.equal(describeHeatStatus(chipHeat, false), "Counted while running, in one of 3 chips at a time, at full speed in samples.");
+  assert.equal(describeHeatStatus({ chipCount: 1 }, true), "Counted while running.");
 });
 
 test("past changes are counted exactly, and the session stays unchanged", async () => {

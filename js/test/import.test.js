@@ -1,5 +1,5 @@
 // Tests the import of programs in the syntax of Intel's assembler and of the assembler AS. (`checks/tools import` tests whole programs,
-// whose bytes were assembled by hand.)
+// whose bytes were assembled manually.)
 import assert from "node:assert/strict";
 import { test } from "node:test";
 import { evaluate } from "../core/import/expressions.js";

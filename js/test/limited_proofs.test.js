@@ -1,5 +1,5 @@
-// Tests proofs for the inputs that a properties text allows: the limits in a question, when it is asked a second time, counterexamples that
-// stay within the limits, and the texts about such proofs.
+// Tests proofs for the inputs that a properties text allows: the limits in a question, and when the question is asked again with them. Also
+// tests counterexamples that stay within the limits, and the texts about such proofs.
 import assert from "node:assert/strict";
 import { test } from "node:test";
 import { Engine } from "../core/engine/engine.js";
@@ -51,7 +51,7 @@ test("a proof can use the limits of a text that exclude keys, or that one read c
   // The button at TEST is not a key of the matrix.
   assert.deepEqual(limitsOf("press WALK"), { keys: [], maxKeysDown: null, words: ["press"] });
   assert.deepEqual(limitsOf("test"), { keys: [], maxKeysDown: null, words: ["test"] });
-  // Without a line, at most two keys are down. Three columns are at the same port, so one read can see more.
+  // Without a line `together`, at most two keys are down. Three columns are at the same port, so one read could see three keys down.
   assert.deepEqual(limitsOf(""), { keys: null, maxKeysDown: 2, words: ["together 2"] });
   assert.deepEqual(limitsOf("press A B C D E F\nreset\nheld at most 1 s\nwait 1 to 9"),
     { keys: null, maxKeysDown: 2, words: ["together 2"] });
@@ -119,7 +119,7 @@ class AnsweringEngine extends Engine {
 async function prove(propertiesText, answer, { programText = PROGRAM, answerMistakes = () => "holds 9\n" } = {}) {
   const engine = new AnsweringEngine((question) => (question.kind === "mistake" ? answerMistakes : answer)(question));
   const texts = { boardText: BOARD, programText, testText: "", propertiesText };
-  const { proving, errors } = beginProving(engine, texts, 10000, { seen: async () => {}, yieldToMessages: async () => {} });
+  const { proving, errors } = beginProving(engine, texts, 10000, { reportStates: async () => {}, yieldToMessages: async () => {} });
   assert.deepEqual(errors, []);
   const all = (await proving.judgeAll()).map((judged) => ({ ...createPropertyVerdict(judged), judged }));
   const verdictsOf = (judgedProperties) => judgedProperties.map(({ verdict }) => verdict);
@@ -160,7 +160,7 @@ test("a question is not repeated without need", async () => {
   const askedFor = async (text, answer) => (await prove(text, () => answer)).asked;
   assert.deepEqual(await askedFor(`press A\n${NEVER_ON}`, "holds 5\n"), ["never 1 all"]);
   assert.deepEqual(await askedFor(`press A\n${NEVER_ON}`, ANSWERS_BY_KEYS.A), ["never 1 all"]);
-  // No limit of these texts matters.
+  // The limits in these texts do not restrict what one read can see.
   assert.deepEqual(await askedFor(`together 3\nheld at most 1\n${NEVER_ON}`, ANSWERS_BY_KEYS.A), ["never 1 all"]);
   assert.deepEqual(await askedFor(`together 9\n${NEVER_ON}`, "too many\n"), ["never 1 all"]);
 });
@@ -176,7 +176,7 @@ test("several properties are asked together again only if all of them are undeci
   const manyResult = await prove(properties, ({ isLimited }) => (isLimited ? "holds 5\n" : "too many\n"));
   assert.deepEqual(manyResult.verdicts, Array.from({ length: 3 }, () => provedWith(5, "press")));
   assert.deepEqual(manyResult.asked, ["never 3 all", "never 3 only; press 0 1; test"]);
-  // The first property fails, so each property is asked alone, and only the undecided one again.
+  // The first property fails, so the prover is asked about each property alone, and again, with limits, about the undecided one.
   let alone = 0;
   const failResult = await prove(properties, ({ isLimited, count }) => {
     if (isLimited) return "holds 5\n";
@@ -185,7 +185,7 @@ test("several properties are asked together again only if all of them are undeci
   });
   assert.deepEqual(failResult.verdicts, [provedWith(5, "press"), provedWith(8), provedWith(8)]);
   assert.deepEqual(failResult.asked, ["never 3 all", "never 1 all", "never 1 only; press 0 1; test", "never 1 all", "never 1 all"]);
-  // The joint question with limits fails, so each property is asked alone.
+  // The combined question with limits fails, so the prover is asked about each property alone.
   const bothResult = await prove(properties,
     ({ isLimited, count }) => (!isLimited ? "no 90\n" : count === 1 ? "holds 5\n" : ANSWERS_BY_KEYS.B));
   assert.deepEqual(bothResult.verdicts, Array.from({ length: 3 }, () => provedWith(5, "press")));
@@ -251,7 +251,7 @@ test("a counterexample releases keys that are not read, and stays within the lim
   const longerFound = await findCounterexample(`together 2\n${NEVER_ON}`, [0, 1, 0, 0, 1], program);
   assert.ok(longerFound.isAllowed);
   assert.doesNotMatch(longerFound.text, /release/);
-  // What happens in the first 300 cycles does not count, so the waits stay as long as they are.
+  // What happens in the first 300 cycles does not count, so the waits are not shortened.
   const lateFound = await findCounterexample(`begin after 300\n${NEVER_ON}`, [0, ...Array(100).fill(0), 1], PROGRAM);
   assert.ok(lateFound.isAllowed && lateFound.cycles > 300);
 });
@@ -315,7 +315,7 @@ test("a search is not needed for a property that is proved for its inputs", asyn
 test("the prover of the page applies the limits", async () => {
   const judge = async (propertiesText, programText = PROGRAM) => {
     const texts = { boardText: BOARD, programText, testText: "", propertiesText };
-    const { proving } = beginProving(moduleEngine, texts, 10000, { seen: async () => {}, yieldToMessages: async () => {} });
+    const { proving } = beginProving(moduleEngine, texts, 10000, { reportStates: async () => {}, yieldToMessages: async () => {} });
     const { verdict } = await proving.judgeNext();
     return verdict.kind === "proved" ? verdict.limits : verdict.kind;
   };

@@ -1,6 +1,6 @@
 import assert from "node:assert/strict";
 import { test } from "node:test";
-import { parseGoal } from "../core/machine/go_to_target.js";
+import { parseGoToTarget } from "../core/machine/go_to_target.js";
 import { addLineNames, labelsWidth } from "../core/machine/listing_names.js";
 import { SourceMap } from "../core/machine/source_map.js";
 
@@ -37,7 +37,7 @@ test("the width of the labels", () => {
 
 test("go to: names, hexadecimal and decimal addresses", () => {
   const addresses = ["put", " on ", "PUT", "put + 7", "put+0x07", "01E", "01e", "0x1E", "0x01e", "30", "100", "4095", "0", "0xFFF", "0030"];
-  assert.deepEqual(addresses.map((text) => parseGoal(text, MAP)), [2, 12, 2, 9, 9, 30, 30, 30, 30, 30, 256, 4095, 0, 4095, 30]
+  assert.deepEqual(addresses.map((text) => parseGoToTarget(text, MAP)), [2, 12, 2, 9, 9, 30, 30, 30, 30, 30, 256, 4095, 0, 4095, 30]
     .map((address) => ({ address, message: "" })));
 });
 
@@ -45,7 +45,7 @@ test("go to: invalid addresses are rejected with a reason", () => {
   for (const [text, words] of [["4096", /^4096 is not an address: the last one is FFF/], ["0x1000", /the last one/],
     ["put2", /^put2 is neither/], ["put + 4095", /^put \+ 4095 is neither/],
     ["", /^Enter where to go/], ["1E", /^1E is neither/], ["-1", /neither/], ["01E0", /neither/]]) {
-    assert.match(parseGoal(text, MAP).message, words);
+    assert.match(parseGoToTarget(text, MAP).message, words);
   }
-  assert.match(parseGoal("put", null).message, /^put is not an address: .* Names are known only while/);
+  assert.match(parseGoToTarget("put", null).message, /^put is not an address: .* Names are known only while/);
 });

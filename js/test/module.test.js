@@ -12,7 +12,7 @@ const calculator = examples.find(({ name }) => name === "calculator");
 async function openExample(example) {
   const calls = new BenchCalls(async () => true);
   const size = await calls.load(module, examples);
-  calls.open(calls.make(example));
+  calls.open(calls.createFile(example));
   return { calls, size };
 }
 
@@ -44,7 +44,7 @@ test("bytes that are not a session are rejected, and the session stays", async (
   const { calls } = await openExample(calculator);
   for (const [bytes, number] of [[0, 50], [9, 50], [163857, 50], [163856, 50]]) {
     assert.throws(() => calls.open(new Uint8Array(bytes)), { number });
-    assert.throws(() => calls.settled(new Uint8Array(bytes)), { number });
+    assert.throws(() => calls.settleFile(new Uint8Array(bytes)), { number });
   }
   assert.equal(calls.ask("board\n")[0], "board");
 });
@@ -89,11 +89,11 @@ test("a breakpoint ends a frame early", async () => {
 
 test("a session with an example's board and program gets the example's texts, and another session gets those of the bench", async () => {
   const { calls } = await openExample(calculator);
-  const texts = calls.texts(calls.make(calculator));
+  const texts = calls.recoverTexts(calls.createFile(calculator));
   const { board, program, tests = "", properties = "" } = calculator;
   assert.deepEqual(texts, { boardText: board, programText: program, testText: tests, propertiesText: properties });
-  const session = calls.make({ ...calculator, board: '[[rom]]\nchip = 0\nport = "0000"\n', program: "\tLDM 5\n\tJUN 0\n" });
-  assert.deepEqual(calls.texts(session), {
+  const session = calls.createFile({ ...calculator, board: '[[rom]]\nchip = 0\nport = "0000"\n', program: "\tLDM 5\n\tJUN 0\n" });
+  assert.deepEqual(calls.recoverTexts(session), {
     boardText: '[[rom]]\nchip = 0\nport = "0000"\n', programText: "\tLDM 5\n\tJUN 0x000\n", testText: "", propertiesText: "",
   });
 });
@@ -101,11 +101,11 @@ test("a session with an example's board and program gets the example's texts, an
 test("the wrong part of a board and the wrong lines of a program are reported", async () => {
   const { calls } = await openExample(calculator);
   const board = '[[rom]]\nchip = 0\nport = "0000"\n\n[[lamp]]\nline = "ram0.0.0"\n';
-  const { first } = await calls.serve(`wire\n${board}.\n`);
-  assert.equal(first, "no 25");
-  assert.deepEqual(calls.wiring(board), { number: 25, line: 5, section: "lamp", index: 1, key: "line" });
-  assert.equal(calls.wiring(board.slice(0, board.indexOf("[[lamp"))), null);
-  assert.deepEqual(calls.errors("a: NOP\na: NOP\nFOO\n"), [{ line: 2, number: 31 }, { line: 3, number: 30 }]);
+  const { firstAnswer } = await calls.serve(`wire\n${board}.\n`);
+  assert.equal(firstAnswer, "no 25");
+  assert.deepEqual(calls.findBoardError(board), { number: 25, line: 5, section: "lamp", index: 1, key: "line" });
+  assert.equal(calls.findBoardError(board.slice(0, board.indexOf("[[lamp"))), null);
+  assert.deepEqual(calls.findLineErrors("a: NOP\na: NOP\nFOO\n"), [{ line: 2, number: 31 }, { line: 3, number: 30 }]);
 });
 
 test("many lines are all executed", async () => {

@@ -5,7 +5,7 @@ import { test } from "node:test";
 import { COMMANDS, commandById } from "../page/commands/command_table.js";
 import { commandForKey, makeEditorBindings, formatKey, listenToKeys } from "../page/commands/keys.js";
 import { makeKeyRows, addKeyRows } from "../page/commands/key_list.js";
-import { listDestinations } from "../page/commands/palette_places.js";
+import { listDestinations } from "../page/commands/palette_destinations.js";
 import { searchEntries, rankEntry } from "../page/commands/palette_search.js";
 import * as say from "../words/page_commands.js";
 
@@ -45,12 +45,13 @@ test("the elements that commands use exist in the page", () => {
     const { recordedCalls, calls } = createRecorder();
     command.act(calls);
     const [[name, id]] = recordedCalls;
-    if (["press", "enter", "toggle"].includes(name)) assert.ok(html.includes(`id="${id}"`), `${command.id}: ${id}`);
+    if (["clickButton", "focusField", "toggleCheckBox"].includes(name)) assert.ok(html.includes(`id="${id}"`), `${command.id}: ${id}`);
   }
 });
 
 test("a command that cannot run gives the reason", () => {
-  const calls = { canGoForward: () => false, isOffered: () => false, hasText: () => false, hasNotices: () => false, hasKeys: () => false };
+  const no = () => false;
+  const calls = { canGoForward: no, isButtonAvailable: no, hasText: no, hasNotices: no, hasKeys: no };
   const reasons = COMMANDS.map((command) => [command.id, command.unavailableReason(calls)]).filter(([, reason]) => reason);
   assert.ok(reasons.length > 30);
   assert.equal(commandById("time.redo").unavailableReason(calls), say.NOTHING_UNDONE);
@@ -135,7 +136,7 @@ test("places: texts, labels, typed addresses and lines, projects, examples", () 
   const names = new Map([["loop", { name: "loop", value: 0x12, isLabel: true }], ["ten", { name: "ten", value: 10, isLabel: false }]]);
   const map = { names, lineOf: () => 7, findValueIgnoringCase: (name) => (names.get(name.toLowerCase()) || {}).value };
   const calls = { map: () => map, examples: () => ["clock"], projects: () => [{ id: "4", name: "mine" }], show: recordVisit("show"),
-    showLine: recordVisit("line"), showAddress: recordVisit("address"), beginExample: recordVisit("example"),
+    showLine: recordVisit("line"), showAddress: recordVisit("address"), openExample: recordVisit("example"),
       openProject: recordVisit("project") };
   const openFirst = (query) => {
     const [place] = searchEntries(listDestinations(query, calls), query);

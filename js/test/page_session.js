@@ -10,7 +10,7 @@ export const examplesOfPage = examples;
 export async function openExample(name, lines = "") {
   const benchCalls = new BenchCalls(async () => true);
   await benchCalls.load(pageModule, examples);
-  benchCalls.open(benchCalls.make(examples.find((example) => example.name === name)));
+  benchCalls.open(benchCalls.createFile(examples.find((example) => example.name === name)));
   if (lines) await benchCalls.serve(lines);
   return benchCalls;
 }

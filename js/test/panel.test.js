@@ -61,7 +61,7 @@ async function openPanel({ board, program }, { lines = "", isPaused = false, has
       await panel.snapshot.refresh(countMiddleRows(TERMINAL_SIZE));
     }
   };
-  /** Lets time passTime, frame by frame. */
+  /** Lets time pass, in frames of 100 ms. */
   const passTime = async (milliseconds) => {
     for (const deadline = now + milliseconds; now < deadline;) {
       now += 100;
@@ -100,7 +100,7 @@ test("rows of lamps: a die, a matrix, a grid, and others with names", () => {
   assert.deepEqual(lampRows("# bar 0: 14 lamps\n", 14, `*${".".repeat(13)}`), [`*${".".repeat(13)}`, ""]);
 });
 
-test("a calculator: typeKeys keys are pressed one after the other, and the display has large digits", async () => {
+test("a calculator: typed keys are pressed one after the other, and the display has large digits", async () => {
   const { typeKeys, passTime, text, panel } = await openPanel(CALCULATOR);
   await typeKeys("12+30=");
   await passTime(2 * SECOND_MS);
@@ -110,7 +110,7 @@ test("a calculator: typeKeys keys are pressed one after the other, and the displ
   assert.deepEqual([panel.isEnded, panel.snapshot.keysDown.count], [true, 0]);
 });
 
-test("the last typeKeys keys are processed before the panel ends", async () => {
+test("the last typed keys are processed before the panel ends", async () => {
   const { typeKeys, panel, ask } = await openPanel(CALCULATOR, { lines: "run 2000\n" });
   await typeKeys("12+30=");
   await panel.end();

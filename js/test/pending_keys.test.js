@@ -43,7 +43,7 @@ async function createPresser() {
     deliverRequests();
     const frame = structuredClone(calls.advance(cycles));
     isDown = / keys [^ ]*\b0\.0\b/.test(frame.snapshot.join("\n"));
-    pendingKeys.waitingChanges = frame.waiting;
+    pendingKeys.waitingChanges = frame.waitingChanges;
     return isDown;
   };
   return { presser, sentWords, deliverRequests, deliverReport };
@@ -70,7 +70,7 @@ test("a key can be pressed again while its release is in transit", async () => {
   assert.deepEqual(sentWords, ["press", "release", "press"]);
 });
 
-test("presser a held key releases it, even while its first press is pending", async () => {
+test("pressing a held key releases it, even while its first press is pending", async () => {
   const { presser, sentWords, deliverReport } = await createPresser();
   presser.pressOrRelease(KEY, true);
   presser.endPress(KEY.key);

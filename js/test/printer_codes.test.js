@@ -23,7 +23,7 @@ async function openCalculator(file = null, stored = {}) {
   const calls = new BenchCalls(async () => true);
   await calls.load(pageModule, []);
   const tape = { calls, printed: null };
-  recordReport(tape, calls.open(file || calls.make(EXAMPLE), stored.total, stored.reset, stored.printed));
+  recordReport(tape, calls.open(file || calls.createFile(EXAMPLE), stored.total, stored.reset, stored.printed));
   calls.printOn(printer);
   return tape;
 }
@@ -82,7 +82,7 @@ test("a long series of lines prints, and cancelled lines print nothing", async (
   let shouldContinue = true;
   const calls = new BenchCalls(async () => shouldContinue);
   await calls.load(pageModule, []);
-  const tape = recordReport({ calls, printed: null }, calls.open(calls.make(EXAMPLE)));
+  const tape = recordReport({ calls, printed: null }, calls.open(calls.createFile(EXAMPLE)));
   calls.printOn(printer);
   const runLines = "run 100\n".repeat(3000);
   const [nine, equals] = [PLACE_BY_LEGEND.get("9"), PLACE_BY_LEGEND.get("=")];

@@ -18,7 +18,7 @@ const BOARD = readExample("three_lamps/board.toml");
 const PROGRAM = readExample("three_lamps/three_lamps.asm");
 const LOCK = { board: readExample("lock/board.toml"), program: readExample("lock/lock.asm") };
 
-/** Returns a prompt with files, and a function that returns its output and errors since the last call. */
+/** Resolves to a prompt with files, and to a function that returns its output and errors since the last call. */
 async function createPrompt({ board, program } = { board: BOARD, program: PROGRAM }, isInteractive = false, files = {}) {
   let printed = [];
   const session = new DebugSession(engine, { board, program });
@@ -96,6 +96,12 @@ test("steps forward and back", async () => {
   assert.match((await ask("back lamps")).join(), /Back at 006 .*: this instruction changes lamps from \.\.\. to \.\.\*\./);
   assert.match((await ask("forward"))[1], /^Forward again to 009/);
   assert.deepEqual(await ask("finish"), ["refused: no call is open here"]);
+});
+
+test("a step back over a return stops where the remembered past begins", async () => {
+  const { ask } = await createPrompt();
+  await ask("set pc = 0x01A", "step");
+  assert.match((await ask("reverse-next"))[0], /^Back in the subroutine, at 01A .*: the remembered past begins in it\.$/);
 });
 
 test("going back to breakpoints, to changes of watched places, and to the previous stop", async () => {
@@ -280,7 +286,7 @@ test("commands can run at a breakpoint's stops", async () => {
   await ask("commands 1", "end");
   assert.deepEqual(await ask("info b"), [(await ask("info breakpoints"))[0]]);
   await ask("commands 1");
-  assert.deepEqual([prompt.drop(), prompt.drop()], ["the commands of breakpoint 1 are dropped", ""]);
+  assert.deepEqual([prompt.discardUnfinished(), prompt.discardUnfinished()], ["the commands of breakpoint 1 are dropped", ""]);
   // The user interrupts an endless run.
   let pauseCount = 0;
   prompt.callbacks.pause = async () => {

@@ -76,7 +76,7 @@ async function runProofs(answer, { most: maximum = 50000, answerMistakes, answer
   const engine = new RecordingEngine(answer, answerMistakes, answerSets, answerTimes);
   const stateCounts = [];
   const { proving, errors } = beginProving(engine, { ...texts, ...others }, maximum, {
-    seen: async (states) => {
+    reportStates: async (states) => {
       stateCounts.push(states);
     },
     yieldToMessages: async () => {},

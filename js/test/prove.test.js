@@ -82,7 +82,9 @@ function isMet(state, comparison) {
   return (Number(low) <= value && value <= Number(high)) === (way === "in");
 }
 
-/** Yields states of the bench in which every place that a condition can read has a random value. */
+/**
+ * Yields session files in which the places that conditions read have random values: registers, RAM nibbles, status characters and others.
+ */
 function* generateRandomStates() {
   const random = createRandom(5);
   const randomUpTo = (maximum) => Math.floor(random() * (maximum + 1));
@@ -280,7 +282,7 @@ test("the values of a run become key presses and a failing test", async () => {
   assert.equal(found.isAllowed, true);
   assert.match(found.text, /^test never lamp on on\n {2}run \d+\n {2}press A\n {2}run \d+\n {2}expect not lamp on on\n$/);
   const texts = { boardText: BOARD, programText: PROGRAM, sources: [{ name: "found", text: found.text }] };
-  const { outcomes } = await runTests(engine, texts, async () => true, { Counting: NullRecorder });
+  const { outcomes } = await runTests(engine, texts, async () => true, { RecorderClass: NullRecorder });
   assert.equal(outcomes[0].failure.line, 5);
 });
 
@@ -298,7 +300,7 @@ test("inputs that the properties exclude are marked", async () => {
 /** Resolves to true if the test of a counterexample fails. */
 async function doesTestFail({ text }, programText = PROGRAM) {
   const { outcomes } = await runTests(engine, { boardText: BOARD, programText, sources: [{ name: "found", text }] }, async () => true,
-    { Counting: NullRecorder });
+    { RecorderClass: NullRecorder });
   return outcomes[0].failure !== null;
 }
 
@@ -321,8 +323,8 @@ test("an exceeded time becomes a failing test, and a kept time does not", async 
   }
 });
 
-// Each row: a condition, the instruction that makes it true, the instruction that makes it false, and the number of cycles for which it is
-// true with two more cycles in between.
+// Each row has a condition, the instruction that makes it true, and the instruction that makes it false. The number is the number of cycles
+// for which the condition is true if two NOPs are between these instructions.
 const TRUE_CYCLES = [["r5 > 0", "FIM P2, 0x05", "FIM P2, 0", 4], ["r5 > 0", "INC R5", "FIM P2, 0", 3],
   ["r5 > 0", "FIM P2, 0x0F", "INC R5", 4],
   ["cy = 1", "STC", "CLB", 3]];

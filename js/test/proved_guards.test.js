@@ -65,10 +65,10 @@ class FixedAnswerEngine extends Engine {
   }
 }
 
-/** Returns the verdicts on the properties of a text. */
+/** Resolves to the verdicts on the properties of a text. */
 async function findVerdicts(propertiesText, usedEngine = engine, programText = PROGRAM) {
   const texts = { boardText: BOARD, programText, testText: "", propertiesText };
-  const { proving, errors } = beginProving(usedEngine, texts, 100000, { seen: async () => {}, yieldToMessages: async () => {} });
+  const { proving, errors } = beginProving(usedEngine, texts, 100000, { reportStates: async () => {}, yieldToMessages: async () => {} });
   assert.deepEqual(errors, []);
   return (await proving.judgeAll()).filter(({ property: { line } }) => line > 0).map(({ verdict }) => verdict);
 }

@@ -20,7 +20,7 @@ test("a byte that looks like a JMS does not count if the program has none there"
   assert.deepEqual(findLiveReturns([7, 0, 0], ["50", "00", "00"], null), [true, false, false]);
   assert.deepEqual(findLiveReturns([7, 0, 0], ["50", "00", "00"], MAP), [false, false, false]);
   assert.deepEqual(findLiveReturns([2, 0, 0], ["50", "00", "00"], MAP), [true, false, false]);
-  // For an address outside the program, only the byte in ROM decides.
+  // A return address outside the program is live if the ROM byte of its call looks like a JMS.
   assert.deepEqual(findLiveReturns([0x102, 0, 0], ["5F", "00", "00"], MAP), [true, false, false]);
 });
 

@@ -15,7 +15,7 @@ const uri = `${PROJECT}lock.asm`;
 const document = { textDocument: { uri } };
 const range = (...numbers) => ({ start: { line: numbers[0], character: numbers[1] }, end: { line: numbers[2], character: numbers[3] } });
 
-/** Returns a server in which a text is open. */
+/** Resolves to a server in which a text is open. */
 async function startServerWithText(text, params, name = uri) {
   const server = startServer(FILES);
   await server.initialize(params);

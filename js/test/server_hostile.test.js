@@ -34,7 +34,7 @@ const DOCUMENT_REQUESTS = ["documentSymbol", "codeLens", "documentLink", "foldin
 const MAX_ANSWER_MS = 2000;
 const getProcessorTime = () => process.cpuUsage().user / 1000;
 
-/** Sends every kind of request about a text. Returns the method that took longest. */
+/** Sends every kind of request about a text. Resolves to the name of the request that took longest, and to its time. */
 async function sendAllRequests({ getResponse, positionIn }, uri, lines) {
   const last = lines.length - 1;
   const middle = Math.floor(lines[0].length / 2);

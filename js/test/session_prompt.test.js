@@ -86,8 +86,8 @@ test("an unfinished text can be dropped", async () => {
   const { prompt, ask } = createPrompt();
   await ask("asm", " NOP");
   assert.equal(prompt.unfinishedText, "asm\n NOP\n");
-  assert.equal(prompt.drop(), "the text of asm is dropped");
-  assert.deepEqual([prompt.drop(), prompt.unfinishedText, prompt.label], ["", "", "mcs4> "]);
+  assert.equal(prompt.discardUnfinished(), "the text of asm is dropped");
+  assert.deepEqual([prompt.discardUnfinished(), prompt.unfinishedText, prompt.label], ["", "", "mcs4> "]);
   assert.deepEqual(await ask("quit"), []);
   assert.equal(prompt.isEnded, true);
 });

@@ -51,11 +51,11 @@ test("several sessions can be deleted at once, and restored unchanged", async ()
   const [first, second] = await store.all();
   assert.deepEqual(await trash.remove([first, second]), [first, second]);
   assert.deepEqual((await store.all()).map(({ name }) => name), ["three"]);
-  assert.deepEqual(trash.deleted, [first, second]);
+  assert.deepEqual(trash.deletedRecords, [first, second]);
   await trash.restoreSessions([first, second]);
   await trash.restoreSessions([first]);
   assert.deepEqual((await store.all()).map(({ name, programText }) => name + programText), ["three; p", "one; p", "two; p"]);
-  assert.deepEqual([trash.deleted, messages], [[], []]);
+  assert.deepEqual([trash.deletedRecords, messages], [[], []]);
   assert.deepEqual([formatNames([first]), formatNames([first, second])], ['"one"', "2 sessions"]);
 });
 
@@ -69,7 +69,7 @@ test("a session that is open in another tab is not deleted; a failed restoration
   assert.deepEqual(await trash.remove([first, second]), [first]);
   store.put = async () => { throw new DOMException("", "QuotaExceededError"); };
   await trash.restoreSessions([first]);
-  assert.deepEqual(trash.deleted, [first]);
+  assert.deepEqual(trash.deletedRecords, [first]);
   assert.deepEqual(messages, ['The session "two" is open in another tab, so it was not deleted.',
     'The session "one" was not restored: the browser has no more space for this page.']);
 });

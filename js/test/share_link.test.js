@@ -11,7 +11,7 @@ const calculator = {
   propertiesText: "",
 };
 
-/** Runs an action as in a browser that lacks the given stream classes. */
+/** Runs an action as in a browser that lacks the given stream classes. Resolves to its result. */
 async function withoutGlobals(names, action) {
   const originals = names.map((name) => globalThis[name]);
   names.forEach((name) => { globalThis[name] = undefined; });
@@ -85,5 +85,5 @@ test("the name in a link is shortened, and loses misleading characters", async (
 
 test("a link with too much compressed data is rejected", async () => {
   const bytes = deflateRawSync(new Uint8Array(1 << 24));
-  await assert.rejects(readLink(`1.${bytes.toString("base64url")}`), /more than a board and a program/);
+  await assert.rejects(readLink(`1.${bytes.toString("base64url")}`), /longer than the page accepts/);
 });

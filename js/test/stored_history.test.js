@@ -29,7 +29,7 @@ function addReport(history, calls, report = calls.bench.snapshotReport([], false
 async function leavePage(store, lines) {
   const calls = await openExample("three lamps");
   const history = new StoredHistory(store);
-  history.begin("one");
+  history.openSession("one");
   addReport(history, calls);
   const states = [calls.ask(ALL_QUERIES)];
   for (const sessionLines of lines) {
@@ -44,13 +44,13 @@ async function leavePage(store, lines) {
 async function reopenPage(store, { bench: { session: { file, count } } }, name = "one") {
   const calls = await openExample("three lamps");
   const history = new StoredHistory(store);
-  history.begin(name);
+  history.openSession(name);
   addReport(history, calls, calls.open(file.slice(), count.total, count.reset));
   return { calls, history, storedSegments: history.takeStoredSegments() };
 }
 
 /** Sends a copy of the history to the worker, as postMessage does. */
-function recall(calls, storedSegments) {
+function sendHistory(calls, storedSegments) {
   return calls.recall(structuredClone(storedSegments));
 }
 
@@ -61,7 +61,7 @@ test("going back reaches each stop from before a reload", async () => {
   const { calls: callsBefore, states } = await leavePage(store, LINES);
   const { calls, history, storedSegments } = await reopenPage(store, callsBefore);
   assert.equal(storedSegments.length, 1);
-  assert.ok(recall(calls, storedSegments) >= 0);
+  assert.ok(sendHistory(calls, storedSegments) >= 0);
   history.continueFrom(storedSegments, storedSegments[0].entries.length);
   addReport(history, calls, await calls.serve("run 20\n"));
   for (const state of states.slice().reverse()) {
@@ -76,12 +76,12 @@ test("going back works across two reloads, also by instructions and to changes",
   const store = createStore();
   const { calls: callsBefore, states } = await leavePage(store, LINES);
   const secondPage = await reopenPage(store, callsBefore);
-  recall(secondPage.calls, secondPage.storedSegments);
+  sendHistory(secondPage.calls, secondPage.storedSegments);
   secondPage.history.continueFrom(secondPage.storedSegments, secondPage.storedSegments[0].entries.length);
   addReport(secondPage.history, secondPage.calls, await secondPage.calls.serve("run 3\n"));
   secondPage.history.saveOnLeave();
   const thirdPage = await reopenPage(store, secondPage.calls);
-  assert.ok(recall(thirdPage.calls, thirdPage.storedSegments) >= 0);
+  assert.ok(sendHistory(thirdPage.calls, thirdPage.storedSegments) >= 0);
   assert.equal((await thirdPage.calls.lastChange("r5")).isFound, true);
   assert.equal((await thirdPage.calls.goBack({ kind: "stop" })).isDone, true);
   assert.deepEqual(thirdPage.calls.ask(ALL_QUERIES), states[states.length - 1]);
@@ -92,13 +92,13 @@ test("after going back, only the remaining past is stored", async () => {
   const store = createStore();
   const { calls } = await leavePage(store, LINES);
   const history = new StoredHistory(store);
-  history.begin("one");
+  history.openSession("one");
   addReport(history, calls, await calls.goBack({ kind: "stop" }));
   addReport(history, calls, await calls.serve("run 5\n"));
   history.saveOnLeave();
   const { calls: callsAfter, storedSegments } = await reopenPage(store, calls);
   assert.deepEqual(storedSegments.map(({ entries }) => entries.map(({ line }) => line)), [["run 5"]]);
-  assert.ok(recall(callsAfter, storedSegments) >= 0);
+  assert.ok(sendHistory(callsAfter, storedSegments) >= 0);
 });
 
 test("a history of another session or moment, a damaged one, or one that is too large is not used", async () => {
@@ -111,9 +111,9 @@ test("a history of another session or moment, a damaged one, or one that is too 
   assert.equal(store.items.size, 0);
   await callsBefore.serve("poke r1 7\n");
   const laterPage = await reopenPage(createStore(), callsBefore);
-  assert.equal(recall(laterPage.calls, storedSegments), -1);
-  assert.equal(recall(calls, [{ ...storedSegments[0], file: storedSegments[0].file.map((byte) => byte ^ 1) }]), -1);
-  assert.equal(recall(calls, []), -1);
+  assert.equal(sendHistory(laterPage.calls, storedSegments), -1);
+  assert.equal(sendHistory(calls, [{ ...storedSegments[0], file: storedSegments[0].file.map((byte) => byte ^ 1) }]), -1);
+  assert.equal(sendHistory(calls, []), -1);
   const damagedTexts = [text.replace(/"entries":/, '"entry":'), text.replace(/"cycles":\d+/, '"cycles":"9"')];
   for (const damagedText of [text.slice(0, 500), "{}", "null", ...damagedTexts]) {
     store.setItem("fethsaim.past", damagedText);
@@ -133,7 +133,7 @@ test("if the saved session is older than the history, the later entries are igno
   const missingEntries = [{ ...poke, line: "run 50", cycles: 50 }, poke];
   const count = storedSegments[0].entries.length;
   storedSegments[0].entries.push({ ...poke, line: "poke r2 9" }, ...missingEntries);
-  assert.equal(recall(calls, storedSegments), count);
+  assert.equal(sendHistory(calls, storedSegments), count);
   for (const state of states.slice(0, -1).reverse()) {
     assert.equal((await calls.goBack({ kind: "stop" })).isDone, true);
     assert.deepEqual(calls.ask(ALL_QUERIES), state);
@@ -143,7 +143,7 @@ test("if the saved session is older than the history, the later entries are igno
 test("the last two files of a long history are stored", async () => {
   const calls = await openExample("three lamps");
   const history = new StoredHistory(createStore());
-  history.begin("one");
+  history.openSession("one");
   addReport(history, calls);
   for (let round = 0; round < 25; round++) addReport(history, calls, await calls.serve("run 100000\n".repeat(5)));
   assert.equal(history.segments.length, 2);
@@ -151,6 +151,6 @@ test("the last two files of a long history are stored", async () => {
   assert.deepEqual([history.segments[0].total, cycles], [8000000, [4000000, 500000]]);
   const nextCalls = await openExample("three lamps");
   nextCalls.open(calls.bench.session.file.slice(), calls.bench.session.count.total, 0);
-  assert.ok(recall(nextCalls, history.segments) >= 0);
+  assert.ok(sendHistory(nextCalls, history.segments) >= 0);
   assert.equal((await nextCalls.goBack({ kind: "stop" })).cycles, 500000);
 });

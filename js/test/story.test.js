@@ -59,7 +59,7 @@ test("an action calls the page, or returns the reason why it cannot", async () =
   const calls = {
     isDown: () => isDown, isRunning: () => isRunning,
     addressOf: (label) => ({ turn: 2 })[label], keys: () => [key], run: recordCall("run"), pause: recordCall("pause"),
-      goOn: recordCall("goOn"),
+      runToGoal: recordCall("runToGoal"),
     goBack: recordCall("goBack"), goForward: recordCall("goForward"), goTo: recordCall("goTo"), press: recordCall("press"),
       showText: recordCall("showText"),
     showPanel: recordCall("showPanel"),
@@ -69,7 +69,7 @@ test("an action calls the page, or returns the reason why it cannot", async () =
     ["show", "waves"], ["show", "memory"],
   ]) assert.equal(await runAction({ name, argument }, calls), "");
   assert.deepEqual(recordedCalls, [
-    ["run"], ["pause"], ["goBack", { kind: "stop" }], ["goForward"], ["goTo", 2], ["goOn", { kind: "here", address: 2 }],
+    ["run"], ["pause"], ["goBack", { kind: "stop" }], ["goForward"], ["goTo", 2], ["runToGoal", { kind: "here", address: 2 }],
     ["goBack", { kind: "change", place: "r11" }], ["press", key], ["showText", "waves"], ["showPanel", "memory"],
   ]);
   recordedCalls.length = 0;

@@ -21,9 +21,9 @@ test("errors keep their class on the way from the worker to the page", () => {
 });
 
 test("errors have messages", () => {
-  const errorMessages = new ErrorMessages({ 90: "there was no memory" });
+  const errorMessages = new ErrorMessages({ 90: "out of memory" });
   const noMemory = errorMessages.failureMessage(new BenchRefusal(90));
-  assert.equal(noMemory, "It was not done: no 90: there was no memory. The session is as it was before.");
+  assert.equal(noMemory, "It was not done: no 90: out of memory. The session is as it was before.");
   const trap = errorMessages.failureMessage(new BenchTrap("unreachable"));
   assert.match(trap, /the module stopped inside a call \(unreachable\) and was started again/);
   assert.match(errorMessages.failureMessage(new WorkerDiedError()), /The session is as it was before/);

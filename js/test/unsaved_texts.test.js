@@ -1,5 +1,5 @@
-// Tests the saving of texts that the user typed just before leaving the page, in a browser that does not complete the last write to the
-// store.
+// Tests the saving of texts that the user typed immediately before leaving the page, in a browser that does not complete the last write to
+// the store.
 import assert from "node:assert/strict";
 import { test } from "node:test";
 import { newRecord } from "../page/session/open_session.js";
@@ -41,7 +41,7 @@ test("the texts of a deleted session are removed", () => {
   const store = createStorage();
   const unsavedTexts = new UnsavedTexts(store);
   unsavedTexts.saveOnLeave(createRecord("; typed", 4));
-  unsavedTexts.forget("one");
+  unsavedTexts.removeTexts("one");
   assert.equal(store.items.size, 0);
 });
 

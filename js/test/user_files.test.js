@@ -25,8 +25,8 @@ function createFolder(name) {
 const modeOf = (name) => (statSync(name).mode & 0o7777).toString(8);
 
 /**
- * Runs a line of JavaScript with the functions of the module in a separate process that limits the size of files to a number of blocks.
- * Returns the output.
+ * Runs a line of JavaScript with the functions of the tested module, in a separate process that limits the size of files to a number of
+ * blocks. Returns the output.
  */
 function runWithSizeLimit(line, file, blocks = "unlimited") {
   const script = `import * as files from "${MODULE}"; ${line}`;
@@ -42,7 +42,7 @@ test("regular files are read, up to a size", () => {
   assert.throws(() => readUserText(join(folder, "text"), 7), /^Error: cannot read .*text: it has more than 7 bytes$/);
   assert.throws(() => readUserText(join(folder, "none")), /: there is no such file$/);
   assert.throws(() => readUserText(folder), /: it is a folder$/);
-  // A file without a size can also be read, but not beyond the limit.
+  // A file that reports no size can also be read, but not beyond the limit.
   assert.match(readUserText("/proc/self/status"), /^Name:/);
 });
 

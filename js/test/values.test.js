@@ -29,7 +29,7 @@ before(async () => {
   engine = await Engine.load(pageModule);
 });
 
-/** Resolves to a session after the program's first four instructions and the lines in POKES. */
+/** Resolves to a session after the program's first four instructions and some lines, and to the source map. */
 async function openSession(lines = POKES) {
   const debugSession = new DebugSession(engine, { board: BOARD, program: PROGRAM });
   assert.deepEqual(debugSession.rejectedTexts, []);

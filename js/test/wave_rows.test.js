@@ -13,8 +13,8 @@ const ALL_LINES = NAMES.map((_, line) => line);
 /** Returns the names of the rows in one text. A group heading is written as `[NAME`, the heading of a folded group as `]NAME`. */
 const rowsOf = (rows, chosen = ALL_LINES) => rows.arrange(LINES, chosen).map(({ line, name, group, isFolded }) => (
   line < 0 ? `${isFolded ? "]" : "["}${group}` : name)).join(" ");
-/** Moves a row to the position of another row. */
-function move(rows, from, to, chosen = ALL_LINES) {
+/** Moves a row to the position of another row. Returns the rows in the form of `rowsOf`. */
+function moveRow(rows, from, to, chosen = ALL_LINES) {
   rows.move(rows.arrange(LINES, chosen), rows.sortNames(chosen.map((line) => NAMES[line])), from, to);
   return rowsOf(rows, chosen);
 }
@@ -22,12 +22,12 @@ function move(rows, from, to, chosen = ALL_LINES) {
 test("rows have the order of the board until the user moves one; the other rows keep their order", () => {
   const rows = new WaveRows();
   assert.equal(rowsOf(rows), "a b c d e");
-  assert.equal(move(rows, 0, 2), "b c a d e");
-  assert.equal(move(rows, 4, 0), "e b c a d");
+  assert.equal(moveRow(rows, 0, 2), "b c a d e");
+  assert.equal(moveRow(rows, 4, 0), "e b c a d");
   assert.equal(rowsOf(rows, [0, 1]), "b a");
-  assert.equal(move(rows, 0, 1, [0, 1]), "a b");
+  assert.equal(moveRow(rows, 0, 1, [0, 1]), "a b");
   assert.equal(rowsOf(new WaveRows({ order: ["d", "a", "nowhere"] })), "d e a b c");
-  assert.equal(move(rows, 0, 9), rowsOf(rows));
+  assert.equal(moveRow(rows, 0, 9), rowsOf(rows));
 });
 
 test("a group has the position of its first row, can be folded, and moves as a whole", () => {
@@ -36,25 +36,25 @@ test("a group has the position of its first row, can be folded, and moves as a w
   assert.equal(rowsOf(rows), "a [g b e c d");
   rows.fold("g");
   assert.equal(rowsOf(rows), "a ]g c d");
-  assert.equal(move(rows, 1, 3), "a c d ]g");
-  assert.equal(move(rows, 3, 0), "]g a c d");
+  assert.equal(moveRow(rows, 1, 3), "a c d ]g");
+  assert.equal(moveRow(rows, 3, 0), "]g a c d");
   rows.fold("g");
   assert.equal(rowsOf(rows), "[g b e a c d");
-  assert.equal(move(rows, 0, 1), "[g b e a c d");
+  assert.equal(moveRow(rows, 0, 1), "[g b e a c d");
 });
 
 test("a row can be moved into a group and out of it", () => {
   const rows = new WaveRows({ looks: { b: { group: "g" }, c: { group: "g" } } });
   assert.equal(rowsOf(rows), "a [g b c d e");
-  assert.equal(move(rows, 0, 1), "[g a b c d e");
+  assert.equal(moveRow(rows, 0, 1), "[g a b c d e");
   assert.equal(rows.groupOf("a"), "g");
-  assert.equal(move(rows, 3, 4), "[g a b d c e");
+  assert.equal(moveRow(rows, 3, 4), "[g a b d c e");
   assert.equal(rows.groupOf("c"), "");
-  assert.equal(move(rows, 1, 0), "a [g b d c e");
+  assert.equal(moveRow(rows, 1, 0), "a [g b d c e");
   assert.equal(rows.groupOf("a"), "");
-  assert.equal(move(rows, 4, 3), "a [g b c d e");
+  assert.equal(moveRow(rows, 4, 3), "a [g b c d e");
   assert.equal(rows.groupOf("c"), "");
-  assert.equal(move(rows, 3, 2), "a [g c b d e");
+  assert.equal(moveRow(rows, 3, 2), "a [g c b d e");
   assert.equal(rows.groupOf("c"), "g");
 });
 

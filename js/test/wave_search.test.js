@@ -1,8 +1,8 @@
-// Tests the search for values and edges in a recording. The expected results are calculated by hand or come from the bench's reports.
+// Tests the search for values and edges in a recording. The expected results were calculated manually or come from the bench's reports.
 import assert from "node:assert/strict";
 import { test } from "node:test";
 import { Waves } from "../core/waves/wave_recording.js";
-import { find, readSearch } from "../core/waves/wave_search.js";
+import { findMatch, readSearch } from "../core/waves/wave_search.js";
 import { findLineByName } from "../core/waves/trigger.js";
 import { openExample, examplesOfPage } from "./page_session.js";
 
@@ -42,7 +42,8 @@ test("values and edges are found in both directions", () => {
     const { search, error } = readSearch(text, waves, markedLine);
     assert.equal(error, "", text);
     const moments = [];
-    for (let moment = find(waves, search, isForward ? 0 : 50, isForward); moment >= 0; moment = find(waves, search, moment, isForward)) {
+    const findNext = (/** @type {number} */ from) => findMatch(waves, search, from, isForward);
+    for (let moment = findNext(isForward ? 0 : 50); moment >= 0; moment = findNext(moment)) {
       moments.push(moment);
     }
     return moments;
@@ -60,21 +61,21 @@ test("values and edges are found in both directions", () => {
 test("invalid searches are rejected with a reason", () => {
   const waves = createWaves();
   const error = (text, markedLine = 6) => readSearch(text, waves, markedLine).error;
-  assert.match(error(""), /^Enter a search: a value of the marked line/);
+  assert.match(error(""), /^Enter a search: a value of the selected row/);
   assert.match(error("A"), /^A is not a number such as 10, 0x0A or 0b1010/);
   assert.equal(error("16"), "r5 has 4 bits: its value is at most 15.");
   assert.equal(error("2", 0), "rom0.0 has 1 bit: its value is at most 1.");
   assert.equal(error("r9 = 3"), "Nothing that was recorded is called r9: select it and record again.");
   assert.equal(error("r5 rises"), "r5 is a number: search for a change, or for a value such as = 5.");
   assert.equal(error("@nowhere"), "The program of this recording has no label nowhere.");
-  assert.equal(error("3", -1), "No line is marked.");
+  assert.equal(error("3", -1), "No row is selected: click one first.");
 });
 
 test("an edge found in two million cycles is the one that the bench reports", async () => {
   const { board, program } = examplesOfPage.find((example) => example.name === "stopwatch");
   const calls = await openExample("stopwatch", "test 0\n");
   const waves = new Waves(await calls.record(2000000, false, { board, program, values: ["r4"] }));
-  const findMoment = (text, moment, isForward) => find(waves, readSearch(text, waves, -1).search, moment, isForward);
+  const findMoment = (text, moment, isForward) => findMatch(waves, readSearch(text, waves, -1).search, moment, isForward);
   const first = findMoment("lamp15 rises", 0, true);
   assert.ok(findMoment("lamp15 rises", 2000000, false) > 1990000);
   assert.equal(findMoment("pc = 0xFFF", 0, true), -1);

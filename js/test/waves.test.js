@@ -132,15 +132,15 @@ function answersOf({ groups }, levels, instructions = []) {
     ...groups.flatMap((group) => head(changed(group), rowOf(group, levels)))];
 }
 
-/** Returns a recording that begins with a state. */
-function begin(state = STATE, values = []) {
+/** Returns a recording that begins with a state. `values` names the values to record besides the lines. */
+function beginRecording(state = STATE, values = []) {
   const builder = new WaveBuilder(linesWith(false, values));
   builder.begin(new ForecastAnswers([state, ...answersOf(builder, LEVELS)]));
   return builder;
 }
 
-/** Adds a run and the state after it to a recording. */
-function run(builder, levels, instructions, answer, changes) {
+/** Adds a run to a recording, and the state after it, which is STATE with `changes`. Returns the recording. */
+function addRun(builder, levels, instructions, answer, changes) {
   builder.takeRun(new ForecastAnswers([...answersOf(builder, levels, instructions), answer]));
   builder.takeState(stateWith(changes));
   return builder;
@@ -150,12 +150,13 @@ const textOf = (waves, chosen) => [...vcdParts(waves, chosen)].join("");
 
 const PROGRAM = [[0, "00A", { "rom0.1": 0 }], [1, "00B", { "ram0.0.3": 1 }], [2, "00C", {}], [4, "00A", { "rom0.1": 1 }]];
 
-/** Records four instructions, of which the third takes two cycles, and then an invalid opcode. */
-function record(cycles) {
+/** Records at most `cycles` cycles of PROGRAM: four instructions, the third one with two cycles. With more than 5 cycles, the recording
+ * ends at an invalid opcode. */
+function recordProgram(cycles) {
   const instructions = PROGRAM.filter(([before]) => before < cycles);
-  if (cycles > 5) return run(begin(), LEVELS, instructions, "ok 9 ran 5 code", { pc: "00B" });
+  if (cycles > 5) return addRun(beginRecording(), LEVELS, instructions, "ok 9 ran 5 code", { pc: "00B" });
   const ends = { 3: { pc: "00E", owed: "1" }, 4: { pc: "00A" } };
-  return run(begin(), LEVELS, instructions, `ok 9 ran ${cycles} end`, ends[cycles]);
+  return addRun(beginRecording(), LEVELS, instructions, `ok 9 ran ${cycles} end`, ends[cycles]);
 }
 
 const LISTING = [[0x00a, "00A E2    WRR"], [0x00b, "00B E1    WMP"], [0x00c, "00C 40 0A JUN 0x00A"]];
@@ -165,7 +166,7 @@ function wavesOf(builder, program = null) {
 }
 
 test("changes are at the moment after their instruction", () => {
-  const waves = wavesOf(record(100));
+  const waves = wavesOf(recordProgram(100));
   const changesOf = (name) => [...waves.changesOf(lineIndexOf(waves.lines, name))];
   assert.deepEqual(["rom0.1", "lamp2", "ram0.0.3", "test", "rom0.0"].map(changesOf), [[1, 5], [2], [2], [], []]);
   assert.deepEqual(changesOf("pc"), [1, 2, 4, 5]);
@@ -173,26 +174,26 @@ test("changes are at the moment after their instruction", () => {
 });
 
 test("a recording ends at its last cycle, even inside an instruction", () => {
-  const waves = wavesOf(record(3));
+  const waves = wavesOf(recordProgram(3));
   assert.deepEqual([waves.cycles, waves.isStuck], [3, false]);
   assert.deepEqual([...waves.changesOf(lineIndexOf(waves.lines, "pc"))], [1, 2]);
-  assert.equal(wavesOf(record(4)).counterAt(4), 0x00a);
+  assert.equal(wavesOf(recordProgram(4)).counterAt(4), 0x00a);
 });
 
 test("a refusal by the bench is an error", () => {
-  assert.throws(() => begin().takeRun(new ForecastAnswers(["no 90"])), /no 90/);
-  assert.throws(() => run(begin(), LEVELS, [], "no 46", {}), /no 46/);
+  assert.throws(() => beginRecording().takeRun(new ForecastAnswers(["no 90"])), /no 90/);
+  assert.throws(() => addRun(beginRecording(), LEVELS, [], "no 46", {}), /no 46/);
 });
 
 test("a two-cycle instruction is recorded once, and commands between cycles take no time", () => {
-  const builder = begin();
-  run(builder, LEVELS, [[0, "00A", {}]], "ok 9 ran 1 end", { pc: "020", owed: "1" });
+  const builder = beginRecording();
+  addRun(builder, LEVELS, [[0, "00A", {}]], "ok 9 ran 1 end", { pc: "020", owed: "1" });
   builder.takeState(stateWith({ pc: "020", owed: "1", keys: "0.1" }));
-  run(builder, { ...LEVELS, "rom1.1": 0 }, [], "ok 11 ran 1 break", { pc: "020", keys: "0.1" });
+  addRun(builder, { ...LEVELS, "rom1.1": 0 }, [], "ok 11 ran 1 break", { pc: "020", keys: "0.1" });
   builder.takeState(stateWith({ pc: "020", keys: "0.1", test: "0" }));
   builder.takeState(stateWith({ pc: "020", keys: "0.1" }));
   builder.takeState(stateWith({ pc: "030", keys: "0.1" }));
-  run(builder, { ...LEVELS, "rom1.1": 0 }, [[0, "030", { "rom0.0": 0 }]], "ok 15 ran 1 watch", { pc: "031", keys: "0.1" });
+  addRun(builder, { ...LEVELS, "rom1.1": 0 }, [[0, "030", { "rom0.0": 0 }]], "ok 15 ran 1 watch", { pc: "031", keys: "0.1" });
   builder.takeState(stateWith({ pc: "031", keys: "0.1", test: "0" }));
   const waves = wavesOf(builder);
   const changesOf = (name) => [...waves.changesOf(lineIndexOf(waves.lines, name))];
@@ -201,7 +202,7 @@ test("a two-cycle instruction is recorded once, and commands between cycles take
 });
 
 test("the value at a moment and the edges around it", () => {
-  const waves = wavesOf(record(100));
+  const waves = wavesOf(recordProgram(100));
   const data = lineIndexOf(waves.lines, "rom0.1");
   assert.deepEqual([0, 1, 4, 5].map((moment) => waves.valueAt(data, moment)), ["1", "0", "0", "1"]);
   assert.equal(waves.changeAfter(data, 0), 1);
@@ -213,7 +214,7 @@ test("the value at a moment and the edges around it", () => {
 });
 
 test("a port is shown as a number in three bases", () => {
-  const waves = wavesOf(record(100));
+  const waves = wavesOf(recordProgram(100));
   const [port, chain] = ["rom0[3:0]", "chain0[9:0]"].map((name) => lineIndexOf(waves.lines, name));
   assert.deepEqual([...waves.changesOf(port)], [1, 5]);
   assert.deepEqual([0, 1, 5].map((moment) => waves.valueAt(port, moment)), ["3", "1", "3"]);
@@ -226,9 +227,9 @@ test("a port is shown as a number in three bases", () => {
 });
 
 test("registers, pairs and RAM characters are recorded", () => {
-  const builder = begin(STATE, ["r5", "p2", "ram.0.0x12"]);
+  const builder = beginRecording(STATE, ["r5", "p2", "ram.0.0x12"]);
   const values = { r4: "0", r5: "7", "ram.0.0x12": "9" };
-  run(builder, LEVELS, [[0, "00A", values], [1, "00B", { r4: "A", r5: "0" }], [2, "00C", { r5: "F" }]], "ok 9 ran 4 end", { pc: "00A" });
+  addRun(builder, LEVELS, [[0, "00A", values], [1, "00B", { r4: "A", r5: "0" }], [2, "00C", { r5: "F" }]], "ok 9 ran 4 end", { pc: "00A" });
   const waves = wavesOf(builder);
   const changesOf = (name) => {
     const line = lineIndexOf(waves.lines, name);
@@ -238,15 +239,15 @@ test("registers, pairs and RAM characters are recorded", () => {
 });
 
 test("a recording can be extended, and cut at both ends", () => {
-  const whole = wavesOf(record(4));
-  const builder = begin();
-  run(builder, LEVELS, PROGRAM.slice(0, 1), "ok 9 ran 1 end", { pc: "00B" });
+  const whole = wavesOf(recordProgram(4));
+  const builder = beginRecording();
+  addRun(builder, LEVELS, PROGRAM.slice(0, 1), "ok 9 ran 1 end", { pc: "00B" });
   const recording = wavesOf(builder);
   const after = { ...LEVELS, "rom0.1": 0 };
   const shifted = PROGRAM.slice(1, 3).map(([cycles, ...rest]) => [cycles - 1, ...rest]);
   const pc = lineIndexOf(recording.lines, "pc");
   assert.deepEqual([...recording.changesOf(pc)], [1]);
-  run(builder, after, shifted, "ok 10 ran 3 end", { pc: "00A" });
+  addRun(builder, after, shifted, "ok 10 ran 3 end", { pc: "00A" });
   recording.append({ ...builder.take(), listing: [] });
   assert.equal(textOf(recording, recording.lines.map((_, line) => line)), textOf(whole, whole.lines.map((_, line) => line)));
   recording.beginAt(2);
@@ -259,7 +260,7 @@ test("a recording can be extended, and cut at both ends", () => {
 });
 
 test("the instruction at a moment is found in both of its cycles", () => {
-  const waves = wavesOf(record(100), {
+  const waves = wavesOf(recordProgram(100), {
     text: "stop: NOP\n  JUN go ; on", lines: new Uint16Array(4096).fill(2, 0x00c, 0x00e), labels: [{ address: 0x00b, name: "stop" }],
   });
   for (const moment of [2, 3]) {
@@ -271,12 +272,12 @@ test("the instruction at a moment is found in both of its cycles", () => {
 });
 
 test("the first sample can be the second cycle of an instruction", () => {
-  const builder = run(begin(stateWith({ owed: "1" })), LEVELS, [], "ok 9 ran 1 end", {});
+  const builder = addRun(beginRecording(stateWith({ owed: "1" })), LEVELS, [], "ok 9 ran 1 end", {});
   assert.deepEqual([wavesOf(builder).instructionAt(0).isSecond, wavesOf(builder).instructionAt(1).isSecond], [true, false]);
 });
 
 test("a VCD file: a cycle is 108 units of 100 ns, lines in the order of the choice", () => {
-  const waves = wavesOf(record(100));
+  const waves = wavesOf(recordProgram(100));
   const text = textOf(waves, ["lamp2", "rom0.1", "pc"].map((name) => lineIndexOf(waves.lines, name)));
   const port = textOf(waves, [lineIndexOf(waves.lines, "rom0[3:0]")]);
   assert.match(port, /\$var wire 4 A rom0\[3:0\] \$end\n[^]*\nb0011 A\n\$end\n#108\nb0001 A\n#540/);
@@ -310,13 +311,13 @@ b000000001011 D
 });
 
 test("a VCD file ends with the end of the recording", () => {
-  const waves = wavesOf(record(3));
+  const waves = wavesOf(recordProgram(3));
   const text = textOf(waves, [lineIndexOf(waves.lines, "test")]);
   assert.match(text, /#0\n\$dumpvars\n1A\n\$end\n#324\n$/);
 });
 
 test("the short names of lines in the file differ", () => {
-  const waves = wavesOf(record(3));
+  const waves = wavesOf(recordProgram(3));
   const all = waves.lines.map((_, line) => line);
   const codes = textOf(waves, all).split("\n").filter((line) => line.startsWith("$var")).map((line) => line.split(" ")[3]);
   assert.equal(new Set(codes).size, all.length);

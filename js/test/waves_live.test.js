@@ -16,24 +16,24 @@ const lineIndexOf = (waves, name) => waves.lines.findIndex((line) => line.name =
 const wholeText = (waves) => [...vcdParts(waves, waves.lines.map((_, line) => line))].join("");
 
 /** Starts a recording, and returns it. Its function `addPart` takes the answer to a call, which contains a part of the recording. */
-function record(calls, texts, { maxCycles = 1000000, cyclesAfterTrigger = 0, trigger = "", stopsTime = false } = {}) {
-  const { recorded, error } = calls.recordLive(texts, { trigger, cyclesAfterTrigger, stopsMachine: stopsTime });
+function startRecording(calls, texts, { maxCycles = 1000000, cyclesAfterTrigger = 0, trigger = "", stopsTime = false } = {}) {
+  const { recording, error } = calls.recordLive(texts, { trigger, cyclesAfterTrigger, stopsMachine: stopsTime });
   assert.equal(error, "");
-  const live = new LiveWaves(recorded, { maxCycles, cyclesAfterTrigger, trigger, stopsTime });
+  const live = new LiveWaves(recording, { maxCycles, cyclesAfterTrigger, trigger, stopsTime });
   return { live, addPart: (answer) => live.append(answer.waves) };
 }
 
 test("a live recording of frames, keys, lines and steps equals a recording of the past", async () => {
   const { calls, texts } = await openSession("calculator", "run 30000\n");
   texts.values = ["r5", "p2", "ram.0.0x12"];
-  const { live, addPart } = record(calls, texts);
+  const { live, addPart } = startRecording(calls, texts);
   for (let frame = 0; frame < 4; frame++) addPart(calls.advance(1543));
   addPart(calls.advance(1543, matrixKey(2, 0)));
   addPart(calls.advance(3000));
   calls.release(matrixKey(2, 0));
   addPart(calls.advance(4000));
   addPart(await calls.serve("step\nrun 777\npress 0 0\nrun 50\nrelease 0 0\npoke r5 3\nstep\nreset\nstep\nrun 100\n"));
-  addPart(await calls.goOn({ kind: "over" }));
+  addPart(await calls.runToGoal({ kind: "over" }));
   addPart(calls.advance(500));
   const whole = new Waves(await calls.record(live.waves.cycles, true, texts));
   assert.equal(live.waves.cycles, whole.cycles);
@@ -47,7 +47,7 @@ test("a live recording of frames, keys, lines and steps equals a recording of th
 
 test("the session is the same with and without a recording", async () => {
   const [plain, recording] = [await openSession("stopwatch", "test 0\n"), await openSession("stopwatch", "test 0\n")];
-  record(recording.calls, recording.texts, { trigger: "lamp 15 on", cyclesAfterTrigger: 100 });
+  startRecording(recording.calls, recording.texts, { trigger: "lamp 15 on", cyclesAfterTrigger: 100 });
   for (const { calls } of [plain, recording]) {
     for (let frame = 0; frame < 20; frame++) calls.advance(1543);
     await calls.serve("break 0x00C\n");
@@ -59,7 +59,7 @@ test("the session is the same with and without a recording", async () => {
 
 test("only the last cycles are kept, without changes", async () => {
   const { calls, texts } = await openSession("stopwatch", "test 0\n");
-  const { live, addPart } = record(calls, texts, { maxCycles: 5000 });
+  const { live, addPart } = startRecording(calls, texts, { maxCycles: 5000 });
   live.waves.changesOf(lineIndexOf(live.waves, "rom0[3:0]"));
   for (let frame = 0; frame < 30; frame++) addPart(calls.advance(1543));
   assert.deepEqual([live.waves.length, live.waves.cycles], [5000, 30 * 1543]);
@@ -69,7 +69,7 @@ test("only the last cycles are kept, without changes", async () => {
 
 test("a breakpoint stops the machine and the recording", async () => {
   const { calls, texts } = await openSession("three lamps", "break 0x00C\n");
-  const { live, addPart } = record(calls, texts);
+  const { live, addPart } = startRecording(calls, texts);
   const frame = calls.advance(100000);
   addPart(frame);
   assert.equal(frame.stop.reason, "break");
@@ -92,7 +92,7 @@ for (const [trigger, readAround, expected] of TRIGGERS) {
   test(`a trigger, ${trigger}, with cycles before and after it`, async () => {
     const { calls, texts } = await openSession("stopwatch", "test 0\nrun 20000\n");
     texts.values = ["r3"];
-    const { live, addPart } = record(calls, texts, { maxCycles: 3000, cyclesAfterTrigger: 1000, trigger });
+    const { live, addPart } = startRecording(calls, texts, { maxCycles: 3000, cyclesAfterTrigger: 1000, trigger });
     for (let frame = 0; frame < 200 && live.isOn; frame++) {
       const answer = calls.advance(1543);
       assert.equal(answer.stop, null);
@@ -109,7 +109,8 @@ for (const [trigger, readAround, expected] of TRIGGERS) {
 
 test("the machine stops at an instruction once the cycles after a trigger are recorded", async () => {
   const { calls, texts } = await openSession("stopwatch", "test 0\nrun 20000\n");
-  const { live, addPart } = record(calls, texts, { maxCycles: 3000, cyclesAfterTrigger: 10, trigger: "lamp15 changes", stopsTime: true });
+  const options = { maxCycles: 3000, cyclesAfterTrigger: 10, trigger: "lamp15 changes", stopsTime: true };
+  const { live, addPart } = startRecording(calls, texts, options);
   let frame = calls.advance(1);
   for (let count = 0; count < 50 && !frame.stop; count++) {
     addPart(frame);
@@ -125,7 +126,7 @@ test("the machine stops at an instruction once the cycles after a trigger are re
 
 test("a key press can be a trigger", async () => {
   const { calls, texts } = await openSession("calculator", "run 30000\n");
-  const { live, addPart } = record(calls, texts, { maxCycles: 9000, cyclesAfterTrigger: 3000, trigger: "key 1 rises" });
+  const { live, addPart } = startRecording(calls, texts, { maxCycles: 9000, cyclesAfterTrigger: 3000, trigger: "key 1 rises" });
   addPart(calls.advance(1543));
   addPart(calls.advance(1543, matrixKey(2, 0)));
   addPart(calls.advance(4000));
@@ -136,7 +137,7 @@ test("a key press can be a trigger", async () => {
 test("the reason for the end of a recording is reported", async () => {
   const statusAfter = async (action) => {
     const { calls, texts } = await openSession("three lamps", "run 500\n");
-    const { live, addPart } = record(calls, texts);
+    const { live, addPart } = startRecording(calls, texts);
     addPart(calls.advance(100));
     addPart(await action(calls));
     assert.equal((await calls.serve("step\n")).waves, null);
@@ -161,8 +162,8 @@ test("an invalid trigger is reported, and nothing is recorded", async () => {
     rubbish: /./,
   };
   for (const [trigger, message] of Object.entries(errors)) {
-    const { recorded, error } = recordWith(trigger);
-    assert.equal(recorded, null, trigger);
+    const { recording, error } = recordWith(trigger);
+    assert.equal(recording, null, trigger);
     if (typeof message === "string") assert.equal(error, message);
     else assert.match(error, message);
   }

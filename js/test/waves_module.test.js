@@ -13,7 +13,7 @@ async function begin(name, shouldContinue = async () => true) {
   const calls = new BenchCalls(shouldContinue);
   await calls.load(module, examples);
   const example = examples.find((each) => each.name === name);
-  calls.open(calls.make(example));
+  calls.open(calls.createFile(example));
   return { calls, texts: { board: example.board, program: example.program } };
 }
 
@@ -146,13 +146,13 @@ test("a recording in pieces gives the same VCD file, also for some lines, ports 
       const { program } = whole;
       for await (const waves of recordPieces(calls.bench.engine, state, { lines: wanted.lines, program, cycles: 50001 }, async () => {})) {
         if (!text) {
-          text = new VcdText(waves, wanted.chosen);
+          text = new VcdText(waves, wanted.chosenIndexes);
           parts.push(text.formatHead());
         }
         parts = [...parts, ...text.formatChanges()];
         assert.ok(waves.length <= 20000);
       }
-      assert.equal([...parts, text.end()].join(""), [...vcdParts(whole, some)].join(""));
+      assert.equal([...parts, text.formatEnd()].join(""), [...vcdParts(whole, some)].join(""));
     }
   }
 });

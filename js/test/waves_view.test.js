@@ -57,7 +57,7 @@ test("a cursor stays within the recording, and is scrolled into view", () => {
   view.move(700);
   assert.ok(view.from <= 700 && view.to >= 700);
   view.move(4000);
-  view.active = 1;
+  view.activeCursor = 1;
   view.move(-3);
   assert.deepEqual([view.cursors, view.cursorDistance], [[1000, 0], 1000]);
 });

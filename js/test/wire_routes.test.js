@@ -1,4 +1,4 @@
-// Tests that no wire in the picture of a board crosses a part.
+// Tests the routes of wires in the picture of a board. No part hides a wire, and almost none does after parts were moved at random.
 import assert from "node:assert/strict";
 import { test } from "node:test";
 import { readBoard } from "../core/bench/answers.js";

@@ -45,7 +45,7 @@ test("the component at TEST is a part with a wire to the processor, and has a de
   assert.deepEqual(parts.map(({ id, title }) => `${id} ${title}`), ["processor 4004", "test CROSS THE …"]);
   assert.deepEqual(wires.map(({ from, to }) => `${from.label} ${to.label}`), ["button TEST"]);
   assert.equal(parts[0].descriptions[1], "its input TEST is connected to the button CROSS THE ROAD");
-  assert.deepEqual(parts[1].descriptions, ["the button CROSS THE ROAD puts TEST to 0 while it is pressed"]);
+  assert.deepEqual(parts[1].descriptions, ["the button CROSS THE ROAD sets TEST to 0 while it is pressed"]);
 });
 
 test("a buzzer is a part with a wire from its line", () => {

@@ -47,7 +47,7 @@ test("lines in pieces have the same result as lines at once", async () => {
   const { session } = startWorkerSession();
   const result = await session.serve("step\n".repeat(3000), shouldContinue);
   assert.equal(session.file[0], 3000 % 256);
-  assert.equal(result.first, "ok 1");
+  assert.equal(result.firstAnswer, "ok 1");
   assert.equal(result.entries.length, MAX_ENTRIES);
   assert.match(result.entries[MAX_ENTRIES - 1].answers[0], /^ok /);
   assert.equal(result.snapshot.length, 2);

@@ -66,8 +66,8 @@ export const noAddressMessage = (word) => `${word} is neither a label of the pro
 export const ADDRESS_RANGE = "addresses are 0x000 to 0xFFF";
 
 // --- adapter/debug_adapter.js ---
-export const NOTHING_LAUNCHED = "nothing is launched yet";
-export const PATHS_ONLY = "files are named by paths here, not by addresses";
+export const NOTHING_LAUNCHED = "nothing is launched yet: send launch or attach first";
+export const PATHS_ONLY = "pathFormat must be \"path\"; URIs are not supported";
 export const EXCEPTION_CONDITION_HINT = "a condition, as in r5 > 8 and lamp open on: it pauses only if this holds before the instruction";
 export const RUNNING_LINES = "Running lines";
 /** @type {(done: number, total: number) => string} */
@@ -114,7 +114,7 @@ export const romDiffers = (hasRom, address) => `ROM has ${hasRom ? "another byte
 export const notInRomOfMessage = (program, session, reason) => `${program} differs from the ROM of ${session}: ${reason}`;
 /** @type {(difference: string) => string} */
 export const loadHint = (difference) => (
-  `${difference}. "load": true puts it there; without "program" the source is disassembled from ROM`);
+  `${difference}. "load": true puts the program into ROM; without "program" the source is disassembled from ROM`);
 
 // --- adapter/debugged_machine.js ---
 export const RUNNING = "Running";
@@ -151,7 +151,7 @@ export const mustBeListMessage = (name) => `${name} must be a list`;
 
 // --- adapter/scopes.js ---
 /** @type {(chips: number, isSelected: boolean) => string} */
-export const chipsOf = (chips, isSelected) => `${chips} chips${isSelected ? ", selected by DCL" : ""}`;
+export const chipsOf = (chips, isSelected) => `${chips === 1 ? "1 chip" : `${chips} chips`}${isSelected ? ", selected by DCL" : ""}`;
 /** @type {(chip: number, register: number) => string} */
 export const chipRegister = (chip, register) => `chip ${chip}, register ${register}`;
 /** @type {(byte: string, chip: number) => string} */

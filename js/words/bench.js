@@ -1,4 +1,5 @@
-// Messages about errors of the bench: wrong answers, failed calls, ROM images. (The messages of refusals are in tools/lib/refusals.txt.)
+// Messages about errors of the bench: wrong answers, failed calls, ROM images. (The messages for the shell's error numbers are in
+// tools/lib/refusals.txt.)
 
 // --- bench/script_answers.js ---
 export const FIRST_IS_SESSION = "the first line of the answers must be `session N`";
@@ -31,10 +32,10 @@ export const mergedRuns = (runs, cycles) => `run .. (${runs} lines, ${cycles} cy
 
 // --- bench/rom_image.js ---
 export const NO_BYTE = "it has no byte";
-/** @type {(bytes: string, room: string) => string} */
-export const tooManyBytesMessage = (bytes, room) => `it has ${bytes} bytes, and ROM has ${room}`;
-/** @type {(bytes: string, room: string, first: string) => string} */
-export const tooManyFromMessage = (bytes, room, first) => `it has ${bytes} bytes, and only ${room} fit from the address ${first}`;
+/** @type {(bytes: string, capacity: string) => string} */
+export const tooManyBytesMessage = (bytes, capacity) => `it has ${bytes} bytes, and ROM has ${capacity}`;
+/** @type {(bytes: string, freeBytes: string, first: string) => string} */
+export const tooManyFromMessage = (bytes, freeBytes, first) => `it has ${bytes} bytes, and only ${freeBytes} fit from the address ${first}`;
 export const BEGINS_WITH_COLON = "a record of Intel HEX begins with `:`";
 export const RECORD_SYNTAX = "a record has `:`, ten hexadecimal digits and two for each byte";
 /** @type {(count: number, bytes: number) => string} */

@@ -12,7 +12,7 @@ export const NAMES_KEYS = " Lines such as # row 0: 7 8 9 in the board's text giv
 /** @type {(naming: string) => string} */
 export const keysHint = (naming) => `Shift-click holds a key. Paused: a click toggles it.${naming}`;
 
-// --- board/face.js ---
+// --- `board/face.js` ---
 export const A_SEGMENT = "a segment";
 export const A_COLUMN = "a column";
 export const A_DIGIT = "a digit";
@@ -67,7 +67,7 @@ export const PROCESSOR_ROLE = "it reads the ROMs' bytes and ports, writes the po
 export const testConnectedTo = (kind, name) => `its input TEST is connected to the ${kind} ${name}`;
 export const TEST_IS_ONLY_INPUT = "TEST is only its input";
 /** @type {(kind: string, name: string, level: number) => string} */
-export const drivesTest = (kind, name, level) => `the ${kind} ${name} puts TEST to ${level} while it is pressed`;
+export const drivesTest = (kind, name, level) => `the ${kind} ${name} sets TEST to ${level} while it is pressed`;
 /** @type {(line: string, isInput: boolean) => string} */
 export const lineOfPort = (line, isInput) => `line ${line}, ${isInput ? "an input" : "an output"},`;
 /** @type {(isInput: boolean, line: number) => string} */

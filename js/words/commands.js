@@ -319,7 +319,7 @@ ${SERVES_LINES}`,
     text: `
       Shows the front panel of a board in a terminal of 80 by 24 or more: keys and lamps with their names, colours and places, and the
       number on the display in large digits. Comments of BOARD name them: the manual's chapter "The front panel of a board". Beside it are
-      the registers, RAM, and the instructions round the counter. Below the lamps are the last lines of the printout.
+      the registers, RAM, and the instructions around the program counter. Below the lamps are the last lines of the printout.
 
       It runs as fast as the real chip, 92,593 cycles a second. It starts paused if the session is at a breakpoint. Everything that you do
       is stored in SESSION; watching a paused session changes nothing.
@@ -333,7 +333,7 @@ ${SERVES_LINES}`,
       down until it is typed again. Other keys:
 
       \`space\` pauses and continues. \`Enter\` runs one instruction. \`Tab\` sets a breakpoint at the counter, or clears it.
-      \`Ctrl-T\` turns the TEST pin. \`Ctrl-R\` is a power cycle (\`reset\`). \`Left\` and \`Right\` show other RAM chips. \`Ctrl-D\` or
+      \`Ctrl-T\` toggles the TEST pin. \`Ctrl-R\` is a power cycle (\`reset\`). \`Left\` and \`Right\` show other RAM chips. \`Ctrl-D\` or
       \`Ctrl-C\` ends the panel: keys that went down here go up, and the terminal is as it was.
 
       With --source, or if mcs4.toml names the program, the listing has the lines of the program's source, and the next line is above
@@ -559,8 +559,7 @@ ${SERVES_LINES}`,
     ],
     status: [
       "0: the file is written.",
-      "1: a session that cannot be read or opened, a line that the board lacks, a board or a program that is not the session's, or a "
-        + "file that cannot be written.",
+      "1: the session cannot be opened, the board lacks a line, the board or program is not the session's, or a file cannot be written.",
       WRONG_ARGUMENTS,
     ],
   },
@@ -666,10 +665,10 @@ export const NO_PROGRAM_IN_COPY = "this copy of the bench has no native program"
 export const notForSystemMessage = (platform, machine) => `it is for Linux on x86-64, and this is ${platform} on ${machine}`;
 /** @type {(error: string) => string} */
 export const needsProgram = (error) => (
-  `a session file needs the native program, which is not started: ${error}. Commands without a session file run here`);
+  `a session file needs the native program, which cannot start: ${error}. Commands without a session file run here`);
 /** @type {(error: string) => string} */
 export const runsOnModule = (error) => (
-  `commands run on the proved module, more slowly, because the native program is not started: ${error}. This message appears once`);
+  `commands run on the proved module, more slowly, because the native program cannot start: ${error}. This message appears once`);
 /** @type {(session: string, number: number, meaning: string) => string} */
 export const sessionRefused = (session, number, meaning) => `the session ${session} was rejected: no ${number}: ${meaning}`;
 /** @type {(program: string, address: string, romByte: string, line: number, sourceByte: string) => string} */

@@ -89,7 +89,7 @@ export const KEY_SYNTAX = "write `key NAME down` or `key NAME up`";
 export const noKeyOfPanelMessage = (name, keyNames) => (
   `the board has no key ${name}; ${keyNames ? `it has: ${keyNames}` : "its text names no keys"}`);
 /**
- * Returns the message that the board does not have a place.
+ * Returns the message that the board does not have the part that a place names.
  * @param {string} place
  * @returns {string}
  */

@@ -150,7 +150,7 @@ export const INSERT_SCAN = "Insert code that scans these keys";
 
 // --- drawing/selection_form.js ---
 /** @type {(label: string) => string} */
-export const lineOf = (label) => `${label} at`;
+export const lineFieldLabel = (label) => `${label} at`;
 export const WHAT_IS_THERE = "what is there";
 /** The kinds of ROM port lines: each kind's letter in the board's text and its description. */
 export const DIRECTIONS = [["i", "an input"], ["0", "an output"], ["1", "an output that reads as 1"]];

@@ -12,13 +12,13 @@ import { formatNumber, hasExpectedResult, formatRemark, formatSteps } from "../c
 const NEEDS_COMMAND = "a page cannot run a command; mcs4 explore --allow-model can";
 
 /**
- * Returns the number of broken properties (`broken`), and the number of goals not reached (`left`).
+ * Returns the number of broken properties, and the number of goals that were not reached.
  * @param {Report} report
  */
 function countFailures({ properties }) {
   return {
-    broken: properties.filter(({ isGoal, found }) => !isGoal && found).length,
-    left: properties.filter(({ isGoal, found }) => isGoal && !found).length,
+    brokenCount: properties.filter(({ isGoal, found }) => !isGoal && found).length,
+    missedGoalCount: properties.filter(({ isGoal, found }) => isGoal && !found).length,
   };
 }
 
@@ -36,9 +36,9 @@ export function searchStatistics({ seeds, steps, seconds, states }) {
  * @param {Report} report
  */
 export function progressSummary(report) {
-  const { broken } = countFailures(report);
-  if (broken === 0) return "Searching for keys that break a property.";
-  return `${formatQuantity(broken, "property is", "properties are")} broken so far.`;
+  const { brokenCount } = countFailures(report);
+  if (brokenCount === 0) return "Searching for keys that break a property.";
+  return `${formatQuantity(brokenCount, "property is", "properties are")} broken so far.`;
 }
 
 /**
@@ -47,20 +47,20 @@ export function progressSummary(report) {
  * @param {boolean} isStopped true if the search was stopped before its time was up
  */
 export function finalSummary(report, isStopped) {
-  const { broken, left } = countFailures(report);
-  const summary = broken === 0 ? "Nothing was found that breaks a property."
-    : `${formatQuantity(broken, "property is", "properties are")} broken.`;
-  const goals = left === 0 ? "" : ` ${formatQuantity(left, "goal was", "goals were")} not reached.`;
+  const { brokenCount, missedGoalCount } = countFailures(report);
+  const summary = brokenCount === 0 ? "Nothing was found that breaks a property."
+    : `${formatQuantity(brokenCount, "property is", "properties are")} broken.`;
+  const goals = missedGoalCount === 0 ? "" : ` ${formatQuantity(missedGoalCount, "goal was", "goals were")} not reached.`;
   return `${isStopped ? "Stopped. " : ""}${summary}${goals}`;
 }
 
 /**
- * Returns the mark that a search puts on the Properties tab, or "" if no property is broken.
+ * Returns the mark that a search puts on the Properties tab: the number of broken properties, or "" if there are none.
  * @param {Report} report
  */
 export function reportTabMark(report) {
-  const { broken } = countFailures(report);
-  return broken > 0 ? `${formatNumber(broken)} broken` : "";
+  const { brokenCount } = countFailures(report);
+  return brokenCount > 0 ? `${formatNumber(brokenCount)} broken` : "";
 }
 
 /**
@@ -95,8 +95,8 @@ export function describePropertyResult(property, report) {
 export function coverageOf({ covered, instructions }) {
   const { run, all, ways, allWays, unexecutedLines } = new Coverage(covered).summarise(instructions);
   return {
-    instructions: { part: run, whole: all, words: `${run} of ${all} instructions were run` },
-    ways: { part: ways, whole: allWays, words: `${ways} of ${allWays} branch directions` },
+    instructions: { count: run, total: all, text: `${run} of ${all} instructions were run` },
+    ways: { count: ways, total: allWays, text: `${ways} of ${allWays} branch directions` },
     unexecutedLines,
   };
 }

@@ -1,11 +1,11 @@
 // The comments in the key scan routine that the page generates for a board.
 
-/** @type {(noun: string, length: number, first: number, last: number) => string} a range such as `rows 0 to 3`; `length` is 3 */
-const formatRange = (noun, length, first, last) => (length === 0 ? `${noun} ${first}` : `${noun}s ${first} to ${last}`);
+/** @type {(noun: string, first: number, last: number) => string} returns a range such as `rows 0 to 3`, or `row 0` */
+const formatRange = (noun, first, last) => (first === last ? `${noun} ${first}` : `${noun}s ${first} to ${last}`);
 /** @type {(rows: number, first: number, chain: number, ports: string[]) => string} */
 export const scansKeys = (rows, first, chain, ports) => (
-  `Scans the keys: ${formatRange("bit", rows - 1, first, first + rows - 1)} of chain ${chain} drive${rows === 1 ? "s" : ""} `
-  + `${formatRange("row", rows - 1, 0, rows - 1)}; columns are read at ${ports.join(" and ")}.`);
+  `Scans the keys: ${formatRange("bit", first, first + rows - 1)} of chain ${chain} drive${rows === 1 ? "s" : ""} `
+  + `${formatRange("row", 0, rows - 1)}; columns are read at ${ports.join(" and ")}.`);
 /** @type {(name: string) => string} */
 export const callUsage = (name) => `JMS ${name}: the accumulator is 1 if a key is down, with its row in R4 and its column`;
 /** @type {(registers: string) => string} */

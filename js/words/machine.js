@@ -174,7 +174,7 @@ export const STOP_AT_THIS = " Break on this";
 
 // --- machine/watch_view.js ---
 /** @type {(maximum: number) => string} */
-export const maxWatched = (maximum) => `At most ${maximum}.`;
+export const maxWatched = (maximum) => `At most ${maximum} expressions can be watched: remove one first.`;
 /** @type {(name: string) => string} */
 export const stopWatching = (name) => `stop showing ${name}`;
 export const WHEN_PAUSED = "seen when paused";

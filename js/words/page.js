@@ -1,11 +1,11 @@
-// Texts of the page as a whole: the console, dialogs, notices, and missing browser features.
+// Texts of the console, the dialogs, the notices and the status bar, and messages about missing browser features.
 
 // --- lines/lines_view.js ---
 export const LINES_HINT = "Enter runs, Shift+Enter adds a line, the up arrow recalls. Type help for commands.";
 
 // --- lines/log_view.js ---
 /** @type {(line: string, count: number) => string} */
-export const textLines = (line, count) => `${line} .. (${count} lines)`;
+export const textLines = (line, count) => `${line} .. (${count === 1 ? "1 line" : `${count} lines`})`;
 /** @type {(error: string) => string} */
 export const notKeptMessage = (error) => `not kept: ${error}`;
 

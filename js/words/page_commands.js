@@ -144,7 +144,7 @@ export const NOT_NOW = "not possible now";
 export const NOTHING_UNDONE = "nothing was undone";
 export const NO_BUZZER = "the board has no buzzer";
 export const NO_PRINTER = "the board has no printer";
-export const NO_TEST_PIN = "the board has a button of its own there";
+export const NO_TEST_PIN = "the front panel has its own TEST control";
 export const HAS_BOARD = "the board is not empty";
 export const HAS_TEXT = "there is a text already";
 export const NO_RESULTS = "there are no results";
@@ -183,15 +183,15 @@ export const EMPTY = {
 export const PALETTE = "Commands";
 export const TYPE_COMMAND = "Type a command";
 export const GO_TO = "Go to";
-export const TYPE_PLACE = "Type a label, an address, :line or the name of a text; > for commands";
+export const TYPE_DESTINATION = "Type a label, an address, :line or the name of a text; > for commands";
 /** @type {(count: number) => string} */
 export const countOfCommands = (count) => (count === 1 ? "1 command" : `${count} commands`);
 /** @type {(count: number) => string} */
-export const countOfPlaces = (count) => (count === 1 ? "1 place" : `${count} places`);
+export const countOfDestinations = (count) => (count === 1 ? "1 place" : `${count} places`);
 /** @type {(query: string) => string} */
 export const noneHas = (query) => `Nothing is named ${query}`;
 
-// --- commands/palette_places.js ---
+// --- commands/palette_destinations.js ---
 /** @type {(address: string) => string} */
 export const nameOfAddress = (address) => `Address ${address}`;
 /** @type {(line: number) => string} */

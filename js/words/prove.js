@@ -26,7 +26,7 @@ export const timeTooLong = (maximum) => `its time is longer than ${maximum} cycl
 export const STARTS_AFTER_POWER_ON = "a proof begins at power-on, but the text begins elsewhere (from)";
 
 // --- prove/mistakes.js ---
-/** The properties that every program has, each by the word for its mistake in a question to the prover. */
+/** The properties that are checked for every program, by the prover's word for the mistake that breaks the property. */
 export const MISTAKES = {
   code: "no code outside the instruction table",
   call: "no fourth nested call",
@@ -65,7 +65,8 @@ const quotedList = (words) => words.map((word) => `"${word}"`).join(", ").replac
 /** @type {(limits: string[]) => string} `limits` are the lines of the text whose limits a proof needs, [] for none */
 const forInputs = (limits) => (limits.length > 0 ? `for the inputs of ${quotedList(limits)}` : "for all inputs");
 /**
- * What a proof covers: `limits` as above; `leftOut` are the guards that the proof leaves out, "" for none.
+ * The inputs and the guards of a proof. `limits` are the lines of the text whose limits the proof needs. `leftOut` names the guards that
+ * the proof leaves out, or is "" if there are none.
  * @typedef {{ limits: string[], leftOut: string }} Scope
  */
 /** @type {(states: string, scope: Scope) => string} */

@@ -11,7 +11,7 @@ import * as say from "./prove.js";
 
 /**
  * Returns true if a property is proved, or if a goal is reached.
- * @param {PropertyVerdict} judged
+ * @param {PropertyVerdict} propertyVerdict
  */
 export function isDesiredVerdict({ isGoal, verdict }) {
   return verdict.kind !== "open" && isGoal === (verdict.kind === "found");
@@ -19,7 +19,7 @@ export function isDesiredVerdict({ isGoal, verdict }) {
 
 /**
  * Returns a property's mark: its verdict in one or two words.
- * @param {PropertyVerdict} judged
+ * @param {PropertyVerdict} propertyVerdict
  */
 export function markOf({ isGoal, verdict }) {
   if (verdict.kind === "open") return say.MARKS.open;
@@ -29,7 +29,7 @@ export function markOf({ isGoal, verdict }) {
 
 /**
  * Returns the text next to a property's mark: the reason, the number of states, or the counterexample's length.
- * @param {PropertyVerdict} judged
+ * @param {PropertyVerdict} propertyVerdict
  */
 export function describeVerdict({ isGoal, verdict }) {
   if (verdict.kind === "open") return verdict.reason;
@@ -40,11 +40,12 @@ export function describeVerdict({ isGoal, verdict }) {
 
 /**
  * Counts the properties by their verdicts.
- * @param {PropertyVerdict[]} judged
+ * @param {PropertyVerdict[]} propertyVerdicts
  */
-function countVerdicts(judged) {
+function countVerdicts(propertyVerdicts) {
   /** @type {(kind: PropertyVerdict["verdict"]["kind"], isGoal: boolean) => number} */
-  const count = (kind, wanted) => judged.filter(({ isGoal, verdict }) => verdict.kind === kind && isGoal === wanted).length;
+  const count = (kind, countsGoals) => (
+    propertyVerdicts.filter(({ isGoal, verdict }) => verdict.kind === kind && isGoal === countsGoals).length);
   return {
     proved: count("proved", false), broken: count("found", false), reached: count("found", true), never: count("proved", true),
     open: count("open", false) + count("open", true),
@@ -53,11 +54,11 @@ function countVerdicts(judged) {
 
 /**
  * Returns the summary of all verdicts, such as `2 proved, 1 can fail.`
- * @param {PropertyVerdict[]} judged
+ * @param {PropertyVerdict[]} propertyVerdicts
  * @param {boolean} isStopped true if the proof was cancelled
  */
-export function finalSummary(judged, isStopped) {
-  const { proved, broken, reached, never, open } = countVerdicts(judged);
+export function finalSummary(propertyVerdicts, isStopped) {
+  const { proved, broken, reached, never, open } = countVerdicts(propertyVerdicts);
   /** @type {[number, (count: string) => string][]} */
   const counts = [[proved, say.countProved], [broken, say.countBroken], [reached, say.countReached], [never, say.countNeverReached],
     [open, say.countOpen]];
@@ -69,17 +70,18 @@ export function finalSummary(judged, isStopped) {
  * Returns the text about the progress of the proof.
  * @param {Progress} progress
  */
-export function progressSummary({ verdicts: judged, count, states }) {
-  const which = say.propertyProgress(Math.min(judged.length + 1, count), count);
+export function progressSummary({ verdicts, count, states }) {
+  const which = say.propertyProgress(Math.min(verdicts.length + 1, count), count);
   return states > 0 ? say.statesSoFar(which, formatNumber(states)) : which;
 }
 
 /**
- * Returns the mark that the proofs put on the Properties tab, or "" if no property is proved or broken.
- * @param {PropertyVerdict[]} judged
+ * Returns the mark that the proofs put on the Properties tab: the number of properties that can fail, or else the number of proved
+ * properties. Returns "" if there are neither.
+ * @param {PropertyVerdict[]} propertyVerdicts
  */
-export function proofsTabMark(judged) {
-  const { proved, broken } = countVerdicts(judged);
+export function proofsTabMark(propertyVerdicts) {
+  const { proved, broken } = countVerdicts(propertyVerdicts);
   if (broken > 0) return say.countBroken(formatNumber(broken));
   return proved > 0 ? say.countProved(formatNumber(proved)) : "";
 }

@@ -33,7 +33,7 @@ export const BIN_FILE = "the contents of ROM, byte by byte from 000";
 /** @type {(ending: string) => string} */
 export const saveAs = (ending) => `Save ${ending}`;
 /** @type {(file: string) => string} */
-export const nothingSavedMessage = (file) => `Nothing was saved: there is nothing in it (${file}).`;
+export const nothingSavedMessage = (file) => `Nothing was saved: the file would be empty (${file}).`;
 
 // --- session/folder_project.js ---
 /** @type {(path: string, kind: string) => string} */
@@ -166,7 +166,7 @@ export const REOPEN = "Reopen";
 export const noSuchExampleMessage = (name) => `The address names an example, "${name}", that this page does not have.`;
 /** @type {(hash: string) => string} */
 export const namesNothing = (hash) => (
-  `The address ends with ${hash}, which names nothing here. It can end with #example= and a name, or with a link that *Share* has made.`);
+  `The address ends with ${hash}, which names nothing here. It can end with #example= and a name, or with a link that Share has made.`);
 /** @type {(names: string) => string} */
 export const sessionsDeleted = (names) => `Deleted ${names}.`;
 /** @type {(name: string) => string} */
@@ -184,7 +184,7 @@ export const WITH_STORY = "with its story";
 
 // --- session/share_link.js ---
 export const DAMAGED = "it is cut off or was changed";
-export const CONTAINS_OTHER_TEXTS = "it holds more than a board and a program";
+export const CONTAINS_OTHER_TEXTS = "its texts are longer than the page accepts";
 export const CANNOT_DECOMPRESS = "this browser cannot read compressed texts (it has no DecompressionStream); it needs Chrome "
   + "103, Firefox 113 or Safari 16.4 or later, or a project file instead of the link";
 export const NEWER_PAGE = "it was made by a newer page than this one";

@@ -42,48 +42,48 @@ export function addressWithName(address, map) {
  * Returns the message after a move back or forward in time.
  * @param {BackGoal | { kind: "forward" }} goal
  * @param {Pick<TravelResult, "isDone" | "reason" | "place" | "from" | "to" | "line" | "end" | "cycles">} travel the result of the move
- * @param {string} where the address at which the session is paused
+ * @param {string} location the address at which the session is paused, with its name and line
  * @param {{ condition: string }} [breakpoint] the breakpoint at that address
  */
-export function describeTimeTravel(goal, travel, where, breakpoint) {
+export function describeTimeTravel(goal, travel, location, breakpoint) {
   const { isDone, reason, from, to, line, end, cycles } = travel;
   if (!isDone) return `Nothing was done: ${travelFailureReason(goal, reason)}.`;
   const distance = cycles === 0 ? "" : `, ${formatCycles(cycles)}`;
-  if (goal.kind === "forward") return `Forward again to ${where}${distance}${distance && " later"}.`;
+  if (goal.kind === "forward") return `Forward again to ${location}${distance}${distance && " later"}.`;
   const before = cycles === 0 ? "" : `${distance} earlier`;
-  if (goal.kind === "stop") return `Back at the stop at ${where}${before}.`;
-  if (goal.kind === "instruction") return `Back at ${where}${before}: this instruction has not run yet.`;
-  if (goal.kind === "call") return `Back at ${where}${before}: the subroutine begins here.`;
+  if (goal.kind === "stop") return `Back at the stop at ${location}${before}.`;
+  if (goal.kind === "instruction") return `Back at ${location}${before}: this instruction has not run yet.`;
+  if (goal.kind === "call") return `Back at ${location}${before}: the subroutine begins here.`;
   if (end === "break") {
-    const when = describeBreakpointCondition(breakpoint && { ...breakpoint, from: 1, hits: 0 });
-    return `Back at ${where}${before}, at a breakpoint${when}.`;
+    const conditionText = describeBreakpointCondition(breakpoint && { ...breakpoint, from: 1, hits: 0 });
+    return `Back at ${location}${before}, at a breakpoint${conditionText}.`;
   }
   if (end === "beginning") {
-    return `Back at ${where}${before}, at the beginning of the remembered past: no breakpoint was passed since then.`;
+    return `Back at ${location}${before}, at the beginning of the remembered past: no breakpoint was passed since then.`;
   }
-  const who = line ? `the line ${line}` : "this instruction";
-  if (goal.kind === "when") return `Back at ${where}${before}: ${who} makes ${goal.condition} true.`;
-  return `Back at ${where}${before}: ${who} changes ${travel.place} from ${from} to ${to}.`;
+  const cause = line ? `the line ${line}` : "this instruction";
+  if (goal.kind === "when") return `Back at ${location}${before}: ${cause} makes ${goal.condition} true.`;
+  return `Back at ${location}${before}: ${cause} changes ${travel.place} from ${from} to ${to}.`;
 }
 
 /**
  * Returns the reason why a move in time was not possible.
  * @param {BackGoal | { kind: "forward" }} goal
- * @param {string} why
+ * @param {string} failure the word for the reason in the bench's result
  */
-function travelFailureReason(goal, why) {
+function travelFailureReason(goal, failure) {
   if (goal.kind === "forward") return "forward returns to where going back started, until something else is done";
   if (goal.kind === "stop") return "no stop before this one is remembered";
   if (goal.kind === "call") return "the remembered past does not reach back to the call";
-  if (goal.kind === "instruction" || why === "short" && goal.kind === "arrival") return "the remembered past reaches no further back";
+  if (goal.kind === "instruction" || failure === "short" && goal.kind === "arrival") return "the remembered past reaches no further back";
   if (goal.kind === "when") return `${goal.condition} has not become true in the remembered past`;
-  if (why === "lacks") return `this board has no ${goal.place}`;
+  if (failure === "lacks") return `this board has no ${goal.place}`;
   return `${goal.place} has not changed in the remembered past`;
 }
 
 /**
- * Returns the message about a place's last change: the values, the instruction or session line that changed it, and the time. Returns "" if
- * the board does not have the place.
+ * Returns the message about a place's last change: the values, the instruction or session line that changed it, and the time. If no change
+ * is recorded, the message says so. Returns "" if the board does not have the place.
  * @param {string} name the name of the place
  * @param {import("../core/debug/debugger.js").LastChange} change
  * @param {SourceMap | null} map the source map of the program in ROM; null if unknown
@@ -91,8 +91,8 @@ function travelFailureReason(goal, why) {
 export function lastChangeText(name, { isFound, reason, from, to, line, cycles, address }, map) {
   if (reason === "lacks") return "";
   if (!isFound) return `${name}: no change in the past that the page remembers.`;
-  const who = line ? `the line ${line}` : addressWithName(hex(address, 3), map);
-  return `${name}: from ${from} to ${to} by ${who}${cycles === 0 ? "" : `, ${formatCycles(cycles)} ago`}.`;
+  const cause = line ? `the line ${line}` : addressWithName(hex(address, 3), map);
+  return `${name}: from ${from} to ${to} by ${cause}${cycles === 0 ? "" : `, ${formatCycles(cycles)} ago`}.`;
 }
 
 /**
@@ -118,36 +118,38 @@ export function runningToGoal(goal) {
 /**
  * Returns the first part of the message about a goal that was reached.
  * @param {Goal} goal
- * @param {boolean} returns true if the goal was a return from a subroutine
- * @param {string} where
+ * @param {boolean} isReturn true if the goal was a return from a subroutine
+ * @param {string} location
  */
-function describeReachedGoal(goal, returns, where) {
-  if (goal.kind === "here") return `Paused at ${where}, as requested`;
-  if (goal.kind === "change") return `Paused at ${where}, after ${goal.place} changed`;
-  if (goal.kind === "when") return `Paused at ${where}, after ${goal.condition} became true`;
+function describeReachedGoal(goal, isReturn, location) {
+  if (goal.kind === "here") return `Paused at ${location}, as requested`;
+  if (goal.kind === "change") return `Paused at ${location}, after ${goal.place} changed`;
+  if (goal.kind === "when") return `Paused at ${location}, after ${goal.condition} became true`;
   if (goal.kind === "count") return `${goal.count.toLocaleString("en")} instruction${goal.count === 1 ? " was" : "s were"} done`;
-  return returns ? `Returned to ${where}` : `At ${where}`;
+  return isReturn ? `Returned to ${location}` : `At ${location}`;
 }
 
 /**
  * Returns the message about a pause.
  * @param {Goal | null} goal null if the run had no goal
  * @param {Pick<Stop, "reason" | "cycles" | "endsAtReturn" | "change">} stop
- * @param {string} where the address at which the session is paused
- * @param {string} [when] the condition and hit count of the breakpoint that caused the pause, in words
+ * @param {string} location the address at which the session is paused, with its name and line
+ * @param {string} [conditionText] the condition and hit count of the breakpoint that caused the pause, in words
  */
-export function pauseMessage(goal, { reason, cycles, endsAtReturn, change }, where, when = "") {
+export function pauseMessage(goal, { reason, cycles, endsAtReturn, change }, location, conditionText = "") {
   if (reason === "lacks") return `Nothing was done: this board has no ${goal && goal.kind === "change" ? goal.place : "such place"}.`;
   if (reason === "outside") return `Nothing was done: ${NO_CALL_WAITS}.`;
   const after = `after ${formatCycles(cycles)}`;
-  if (goal && reason === "goal") return `${describeReachedGoal(goal, endsAtReturn, where)}, ${after}.`;
-  const reasonText = reason === "watch" && change ? `after ${change}` : (REASONS[reason] || reason) + (reason === "break" ? when : "");
-  if (!goal) return `Paused at ${where}, ${reasonText}.`;
-  return `Paused at ${where}, ${reasonText}, ${after}; ${describeGoal(goal)} was not reached.`;
+  if (goal && reason === "goal") return `${describeReachedGoal(goal, endsAtReturn, location)}, ${after}.`;
+  const stopText = (REASONS[reason] || reason) + (reason === "break" ? conditionText : "");
+  const reasonText = reason === "watch" && change ? `after ${change}` : stopText;
+  if (!goal) return `Paused at ${location}, ${reasonText}.`;
+  return `Paused at ${location}, ${reasonText}, ${after}; ${describeGoal(goal)} was not reached.`;
 }
 
 /**
- * Returns a breakpoint's condition and hit count in words, for example `, when r9 = 9, at hit 5`.
+ * Returns a breakpoint's condition and hit count in words, for example `, when r9 = 9, at hit 5`. Returns the error instead if there is
+ * one, and "" without a breakpoint.
  * @param {{ condition: string, from: number, hits: number } | undefined} breakpoint
  * @param {string} [error] the error in the breakpoint; a breakpoint with an error stops at every hit
  */
@@ -162,22 +164,22 @@ export function describeBreakpointCondition(breakpoint, error = "") {
 export const stoppedAt = (address) => `Paused at ${address}.`;
 
 /**
- * Returns the message when the user pauses the session before it reaches its goal.
+ * Returns the message when the user pauses the session. If the run has a goal, the message says that the goal was not reached.
  * @param {Goal | null} goal
  * @param {number} cycles the number of cycles since the start of the run
- * @param {string} where
+ * @param {string} location
  */
-export function describeUserPause(goal, cycles, where) {
-  return goal ? `Paused at ${where}, after ${formatCycles(cycles)}; ${describeGoal(goal)} was not reached.` : stoppedAt(where);
+export function describeUserPause(goal, cycles, location) {
+  return goal ? `Paused at ${location}, after ${formatCycles(cycles)}; ${describeGoal(goal)} was not reached.` : stoppedAt(location);
 }
 
 /**
  * Returns the message about a run or a search that a page reload or the opening of another session has interrupted.
  * @param {Goal} goal
  * @param {boolean} wasRun true for a run to the goal, false for a search of the past
- * @param {string} where
+ * @param {string} location
  */
-export function describeInterruption(goal, wasRun, where) {
-  const what = `${describeGoal(goal)} was ${wasRun ? "not reached" : "searched for, and nothing was done"}`;
-  return `Paused at ${where}: ${what}, because the page was reloaded or another session was shown.`;
+export function describeInterruption(goal, wasRun, location) {
+  const goalText = `${describeGoal(goal)} was ${wasRun ? "not reached" : "searched for, and nothing was done"}`;
+  return `Paused at ${location}: ${goalText}, because the page was reloaded or another session was shown.`;
 }

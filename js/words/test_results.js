@@ -18,30 +18,30 @@ const WHERE = { board: "Board", program: "Source", tests: "Tests", properties: "
  * @param {Outcome[]} outcomes
  */
 export function testsSummary(outcomes) {
-  const failed = outcomes.filter(({ failure }) => failure).length;
-  if (failed === 0) return outcomes.length === 1 ? "The test passed." : `All ${formatQuantity(outcomes.length, "test")} passed.`;
-  return `${failed} of ${formatQuantity(outcomes.length, "test")} failed.`;
+  const failedCount = outcomes.filter(({ failure }) => failure).length;
+  if (failedCount === 0) return outcomes.length === 1 ? "The test passed." : `All ${formatQuantity(outcomes.length, "test")} passed.`;
+  return `${failedCount} of ${formatQuantity(outcomes.length, "test")} failed.`;
 }
 
 /**
- * Returns the mark on the Tests tab.
+ * Returns the mark on the Tests tab: "passed", or the number of failed tests.
  * @param {Outcome[]} outcomes
  */
 export function testsTabMark(outcomes) {
-  const failed = outcomes.filter(({ failure }) => failure).length;
-  return failed > 0 ? `${failed} failed` : "passed";
+  const failedCount = outcomes.filter(({ failure }) => failure).length;
+  return failedCount > 0 ? `${failedCount} failed` : "passed";
 }
 
 /**
- * Returns the message that no test has run because the texts have errors.
+ * Returns the message that nothing was run because the texts have errors: the first error, and the number of others.
  * @param {ProjectTextError[]} errors
  * @param {(number: number) => string} describeRefusal
  */
 export function textErrorsMessage(errors, describeRefusal) {
   const [{ text, line, number, words }] = errors;
-  const what = words || `no ${number}: ${describeRefusal(number)}`;
-  const more = errors.length > 1 ? `, and ${errors.length - 1} more` : "";
-  return `Nothing was run: ${WHERE[text]}${line > 0 ? `, line ${line}` : ""}: ${what}${more}.`;
+  const errorText = words || `no ${number}: ${describeRefusal(number)}`;
+  const othersText = errors.length > 1 ? `, and ${errors.length - 1} more` : "";
+  return `Nothing was run: ${WHERE[text]}${line > 0 ? `, line ${line}` : ""}: ${errorText}${othersText}.`;
 }
 
 /**
@@ -59,8 +59,8 @@ export function testDuration({ cycles }) {
  */
 export function coverageMessage({ coverage }) {
   if (!coverage || coverage.instructions === 0) return "";
-  const ways = coverage.lines.filter(({ isJump, count, jumpCount }) => (
+  const oneWayJumpCount = coverage.lines.filter(({ isJump, count, jumpCount }) => (
     isJump && count > 0 && (jumpCount === 0 || jumpCount === count))).length;
-  const oneWay = ways === 0 ? "" : ` ${formatQuantity(ways, "jump")} always went one way.`;
-  return `${formatCoverageSummary(coverage)}.${oneWay} Counts are in the margin.`;
+  const oneWayText = oneWayJumpCount === 0 ? "" : ` ${formatQuantity(oneWayJumpCount, "jump")} always went one way.`;
+  return `${formatCoverageSummary(coverage)}.${oneWayText} Counts are in the margin.`;
 }

@@ -104,8 +104,8 @@ export const countText = (number) => ["never", "once"][number] || `${number.toLo
 export const NO_TEST_RUNS = "no test runs it";
 /** @type {(count: string) => string} */
 export const runCount = (count) => `run ${count}`;
-/** @type {(taken: string, notTaken: string) => string} */
-export const jumpCounts = (taken, notTaken) => `; it jumped ${taken} and continued ${notTaken}`;
+/** @type {(jumped: string, continued: string) => string} */
+export const jumpCounts = (jumped, continued) => `; it jumped ${jumped} and continued ${continued}`;
 
 // --- text/text_editor_view.js ---
 export const ERRORS = "Errors";

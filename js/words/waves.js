@@ -123,14 +123,14 @@ export const inBank = (bank, character) => `bank ${bank}, ${character}`;
 export const STATUS_CHARACTER = "a status character";
 
 // --- waves/wave_search.js ---
-export const SEARCH_FORMS = "a value of the marked line, such as 9 or 0x1F; r5 = 9, rom0 != 0, lamp 3 rises, r5 changes, @LABEL";
+export const SEARCH_FORMS = "a value of the selected row, such as 9 or 0x1F; r5 = 9, rom0 != 0, lamp 3 rises, r5 changes, @LABEL";
 /** @type {(forms: string) => string} */
 export const searchQuestion = (forms) => `Enter a search: ${forms}.`;
 /** @type {(label: string) => string} */
 export const noLabelMessage = (label) => `The program of this recording has no label ${label}.`;
 /** @type {(name: string) => string} */
 export const notRecordedMessage = (name) => `Nothing that was recorded is called ${name}: select it and record again.`;
-export const NO_LINE_MARKED = "No line is marked.";
+export const NO_LINE_MARKED = "No row is selected: click one first.";
 /** @type {(name: string) => string} */
 export const isDecodedMessage = (name) => `${name} is decoded: search for its next change, or for a key of the key scan.`;
 /** @type {(name: string) => string} */

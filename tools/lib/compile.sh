@@ -8,7 +8,7 @@ libraries_of() {
     echo "$top/crates/$1/out/libraries"
 }
 
-# Records the libraries on which a crate depends, which were just proved and built from the present sources.
+# Records the libraries on which a crate depends. They must have been proved and built from the present sources.
 note_libraries() {
     mkdir -p "$top/crates/$1/out"
     lines_of "$1" | crates_of_lines | grep -vxF -- "$1" | sed 's|.*|crates/&/out/rlib/&.rlib/format|' | sums_of_files > "$(libraries_of "$1")"

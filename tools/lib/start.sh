@@ -65,8 +65,8 @@ make_cache() {
     [ -O "$above" ] && (umask 077 && mkdir -p -- "$cache") 2> /dev/null && [ -O "$cache" ] && [ -w "$cache" ]
 }
 
-# Writes the program that was found, and the sizes and times, to the cache. Does nothing if a file has just changed, because a clock with
-# a resolution of seconds might not show its next change. Removes the old `seen` file first, so that files of two starts are never mixed.
+# Writes the program that was found, and the sizes and times, to the cache. Does nothing if a file has changed in the last three seconds, because a
+# clock with a resolution of seconds might not show its next change. Removes the old `seen` file first, so that files of two starts are never mixed.
 write_cache() {
     {
         echo "${program#"$top/"}"
@@ -117,9 +117,9 @@ find_installed() {
     if { [ ! -x "$1" ] || [ ! -e /lib64/ld-linux-x86-64.so.2 ]; } && is_other_system; then
         return
     elif [ ! -x "$1" ]; then
-        reason="it is not there; install it again"
+        reason="it is missing; install it again"
     elif ! command -v sha256sum > /dev/null; then
-        reason="there is no sha256sum (Debian's package coreutils) to compare its checksum with"
+        reason="sha256sum, which compares its checksum, is missing; on Debian: apt-get install coreutils"
     elif [ "$(sha256sum < "$1")" != "$(sed -n "s/^$2 //p" "$top/installed")  -" ]; then
         reason="it is damaged: its checksum is not the one in $top/installed; install it again"
     elif [ ! -e /lib64/ld-linux-x86-64.so.2 ] && ! runs_here "$1"; then
@@ -215,15 +215,15 @@ find_or_build() {
     if [ -n "$reason" ] && is_without_program; then
         program=
     elif [ -n "$reason" ] && is_installed; then
-        echo "mcs4: $shipped is not started: $reason" >&2 || :
+        echo "mcs4: cannot start $shipped: $reason" >&2 || :
         exit 126
     elif [ -n "$reason" ]; then
-        echo "mcs4: the program in shipped/ is not started: $reason. Now proving and building the program" >&2 || :
+        echo "mcs4: cannot start the program in shipped/: $reason. Now proving and building the program" >&2 || :
         "$top/tools/build" >&2
         program=$built
     elif [ "$program" != "$built" ] && ! is_installed && [ -n "$cache" ] && [ ! -e "$cache/reported" ] && make_cache && { : > "$cache/reported"; } 2> /dev/null; then
-        echo "mcs4: this is the program in shipped/. It was proved and built from these very sources, but not on this machine; tools/build" \
-            "proves and builds it here. This message appears once" >&2 || :
+        echo "mcs4: this is the program in shipped/. It was proved and built from these sources, but not on this machine; to prove" \
+            "and build it here, run tools/build. This message appears once" >&2 || :
     fi
 }
 
@@ -231,6 +231,6 @@ find_or_build() {
 need_program() {
     find_or_build
     if [ -n "$program" ]; then return; fi
-    echo "mcs4: a session file needs the native program, which is not started: $reason. Commands without a session file run here" >&2 || :
+    echo "mcs4: a session file needs the native program, which cannot start: $reason. Commands without a session file run here" >&2 || :
     exit 1
 }

@@ -3,7 +3,7 @@
 # shellcheck shell=sh disable=SC2034
 
 if ! command -v sha256sum > /dev/null; then
-    echo "${0##*/}: there is no sha256sum (Debian's package coreutils), so the sources of the program cannot be compared" >&2
+    echo "${0##*/}: sha256sum, which compares the program's sources, is missing; on Debian: apt-get install coreutils" >&2
     exit 1
 fi
 
@@ -119,7 +119,7 @@ shipped_sum() {
     awk -v name="$1" '$1 == name { print $2 }' < "$sums"
 }
 
-# Records that a program was just built here. Arguments: the checksum of its sources, and the program (by default the one of ./mcs4). If
+# Records that a program was built here. Arguments: the checksum of its sources, and the program (by default the one of ./mcs4). If
 # that fails, a message says so, and later starts do not use the program.
 note_built() {
     line="$1 $(sum_of_input < "${2:-$built}")"
@@ -147,11 +147,11 @@ shipped_problem() {
     if [ "$(uname -s) $(uname -m)" != "Linux $4" ]; then
         echo "$is_for $(echo "$4" | tr _ -), and this is $(uname -s) on $(uname -m)"
     elif [ ! -f "$2" ] || [ ! -f "$sums" ]; then
-        echo "it is not there"
+        echo "it is missing"
     elif [ "$(shipped_sum "$(echo "$3-sources" | sed 's/^program-//')")" != "$1" ]; then
         echo "it was built from other sources"
     elif [ "$(sum_of_input < "$2")" != "$(shipped_sum "$3")" ]; then
-        echo "it is damaged, since its checksum is not the one in shipped/SUMS"
+        echo "it is damaged: its checksum is not the one in shipped/SUMS"
     elif ! runs_here "$2"; then
         echo "$does_not_run ($(echo "$output" | tail -n 1))"
     fi
@@ -165,7 +165,7 @@ sum_of_module() {
     } | sum_of_input
 }
 
-# Prints the checksum of the sources of the page: its module, the page's folder without generated files, the modules in js, the examples, the
+# Prints the checksum of the sources of the page: its module, the page's folder without generated files, the modules in js, and the examples. Also the
 # tables that tools and page share, and the manual, whose tables the page shows.
 sum_of_page() {
     {

@@ -1,5 +1,5 @@
-"""The trials of checks/power: the file systems, the cases (what happens on a file system before a session is served), the wrong programs, and the
-combinations of these that a run of the check tries.
+"""The trials of checks/power: the file systems, the cases, the wrong programs, and the combinations of these that a run of the check tries. A case
+prepares a file system for a session, and has the arguments with which the program is then started.
 """
 
 from __future__ import annotations
@@ -10,9 +10,10 @@ from typing import NamedTuple
 
 
 class FileSystem(NamedTuple):
-    """A file system: the size of its disk in MiB, the command that creates it, that command's Debian package, its type, the mount options besides
-    noatime, the options that make it commit every second, and its kernel modules. `whole_blocks` is true if the file system needs each block of 4 KiB
-    to be written completely or not at all. `shows_stale` is true if unwritten parts of a file can contain old data of the disk."""
+    """A file system. `size` is the size of its disk in MiB, and `package` the Debian package of the command that creates it. `options` are the mount
+    options besides noatime, and `frequent_commit_options` make it commit every second. `modules` are its kernel modules. `whole_blocks` is true if
+    the file system needs each block of 4 KiB to be written completely or not at all. `shows_stale` is true if unwritten parts of a file can contain
+    old data of the disk."""
     name: str
     size: int
     make_command: tuple[str, ...]
@@ -31,12 +32,12 @@ MAKE_BTRFS = ("mkfs.btrfs", "-q", "-f", "-K")
 
 
 def ext(name: str, options: str = "", *arguments: str) -> FileSystem:
-    """Returns the kind ext4 with these mount options. `more` are further arguments of mkfs.ext4."""
+    """Returns an ext4 file system with this name and these mount options. `arguments` are further arguments of mkfs.ext4."""
     return FileSystem(name, 64, (*MAKE_EXT, *arguments), "e2fsprogs", "ext4", options, "commit=1", ("ext4",))
 
 
 def btrfs(name: str, options: str = "") -> FileSystem:
-    """Returns the kind btrfs with these mount options."""
+    """Returns a btrfs file system with this name and these mount options."""
     return FileSystem(name, 128, MAKE_BTRFS, "btrfs-progs", "btrfs", options, "commit=1", ("btrfs",), whole_blocks=True)
 
 
@@ -62,10 +63,10 @@ FILE_SYSTEMS = {kind.name: kind for kind in (
 
 
 class Case(NamedTuple):
-    """A scenario for a session on a file system: shell commands whose effects are synced, shell commands after these whose
-    effects are not synced, the program's arguments, and the name of the session file after the cut. `initial_commands` is the number of commands in
-    the session at the beginning. `is_durable` is true if the session is already durable then. If `gets_all_commands` is true, the trial sends it
-    ALL_COMMANDS commands."""
+    """A scenario for a session on a file system. The effects of the shell commands in `setup` are synced, and those of the later shell commands in
+    `before` are not. `arguments` are the program's arguments, and `file` is the name of the session file after the cut. `initial_commands` is the
+    number of commands in the session at the beginning. `is_durable` is true if the session is already durable then. If `gets_all_commands` is true,
+    the trial sends it ALL_COMMANDS commands."""
     name: str
     setup: str
     before: str
@@ -79,7 +80,7 @@ class Case(NamedTuple):
 LONG_NAME = "a_session_with_a_long_name_that_takes_several_slots_of_a_folder_on_a_file_system_of_that_sort.mcs"
 CREATE_SEED = "mcs4 new seed < /dev/null > /dev/null"
 CREATE_OTHER_FILES = "for i in 1 2 3 4 5 6 7 8 9 10; do : > f$i; done"
-# Session files that are copied into the machine, and the number of commands in each. The second one has version 1 of the format.
+# The names of the session files that are copied into the machine, and the number of commands in each. The second file has version 1 of the format.
 SERVED_FILE, VERSION_1_FILE = "served.mcs", "first.mcs"
 SERVED_COMMANDS, VERSION_1_COMMANDS = 60, 30
 
@@ -109,15 +110,15 @@ OPEN_CASES = ("linked", "copied", "moved", "replaced", "long-copied", "long-move
 
 # --- the trials of a run of the check
 
-# The numbers of commands to send: to the session of a case with `gets_all_commands`, to a session that is already durable or is opened again, and to
-# any other session.
+# The number of the last command that is sent to the session of a case with `gets_all_commands`. Then the numbers of commands that are sent to a
+# session that is already durable or is opened again, and to any other session.
 ALL_COMMANDS, MORE_COMMANDS, FEW_COMMANDS = 110, 24, 12
 
 
 class Trial(NamedTuple):
     """A case on a kind of file system. `images` is the number of images to examine after the first cut. `generations` is how many times one of them
     becomes the disk and the power is cut again. `is_busy` is true if another program writes to the file system, which then commits every second.
-    `wrong` names the step that the program or the mount omits, if any. The trial must then detect that data is lost."""
+    `wrong` names the error of the program or of the mount, if any: a step that is omitted or moved. The trial must then detect that data is lost."""
     kind: str
     case: str
     images: int
@@ -132,7 +133,7 @@ class Trial(NamedTuple):
 
 
 NO_BARRIER = "no barrier"
-# Trials with an omitted step, which must detect that data is lost. In the last but one, `open` does not sync the file's folder.
+# Trials with an omitted or moved step, which must detect that data is lost. In the last but one, `open` does not sync the file's folder.
 FAULTY_TRIALS = (
     Trial("ext4-nobarrier", "served", 60, wrong=NO_BARRIER),
     Trial("ext4", "served", 60, wrong="no sync"),
@@ -149,7 +150,8 @@ FAULTY_TRIALS = (
 
 
 def cases_of(kind: str) -> list[str]:
-    """Returns the names of the short cases for a kind of file system. Kinds that show stale data have no case `new-link`: FAT has no links."""
+    """Returns the names of the cases of NEW_CASES and OPEN_CASES for a kind of file system. Omits `new-link` for the kinds that show stale data,
+    because FAT has no links."""
     return [*NEW_CASES, *([] if FILE_SYSTEMS[kind].shows_stale else ["new-link"]), *OPEN_CASES]
 
 
@@ -164,7 +166,7 @@ def long_trials() -> list[Trial]:
 
 
 def short_trials() -> list[Trial]:
-    """Returns the trials of `checks/power`: two file systems, each with the cases in which data is most easily lost."""
+    """Returns the trials of `checks/power`: ext4 and vfat, each with the cases in which data is most easily lost."""
     trials = [Trial("vfat", case, 10) for case in ("new-folder", "long-copied", "folder-copied", "folder-moved")]
     trials += [Trial(kind, "carried", 30, 2) for kind in ("ext4", "vfat")]
     trials += [Trial(kind, "new", 60, 1, is_busy=True) for kind in ("ext4", "vfat")]

@@ -1,4 +1,4 @@
-"""A virtual machine's disk, which this process serves, and the list of the events on it.
+"""A virtual machine's disk, which this process serves over NBD, and the list of the events on it.
 
 QEMU reads and writes the disk as an NBD client over a Unix socket. Each write and each flush therefore has two events: its arrival and its
 answer. A power cut between the two can lose the written data, whatever the machine assumes.
@@ -40,8 +40,8 @@ class Event(NamedTuple):
 
 
 class Disk:
-    """Bytes in memory that a machine reads and writes as a disk. If `events` is a list, events are added to it. If `is_late` is true, writes and flushes
-    are answered late and out of order, as a real disk's queue does."""
+    """Bytes in memory that a machine reads and writes as a disk. If `events` is a list, events are added to it. If `is_late` is true, writes and
+    flushes are answered late and out of order, as a real disk's queue does."""
 
     def __init__(self, size: int, seed: int = 0) -> None:
         self.memory = os.memfd_create("disk")
@@ -55,7 +55,7 @@ class Disk:
 
     @property
     def file(self) -> str:
-        """The path by which other programs on this host can open the bytes of the disk."""
+        """The path with which other programs on this host can open the bytes of the disk."""
         return f"/proc/{os.getpid()}/fd/{self.memory}"
 
     def close(self) -> None:
@@ -76,13 +76,13 @@ class Disk:
         self.undo = None
 
     def add_event(self, kind: str, number: int, offset: int = 0, data: bytes = b"") -> None:
-        """Adds an event to the list of events if there is a list."""
+        """Adds an event to `events`, if that is a list."""
         if self.events is not None:
             self.events.append(Event(kind, number, offset, data))
 
 
 class Connection:
-    """QEMU's connection to a disk: the handshake that names the disk, and the requests."""
+    """QEMU's connection to one of the disks: the handshake that names the disk, and the requests. `leave` is called when the connection ends."""
 
     def __init__(self, disks: dict[str, Disk], channel: socket.socket, leave: Callable[[socket.socket], None]) -> None:
         self.disks, self.channel, self.leave = disks, channel, leave
@@ -93,7 +93,7 @@ class Connection:
         channel.sendall(struct.pack(">QQH", MAGIC, OPTION_MAGIC, FIXED_NEWSTYLE_NO_ZEROES))
 
     def serve_input(self) -> None:
-        """Serves the data that has arrived."""
+        """Reads the data that has arrived, and serves the complete options and requests in it."""
         data = self.channel.recv(1 << 20)
         if not data:
             self.leave(self.channel)
@@ -105,11 +105,11 @@ class Connection:
             pass
 
     def reply(self, option: int, kind: int, data: bytes = b"") -> None:
-        """Replies to an option."""
+        """Sends a reply to an option of the handshake. `kind` is ACKNOWLEDGED, INFORMED or UNSUPPORTED."""
         self.channel.sendall(struct.pack(">QIII", REPLY_MAGIC, option, kind, len(data)) + data)
 
     def serve_option(self) -> bool:
-        """Serves an option of the handshake if it has arrived completely. Returns true if it has."""
+        """Serves an option of the handshake if it has arrived completely. Returns true if more of the input can be served."""
         if not self.has_begun and len(self.input) >= 4:
             del self.input[:4]
             self.has_begun = True
@@ -136,7 +136,7 @@ class Connection:
         return True
 
     def serve_request(self, disk: Disk) -> bool:
-        """Serves a request if it has arrived completely. Returns true if it has."""
+        """Serves a request if it has arrived completely. Returns true if more of the input can be served."""
         if len(self.input) < REQUEST_HEAD:
             return False
         _, _, kind, handle, offset, length = struct.unpack(">IHHQQI", self.input[:REQUEST_HEAD])
@@ -164,12 +164,13 @@ class Connection:
         return True
 
     def answer(self, handle: int, data: bytes = b"") -> None:
-        """Answers a request."""
+        """Sends the answer to a request, which QEMU identifies by `handle`. `data` is the data of a read."""
         self.channel.setblocking(True)
         self.channel.sendall(struct.pack(">IIQ", REQUEST_ANSWER, 0, handle) + data)
 
     def wait(self, kind: str, handle: int, disk: Disk) -> None:
-        """Answers a request later if the disk is late, otherwise immediately."""
+        """Adds a write or a flush to the requests to answer. Answers one of these immediately, unless the disk is late. `kind` is the event of the
+        answer."""
         self.waiting.append((kind, disk.count, handle))
         if not disk.is_late:
             self.answer_random_request()

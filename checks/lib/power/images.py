@@ -3,8 +3,8 @@
 A write is durable once a flush has been answered that arrived after the write was answered. All other writes are pending. An image has none of the
 pending writes (`none`), all of them (`all`), or all, none or random sectors of each one (`some`).
 
-The list of events also contains the program's acknowledgements. So for a cut after any event, the number of commands that may be found is known: at
-least the acknowledged commands, and at most one more, which was sent after them.
+The list of events also contains the program's acknowledgements. So for a cut after any event, the allowed numbers of commands are known. At least the
+acknowledged commands must be found, and at most one more, which was sent after them.
 """
 
 from __future__ import annotations
@@ -19,13 +19,14 @@ from power.disk import Disk, Event
 SECTOR, BLOCK = 512, 4096
 # After each write and each flush, PARTS random images are drawn for each pending write, for at most MAX_PENDING pending writes.
 PARTS, MAX_PENDING = 12, 4
-# The number of events after the first answer that belong to the phase "beginning".
+# The phase "beginning" has this number of events, from the first answer on.
 BEGINNING = 20
 
 # The phase of a cut: before the program's first answer, soon after it, while a snapshot is written, or at any other time.
 Phase = Literal["opening", "beginning", "snapshot", "serving"]
 PHASES: tuple[Phase, ...] = ("opening", "beginning", "snapshot", "serving")
-# The part of a pending write that an image contains: None for the whole write, otherwise the size of a sector, and a bit for each sector that is new.
+# The part of a pending write that an image contains: None for the complete write. Otherwise the size of its units (sectors or blocks) in bytes, and a
+# number with a bit for each unit that is new.
 Part = tuple[int, int] | None
 
 
@@ -46,11 +47,11 @@ class Image:
 
     @property
     def is_torn(self) -> bool:
-        """Returns true if a block of the file system can be half old and half new, which the file system need not tolerate."""
+        """True if a block of the file system can be half old and half new, which the file system need not tolerate."""
         return any(part is not None and part[0] < BLOCK for part in self.parts.values())
 
     def add_cut(self, event_number: int, min_commands: int | None, max_commands: int) -> None:
-        """Adds a cut after another event that leaves the same image."""
+        """Adds a cut after a later event that leaves the same image, and narrows the allowed numbers of commands."""
         self.last = event_number
         if min_commands is not None:
             self.min_commands = min_commands if self.min_commands is None else max(self.min_commands, min_commands)
@@ -81,8 +82,8 @@ class History:
         return sum(event.kind == kind for event in self.events)
 
     def durable_at(self) -> dict[int, int]:
-        """Returns the number of the event that makes each write durable. This event is the answer to a flush that arrived after the write was
-        answered. Writes that never become durable are omitted."""
+        """Returns the number of the event that makes each write durable, by the number of the write. This event is the answer to a flush that arrived
+        after the write was answered. Writes that never become durable are omitted."""
         durable_events: dict[int, int] = {}
         answered_writes: list[int] = []
         covered_writes: dict[int, list[int]] = {}
@@ -97,7 +98,8 @@ class History:
         return durable_events
 
     def all_images(self) -> list[Image]:
-        """Returns all possible images, each once, in chronological order."""
+        """Returns the images that cuts after each event can leave, each image once, in chronological order. For partly written data, only random
+        samples are included."""
         images: dict[bytes, Image] = {}
         answered, sent, first_answer = self.start, self.first, 0
         durable, pending = 0, list[int]()
@@ -120,7 +122,8 @@ class History:
         return list(images.values())
 
     def phase(self, event_number: int, first_answer: int, answered: int | None, sent: int) -> Phase:
-        """Returns the phase of a cut after the event with this number."""
+        """Returns the phase of a cut after the event with this number. `first_answer` is the number of the event of the first answer, or 0.
+        `answered` and `sent` are the last commands that were answered and sent."""
         if not first_answer:
             return "opening"
         if sent != answered and sent in self.snapshots:
@@ -135,7 +138,8 @@ class History:
         return selections
 
     def random_parts(self, pending: list[int]) -> dict[int, Part]:
-        """Returns a random selection from these writes: all, none or some of the sectors of each one."""
+        """Returns random parts of these writes: all, none, or some of the sectors or blocks of each one. Omits the writes without a part on the
+        disk."""
         unit = BLOCK if self.whole_blocks else self.rng.choice((SECTOR, BLOCK))
         parts: dict[int, Part] = {}
         for write in pending:
@@ -147,7 +151,8 @@ class History:
         return parts
 
     def draw(self, images: list[Image], count: int) -> list[Image]:
-        """Returns at most `count` of these images, in chronological order. Each phase has the same share, or more if another phase has too few."""
+        """Returns at most `count` of these images, in chronological order. Each phase has the same number of images, or more if another phase has too
+        few."""
         groups = sorted(([image for image in images if image.phase == phase] for phase in PHASES), key=len)
         chosen_images: list[Image] = []
         for index, group in enumerate(groups):
@@ -156,7 +161,8 @@ class History:
 
 
 class Builder:
-    """Writes the images of a history to its disk, one after another, in chronological order. The disk must be as it was before the history."""
+    """The disk of a history, to which its images are written one after another, in chronological order. The disk must be as it was before the
+    history."""
 
     def __init__(self, disk: Disk, history: History) -> None:
         self.disk, self.history = disk, history
@@ -165,8 +171,8 @@ class Builder:
         self.replaced: list[tuple[int, bytes]] = []
 
     def build(self, image: Image) -> None:
-        """Writes an image to the disk, in the order in which the writes arrived: the durable writes permanently, the others until
-        `disk.undo_writes`."""
+        """Writes an image to the disk, in the order in which the writes arrived. The durable writes at the beginning of this order are permanent.
+        `disk.undo_writes` undoes the others."""
         rank = self.history.rank
         while self.placed < len(self.order) and rank[self.order[self.placed].number] < image.durable:
             write = self.order[self.placed]
@@ -181,7 +187,7 @@ class Builder:
                 self.write_part(write, image.parts[write.number])
 
     def write_part(self, write: Event, part: Part) -> None:
-        """Writes a part of a write to the disk."""
+        """Writes the part of a write that an image contains to the disk."""
         if part is None:
             self.disk.write(write.offset, write.data)
             return
@@ -191,7 +197,7 @@ class Builder:
                 self.disk.write(write.offset + start, write.data[start:start + unit])
 
     def undo_all(self) -> None:
-        """Undoes all writes."""
+        """Undoes the permanent writes of all images since the beginning."""
         for offset, data in reversed(self.replaced):
             self.disk.write(offset, data)
         self.placed, self.replaced = 0, []

@@ -12,7 +12,7 @@ OLD = bytes(SECTOR)
 
 
 def history_of(events: list[Event], whole_blocks: bool = False, seed: int = 0, initial_commands: int = 0) -> History:
-    """Returns the history of these events, with a session that did not exist before them."""
+    """Returns the history of these events, with a session that was not durable before them."""
     return History(events, initial_commands, False, set(), whole_blocks, random.Random(seed))
 
 
@@ -27,7 +27,7 @@ def event_of(kind: str, number: int) -> Event:
 
 
 def images_of(events: History, size: int) -> list[tuple[bytes, Image]]:
-    """Returns the first bytes of all images of a history, each with its image. The disk has only zeros before."""
+    """Returns all images of a history, each after the first `size` bytes of a disk that has it. Before the history, the disk has only zeros."""
     disk = Disk(BLOCK)
     builder = Builder(disk, events)
     images = []
@@ -72,7 +72,7 @@ def writes_at_one_place() -> bool:
     return {data for data, _ in pending_images} == {OLD, A, B} and contents_with_both == {B} and last_image.durable == 2 and not last_image.parts
 
 
-def bounds() -> bool:
+def command_bounds() -> bool:
     """Checks the bounds of the number of commands: the commands acknowledged before the cut, and the commands sent before it. Before the first
     answer, there is no lower bound."""
     events = history_of([write_event(1, 0, A), event_of("answered", 0), event_of("sent", 1), write_event(2, 0, B), event_of("wrote", 2), event_of("flush", 3),
@@ -82,7 +82,7 @@ def bounds() -> bool:
     return bounds_by_image == {(0, 0): (0, 0), (0, 1): (0, 0), (0, 2): (0, 1), (1, 0): (1, 1), (1, 1): (1, 1)}
 
 
-def bounds_of_a_copy() -> bool:
+def command_bounds_of_copy() -> bool:
     """Checks that a copied session has its commands even before its first answer."""
     images = history_of([write_event(1, 0, A), event_of("answered", 7)], initial_commands=7).all_images()
     return {(image.min_commands, image.max_commands) for image in images if image.selection != "some"} == {(7, 7)}
@@ -102,7 +102,7 @@ def permanent_images() -> bool:
     return is_old and disk.bytes[:SECTOR] == B and disk.undo is None
 
 
-CHECKS = (durable_after_flush, new_or_old_sectors, whole_blocks, writes_at_one_place, bounds, bounds_of_a_copy, permanent_images)
+CHECKS = (durable_after_flush, new_or_old_sectors, whole_blocks, writes_at_one_place, command_bounds, command_bounds_of_copy, permanent_images)
 
 
 def error_messages() -> list[str]:

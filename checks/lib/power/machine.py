@@ -67,7 +67,8 @@ def module_bytes(file: pathlib.Path) -> bytes:
 
 
 def modules_of(kernel: Kernel, names: list[str]) -> dict[str, bytes]:
-    """Returns these modules and their dependencies, in loading order. A module that does not exist is built into the kernel."""
+    """Returns the unpacked contents of these modules and of their dependencies, by name, in loading order. Omits modules without a file, because they
+    are built into the kernel."""
     files = kernel.module_files()
     order: dict[str, bytes] = {}
 
@@ -94,7 +95,8 @@ def libraries_of(program: str) -> dict[str, str]:
 
 
 def create_initramfs(folder: pathlib.Path, kernel: Kernel, names: list[str], files: dict[str, str]) -> pathlib.Path:
-    """Creates an archive of busybox, modules and files. Each file has its path in the machine and its path on this host."""
+    """Creates an initramfs with busybox, these modules and their dependencies, and these files. `files` has the path on this host for each path in
+    the machine. Returns the path of the archive, which is in `folder`."""
     root = folder / "root"
     shutil.rmtree(root, ignore_errors=True)
     for name in ("bin", "dev", "proc", "sys", "mnt", "modules", "tmp"):
@@ -195,13 +197,14 @@ class Machine:
             self.selector.register(channel, selectors.EVENT_READ, line)
 
     def end_connection(self, channel: socket.socket) -> None:
-        """Handles the end of QEMU's connection to a disk."""
+        """Removes and closes a connection of QEMU to a disk."""
         self.connections = [connection for connection in self.connections if connection.channel is not channel]
         self.selector.unregister(channel)
         channel.close()
 
     def serve(self, seconds: float) -> None:
-        """Serves the data that arrives within a number of seconds. If none arrives, sends answers that the disks have held back."""
+        """Waits for data for at most this number of seconds, and serves it. If disks have held back answers, waits only ANSWER_DELAY, and then sends
+        one of them for each disk. Raises PowerCheckError if QEMU has ended."""
         busy_connections = [connection for connection in self.connections if connection.waiting]
         ready = self.selector.select(ANSWER_DELAY if busy_connections else seconds)
         for key, _ in ready:
@@ -217,7 +220,7 @@ class Machine:
             raise PowerCheckError(f"QEMU has ended with status {self.process.returncode}; the last lines:\n{self.last_lines()}")
 
     def receive(self, line: Line, seconds: float = 600) -> str:
-        """Returns the next text on a line."""
+        """Returns the next text on a line. Raises PowerCheckError if none arrives within this number of seconds."""
         deadline = time.monotonic() + seconds
         while not line.texts:
             if time.monotonic() > deadline:
@@ -241,7 +244,7 @@ class Machine:
         return lines
 
     def cut_power(self) -> None:
-        """Cuts the power."""
+        """Cuts the power: kills QEMU, and closes the connections to it."""
         if self.process.poll() is None:
             self.process.send_signal(signal.SIGKILL)
         self.process.wait()

@@ -1,5 +1,6 @@
 /* A library with wrong implementations of the calls that sync a file. The program is started with this library loaded before the C library
-   (LD_PRELOAD). The environment variable WRONG selects one of them:
+   (LD_PRELOAD). The environment variable WRONG selects one of these errors:
+
      no sync             a sync of data does nothing
      no first sync       the sync of a record or of a snapshot does nothing; the sync of its commit byte or selector is done
      no second sync      the sync of the commit byte or selector does nothing
@@ -18,14 +19,14 @@
 /* The lengths of the writes: of a commit byte or a selector, of a header with its selector, and of a snapshot with the commit byte after it. */
 enum { COMMIT = 1, HEADER = 16, SNAPSHOT = 16385 };
 
-static size_t length; /* the length of the last write */
-static int owed = -1; /* the file whose write of a byte, or whose sync, is still to be done; -1 if there is none */
-static char byte;
-static off_t place;
+static size_t length; /* the length of the last write in bytes, or 0 before the first write */
+static int postponed_file = -1; /* the descriptor of the file whose one-byte write or sync was postponed, or -1 if there is none */
+static char postponed_byte;
+static off_t postponed_offset;
 
-static int is(const char *wrong) {
-    const char *given = getenv("WRONG");
-    return given && strcmp(given, wrong) == 0;
+static int is_selected(const char *wrong) {
+    const char *selected = getenv("WRONG");
+    return selected && strcmp(selected, wrong) == 0;
 }
 
 static int real_sync(const char *name, int file) {
@@ -38,33 +39,33 @@ static ssize_t real_pwrite(int file, const void *bytes, size_t count, off_t at) 
 
 ssize_t pwrite(int file, const void *bytes, size_t count, off_t at) {
     length = count;
-    if (!is("second sync first") || count != COMMIT) return real_pwrite(file, bytes, count, at);
-    owed = file;
-    byte = *(const char *)bytes;
-    place = at;
+    if (!is_selected("second sync first") || count != COMMIT) return real_pwrite(file, bytes, count, at);
+    postponed_file = file;
+    postponed_byte = *(const char *)bytes;
+    postponed_offset = at;
     return COMMIT;
 }
 
 int fdatasync(int file) {
     int is_second = length == COMMIT || length == HEADER;
-    if (is("no sync") || (is("no opening sync") && !length)) return 0;
-    if (is("no first sync") && length && !is_second) return 0;
-    if (is("no second sync") && is_second) return 0;
-    if (is("no snapshot sync") && length == SNAPSHOT) return 0;
-    if (is("answer first") && length == COMMIT) {
-        owed = file;
+    if (is_selected("no sync") || (is_selected("no opening sync") && !length)) return 0;
+    if (is_selected("no first sync") && length && !is_second) return 0;
+    if (is_selected("no second sync") && is_second) return 0;
+    if (is_selected("no snapshot sync") && length == SNAPSHOT) return 0;
+    if (is_selected("answer first") && length == COMMIT) {
+        postponed_file = file;
         return 0;
     }
     int answer = real_sync("fdatasync", file);
-    if (is("second sync first") && owed >= 0) real_pwrite(owed, &byte, COMMIT, place);
-    owed = -1;
+    if (is_selected("second sync first") && postponed_file >= 0) real_pwrite(postponed_file, &postponed_byte, COMMIT, postponed_offset);
+    postponed_file = -1;
     return answer;
 }
 
 int fsync(int file) {
     struct stat found;
-    if (is("no opening sync") && !length) return 0;
-    if (is("no folder sync") && !fstat(file, &found) && S_ISDIR(found.st_mode)) return 0;
+    if (is_selected("no opening sync") && !length) return 0;
+    if (is_selected("no folder sync") && !fstat(file, &found) && S_ISDIR(found.st_mode)) return 0;
     return real_sync("fsync", file);
 }
 
@@ -72,9 +73,9 @@ ssize_t write(int file, const void *bytes, size_t count) {
     static ssize_t (*real)(int, const void *, size_t);
     if (!real) real = (ssize_t (*)(int, const void *, size_t))dlsym(RTLD_NEXT, "write");
     ssize_t answer = real(file, bytes, count);
-    if (is("answer first") && owed >= 0) {
-        real_sync("fdatasync", owed);
-        owed = -1;
+    if (is_selected("answer first") && postponed_file >= 0) {
+        real_sync("fdatasync", postponed_file);
+        postponed_file = -1;
     }
     return answer;
 }

@@ -37,7 +37,7 @@ def missing_packages(programs: dict[str, str]) -> list[str]:
 
 
 def kernels_in(folder: pathlib.Path) -> list[Kernel]:
-    """Returns the kernels in a folder with `boot` and `lib/modules`, by name."""
+    """Returns the kernels in a folder with `boot` and `lib/modules`, sorted by name. Omits kernels without modules, and those that cannot be read."""
     kernels = []
     for image in sorted(folder.glob("boot/vmlinuz-*")):
         release = image.name.removeprefix("vmlinuz-")
@@ -79,7 +79,8 @@ def fetch_kernel() -> int:
 
 
 def missing_space(folder: pathlib.Path, disk: int) -> str:
-    """Returns a message if there is too little memory for a machine with a disk of this size, or too little space for its images; otherwise ""."""
+    """Returns a message if there is too little memory for a machine with a disk of this size in bytes, or too little space for its images; otherwise
+    ""."""
     needed = MEMORY * MEGA + 3 * disk
     memory = pathlib.Path("/proc/meminfo").read_text()
     available = re.search(r"MemAvailable: +(\d+) kB", memory)

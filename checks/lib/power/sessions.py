@@ -27,7 +27,7 @@ next:   SRC P0
 ."""
 # Queries about everything on a board: registers and chips, RAM, ROM.
 QUERIES = "state\nram 0\n" + "".join(f"list {256 * chip} 256\n" for chip in range(ROMS))
-# The number of the first commands, which are short, so that their cycles fill the log. The later ones are long, so that their bytes fill it.
+# The number of short commands at the beginning. Their cycles fill the log. The later commands are long, so that their bytes fill the log.
 SHORT_COMMANDS = 48
 # The number of lines in a long text, and the number of bytes in each of them.
 LINES, BYTES_OF_LINE = 37, 100
@@ -36,8 +36,8 @@ VERSION_PLACE, VERSION_2 = 4, 2
 
 
 def commands(count: int) -> list[str]:
-    """Returns `count` commands as text. A snapshot is written at the 49th command, when cycles have filled the log, and then at every 20th command,
-    when bytes have filled it: three in four of these commands have a record of 4,213 bytes, which takes two blocks."""
+    """Returns `count` commands as text. A snapshot is written at the 49th command, when cycles have filled the log. Later snapshots are written at
+    every 20th command, when bytes have filled the log. Three in four of these later commands have a record of 4,213 bytes, which takes two blocks."""
     all_commands = [BOARD, PROGRAM]
     for number in range(len(all_commands), count):
         if number >= SHORT_COMMANDS and number % 4:
@@ -74,7 +74,7 @@ def digest(answers: bytes) -> str:
 
 
 class Sessions:
-    """The state after each number of commands, as the program reports it. Also finds out which of these states a session file has."""
+    """The states after each number of commands, as the program reports them. Session files are compared with these states."""
 
     def __init__(self, program: str, folder: pathlib.Path, count: int) -> None:
         self.program, self.folder = program, folder
@@ -85,7 +85,7 @@ class Sessions:
         self.serve_all()
 
     def run(self, arguments: list[str], text: str) -> tuple[str, bytes]:
-        """Runs the program until it ends. Returns its first answer and the other answers."""
+        """Runs the program with this input until it ends. Returns the first line of its output, and the other lines."""
         result = subprocess.run([self.program, *arguments], input=text.encode(), stdout=subprocess.PIPE, stderr=subprocess.DEVNULL, check=False)
         first_answer, _, other_answers = result.stdout.partition(b"\n")
         return first_answer.decode(errors="replace"), other_answers
@@ -114,7 +114,8 @@ class Sessions:
             raise PowerCheckError("two commands leave the same state")
 
     def state_after(self, process: subprocess.Popen[bytes], number: int) -> tuple[str, str]:
-        """Sends a command to a running program. Returns the first word of the answer, and a hash of the state after the command."""
+        """Sends the command with this number (none for 0) and QUERIES to a running program. Returns the first word of the first answer, and a hash of
+        the state."""
         assert process.stdin is not None and process.stdout is not None
         text = (self.commands[number - 1] + "\n" if number else "") + QUERIES + "seq\n"
         process.stdin.write(text.encode())
@@ -126,14 +127,16 @@ class Sessions:
         return first_answer.decode().split(" ")[0], digest(state)
 
     def commands_in(self, data: bytes) -> int | str:
-        """Returns the number of commands in a session file if the file has the state after these commands, otherwise a message."""
+        """Returns the number of commands in a session file if the file has the state after these commands, otherwise a description, as `open_file`
+        does."""
         key = hashlib.sha256(data).digest()
         if key not in self.verdicts:
             self.verdicts[key] = self.open_file(data)
         return self.verdicts[key]
 
     def open_file(self, data: bytes) -> int | str:
-        """Opens a file with the program, and returns its number of commands, or a message."""
+        """Opens a session file with the program, and checks its state. Returns its number of commands, `blank` if `new` can begin a session in the
+        file, or a message about the error."""
         file = self.folder / "found.mcs"
         file.write_bytes(data)
         first_answer, state = self.run(["open", str(file)], QUERIES)

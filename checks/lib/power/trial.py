@@ -1,7 +1,7 @@
 """A trial serves a session in the machine. Then the machine mounts images that a power cut can leave, one by one, and the trial evaluates them.
 
-Then one of the images becomes the disk, the session is opened there and continues, and the power is cut again: while the file system
-recovers, while the session is opened, and later.
+Then one of the images becomes the disk, and the session is opened there and continues. The power is cut again: while the file system recovers, while
+the session is opened, and later.
 """
 
 from __future__ import annotations
@@ -33,7 +33,7 @@ START_PROGRAM = "{{ {wrong} mcs4 {arguments} <&3 >&3; reported=$?; [ -e /tmp/end
 STOP_AND_UNMOUNT = "cd /; : > /tmp/end; kill $busy; killall mcs4; wait; rm /tmp/end; umount /mnt || { sleep 1; umount /mnt; }"
 # The allowed results if the power is cut before the first answer of `new`, on a file system that shows only written data.
 ALLOWED_BEFORE_NEW = ("absent", "size 0", "blank", 0)
-# The maximum number of errors to report for each recording, and of images to store in total.
+# The maximum number of errors to report for each generation of a trial, and of images to store in total.
 MAX_REPORTED, MAX_STORED = 2, 6
 
 # The result of examining an image: the number of commands in its session, or a description of anything else.
@@ -49,7 +49,7 @@ class ExaminedImage(NamedTuple):
 
 @dataclasses.dataclass
 class Outcome:
-    """The result of a trial: the number of images and of errors, and descriptions of the first errors."""
+    """The result of a trial: the number of images and of errors, and a description of the first error."""
     images: int = 0
     error_count: int = 0
     first_error: str = ""
@@ -63,8 +63,9 @@ class Outcome:
 
 @dataclasses.dataclass
 class Stage:
-    """The serving of a session: the arguments of the program, the shell command just before it, the number in the first answer, the last command, and
-    whether the session was already durable before."""
+    """One serving of a session: the arguments of the program, and the shell command directly before the program starts. `first` is the number of
+    commands in the session at the start, and `last` the number after its last command. `is_durable` is true if the session was already durable at the
+    start. `images` is the number of images to examine after the cut."""
     arguments: str
     before: str
     first: int
@@ -74,7 +75,7 @@ class Stage:
 
 
 class Runner:
-    """Runs trials on a machine with two disks. Images are written to `disk`. The machine copies the session files that it finds to `out`."""
+    """A machine with two disks, on which trials run. Images are written to `disk`. The machine copies the session files that it finds to `out`."""
 
     def __init__(self, machine: Machine, sessions: Sessions, keep: pathlib.Path, show_command: str, seed: int) -> None:
         """Images with errors are stored in `keep`. `show_command` is the command line that examines a stored image again, without the name of the
@@ -112,11 +113,11 @@ class Runner:
 
     @staticmethod
     def options(kind: FileSystem, trial: Trial) -> str:
-        """Returns the mount options."""
+        """Returns the mount options besides noatime, separated by commas."""
         return ",".join(filter(None, [kind.options, kind.frequent_commit_options if trial.is_busy else ""]))
 
     def mount(self, kind: FileSystem, trial: Trial) -> None:
-        """Mounts the disk."""
+        """Mounts the disk at /mnt in the machine."""
         options = ",".join(filter(None, ["noatime", self.options(kind, trial)]))
         self.machine.run_successfully(f"blockdev --flushbufs /dev/vda; mount -t {kind.type} -o {options} /dev/vda /mnt")
 
@@ -158,7 +159,7 @@ class Runner:
         return History(events, stage.first, stage.is_durable, snapshots, kind.whole_blocks, self.rng)
 
     def serve(self, events: list[Event], stage: Stage) -> None:
-        """Sends the commands of a session, one after another, and records their answers."""
+        """Sends the commands of a session, one after another, and adds the events `sent` and `answered` to `events`."""
         number, command = stage.first, ""
         while True:
             answer = self.machine.receive(self.machine.program)
@@ -175,7 +176,7 @@ class Runner:
     # --- looking at images
 
     def examine(self, builder: Builder, kind: FileSystem, trial: Trial, case: Case, image: Image) -> ExaminedImage:
-        """Examines an image, and returns the result."""
+        """Writes an image to the disk, lets the machine examine it, and returns the result. Then undoes the writes."""
         builder.build(image)
         contents = self.contents_of_disk(kind, self.options(kind, trial), case.file)
         self.disk.undo_writes()
@@ -201,7 +202,7 @@ class Runner:
 
     @staticmethod
     def verdict(trial: Trial, examined: ExaminedImage) -> str:
-        """Judges the contents of an image. Returns `good`, a note if other contents are allowed there, or "" for an error."""
+        """Returns `good` if an image has the required contents, a note if it has other contents that are allowed, or "" for an error."""
         kind, case = FILE_SYSTEMS[trial.kind], CASES[trial.case]
         image, contents = examined.image, examined.contents
         if contents == "not mounted" and image.is_torn:
@@ -212,7 +213,8 @@ class Runner:
         return "good" if isinstance(contents, int) and image.min_commands <= contents <= image.max_commands else ""
 
     def report_results(self, trial: Trial, generation: int, history: History, examined: list[ExaminedImage], builder: Builder, seconds: float) -> Outcome:
-        """Prints the results for the images of a history, and stores some of the images with errors."""
+        """Prints the results for the images of a history, and stores some of the images with errors. Returns the number of images, the number of
+        errors, and the first error."""
         notes: collections.Counter[str] = collections.Counter()
         with_errors = []
         for examined_image in examined:
@@ -240,7 +242,7 @@ class Runner:
 
     @staticmethod
     def error_message(examined: ExaminedImage, event_count: int) -> str:
-        """Returns the description of an error."""
+        """Returns the message about an image with an error. `event_count` is the number of all events in its history."""
         image = examined.image
         acknowledged = "nothing" if image.min_commands is None else f"command {image.min_commands}"
         contents = f"{examined.contents} commands" if isinstance(examined.contents, int) else examined.contents
@@ -251,7 +253,8 @@ class Runner:
     # --- stored images, and the next disk
 
     def store_image(self, trial: Trial, generation: int, builder: Builder, image: Image) -> None:
-        """Stores an image in a file, with the expected result, and reports the command line that examines it again."""
+        """Stores an image in a file, with the expected result, and prints the command line that examines it again. Does nothing if MAX_STORED images
+        are already stored."""
         kind, case = FILE_SYSTEMS[trial.kind], CASES[trial.case]
         if self.stored_count == MAX_STORED:
             return

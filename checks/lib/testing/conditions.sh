@@ -1,4 +1,4 @@
-# mcs4 test: conditions, saved states and failures. The expected results were worked out manually.
+# Checks that mcs4 test evaluates conditions, starts from saved states, and reports failures. The expected results were worked out manually.
 # shellcheck shell=sh
 
 cat > "$folder/lamps.test" <<'end_of_tests'
@@ -86,7 +86,7 @@ tested() {
         "$(cat "$folder/printed")" "$1"
 }
 tested "conditions and failures"
-# Checks that the output is the same with every awk. (mawk needs an option to read a pipe line by line.)
+# Checks that the output is the same whichever awk is the first one on the PATH.
 for other in gawk mawk original-awk "busybox awk"; do
     if command -v "${other%% *}" > /dev/null; then
         mkdir -p "$folder/bin"
@@ -97,7 +97,7 @@ for other in gawk mawk original-awk "busybox awk"; do
             outcome ./mcs4 test $three/board.toml $three/three_lamps.asm "$folder/lamps.test" |
                 sed -n '/^TAP/p; /^1\.\./p; /ok [0-9]/p; /^  message/p; /^status/p'
         ) > "$folder/other"
-        verdict "$(cat "$folder/other")" "$(cat "$folder/printed")" "the same by $other"
+        verdict "$(cat "$folder/other")" "$(cat "$folder/printed")" "the results with $other"
     fi
 done
 
@@ -140,7 +140,7 @@ awk 'BEGIN {
         # The run ends within an instruction.
         print "test inside " kinds[i] "\n press a\n run 1\n until " parts[1] " within 40\n expect cycles " parts[2]
     }
-    # Tests an event that never happens, and one that happens in the last cycle.
+    # Tests conditions that become true at once, never, too late, in the last cycle, and inside an instruction.
     print "test not there\n until not pc 0 within 40\n expect cycles 2"
     print "test never\n until rom1 in 10 within 40"
     print "test too late\n press a\n until acc 7 within 20"

@@ -1,4 +1,4 @@
-# mcs4 cover: the counts, compared with those of single steps; the LCOV format; and a report that was worked out manually.
+# Checks that mcs4 cover counts correctly, compared with single steps and with a report that was worked out manually. Also checks the LCOV format.
 # shellcheck shell=sh
 
 make_count
@@ -68,7 +68,7 @@ only one way: line 2 (always taken)
 status 0" "coverage of a jump that is always taken"
 verdict "$(sed -n '/^BR/p' "$folder/always.info" | tr '\n' ' ')" "BRDA:2,0,0,8 BRDA:2,0,1,0 BRF:2 BRH:1 " "the LCOV file of a jump that is always taken"
 
-# Compares the counts in 6,000 cycles of the calculator with a key down: by `cover`, and by `step` and `regs`.
+# Compares the counts of `cover` with those of single steps (`step` and `regs`), in 6,000 cycles of the calculator with a key down.
 ./mcs4 script $calculator/board.toml $calculator/calculator.asm > "$folder/script"
 {
     cat "$folder/script"
@@ -111,7 +111,8 @@ else
     echo "not run: genhtml (Debian's package lcov)"
 fi
 
-# Checks that a file that is not in the LCOV format stays unchanged. (`cover` may replace only such a file.)
+# Checks that `cover` fails and does not overwrite a file. It may replace only a file in the LCOV format that is not its input, and only if it
+# succeeds. Arguments: the file, the status, the message, and the command.
 check_unchanged() {
     cp "$1" "$folder/before"
     file=$1

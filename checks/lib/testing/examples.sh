@@ -1,4 +1,4 @@
-# The tests of the examples: perl's `prove` runs them, and they fail if a bug is put into some of the programs.
+# Checks that the tests of the examples pass when perl's `prove` runs them, and that they find bugs that are put into some of the programs.
 # shellcheck shell=sh
 
 proves() {
@@ -32,12 +32,12 @@ plant() {
     verdict "$(cmp -s "$1" "$folder/buggy" || echo changed)" changed "a bug planted in $1"
 }
 
-# Checks that some tests fail with the bug. Arguments: the board, the text of tests, the names of the tests.
+# Checks that the bug makes exactly these tests fail. Arguments: the board, the text of tests, and the names of the tests that must fail.
 check_tests_fail() {
     verdict "$(outcome ./mcs4 test "$1" "$folder/buggy" "$2" | sed -n 's/^not ok [0-9]* - //p; /^status/p')" "$3
 status 1" "a bug found by $2"
 }
-# The following bugs are tried. A division by zero is reported as an overflow.
+# The comments from here on describe the bugs. A division by zero is reported as an overflow.
 plant $calculator/calculator.asm 1 "LDM 2		; division by zero" "LDM 1		; division by zero"
 check_tests_fail $calculator/board.toml $calculator/calculator.test "division by zero"
 # After several keys at once, four scans are enough.

@@ -1,4 +1,5 @@
-# Errors in the texts of tests: mcs4 test reports each with its file and line, and runs no test. Also tests of programs with errors.
+# Checks that mcs4 test reports each error in texts of tests with its file and line, and runs no test. Also checks errors in the tested programs, and
+# wrong programs that MCS4 names.
 # shellcheck shell=sh
 
 printf 'test t\n run 5\n' > "$folder/one.test"
@@ -145,7 +146,8 @@ verdict "$(MCS4=$folder/no_bench outcome ./mcs4 test $lock/board.toml $lock/lock
 status 1" "a program that is not mcs4"
 verdict "$(MCS4=$folder/none outcome ./mcs4 names $lock/lock.asm)" "names: $folder/none does not answer; set MCS4 to the path of the program if it is not the mcs4 at the top
 status 1" "a missing program"
-# If a clone must first build its program, the output of tools/build appears while it builds. (In this check, it builds nothing.)
+# Checks that the output of tools/build appears if a clone must first build its program. (Here a script that only copies the program replaces
+# tools/build.)
 if [ -e tools/lib/sums.sh ]; then
     tree=$folder/tree
     mkdir -p "$tree/tools" "$tree/crates/mcs4/out"
@@ -154,7 +156,7 @@ if [ -e tools/lib/sums.sh ]; then
     echo 'mcs4:' > "$tree/crates.txt"
     printf '#!/bin/sh\necho "mcs4: mcs_nibble is proved and built, 91 s so far"\ncp -- "%s" "%s"\n' "$mcs4" "$tree/crates/mcs4/out/mcs4" > "$tree/tools/build"
     chmod +x "$tree/tools/build"
-    verdict "$(outcome env -u MCS4 XDG_CACHE_HOME="$folder/cache" "$tree/mcs4" keys $lock/board.toml 1 | sed -n '1,2p; $p')" "mcs4: the program in shipped/ is not started: it is not there. Now proving and building the program
+    verdict "$(outcome env -u MCS4 XDG_CACHE_HOME="$folder/cache" "$tree/mcs4" keys $lock/board.toml 1 | sed -n '1,2p; $p')" "mcs4: cannot start the program in shipped/: it is missing. Now proving and building the program
 mcs4: mcs_nibble is proved and built, 91 s so far
 status 0" "a program that is built first"
 fi

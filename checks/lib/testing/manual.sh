@@ -1,4 +1,4 @@
-# The manual's chapter about testing shows the output of the tools.
+# Checks that the manual's chapter about testing shows what the commands print.
 # shellcheck shell=sh
 
 . "$top/checks/lib/manual.sh"

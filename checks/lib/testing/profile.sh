@@ -1,4 +1,5 @@
-# mcs4 profile: the cycles spent in each part of a program. The expected numbers were worked out manually.
+# Checks that mcs4 profile reports the cycles spent in each part of a program, and the times from a key to the lamps. The expected numbers were worked
+# out manually.
 # shellcheck shell=sh
 
 make_count

@@ -1,4 +1,4 @@
-# mcs4 prove: verdicts, counterexamples that must fail as tests of mcs4 test, wrong provers, and interruptions.
+# Checks the verdicts of mcs4 prove, and that its counterexamples fail as tests of mcs4 test. Also checks wrong provers and Ctrl-C.
 # shellcheck shell=sh disable=SC2034
 
 export MCS4_PROVE="${MCS4_PROVE:-$(. tools/lib/start.sh && find_prover && echo "$program")}"
@@ -6,14 +6,15 @@ if [ -z "$MCS4_PROVE" ]; then
     unset MCS4_PROVE
     echo "not run: mcs4 prove, in checks/testing (its program: tools/build mcs4_prove)"
 else
-    # Prints the remarks about the properties that the text states. The properties that every program gets begin with "no".
+    # Prints the remark about each property that the text states, and the exit status. Omits the properties that every program gets, which begin with
+    # "no".
     remarks() {
         sed -n '/ok [0-9]* - no /d; s/^\(not \)\{0,1\}ok .*# //p; /^status/p' "$@"
     }
     of_every_program() {
         sed -n 's/^\(not \)\{0,1\}ok [0-9]* - \(no .*\)/\1\2/p'
     }
-    # Proves that the die shows only its six faces, and each of them for 15 cycles.
+    # Proves the properties of the die: it shows only its six patterns, and changes them at least every 15 cycles.
     verdict "$(outcome ./mcs4 prove examples/die.txt examples/die.txt examples/die.props | results)" "$(
         sed -n 's/^never \(not .*\)/ok 1 - never \1 # proved for all inputs (13 states)/p' examples/die.props)
 ok 2 - never lamps none for 1 ms # proved for all inputs (13 states)
@@ -29,44 +30,44 @@ ok 9 - no ROM that is absent # proved for all inputs (22 sets of states)
 ok 10 - no RDR of a port without inputs # proved for all inputs (22 sets of states)
 ok 11 - no WRR to a port without outputs # proved for all inputs (22 sets of states)
 status 0" "the die"
-    # Checks that each time is exact: with a limit of one cycle less, the property is broken.
+    # Checks that each time limit is exact: if it is one cycle shorter, the property is broken.
     printf 'press THROW\n@hold to @hold within %s\nnever lamps none for %s\nevery %s @hold\n' 15 16 16 > "$folder/times.props"
     verdict "$(outcome ./mcs4 prove examples/die.txt examples/die.txt "$folder/times.props" | remarks)" "proved for all inputs (13 states)
 proved for all inputs (13 states)
 proved for all inputs (13 states)
-status 0" "times of the die"
+status 0" "the time limits of the die"
     printf 'press THROW\n@hold to @hold within %s\nnever lamps none for %s\nevery %s @hold\n' 14 15 15 > "$folder/times.props"
     verdict "$(outcome ./mcs4 prove examples/die.txt examples/die.txt "$folder/times.props" > "$folder/out"; remarks "$folder/out")" "broken, 1 step
 broken, 0 steps
 broken, 0 steps
-status 1" "times that are a cycle too short"
+status 1" "time limits that are a cycle too short"
     sed -n 's/^    //p' "$folder/out" > "$folder/found.test"
-    verdict "$(outcome ./mcs4 test examples/die.txt examples/die.txt "$folder/found.test" | grep -c '^not ok')" 3 "the tests of times that are a cycle too short"
+    verdict "$(outcome ./mcs4 test examples/die.txt examples/die.txt "$folder/found.test" | grep -c '^not ok')" 3 "the tests of time limits that are a cycle too short"
     grep '^never not' examples/die.props > "$folder/faces.props"
     verdict "$(outcome ./mcs4 prove examples/die.txt examples/die.txt "$folder/faces.props" | remarks)" \
         "proved for all inputs (13 states)
-status 0" "everything is proved"
+status 0" "all properties are proved"
     verdict "$(outcome ./mcs4 prove examples/die.txt examples/die.txt "$folder/faces.props" --most 12 | remarks)" \
         "TODO not decided: more than 12 states; --most allows more
-status 3" "a limit of one state too few"
-    # Puts a wrong face into the die's program. The printed test must fail on this program, and pass on the right one.
+status 3" "a limit on the states that is one too small"
+    # Puts a wrong pattern into the die's program. The printed test must fail on this program, and pass on the right one.
     sed 's/DB 8, 1, 9, 3, 11, 7/DB 8, 1, 9, 2, 11, 7/' examples/die.txt > "$folder/wrong.txt"
-    verdict "$(cmp -s examples/die.txt "$folder/wrong.txt" && echo the same)" "" "a program with a wrong face"
+    verdict "$(cmp -s examples/die.txt "$folder/wrong.txt" && echo the same)" "" "a program with a wrong pattern"
     verdict "$(outcome ./mcs4 prove "$folder/wrong.txt" "$folder/wrong.txt" "$folder/faces.props" > "$folder/out"; remarks "$folder/out")" \
         "broken, 1 step
-status 1" "a wrong face"
+status 1" "a wrong pattern"
     sed -n 's/^    //p' "$folder/out" > "$folder/found.test"
     verdict "$(outcome ./mcs4 test "$folder/wrong.txt" "$folder/wrong.txt" "$folder/found.test" | sed -n 's/^\(not ok 1\).*/\1/p; /^status/p')
 $(outcome ./mcs4 test examples/die.txt examples/die.txt "$folder/found.test" | sed -n 's/^\(ok 1\).*/\1/p; /^status/p')" "not ok 1
 status 1
 ok 1
-status 0" "the test of a wrong face"
-    # Checks a property that only key presses can break that the text excludes.
+status 0" "the test of a wrong pattern"
+    # Checks a property that only inputs that the text excludes can break.
     printf 'press THROW\nheld at most 1\nnever lamps ***.***\n' > "$folder/held.props"
     verdict "$(outcome ./mcs4 prove examples/die.txt examples/die.txt "$folder/held.props" | remarks)" \
         "TODO not decided: so far, only inputs that the text excludes break it (1 step)
 status 3" "a key that is held for too long"
-    # Checks a program that reads nothing, and a board without inputs.
+    # Checks an empty program on a board without inputs.
     printf '[[rom]]\nchip = 0\nport = "0000"\n' > "$folder/board.toml"
     printf '; nothing\n' > "$folder/empty.asm"
     printf 'never acc > 0\nalways pc < 0x800\nat @no r1 = 0\n' > "$folder/empty.props"
@@ -77,7 +78,7 @@ status 3" "a key that is held for too long"
         "proved for all inputs (1 state)
 broken, 0 steps
 status 1" "an empty program"
-    # Checks a program that makes a different mistake after each key, with a text without properties. mcs4 prove runs each counterexample as a test.
+    # Checks a program that makes each kind of mistake, with a text without properties. Also checks what the tests of the counterexamples expect.
     cat > "$folder/wrong.toml" << 'END'
 # test: button WALK
 [[rom]]
@@ -129,7 +130,7 @@ not pc 0x2F0
 not @fourth
 not @here
 status 1" "a program with mistakes"
-    # Checks wrong provers: one that gives an invalid counterexample, one with invalid output, and one that does not end.
+    # Checks provers that give an invalid counterexample, run out of memory, reject the question, are missing, or do not end.
     prover_that() {
         printf '#!/bin/sh\ncat > /dev/null\n%s\n' "$1" > "$folder/prover"
         chmod +x "$folder/prover"
@@ -138,7 +139,7 @@ status 1" "a program with mistakes"
     verdict "$(outcome env MCS4_PROVE="$folder/prover" ./mcs4 prove examples/die.txt examples/die.txt "$folder/faces.props" | remarks)" \
         "TODO not decided: the bench does not confirm the counterexample that was found
 status 3" "an invalid counterexample"
-    # Checks that the question is repeated with the limits of the text, by a prover that decides only such questions.
+    # Checks that mcs4 prove asks again with the limits of the text. The prover here decides only questions with these limits.
     printf '#!/bin/sh\nif [ "$(grep -c -x -e only -e "press 0 0" -e test -e "together 1")" = 3 ]; then echo holds 7; else echo gave up; fi\n' \
         > "$folder/prover"
     chmod +x "$folder/prover"

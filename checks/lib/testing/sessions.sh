@@ -1,4 +1,5 @@
-# Tools on session files: with breakpoints and watches, paused within an instruction, and read-only. Also a program that ends early.
+# Checks commands on session files that are paused within an instruction, have breakpoints and watches, or are read-only. Also checks a program that
+# ends early.
 # shellcheck shell=sh
 
 # FIM, SRC, LDM, XCH, LD and WMP are 7 cycles, and JMS and FIM 4 more. After 12 cycles, the first ISZ R3 has jumped, and its second cycle is pending.
@@ -6,7 +7,7 @@
 verdict "$(outcome ./mcs4 cover --session "$folder/inside.mcs" 4 $three/three_lamps.asm | sed -n '/[0-9] .*ISZ/p; /^status/p')" \
     "         2 2/0            turn:   ISZ R3, turn
      never 0/0                    ISZ R2, turn
-status 0" "what an instruction has done that the last cycle has begun"
+status 0" "the effect of an instruction whose second cycle is pending"
 verdict "$(outcome ./mcs4 profile --session "$folder/inside.mcs" 4 $three/three_lamps.asm)" "4 cycles, 0.0 ms
 
 label             at          own  own %     calls with calls    longest
@@ -45,10 +46,10 @@ for words in "trace SESSION 3" "trace --source $three/three_lamps.asm SESSION 3"
     before=${words%%SESSION*}
     behind=${words#*SESSION}
     # shellcheck disable=SC2086
-    verdict "$(outcome env TMPDIR="$folder/anyone" $reader ./mcs4 $before"$folder/stopped.mcs"$behind)" "$(outcome ./mcs4 $before"$folder/stopped.mcs"$behind)" "a session that may not be written: $words"
+    verdict "$(outcome env TMPDIR="$folder/anyone" $reader ./mcs4 $before"$folder/stopped.mcs"$behind)" "$(outcome ./mcs4 $before"$folder/stopped.mcs"$behind)" "a read-only session: $words"
 done
 
-# A program that ends before it has answered, in place of the native program.
+# Creates a program that ends before it has answered, and uses it in place of the native program.
 cat > "$folder/ending" <<'program'
 #!/bin/sh
 if [ "$1" != open ]; then exec "$ANSWERING" "$@"; fi

@@ -1,9 +1,9 @@
-# mcs4 test: repeated lines, shared steps, keys that are chosen by values, and the label that was passed last.
+# Checks that mcs4 test repeats lines, runs shared steps, chooses keys by values, and reports the label that was passed last.
 # shellcheck shell=sh
 
-# Each lamp is on for 538 cycles. Counted from the cycle in which a lamp turns on, the iterations of the delay loop begin after 4, 6, 8, 10 and 14
-# cycles, the last iteration begins after 520, and the JCN to `first` after 532. `first` begins 4 cycles before a lamp turns on. Counted from
-# power-on, the program passes `first` after 3 cycles, and `next` after 5.
+# Each lamp is on for 538 cycles. These times are counted from the cycle in which a lamp turns on. The iterations of the delay loop begin after 4, 6,
+# 8, 10 and 14 cycles, the last iteration begins after 520, and the JCN to `first` after 532. `first` begins 4 cycles before a lamp turns on. Counted
+# from power-on, the program passes `first` after 3 cycles, and `next` after 5.
 cat > "$folder/shared.test" <<'end_of_tests'
 steps begin
     until lamps right within 7
@@ -81,7 +81,7 @@ not ok 7 - long ago
 not ok 8 - not in this test
   message: \"it did not become true within 1 cycles: pc is 002, but must be @first; @first was not passed in this test\"
   at: \"$folder/shared.test:53\"
-status 1" "what is done more than once"
+status 1" "repeated lines and shared steps"
 
 # Checks keys that are chosen by values. The values are in RAM that the lock does not use. The lock's code is 4711.
 cat > "$folder/chosen.test" <<'end_of_tests'
@@ -125,4 +125,4 @@ not ok 4 - no such key of two
 not ok 5 - no such key of one
   message: \"r5 is 2, and {r5:1} has 1 key\"
   at: \"$folder/chosen.test:28\"
-status 1" "keys that values name"
+status 1" "keys that are chosen by values"

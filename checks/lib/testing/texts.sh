@@ -1,4 +1,5 @@
-# mcs4 test: several texts of tests, pipes in place of files, comments after a line, microseconds, and boards with lamps and a display.
+# Checks that mcs4 test reads several texts of tests, pipes in place of files, comments after a line, and microseconds. Also checks boards with a
+# display and other lamps.
 # shellcheck shell=sh
 
 # Checks that a saved state is known only in its own text.
@@ -10,7 +11,7 @@ ok 1 - a
 ok 2 - b \\# 1
 ok 3 - c
 ok 4 - d
-status 0" "two texts that save a state of one name"
+status 0" "two texts that save states with the same name"
 printf 'test e\n from begun\n' > "$folder/third.test"
 check_rejected 1 "test: $folder/third.test:2: no earlier test saves a state begun" ./mcs4 test $lock/board.toml $lock/lock.asm "$folder/first.test" "$folder/third.test"
 
@@ -42,7 +43,7 @@ test: $folder/opens.test:7: there are no steps enter before this line; \`steps e
     ./mcs4 test $lock/board.toml $lock/lock.asm "$folder/opens.test" "$folder/steps.test"
 verdict "$(outcome ./mcs4 cover $lock/board.toml $lock/lock.asm "$folder/steps.test" "$folder/opens.test" | sed -n '/^status/p; /instructions were run/s/ (.*//p')" \
     "$(cat "$folder/steps.test" "$folder/opens.test" > "$folder/joined.test"
-    outcome ./mcs4 cover $lock/board.toml $lock/lock.asm "$folder/joined.test" | sed -n '/^status/p; /instructions were run/s/ (.*//p')" "what two texts cover"
+    outcome ./mcs4 cover $lock/board.toml $lock/lock.asm "$folder/joined.test" | sed -n '/^status/p; /instructions were run/s/ (.*//p')" "the coverage by two texts"
 cp "$folder/steps.test" "$folder/again.test"
 check_rejected 1 "test: $folder/again.test:1: the steps opened are already at $folder/steps.test:1
 test: $folder/again.test:3: the steps enter are already at $folder/steps.test:3" \
@@ -57,16 +58,16 @@ verdict "$(outcome ./mcs4 test "$folder/board.pipe" - "$folder/test.pipe" < $loc
 ok 1 - a
 ok 2 - b \\# 1
 status 0" "texts from pipes"
-verdict "$(outcome ./mcs4 test - - examples/stopwatch.test < examples/stopwatch.txt | sed '1d;$!d')" "status 0" "one standard input that is board and program"
+verdict "$(outcome ./mcs4 test - - examples/stopwatch.test < examples/stopwatch.txt | sed '1d;$!d')" "status 0" "standard input as both board and program"
 sed 's/JMS key/JMS kez/' < $lock/lock.asm > "$folder/faulty.asm"
 verdict "$(outcome ./mcs4 test $lock/board.toml - "$folder/first.test" < "$folder/faulty.asm")" "test: -: line 31: no 32: kez is not defined; key?
 test:     digit:  JMS kez
-status 1" "a fault on standard input"
+status 1" "an error in a program on standard input"
 echo "first line" > "$folder/first.pipe.test"
 cat "$folder/first.pipe.test" > "$folder/test.pipe" &
 verdict "$(outcome ./mcs4 test $lock/board.toml $lock/lock.asm "$folder/test.pipe")" \
     "test: $folder/test.pipe:1: a text of tests begins with \`test NAME\`, and this is: first line
-status 1" "a fault in a pipe"
+status 1" "an error in a test from a pipe"
 check_rejected 1 "test: - is empty" ./mcs4 test $lock/board.toml - "$folder/first.test"
 
 # Checks that if a board has a display, patterns of lamps ignore the lamps of the display, unless they have a name.

@@ -1,4 +1,4 @@
-# Wrong arguments: each command exits with status 2, and prints its usage. Also: -h means --help.
+# Checks that each command rejects wrong arguments with status 2 and its usage, and that -h means --help. Also checks mistyped commands, and options.
 # shellcheck shell=sh
 
 new_session session < $calculator/quotient.txt
@@ -9,7 +9,7 @@ for each in $commands; do
     verdict "$(outcome ./mcs4 "$each" -h)" "$(outcome ./mcs4 "$each" --help)" "mcs4 $each -h"
     verdict "$(outcome ./mcs4 help "$each")" "$(outcome ./mcs4 "$each" --help)" "mcs4 help $each"
 done
-# Tries a word, a number with a sign, one with an exponent, and numbers just outside of the range.
+# Tries an empty word, a word, a number with a sign, a number with an exponent, a number below the minimum, and a number above the maximum.
 for wrong in "" x -1 1e3 0 100000001; do
     case $wrong in
     -1) for tool in trace wave; do check_usage_error "there is no option -1" ./mcs4 "$tool" "$session" "$wrong"; done ;;
@@ -57,7 +57,8 @@ for words in "trace::10" "wave::10" "back:" "import:" "listing:" "explain:" "res
 usage: mcs4 $tool
 status 2" "$tool with an empty argument"
 done
-# Tries mistyped commands, with and without `help`: one letter is wrong, missing or extra, or two letters are exchanged.
+# Checks that the right command is suggested for a mistyped one, with and without `help`. The mistyped commands have capitals, or letters that are
+# wrong, missing, extra or exchanged.
 for pair in TEST:test tesst1:test tset:test tes:test testt:test tast:test lisitng:listing hlep:help opne:open ls:lsp; do
     word=${pair%:*}
     check_rejected 2 "mcs4: there is no command $word; did you mean ${pair#*:}? mcs4 help lists the commands" ./mcs4 "$word"

@@ -1,4 +1,4 @@
-# The commands of mcs4: their help and manual pages, starting them through links, and starting them without Node.
+# Checks the help and the manual page of each command of mcs4. Also starts mcs4 through links, without Node, and with an old version of Node.
 # shellcheck shell=sh
 
 cp $lock/lock.asm "$folder/program.asm"
@@ -10,7 +10,8 @@ count_lines() {
     echo "$(wc -l < "$folder/output") $(wc -l < "$folder/errors") $status" | tr -s ' '
 }
 
-# Checks that each command has help that names the command and its exit statuses, and whose lines are short enough.
+# Checks each command. Its help must begin with its usage and have short lines, an unknown option must print the usage, and its manual page must have
+# all headings.
 commands=$(./mcs4 help | sed -n 's/^  \([a-z]\{3,9\}\) .*/\1/p' | LC_ALL=C sort)
 verdict "$(ls js/node/commands | sed 's/\.mjs//; /^table$/d' | LC_ALL=C sort)" "$commands" "mcs4 help"
 node js/node/command_pages.mjs "$folder/pages" > /dev/null
@@ -40,10 +41,10 @@ for word in frob build lib ../mcs4 "" speed table constructor; do
     check_rejected 2 "mcs4: there is no command $word; mcs4 help lists the commands" ./mcs4 help "$word"
     if [ -n "$word" ]; then check_rejected 2 "mcs4: there is no command $word; mcs4 help lists the commands" ./mcs4 "$word" x; fi
 done
-# Checks that mcs4 reports a full or closed standard output. Wrong arguments must have status 2 even if standard error is full.
+# Checks that mcs4 reports a full or closed standard output. Wrong arguments must have status 2 even if one of the output streams is full or closed.
 for stream in "> /dev/full" ">&-"; do
     for words in help --help "help refusals" "help new" "help open" "help help" "help version" "help cover" version --version; do
-        verdict "$(outcome sh -c "./mcs4 $words $stream" | sed 's/standard output is closed/not all was written; is there room where it goes to?/')" "mcs4: not all was written; is there room where it goes to?
+        verdict "$(outcome sh -c "./mcs4 $words $stream" | sed 's/standard output is closed/not all output was written; is the disk full?/')" "mcs4: not all output was written; is the disk full?
 status 1" "mcs4 $words $stream"
     done
     for words in "" frob "help frob" "version 4" "help listing rom" "''"; do
@@ -84,7 +85,7 @@ esac
 verdict "$(without_node help | sed 1q)" "usage:" "mcs4 help without Node"
 verdict "$(without_node help listing)" "$(cat shipped/commands/help/listing.txt)
 status 0" "mcs4 help listing without Node"
-verdict "$(without_node listing $lock/lock.asm)" "mcs4: listing needs node, 18 or later, which is not found; on Debian: apt-get install nodejs
+verdict "$(without_node listing $lock/lock.asm)" "mcs4: listing needs Node 18 or later, which is not installed; on Debian: apt-get install nodejs
 status 1" "mcs4 listing without Node"
 for word in --help -h; do verdict "$(without_node listing $word)" "$(without_node help listing)" "mcs4 listing $word without Node"; done
 for words in "frob" "help frob" "frob x"; do
@@ -97,10 +98,10 @@ for words in "help listing x" "version x"; do
     verdict "$(without_node $words)" "mcs4: 'x' is one argument too many
 status 2" "mcs4 $words without Node"
 done
-verdict "$(without_node open -x.mcs)" "mcs4: there is no option -x.mcs; a file of this name is ./-x.mcs
+verdict "$(without_node open -x.mcs)" "mcs4: there is no option -x.mcs; for a file of this name, write ./-x.mcs
 status 2" "mcs4 open -x.mcs without Node"
 
-# Stands in for a Node of 2019, which has no modules whose names begin with `node:`.
+# Replaces Node with a script that behaves like Node 12 of 2019, which has no modules whose names begin with `node:`.
 mkdir "$folder/old_node"
 cat > "$folder/older.cjs" << 'end'
 const modules = require("module");

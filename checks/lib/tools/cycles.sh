@@ -1,4 +1,4 @@
-# mcs4 cycles.
+# Checks that mcs4 cycles adds up the cycles of runs, and reports the addresses at which they stopped.
 # shellcheck shell=sh
 
 # Checks the report of the addresses at which runs stopped, with the labels and lines of the source.

@@ -1,4 +1,4 @@
-# mcs4 display: digits, signs, points, named lamps, and multiplexed digits.
+# Checks that mcs4 display prints what lamps show: digits, signs, points, named lamps, and multiplexed digits.
 # shellcheck shell=sh
 
 # Prints a board. Arguments: the number of its lamps, and its comments.
@@ -73,7 +73,7 @@ printf 'lamps ..........\nno 44\n' > "$folder/answers"
 check_rejected 1 "display: line 2 of the answers is a refusal: no 44; mcs4 explain says why" ./mcs4 display "$folder/board.toml" < "$folder/answers"
 check_rejected 1 "display: $lock/board.toml has no display: a comment \`# display 0: 4 digits\` makes one" ./mcs4 display $lock/board.toml < "$folder/answers"
 printf '# display 0: four digits\n' > "$folder/board.toml"
-check_rejected 1 "display: $folder/board.toml: line 1: no display: write \`# display 3: 8 digits\`, and then \`of 7 segments\`, \`with points\`, \`scanned by 7\`" \
+check_rejected 1 "display: $folder/board.toml: line 1: not a display: write \`# display 3: 8 digits\`, if needed with \`of 7 segments\`, \`with points\`, \`scanned by 7\`" \
     ./mcs4 display "$folder/board.toml" < "$folder/answers"
 # Checks that comments that name parts that the board lacks are rejected, as `test` rejects them.
 board_of 8 '# display 0: 2 digits\n# printer rom0.1: ram0.0 0 1 feed\n' > "$folder/board.toml"

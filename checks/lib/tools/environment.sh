@@ -1,5 +1,5 @@
-# Environment variables that happen to have the same name as a tool's own variable: they must have no effect, and no tool may write or remove a file
-# because of them.
+# Checks that environment variables with the same name as a variable inside a tool have no effect. No tool may print anything else, or write or remove
+# a file, because of such a variable.
 # shellcheck shell=sh
 
 new_session session < $calculator/quotient.txt
@@ -13,13 +13,13 @@ cat mcs4 tools/* tools/lib/*.sh js/node/*.mjs js/node/commands/*.mjs 2> /dev/nul
     sed 's/.*[^a-z_]\([a-z_]\{1,\}\)=$/\1/; s/=$//; s/^\$//; s/^{//; s/^ENVIRON\["//; s/^env\.//; s/^[ ;{(]//' |
     LC_ALL=C sort -u | grep -vxE 'mcs|_' > "$folder/all_names"
 verdict "$(grep -cxE 'built|reason|folder|program|cache|top' "$folder/all_names")" 6 "names of variables"
-# Runs a command with these variables in its environment.
+# Runs a command with the variables in `assignments` in its environment. Prints its output, errors and status.
 run_with_variables() {
     # shellcheck disable=SC2086
     outcome env $assignments "$@"
 }
 
-# Runs commands of each tool, some of which fail and some of which succeed.
+# Runs commands of each tool, some that succeed and some that fail, and prints their output.
 run_commands() {
     run_with_variables ./mcs4 back none.mcs
     run_with_variables ./mcs4 project split none.mcsp "$folder/none"

@@ -1,10 +1,10 @@
-# Control characters in texts and file names from other people: they must never reach a terminal. Tools print them as `\x1B`.
+# Checks that control characters in texts and file names from other people never reach a terminal. Tools print their codes, such as `\x1B`.
 # shellcheck shell=sh
 
 esc=$(printf '\033')
 controls="${esc}]0;PWNED$(printf '\007')${esc}[2J$(printf '\302\233')31m$(printf '\177')"
 shown='\x1B'
-# Prints the output and the errors that a command writes to a pseudo-terminal.
+# Creates a script that runs a command in a pseudo-terminal, and prints what the command writes there.
 cat > "$folder/terminal.py" <<'program'
 import os, pty, subprocess, sys
 own, end = pty.openpty()
@@ -93,7 +93,7 @@ while read -r expected is_shown words; do
     if LC_ALL=C grep -qaF "$shown" "$folder/terminal"; then is=y; else is=n; fi
     verdict "$is, $(LC_ALL=C grep -ac "$raw" "$folder/terminal") raw" "$is_shown, 0 raw" "a terminal with $words"
 done < "$folder/commands"
-# Checks that this test would find unescaped characters: `cat` prints them as they are.
+# Checks that this check would find unescaped characters: `cat` prints them as they are.
 if command -v python3 > /dev/null; then
     verdict "$(python3 "$folder/terminal.py" cat "$folder/bogus" | LC_ALL=C grep -ac "$raw")" 1 "a terminal with cat"
 fi

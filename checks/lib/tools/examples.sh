@@ -1,4 +1,4 @@
-# The examples: their scripts must have the right answers, and the calculator must show the right numbers. (checks/calculator tries random
+# Checks that the scripts of the examples have the right answers, and that the calculator shows the right numbers. (checks/calculator tries random
 # calculations.)
 # shellcheck shell=sh
 

@@ -1,4 +1,4 @@
-# mcs4 explain.
+# Checks that mcs4 explain explains the errors in the answers to a script, and names the lines that were not answered.
 # shellcheck shell=sh
 
 # Checks that the explanations of rejected lines name addresses by the labels and lines of the source.
@@ -131,7 +131,8 @@ check_rejected 1 "explain: these are not the answers to this script: line 4 of t
 check_rejected 2 "explain: SCRIPT is missing
 usage: mcs4 explain [--source PROGRAM SESSION] SCRIPT < ANSWERS" ./mcs4 explain
 
-# Tries answers that do not belong to the script, and texts that are not answers.
+# Tries answers that end early or do not belong to the script, and texts that are not answers. Arguments: the script, the answers, and the expected
+# output.
 check_explain() {
     printf "$1" > "$folder/script"
     printf "$2" > "$folder/answers"

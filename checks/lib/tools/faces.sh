@@ -1,4 +1,4 @@
-# The board in checks/faces, whose front panels js/test/face.test.js tests: the bench must print it unchanged.
+# Checks that the bench prints the board in `checks/faces` unchanged. (`js/test/face.test.js` tests the front panels of this board.)
 # shellcheck shell=sh
 
 {

@@ -1,4 +1,5 @@
-# Files that tools use: no space for temporary files, wrong files, sessions in use, and files that remain after Ctrl-C.
+# Checks that tools report a lack of space for temporary files, wrong files, and sessions in use. Also checks that a signal ends a tool, and leaves no
+# files or processes.
 # shellcheck shell=sh
 
 new_session session < $calculator/quotient.txt
@@ -20,8 +21,8 @@ else
     echo "not run: a full folder for temporary files (a file system cannot be mounted here)"
 fi
 
-# Runs a command with wrong files: an empty file, a folder, a missing file, a file of 100 MB, a link to itself, and a name that no file can have. Also
-# with a program that rejects the session.
+# Runs a command with wrong files: an empty file, a folder, a missing file, a file of 100 MB, a link to itself, and a name that is too long.
+# Arguments: the maximum size of a file in bytes, and the command, to which the file and `last_word` are appended.
 : > "$folder/empty"
 ln -s loop "$folder/loop"
 longest=$(printf '%256s' | tr ' ' x)
@@ -77,7 +78,7 @@ check_rejected 1 "cycles: cannot read -: it has more than 67108864 bytes" ./mcs4
 printf '#!/bin/sh\necho "no 53"\necho "mcs4: s.mcs: in use by another program" >&2\nexit 3\n' > "$folder/refusing"
 chmod +x "$folder/refusing"
 for words in "resume $folder/two.txt $folder/session.mcs" "trace $folder/session.mcs 1"; do
-    # The command opens a copy of the session, and does not print the program's message about the copy.
+    # The command opens a copy of the session. It must print its own message about the session, and not the program's message about the copy.
     verdict "$(MCS4=$folder/refusing outcome ./mcs4 $words)" "${words%% *}: the session $folder/session.mcs was rejected: no 53: the device failed, or the host rejected the file: does it exist, is it writable, is it in use?
 status 1" "a session in use: $words"
 done
@@ -94,7 +95,7 @@ verdict "$(outcome ./mcs4 resume "$folder/two.txt" "$folder/held.mcs")" "session
 seq 1
 status 0" "a session that is no longer in use"
 
-# Checks that Ctrl-C ends a tool with the status that shells use for it, and that no files are left behind.
+# Checks that SIGINT (Ctrl-C), SIGTERM and SIGHUP end a tool with the status that shells use for the signal, and that no files are left behind.
 awk 'BEGIN { print "test long"; for (i = 0; i < 400; i++) print " run 5 s" }' > "$folder/long.test"
 mkdir "$folder/interrupted"
 for each in INT:130 TERM:143 HUP:129; do
@@ -108,7 +109,7 @@ for each in INT:130 TERM:143 HUP:129; do
     verdict "$status, $(ls "$folder/interrupted" | wc -l | tr -d ' ') left" "${each#*:}, 0 left" "a tool that receives SIG${each%:*}"
 done
 
-# Checks that a signal has the same effect at any moment while a tool starts. The shell that starts the program gets it, too.
+# Checks that the signals have the same effect at any moment while a tool starts. The shell that starts the program gets them, too.
 for wait in 60 70 80 90 100 105 110 115 120 125 130 135 140 150 160 170 180 200 220 240; do
     for each in INT:130 TERM:143 HUP:129; do
         TMPDIR=$folder/interrupted setsid env --default-signal=INT,TERM,HUP timeout --foreground -s KILL 20 \
@@ -133,7 +134,7 @@ awk 'BEGIN { print "test longer\nrepeat 100000\nrun 100000\nend" }' > "$folder/l
 { cat $calculator/quotient.txt && awk 'BEGIN { for (i = 0; i < 300000; i++) print "run 100000" }'; } > "$folder/longer.txt"
 mkfifo "$folder/silent"
 new_session session < $calculator/quotient.txt
-# Prints the processes that use this folder for temporary files.
+# Prints the number of processes that use the folder `interrupted` for temporary files.
 count_started() {
     grep -lzsx "TMPDIR=$folder/interrupted" /proc/[0-9]*/environ | wc -l | tr -d ' '
 }

@@ -1,4 +1,4 @@
-# Standard output that is full or closed: each command reports it, and exits with status 1.
+# Checks that each command reports a standard output that is full or closed, and exits with status 1.
 # shellcheck shell=sh
 
 new_session session < $calculator/quotient.txt
@@ -42,11 +42,11 @@ while read -r line; do
     if [ -e /dev/full ]; then
         status=0
         run_tool "$line" > /dev/full 2> "$folder/printed" || status=$?
-        verdict "$(cat "$folder/printed"); $status" "${line%% *}: not all was written; is there room where it goes to?; 1" "$line > /dev/full"
+        verdict "$(cat "$folder/printed"); $status" "${line%% *}: not all output was written; is the disk full?; 1" "$line > /dev/full"
     fi
     status=0
     run_tool "$line" >&- 2> "$folder/printed" || status=$?
     verdict "$(cat "$folder/printed"); $status" "${line%% *}: standard output is closed; 1" "$line >&-"
     # Checks that a pipe whose reader reads only the first line causes no error.
-    verdict "$(run_tool "$line" 2>&1 | sed 1q | grep -c 'not all was written')" 0 "$line | sed 1q"
+    verdict "$(run_tool "$line" 2>&1 | sed 1q | grep -c 'not all output was written')" 0 "$line | sed 1q"
 done < "$folder/commands"

@@ -1,4 +1,4 @@
-# mcs4 import: programs in the spelling of Intel and of AS.
+# Checks that mcs4 import converts programs in the spelling of Intel and of AS, and reports what it cannot convert.
 # shellcheck shell=sh
 
 # Prints the ROM contents of a program.
@@ -71,8 +71,8 @@ status 0" "an imported program"
 verdict "$(./mcs4 import - < "$folder/intel.src")" "$(cat "$folder/imported")" "a program imported from standard input"
 verdict "$(outcome ./mcs4 import "$folder/imported" | sed 's/ *;.*//' | tr -d ' ' | sed '/^$/d')" "$(sed 's/ *;.*//' "$folder/imported" | tr -d ' ' | sed '/^$/d; s/,12,/,12,/')
 status0" "an imported program, imported again"
-# Compares the output with bytes that were assembled manually. The programs have the style of Intel's first manuals: a loop that clears a RAM
-# register, a loop that adds two numbers of sixteen decimal digits, and the AND of two registers.
+# Compares the output with bytes that were assembled manually. The programs have the style of Intel's first manuals. One clears a RAM register in a
+# loop, one adds two numbers of sixteen decimal digits in a loop, and one computes the AND of two registers.
 cat > "$folder/clear.src" <<'source'
 / CLEAR RAM REGISTER 0 OF CHIP 0
        FIM 0P, 0       / SRC ADDRESS
@@ -114,7 +114,7 @@ cat > "$folder/clear.bytes" <<'bytes'
 bytes
 ./mcs4 import "$folder/clear.src" > "$folder/clear.asm"
 verdict "$(rom_of "$folder/clear.asm" | awk '{ print $2; if (substr($0, 8, 1) != " ") print $3 }' | head -n 39 | tr '\n' ' ')" "$(tr '\n' ' ' < "$folder/clear.bytes")" "the bytes of programs in Intel's style, assembled manually"
-verdict "$(sed -n 's/.*; //p' "$folder/clear.asm" | grep -v '^AND-2')" "$(sed -n 's/.*\/ //p' "$folder/clear.src")" "their comments are kept"
+verdict "$(sed -n 's/.*; //p' "$folder/clear.asm" | grep -v '^AND-2')" "$(sed -n 's/.*\/ //p' "$folder/clear.src")" "the comments of imported programs"
 # Checks that the examples have the same bytes in Intel's spelling as in the bench's spelling.
 for example in examples/*/*.asm; do
     sed 's/;/ \//; t spelled; :spelled
@@ -140,7 +140,7 @@ LOOP, NOP|LOOP is not an instruction; mcs4 import takes programs in Intel's and 
  NOP / none|NOP takes no operand; mcs4 import takes programs in Intel's and AS's spelling
  JMP 4|JMP is not an instruction; JUN?
 lines
-# Checks that unsupported lines are reported, and that no program is printed then.
+# Checks that unsupported lines are reported, and that then no program is printed.
 cat > "$folder/bad.src" <<'source'
        JMP START
 X      EQU Y

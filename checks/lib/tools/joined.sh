@@ -1,4 +1,4 @@
-# The joined files of the commands (shipped/commands): mcs4 uses them if they were made from the sources in the tree, and otherwise the modules.
+# Checks that mcs4 uses the joined files of the commands (shipped/commands) if they were made from the sources in the tree, and otherwise the modules.
 # shellcheck shell=sh
 
 if [ ! -e tools/join_commands.mjs ]; then
@@ -7,7 +7,7 @@ if [ ! -e tools/join_commands.mjs ]; then
 elif ! command -v esbuild > /dev/null; then
     echo "not run: joined files, in checks/tools (Debian's package: esbuild)"
 else
-    # Checks that tools/join_commands.mjs rejects an option in place of a folder, and an unknown command.
+    # Checks that the scripts that generate files reject missing and wrong arguments, and then write nothing.
     mkdir "$folder/empty"
     for words in "tools/join_commands.mjs" "tools/join_commands.mjs --help" "tools/join_commands.mjs pages none" "js/node/command_pages.mjs" \
         "js/node/command_pages.mjs --help" "js/node/command_pages.mjs pages more" "editors/make.mjs --help" "editors/make.mjs made more"; do
@@ -23,12 +23,13 @@ status 2" "node $words"
     print_loader() {
         node --input-type=module -e "import { joinedCommand } from '$tree/js/node/joined_loader.cjs'; console.log(joinedCommand('$1') ? 'joined' : 'modules')"
     }
-    verdict "$(print_loader listing) $(print_loader keys) $(print_loader test) $(print_loader ../keys)" "joined joined modules modules" "which commands are joined"
+    verdict "$(print_loader listing) $(print_loader keys) $(print_loader test) $(print_loader ../keys)" "joined joined modules modules" "the commands that are joined"
     for words in "listing $lock/lock.asm" "listing -h" "listing --none" "keys $lock/board.toml 1" "keys $lock/board.toml x" "listing none"; do
         # shellcheck disable=SC2086
         verdict "$(outcome "$tree/mcs4" $words)" "$(outcome ./mcs4 $words)" "joined: $words"
     done
-    # Checks that the result of the comparison is cached in a private folder of the user, as soon as the files have not changed for a moment.
+    # Checks that the result of the comparison with the sources is cached in a private folder of the user, if the files have not changed for some
+    # seconds.
     export XDG_CACHE_HOME="$folder/cache"
     sleep 4
     verdict "$(print_loader listing); $(ls "$XDG_CACHE_HOME/fethsaim" | grep -c '\.listing\.joined$'); $(ls -ld "$XDG_CACHE_HOME/fethsaim" | cut -c 1-10)" "joined; 1; drwx------" \

@@ -1,8 +1,8 @@
-# mcs4 listing.
+# Checks that mcs4 listing prints the right addresses, bytes and names.
 # shellcheck shell=sh
 
-# Compares the listing with bytes that were assembled manually. The program has lines that end with CRLF, labels on their own lines and at ORG, a name
-# that is used before its definition, and a DB whose listing takes several lines.
+# Compares the listing with bytes that were assembled manually. The program has lines that end with CRLF, labels on separate lines and at ORG, and a
+# name that is used before its definition. It also has a DB whose listing takes several lines.
 cat > "$folder/program.asm" <<'program'
 five = 5                ; a number
 start:  LDM five

@@ -1,4 +1,4 @@
-# The manual's chapters about lines and about the workbench: they show the output of the program and the commands.
+# Checks that the manual's chapters about lines and about the workbench show what the program and the commands print.
 # shellcheck shell=sh
 
 . "$top/checks/lib/manual.sh"
@@ -6,7 +6,7 @@ check_chapter "Lines" 3
 rm -rf "$folder/manual"
 check_chapter "The workbench" 12
 
-# Checks that the descriptions of lines are the same in tools/lib/answers.txt and in the manual.
+# Checks that tools/lib/answers.txt and the manual have the same commands and queries.
 verdict "$(awk -F ' [|] ' '
     /^### / { inside = /^### (Commands|Queries)$/ }
     inside && /^[|] `/ {

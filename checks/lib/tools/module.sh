@@ -1,6 +1,6 @@
-# Systems without a native program: commands without a session file run on the proved module, and must have the same output as on the native program,
-# byte for byte. The other commands report why they cannot run. The check uses a copy of the tree without any program, and a fake `uname` that
-# reports another machine.
+# Checks systems without a native program. Commands without a session file must run on the proved module there, with the same output as on the native
+# program, byte for byte. The other commands must report why they cannot run. The check uses a copy of the tree without any program, and a fake
+# `uname` that reports another machine.
 # shellcheck shell=sh
 
 other=$folder/other
@@ -16,12 +16,13 @@ chmod +x "$other/bin/uname"
 mkdir -m 700 "$other/cache"
 reason="it is for Linux on x86-64, and this is Darwin on arm64"
 
-# Runs mcs4 with these arguments on the other machine.
+# Runs mcs4 with these arguments in the copy, as on the other machine.
 on_other_system() {
     env -u MCS4 -u MCS4_PROVE PATH="$other/bin:$PATH" XDG_CACHE_HOME="$other/cache" "$other/tree/mcs4" "$@"
 }
 
-# Compares the output, errors and status of a command on the module and on the native program. Both run at the same time, with a file as input.
+# Compares the output, errors and status of a command on the module and on the native program. Both run at the same time. Arguments: the file for the
+# input, and the arguments of mcs4.
 check_same_on_module() {
     input=$1
     shift
@@ -33,7 +34,7 @@ check_same_on_module() {
 
 # Checks that the message about the module appears once, when a command needs a session.
 verdict "$(outcome on_other_system listing $lock/lock.asm | sed -n '/^mcs4: /p; $p')" \
-    "mcs4: commands run on the proved module, more slowly, because the native program is not started: $reason. This message appears once
+    "mcs4: commands run on the proved module, more slowly, because the native program cannot start: $reason. This message appears once
 status 0" "the message about the module"
 check_same_on_module /dev/null listing $lock/lock.asm
 
@@ -112,7 +113,7 @@ check_same_on_module /dev/null prove $lock/board.toml $lock/lock.asm "$folder/fo
 
 # --- commands that do not work without a native program
 
-needs_program="a session file needs the native program, which is not started: $reason. Commands without a session file run here"
+needs_program="a session file needs the native program, which cannot start: $reason. Commands without a session file run here"
 for words in "new $folder/new.mcs" "open $folder/session.mcs"; do
     # shellcheck disable=SC2086
     check_rejected 1 "mcs4: $needs_program" on_other_system $words

@@ -1,4 +1,4 @@
-# mcs4 names.
+# Checks that mcs4 names replaces the names in lines by addresses, and reports a name that the program lacks.
 # shellcheck shell=sh
 
 cat > "$folder/named.txt" <<'lines'

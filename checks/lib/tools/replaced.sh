@@ -1,8 +1,7 @@
-# Files that tools overwrite: they keep their mode and owner, links are followed, read-only files are rejected, and a signal leaves no other files
-# behind.
+# Checks that files that tools overwrite keep their mode and owner, that links are followed, and that read-only files are rejected. After a signal, no
+# other files may be left.
 # shellcheck shell=sh
 
-# Functions that write a file, whose name is their argument: a project, a sound, a coverage record.
 make_board_with_buzzer() {
     printf '[[rom]]\nchip = 0\nport = "0000"\n' > "$folder/buzzer.toml"
     echo ' FIM P0, 0
@@ -14,6 +13,7 @@ again: IAC
 }
 make_board_with_buzzer
 ./mcs4 project split examples/a_fault_to_find.mcsp "$folder/taken_apart"
+# Functions that write a file, whose name is their argument: a project, a sound, a coverage record.
 writes_project() { ./mcs4 project join "$folder/taken_apart" "$1"; }
 writes_sound() { ./mcs4 wave --wav "$1" "$folder/buzzer.mcs" 100000 rom0.0; }
 writes_record() { ./mcs4 cover --lcov "$1" $lock/board.toml $lock/lock.asm $lock/lock.test > "$folder/covered"; }

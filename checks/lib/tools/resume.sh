@@ -1,7 +1,7 @@
-# mcs4 resume.
+# Checks that mcs4 resume continues a session with the part of a script that the session has not executed.
 # shellcheck shell=sh
 
-# Cuts a script off after each of its lines. `resume` must then lead to the same state. Also kills a script while it runs.
+# Cuts a script off after every third line. `resume` must then lead to the same state. Also kills the program while it runs a script.
 cat > "$folder/resume.txt" <<'script'
 regs
 wire
@@ -38,7 +38,7 @@ while [ "$lines" -lt 22 ]; do
     verdict_of_files "$folder/answers" "$folder/end" "a script resumed after line $lines"
     lines=$((lines + 3))
 done
-verdict "$(./mcs4 resume "$folder/resume.txt" "$folder/cut.mcs" | sed 1q)" "session 6" "a script of which only queries are left"
+verdict "$(./mcs4 resume "$folder/resume.txt" "$folder/cut.mcs" | sed 1q)" "session 6" "a script resumed where only queries are left"
 echo 'reset' | continue_session cut
 check_rejected 1 "resume: $folder/cut.mcs did not begin with $folder/resume.txt: it has accepted 7 commands, but the whole script makes 6" \
     ./mcs4 resume "$folder/resume.txt" "$folder/cut.mcs"
@@ -93,7 +93,7 @@ printf 'poke r1 1\n' | new_session other
 verdict "$(outcome ./mcs4 resume "$folder/script" "$folder/other.mcs")" "session 1
 no 14
 ok 2
-status 0" "a script with a carriage return too many"
+status 0" "a script with two carriage returns at the end of a line"
 # A listing ends after address FFF, even if more bytes are requested.
 printf 'wire\nrom = [{ chip = 15, port = "0000" }]\n.\npoke rom.0xFFE 0x40\nlist 0xFFE 4\nlist 0xFFF 1\npoke r1 1\npoke r99 1\n' > "$folder/script"
 new_session other < "$folder/script"

@@ -1,15 +1,15 @@
-# mcs4 rom: import and export of ROM images, as bytes, in Intel HEX, S-records and BNPF.
+# Checks that mcs4 rom imports and exports ROM images as bytes, in Intel HEX and in BNPF, and imports S-records.
 # shellcheck shell=sh
 
-# Checks that any 4,096 bytes are imported and exported unchanged, as bytes and in Intel HEX. The Intel HEX of a few bytes was written manually.
+# Checks that 4,096 random bytes are imported and exported unchanged, as bytes and in Intel HEX. The Intel HEX of a few bytes was written manually.
 head -c 4096 /dev/urandom > "$folder/image"
 { roms 16 && ./mcs4 rom load --binary "$folder/image" && ./mcs4 rom ask 0 4096; } | new_session rom
 ./mcs4 rom save 0 4096 < "$folder/answers" > "$folder/saved"
-verdict_of_files "$folder/saved" "$folder/image" "a binary image in and out"
+verdict_of_files "$folder/saved" "$folder/image" "a binary image that was imported and exported"
 ./mcs4 rom save --hex 0 4096 < "$folder/answers" > "$folder/saved.hex"
 { roms 16 && ./mcs4 rom load "$folder/saved.hex" && ./mcs4 rom ask 0 4096; } | new_session rom
 ./mcs4 rom save 0 4096 < "$folder/answers" > "$folder/saved"
-verdict_of_files "$folder/saved" "$folder/image" "an image in Intel HEX out and in"
+verdict_of_files "$folder/saved" "$folder/image" "an image that was exported and imported in Intel HEX"
 printf ':03002000010203D7\r\n:0000040000FC\r\n' > "$folder/bad.hex"
 printf ':020000040000FA\r\n:03002000010203d7\r\n:00000001ff\r\n' > "$folder/few.hex"
 verdict "$(./mcs4 rom load "$folder/few.hex" 0x100)" "asm
@@ -46,8 +46,8 @@ check_rejected 1 "rom: line 1 of the answers is a refusal: no 11; mcs4 explain s
 echo "000 D0    LDM 0" > "$folder/input"
 check_rejected 1 "rom: no answer shows the byte at 001; mcs4 rom ask makes the questions" ./mcs4 rom save 0 2 < "$folder/input"
 
-# S-records, written manually: a header, two data records, a count, and the end. Also addresses of three and four bytes, and errors, each of which
-# must be reported with its line.
+# Checks S-records that were written manually: data records with addresses of two, three and four bytes, a count, and the end. Each error must be
+# reported with its line.
 srec_sum() {
     awk -v hex="$1" 'BEGIN { for (i = 1; i <= length(hex); i += 2) sum += 16 * (index("0123456789ABCDEF", substr(hex, i, 1)) - 1) + index("0123456789ABCDEF", substr(hex, i + 1, 1)) - 1; printf "%s%02X", hex, 255 - sum % 256 }'
 }
@@ -74,8 +74,8 @@ check_srec_error "S1$(srec_sum 050010D0E2)" "S1$(srec_sum 050FFFD0E2)" "line 2: 
 check_srec_error "S1$(srec_sum 050010D0E2)" "" "it has no last record (S9), so a part of it is missing"
 check_srec_error "S9$(srec_sum 030000)" "S1$(srec_sum 050010D0E2)" "line 2: a record after the last one (S9)"
 
-# BNPF, written manually, with remarks, and with words over several lines. Any ROM must be exported and imported unchanged. Each error must be
-# reported with its line.
+# Checks BNPF that was written manually, with remarks, and with words over several lines. A ROM must be exported and imported unchanged. Each error
+# must be reported with its line.
 printf 'BNPF of B, ROM 1\n  0 BNNNNNNNPFBPPPPNNNNF bytes\r\n 2 b nnpn\npnpn f ' > "$folder/few.bnpf"
 verdict "$(outcome ./mcs4 rom load "$folder/few.bnpf" 0xFD)" "asm
 ORG 0x0FD
@@ -88,7 +88,7 @@ verdict "$(sed 2q "$folder/saved.bnpf" | tr -d 'BNPF'); $(wc -l < "$folder/saved
 { roms 16 && ./mcs4 rom load "$folder/saved.bnpf" 256 && ./mcs4 rom ask 256 256; } | new_session rom
 ./mcs4 rom save 256 256 < "$folder/answers" > "$folder/saved"
 tail -c +257 "$folder/image" | head -c 256 > "$folder/page_1"
-verdict_of_files "$folder/saved" "$folder/page_1" "a ROM in BNPF out and in"
+verdict_of_files "$folder/saved" "$folder/page_1" "a ROM that was exported and imported in BNPF"
 check_bnpf_error() {
     printf "$1" > "$folder/bad.bnpf"
     check_rejected 1 "rom: $folder/bad.bnpf: $2" ./mcs4 rom load "$folder/bad.bnpf"

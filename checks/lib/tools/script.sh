@@ -1,4 +1,4 @@
-# mcs4 script: its output for the calculator, and its errors.
+# Checks the output of mcs4 script for the calculator, and its messages about errors.
 # shellcheck shell=sh
 
 board=$calculator/board.toml

@@ -1,5 +1,5 @@
-# Texts that tools read and send to the bench: with a byte order mark, non-ASCII letters, or long comments. Also scripts and projects in place of
-# programs.
+# Checks that tools read and send texts with a byte order mark, non-ASCII letters, or long comments correctly. Also checks scripts and projects in
+# place of programs.
 # shellcheck shell=sh
 
 board=$calculator/board.toml
@@ -25,7 +25,7 @@ verdict "$(outcome ./mcs4 test "$folder/marked.toml" "$folder/marked.asm" "$fold
 ok 1 - t
 status 0" "texts with a byte order mark"
 verdict "$(outcome ./mcs4 listing "$folder/marked.asm" | sed 1q)" "                 ; z$(printf '\303\244')hle" "a listing with letters beyond ASCII"
-# Lines can end with a carriage return alone. A line with a byte that cannot be sent to the bench is reported, and the line is printed.
+# Checks lines that end with a carriage return alone. The message about a byte that cannot be sent to the bench must contain its line.
 printf ' LDM 1\r FOO\r' > "$folder/returns.asm"
 check_rejected 1 "listing: $folder/returns.asm: line 2: no 30: FOO is not an instruction; a label has a colon: FOO:
 listing:      FOO" ./mcs4 listing "$folder/returns.asm"
@@ -41,17 +41,18 @@ printf '; one\r LDM 1H\r' > "$folder/returns.asm"
 verdict "$(outcome ./mcs4 import "$folder/returns.asm" | tr '\r' R)" "; one
         LDM 1
 status 0" "an import of lines that end with carriage returns alone"
-# UTF-16 with a byte order mark, as PowerShell writes it.
+# Checks a program in UTF-16 with a byte order mark, as PowerShell writes it.
 for order in le be; do
     { if [ $order = le ]; then printf '\377\376'; else printf '\376\377'; fi && iconv -f utf-8 -t "utf-16$order" $lock/lock.asm; } > "$folder/wide.asm"
     verdict "$(outcome ./mcs4 listing "$folder/wide.asm")" "$(outcome ./mcs4 listing $lock/lock.asm)" "a program in UTF-16, $order"
 done
-# Comments and indentation do not count in the limits: tries a text of 20,000 bytes, and a line of 300. A script keeps them if the bench accepts them.
+# Checks that comments and indentation do not count in the limits, with a text of almost 20,000 bytes and a line of more than 300. A script must keep
+# the comments of a text that the bench accepts.
 { awk 'BEGIN { for (i = 0; i < 200; i++) { printf "%40s NOP ; ", ""; for (n = 0; n < 50; n++) printf "."; print "" } }' && echo "here: JUN here"; } > "$folder/long.asm"
 awk 'BEGIN { printf " NOP ;"; for (n = 0; n < 300; n++) printf "."; print "" }' >> "$folder/long.asm"
 verdict "$(wc -c < "$folder/long.asm" | tr -d ' '), $(outcome ./mcs4 listing --names "$folder/long.asm" | tr '\n' ' ')" "19922, here 0C8 status 0 " "a text that is long by its comments"
 verdict "$(./mcs4 script "$board" "$folder/long.asm" | sed -n '/^asm$/{n;p;}')" NOP "a script of a text that is long by its comments"
-verdict "$(./mcs4 script "$board" "$folder/long.asm" | grep -c '^# row')" "$(grep -c '^# row' "$board")" "the comments of its board"
+verdict "$(./mcs4 script "$board" "$folder/long.asm" | grep -c '^# row')" "$(grep -c '^# row' "$board")" "the comments of a board in the script of a long text"
 sed 's/JUN here/JUN there ; not here/' "$folder/long.asm" > "$folder/wrong.asm"
 check_rejected 1 "listing: $folder/wrong.asm: line 201: no 32: there is not defined; here?
 listing:     here: JUN there ; not here" ./mcs4 listing "$folder/wrong.asm"

@@ -1,8 +1,8 @@
-# mcs4 trace.
+# Checks that mcs4 trace prints the right instructions and effects, compared with traces that were worked out manually and with single steps.
 # shellcheck shell=sh
 
-# A trace that was worked out manually. The program selects a bank, writes RAM, a status character and a port, lights a lamp, calls a subroutine, and
-# reaches a code that is not an instruction.
+# Checks a trace that was worked out manually. The program selects a bank, writes RAM, a status character and a port, turns on a lamp, calls a
+# subroutine, and reaches a code that is not an instruction.
 cat > "$folder/trace.txt" <<'script'
 wire
 [[rom]]
@@ -62,7 +62,7 @@ echo 'run 2' | continue_session trace
 verdict "$(./mcs4 trace "$folder/trace.mcs" 2)" "       0  (the second cycle)         acc 1 cy 0
        1  004 21    SRC P0           acc 1 cy 0" "a trace from the middle of an instruction"
 
-# The same trace with source lines.
+# Checks traces with the labels and lines of a source.
 make_source
 cp "$folder/source.mcs" "$folder/copy.mcs"
 verdict "$(outcome ./mcs4 trace --source "$folder/source.asm" "$folder/source.mcs" 7)" \
@@ -75,7 +75,7 @@ verdict "$(outcome ./mcs4 trace --source "$folder/source.asm" "$folder/source.mc
        5  005 F2       6  IAC                         acc 2 cy 0
        6  006 00    NOP                               acc 2 cy 0
 status 0" "a trace with the lines of the source"
-# If PROGRAM is a script of lines, the line numbers are those in the script.
+# If PROGRAM is a script of lines, the line numbers must be those in the script.
 verdict "$(outcome ./mcs4 trace --source "$folder/source.txt" "$folder/source.mcs" 1)" \
     "       0  000 D1       5          LDM 1               acc 1 cy 0
 status 0" "a trace with the lines of a script"
@@ -85,7 +85,7 @@ verdict "$(outcome ./mcs4 trace --source "$folder/source_crlf.asm" "$folder/sour
 verdict_of_files "$folder/source.mcs" "$folder/copy.mcs" "a session is unchanged after a trace with its source"
 check_rejected_sources "trace --source PROGRAM $folder/source.mcs 1"
 
-# The error in the arguments is printed before the usage.
+# Checks that the error in the arguments is printed before the usage.
 usage="usage: mcs4 trace [-C FOLDER] [--names PROGRAM | --source PROGRAM] [--last N] SESSION CYCLES"
 check_rejected 2 "trace: --names and --source exclude each other
 $usage" \

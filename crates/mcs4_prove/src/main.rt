@@ -20,8 +20,8 @@ fn question(rt: &HostRuntime) -> String {
     }
 }
 
-/// Reads the question and prints the answer. Returns the exit status of the answer, or `FAILURE_STATUS` if memory runs
-/// out. Fails if the answer cannot be written.
+/// Reads the question and prints the answer. Returns the exit status of the answer. If memory runs
+/// out, prints `no 90` and returns `FAILURE_STATUS`. Fails if the line cannot be written.
 fn answer_question(rt: &HostRuntime) -> io::Result<u8> {
     let Ok(Answer { text, status }) = answer_to(rt.alloc(), question(rt).as_str()) else {
         println!(rt; "no 90")?;

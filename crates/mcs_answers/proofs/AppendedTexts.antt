@@ -26,8 +26,8 @@ append_mapped f xs i d a b c inside so_far here =
     ∙ append_assoc a (map f (take i xs)) (f (get_or xs i d) ∷ [])
     ∙ ap (λ v. a ++ v) (sym (ap (map f) (take_more xs i d inside) ∙ map-append f (take i xs) (get_or xs i d ∷ [])))
 
--- If `k` numbers of a stretch are written, writing the next number extends the text to `k + 1`
--- numbers.
+-- If the first `k` numbers of a `stretch` are written, writing the next number extends the text to
+-- `k + 1` numbers.
 pub append_in_stretch : (f : ℕ → ℕ) (xs : List ℕ) (from k : ℕ) (a b c : List ℕ) → from + k < length xs
     → b ≡ a ++ map f (stretch xs from k)
     → c ≡ b ++ f (get_or xs (from + k) 0) ∷ []

@@ -1,5 +1,5 @@
 -- Lemmas about what an instruction leaves unchanged. Only WMP and WRR change the levels of lines.
--- Only WRM changes RAM characters, and only WR0 to WR3 change status characters. No instruction
+-- Only WRM changes RAM nibbles, and only WR0 to WR3 change status characters. No instruction
 -- changes the ROM.
 use Rattle.std.proofs.Common.{◌≡◌, ◌≢◌, ℕ, ◌/◌, Bool, true, false, cond, List, [], ◌∷◌, map, Option, Some, None, not, ◌⊎◌, inl, inr, refl, sym, ap, ◌∙◌, eqb, nat_lt, slice_index, if◌then◌else◌}
 use Rattle.mcs_nibble.specs.declared.lines.LineMask.{LineMask}
@@ -116,7 +116,7 @@ keeps-rom op s m =
     holds-after-instruction op s m P (λ o. refl) (λ k. holds-after-src m s.dcl _ Q (λ a b. refl)) (holds-after-ram-write m s.dcl s.acc Q (λ a. refl)) (holds-after-ram-port-write m s.dcl s.acc Q (λ a b. refl)) (holds-after-rom-port-write m s.acc Q (λ a b. refl))
     (holds-after-status-write m s.dcl 0 s.acc Q (λ a. refl), holds-after-status-write m s.dcl 1 s.acc Q (λ a. refl), holds-after-status-write m s.dcl 2 s.acc Q (λ a. refl), holds-after-status-write m s.dcl 3 s.acc Q (λ a. refl))
 
--- Only WRM changes RAM characters.
+-- Only WRM changes RAM nibbles.
 pub keeps-ram : (op : Op) (s : Regs) (m : BusState) → op ≢ Wrm → (bus_after op s m).ram ≡ m.ram
 keeps-ram op s m off =
     let P : Op → BusState → Type 0 = λ o n. o ≢ Wrm → n.ram ≡ m.ram in
@@ -133,7 +133,7 @@ keeps-status op s m off =
     ((λ h. absurd (h (inl refl))), (λ h. absurd (h (inr (inl refl)))), (λ h. absurd (h (inr (inr (inl refl))))), (λ h. absurd (h (inr (inr (inr refl)))))) off
 
 -- A property of the bus holds after an instruction that writes no port, if the property holds for
--- any RAM characters, status characters and SRC bytes.
+-- any RAM nibbles, status characters and SRC bytes.
 holds-if-no-port-written : (op : Op) (s : Regs) (m : BusState) → (WritesPort op → ⊥) → (Q : BusState → Type 0) → ((ram status srcs : List ℕ) (src : ℕ) → Q (record m { ram = ram; status = status; rom_src = src; ram_src = srcs })) → Q (bus_after op s m)
 holds-if-no-port-written op s m off Q h =
     let P : Op → BusState → Type 0 = λ o n. (WritesPort o → ⊥) → Q n in

@@ -14,7 +14,7 @@ use Rattle.mcs_answers.specs.ForecastTexts.{forecast_head, trace_line, trace_lin
 use Rattle.mcs_answers.specs.AnswerTexts.{reply_text}
 
 -- Holds if the first line of the answer to `count n` or `trace n` agrees with the answer to
--- `run n`: both report the same number of cycles and the same reason to stop.
+-- `run n`. Both report the same number of cycles and the same reason to stop.
 abbrev pub HeadsReportTheRun : Type 0
 HeadsReportTheRun =
     (word : List ℕ) (b : BenchState) (n : ℕ) (lines : List (List ℕ)) →

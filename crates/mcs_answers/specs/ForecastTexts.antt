@@ -14,8 +14,8 @@ use Rattle.mcs_probe.specs.Forecast.{BegunInstruction, instructions_begun_in, is
 use Rattle.mcs_probe.specs.Probes.{row}
 use Rattle.mcs_answers.specs.AnswerTexts.{stop_name}
 
--- the start of the first line of an answer: the number of cycles that the run would take, the
--- reason why it would stop, and the number of lines that follow
+-- The start of the first line of an answer: `word`, the number of cycles that the run would take,
+-- its reason to stop, and the number of lines that follow.
 abbrev pub forecast_head : List ℕ → BenchState → ℕ → List (List ℕ) → List ℕ
 forecast_head word b n lines =
     word ++ codes " ran " ++ decimal (run_length (stops_of b) n (machine_of b))

@@ -39,8 +39,9 @@ fn count_at(numbers: &Vec<u32>, at: Addr) -> u32
     numbers[usize::from(at.get())]
 }
 
-/// Writes the line of an address in the answer to `count` into an empty buffer. For JCN and ISZ, the line
-/// also has `jumps`.
+/// Writes one line of the answer to `count` into an empty buffer: the address `at`, and the number
+/// of instructions begun there (`runs`). For JCN and ISZ, the line also has the number of jumps
+/// (`jumps`).
 fn put_count_line(
     line: &mut ArrayVec<u8, ANSWER_BYTES>,
     bench: &Bench,

@@ -31,7 +31,7 @@ pub fn put_decimal(answer: &mut ArrayVec<u8, ANSWER_BYTES>, n: u64)
     }
 }
 
-/// Returns the upper-case hexadecimal digit of a nibble.
+/// Returns the uppercase hexadecimal digit of a nibble.
 pub fn hex_digit(nibble: u8) -> u8
     requires { nibble < 16 }
     ensures { result ≡ hex_digit nibble }

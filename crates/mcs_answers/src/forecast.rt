@@ -9,8 +9,9 @@ use crate::size::ANSWER_BYTES;
 use arrayvec::ArrayVec;
 use mcs_model::stop::Stop;
 
-/// Writes the start of the first line of an answer into an empty buffer: a word, the number of cycles that a
-/// run would take, the reason why it would stop, and the number of lines that follow.
+/// Writes the start of the first line of an answer into an empty buffer. The start consists of
+/// `word`, the number of cycles that a run would take, its reason to stop, and the number of lines
+/// that follow.
 pub(crate) fn put_head(
     head: &mut ArrayVec<u8, ANSWER_BYTES>,
     word: &[u8],

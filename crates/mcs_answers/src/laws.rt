@@ -1,4 +1,5 @@
-//! Theorems about the definitions of the answers. Each is the contract of an empty function.
+//! Theorems about the definitions of the answers. Each theorem is the contract of a function with
+//! an empty body.
 ghost use Rattle.std.specs.Prelude.{◌≡◌, ℕ};
 ghost use Rattle.mcs_version1.specs.BenchState.{BenchState1};
 ghost use Rattle.mcs_version1.specs.Lift.{lift};

@@ -94,7 +94,7 @@ pub fn put_breaks(answer: &mut ArrayVec<u8, ANSWER_BYTES>, bench: &Bench)
     }
 }
 
-/// Appends a word, then the bank and the SRC byte of a watched RAM character, as in `0.3F`.
+/// Appends a word, then the bank and the SRC byte of a watched RAM nibble, as in `0.3F`.
 pub(crate) fn put_watch(answer: &mut ArrayVec<u8, ANSWER_BYTES>, word: &[u8], watch: Addr)
     requires { array_vec_len answer.old + length word.now + 4 ≤ ANSWER_BYTES }
     ensures text { answer.new.items ≡ answer.old.items ++ word.now ++ watch_text watch }
@@ -105,7 +105,7 @@ pub(crate) fn put_watch(answer: &mut ArrayVec<u8, ANSWER_BYTES>, word: &[u8], wa
     put_byte(answer, b".", (index % 256) as u8);
 }
 
-/// Appends a space, the bank and the SRC byte for each watched RAM character.
+/// Appends a space, the bank and the SRC byte for each watched RAM nibble.
 fn put_spaced_watches(answer: &mut ArrayVec<u8, ANSWER_BYTES>, list: &[Addr])
     requires room { array_vec_len answer.old + 5 * length list.now ≤ ANSWER_BYTES }
     ensures text { answer.new.items

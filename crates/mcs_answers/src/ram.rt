@@ -13,8 +13,8 @@ use arrayvec::ArrayVec;
 use mcs_bench::Bench;
 use mcs_nibble::Nibble;
 
-/// Proves that a bench has 2048 RAM characters and 512 status characters, and at most four chips in each
-/// bank.
+/// Proves that a bench has 2048 RAM nibbles and 512 status characters, and at most four chips in
+/// each bank.
 fn show_ram_sizes(bench: &Bench)
     ensures ram { length bench.now.bus.ram ≡ 2048 }
     ensures status { length bench.now.bus.status ≡ 512 }
@@ -23,7 +23,7 @@ fn show_ram_sizes(bench: &Bench)
     bench.show_state_is_valid();
 }
 
-/// Appends the 16 RAM characters of register `r` of a RAM chip.
+/// Appends the 16 main nibbles of register `r` of a RAM chip.
 fn put_ram_nibbles(
     answer: &mut ArrayVec<u8, ANSWER_BYTES>,
     bench: &Bench,
@@ -64,7 +64,8 @@ fn put_status(answer: &mut ArrayVec<u8, ANSWER_BYTES>, bench: &Bench, bank: u8, 
     }
 }
 
-/// Appends the line of register `r` of a RAM chip: its RAM characters, then its status characters.
+/// Appends the line of register `r` of a RAM chip: its numbers, its main nibbles, then its status
+/// characters.
 fn put_register(answer: &mut ArrayVec<u8, ANSWER_BYTES>, bench: &Bench, bank: u8, chip: u8, r: u8)
     requires bank { bank < 8 }
     requires chip { chip < 4 }

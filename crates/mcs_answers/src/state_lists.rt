@@ -79,7 +79,7 @@ pub(crate) fn put_address_list(answer: &mut ArrayVec<u8, ANSWER_BYTES>, word: &[
     end_list(answer, start);
 }
 
-/// Appends the bank, the SRC byte and a comma for each watched RAM character.
+/// Appends the bank, the SRC byte and a comma for each watched RAM nibble.
 fn put_watch_items(answer: &mut ArrayVec<u8, ANSWER_BYTES>, list: &[Addr])
     requires { array_vec_len answer.old + 5 * length list.now ≤ ANSWER_BYTES }
     ensures text { answer.new.items
@@ -92,7 +92,7 @@ fn put_watch_items(answer: &mut ArrayVec<u8, ANSWER_BYTES>, list: &[Addr])
     }
 }
 
-/// Appends the list of watched RAM characters.
+/// Appends the list of watched RAM nibbles.
 pub(crate) fn put_watch_list(answer: &mut ArrayVec<u8, ANSWER_BYTES>, list: &[Addr])
     requires { array_vec_len answer.old + 5 * length list.now + 10 ≤ ANSWER_BYTES }
     ensures text { answer.new.items
@@ -163,7 +163,7 @@ fn put_rom_item(answer: &mut ArrayVec<u8, ANSWER_BYTES>, bench: &Bench, chip: u8
     }
 }
 
-/// Appends the list of ROM ports: for each ROM on the board, an item of `put_rom_item`.
+/// Appends the list of ROM ports: for each ROM on the board, the item that `put_rom_item` appends.
 pub(crate) fn put_rom_list(answer: &mut ArrayVec<u8, ANSWER_BYTES>, bench: &Bench)
     requires { array_vec_len answer.old + ROM_LIST_BYTES ≤ ANSWER_BYTES }
     ensures text { answer.new.items ≡ answer.old.items ++ codes " roms "
@@ -207,7 +207,8 @@ fn put_ram_items(answer: &mut ArrayVec<u8, ANSWER_BYTES>, bench: &Bench, bank: u
     }
 }
 
-/// Appends the list of RAM ports: for each RAM chip on the board, an item of `put_ram_item`.
+/// Appends the list of RAM ports: for each RAM chip on the board, the item that `put_ram_item`
+/// appends.
 pub(crate) fn put_ram_list(answer: &mut ArrayVec<u8, ANSWER_BYTES>, bench: &Bench)
     requires { array_vec_len answer.old + RAM_LIST_BYTES ≤ ANSWER_BYTES }
     ensures text { answer.new.items ≡ answer.old.items ++ codes " rams "
@@ -295,7 +296,8 @@ fn put_key_item(answer: &mut ArrayVec<u8, ANSWER_BYTES>, bench: &Bench, row: u8,
     }
 }
 
-/// Appends the keys that are down in a row, each followed by a comma.
+/// Appends an item for each key in row `row` that is down: its row and its column, followed by a
+/// comma.
 fn put_row_items(answer: &mut ArrayVec<u8, ANSWER_BYTES>, bench: &Bench, columns: u8, row: u8)
     requires keys { (column : ℕ) → column < columns
         → has_key bench.now.bus.board row column ≡ true }
@@ -311,7 +313,8 @@ fn put_row_items(answer: &mut ArrayVec<u8, ANSWER_BYTES>, bench: &Bench, columns
     }
 }
 
-/// Appends the keys that are down in the first `rows` rows, row by row, each followed by a comma.
+/// Appends an item for each key in the first `rows` rows that is down, row by row: its row and its
+/// column, followed by a comma.
 fn put_key_rows(answer: &mut ArrayVec<u8, ANSWER_BYTES>, bench: &Bench, rows: u8, columns: u8)
     requires keys { (row column : ℕ) → row < rows → column < columns
         → has_key bench.now.bus.board row column ≡ true }
@@ -327,7 +330,8 @@ fn put_key_rows(answer: &mut ArrayVec<u8, ANSWER_BYTES>, bench: &Bench, rows: u8
     }
 }
 
-/// Appends the keys that are down, row by row, each followed by a comma.
+/// Appends an item for each key that is down, row by row: its row and its column, followed by a
+/// comma.
 fn put_key_items(answer: &mut ArrayVec<u8, ANSWER_BYTES>, bench: &Bench)
     requires { array_vec_len answer.old + 4 * KEYS ≤ ANSWER_BYTES }
     ensures text { answer.new.items ≡ answer.old.items ++ with_commas (key_items bench.now.bus) }

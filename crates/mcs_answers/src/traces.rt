@@ -1,4 +1,4 @@
-//! The answer to `trace`.
+//! The answer to `trace`. A row is the text of the values of all probes, each after a space.
 ghost use Rattle.std.specs.Prelude.{◌≡◌, ◌⊎◌, ℕ, ◌+◌, ◌*◌, ◌<◌, ◌≤◌, ◌++◌, ◌↔◌, [], codes, length, map, true, IfOk};
 ghost use Rattle.std.specs.Fmt.{decimal};
 ghost use Rattle.arrayvec.specs.ArrayVec.{array_vec_len};
@@ -118,7 +118,7 @@ fn writes_port(op: &Op) -> bool
     matches!(op, Op::Wmp | Op::Wrr)
 }
 
-/// Returns true if an instruction is WRM. Only this instruction changes RAM characters.
+/// Returns true if an instruction is WRM. Only this instruction changes RAM nibbles.
 fn writes_ram(op: &Op) -> bool
     ensures { result ≡ true ↔ op.now ≡ Wrm }
 {
@@ -139,7 +139,8 @@ fn writes_src(op: &Op) -> bool
     matches!(op, Op::Src(_))
 }
 
-/// Returns true only if a probe is outside the processor and an instruction cannot change its value.
+/// Returns true only if a probe is outside the processor and an instruction cannot change the
+/// probe's value.
 #[inline(always)]
 fn outside_probe_unchanged(probe: Probe, op: &Op) -> bool
     ensures { result ≡ true → (before after : Regs) → StaysSame op.now before after probe }
@@ -158,12 +159,13 @@ fn outside_probe_unchanged(probe: Probe, op: &Op) -> bool
     }
 }
 
-/// The kinds of probes in a row. Each field is true if the row has a probe of that kind.
+/// The kinds of probes in a row. Each field is true if the row has a probe of that kind. ROM bytes
+/// have no field, because no instruction changes them.
 #[derive(Clone, Copy)]
 struct ProbeKinds {
     /// Lines, ports, chains or lamps, which WMP and WRR can change.
     ports: bool,
-    /// RAM characters, which WRM can change.
+    /// RAM nibbles, which WRM can change.
     ram: bool,
     /// Status characters, which WR0 to WR3 can change.
     status: bool,
@@ -373,8 +375,9 @@ fn first_row(probes: &[Probe], bench: &Bench) -> Rows
     }
 }
 
-/// Appends the trace line of an instruction if the instruction has one, and returns true if it appended a
-/// line. `rows.last` becomes the row after the instruction. Fails if allocation fails.
+/// Appends the trace line of an instruction if the row has changed or if there are no probes.
+/// Returns true if it appended a line. `rows.last` becomes the row after the instruction. Fails if
+/// allocation fails.
 fn add_line_if_reported(
     text: &mut Vec<u8>,
     rows: &mut Rows,
@@ -507,7 +510,8 @@ fn add_lines<const REGISTERS: bool>(
     Ok(trace_result(&copy, n, None, lines))
 }
 
-/// Calls `add_lines`. Sets `REGISTERS` to true only if a probe is a register other than the return addresses.
+/// Calls `add_lines` and returns its result. Sets `REGISTERS` to true only if a probe is a register
+/// other than the return addresses.
 fn add_lines_for_probes(
     alloc: Global,
     text: &mut Vec<u8>,

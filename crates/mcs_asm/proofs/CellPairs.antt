@@ -113,8 +113,7 @@ contained_pair_is_found (q ∷ pairs) a b has e =
       ]
     ]) refl e
 
--- The cell at an address determines what `find` returns: `None` if the cell is empty, otherwise the
--- pair.
+-- If the cell at an address is empty, `find` returns `None` for this address.
 finds_none_if_empty : (pairs : List (ℕ × ℕ)) (a : ℕ) → ((b : ℕ) → (None ≡ Some b) ↔ Contains pairs (a, b)) → find (λ (q : ℕ × ℕ). eqb q.0 a) pairs ≡ None
 finds_none_if_empty pairs a h =
     (elim (find (λ (q : ℕ × ℕ). eqb q.0 a) pairs) as (λ (o : Option (ℕ × ℕ)). find (λ (q : ℕ × ℕ). eqb q.0 a) pairs ≡ o → o ≡ None) [
@@ -124,6 +123,7 @@ finds_none_if_empty pairs a h =
           absurd (none-some p.1 ((h p.1).1 (subst (λ (n : ℕ). Contains pairs (n, p.1)) f.1 f.0)))
     ]) refl
 
+-- If the cell at an address has a byte, `find` returns the pair of the address and this byte.
 finds_pair_of_full_cell : (pairs : List (ℕ × ℕ)) (a b : ℕ) → ((c : ℕ) → (Some b ≡ Some c) ↔ Contains pairs (a, c)) → find (λ (q : ℕ × ℕ). eqb q.0 a) pairs ≡ Some (a, b)
 finds_pair_of_full_cell pairs a b h =
     (elim (find (λ (q : ℕ × ℕ). eqb q.0 a) pairs) as (λ (o : Option (ℕ × ℕ)). find (λ (q : ℕ × ℕ). eqb q.0 a) pairs ≡ o → o ≡ Some (a, b)) [

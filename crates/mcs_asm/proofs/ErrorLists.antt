@@ -303,14 +303,14 @@ cells_unchanged_if_bytes_rejected at next now pairs bytes old cells f kind is ke
     let refused : second_pass_with_bytes s next (Ok bytes) ≡ Err f = subst (λ (k : FaultKind). MatchesStateWithAddedBytes (Err k) now cells (second_pass_with_bytes s next (Ok bytes))) is r in
     (sym (fault_if_bytes_rejected s next (Ok bytes) f refused), subst (λ (c : List (Option ℕ)). HoldsPairs c pairs) (sym same) kept)
 
--- A list of errors with length 0 is empty. If the list of first-pass errors is not empty,
--- `errors_or_else` returns it.
+-- A list of errors with length 0 is empty.
 pub empty_if_length_0 : (xs : List LineError) → eqb (length xs) 0 ≡ true → xs ≡ []
 empty_if_length_0 [] e = refl
 empty_if_length_0 (x ∷ xs) e =
     let none : length (x ∷ xs) ≡ 0 = eqb-true (length (x ∷ xs)) 0 e in
     absurd (omega (arith, none))
 
+-- If the list of first-pass errors is not empty, `errors_or_else` returns this list.
 pub errors_or_else_is_first : (xs one two : List LineError) → xs ≡ one → eqb (length xs) 0 ≡ false → xs ≡ errors_or_else one two
 errors_or_else_is_first xs [] two e some = absurd (true≢false (ap (λ (ys : List LineError). eqb (length ys) 0) (sym e) ∙ some))
 errors_or_else_is_first xs (y ∷ ys) two e some = e

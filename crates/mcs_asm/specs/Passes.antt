@@ -1,4 +1,5 @@
--- Definitions for the contracts of the two passes. No public contract cites them.
+-- Definitions for the contracts of the two passes. Public contracts depend only on
+-- `FirstPassState`, `first_pass_start` and `first_pass_after_line`, through the module `Errors`.
 use Rattle.std.specs.Prelude.{◌≡◌, ℕ, ◌+◌, List, [], ◌∷◌, ◌++◌, length, Option, Some, None, Result, Ok, Err, false, if◌then◌else◌}
 use Rattle.mcs_source.specs.declared.fault.SourceFault.{SourceFault}
 use Rattle.mcs_source.specs.declared.fault.SourceFault.TheVariants.{Overlap}
@@ -56,8 +57,9 @@ pub record SecondPassState : Type 0 where
 abbrev pub second_pass_before : List (Option SourceLine) → Names → ℕ → SecondPassState
 second_pass_before lines names i = record { at = address_of lines i; pairs = pairs_before lines names i }
 
--- the state of the second pass after a line with the given bytes; an overlap error if these bytes
--- overlap earlier bytes; or the given error
+-- The state of the second pass after a line with the given bytes, or an overlap error if these
+-- bytes overlap earlier bytes. `next` is the address of the next statement. If the last argument is
+-- an error, the result is this error.
 abbrev pub second_pass_with_bytes : SecondPassState → ℕ → Result (List ℕ) SourceFault → Result SecondPassState SourceFault
 second_pass_with_bytes s next (Err f) = Err f
 second_pass_with_bytes s next (Ok bytes) =

@@ -89,11 +89,12 @@ abbrev pub line_view : SourceLine → lines.SourceLine
 line_view (line.Code label s) = lines.Code (option_copied label) (option_map statement_view s)
 line_view (line.Define w n) = lines.Define w.now n
 
--- `HasNoLabel` holds if `line_of` parses the tokens as a line without a label. `HasNoDefinition`
--- holds if `unlabelled` parses them as an optional statement, not as a definition `NAME = NUMBER`.
+-- holds if `line_of` parses the tokens as a line without a label
 abbrev pub HasNoLabel : List spec.Token → Type 0
 HasNoLabel ts = lines.line_of ts ≡ lines.unlabelled ts
 
+-- holds if `unlabelled` parses the tokens as an optional statement, not as a definition
+-- `NAME = NUMBER`
 abbrev pub HasNoDefinition : List spec.Token → Type 0
 HasNoDefinition ts = lines.unlabelled ts ≡ lines.code_line None ts
 

@@ -130,9 +130,9 @@ impl SecondPassState {
         }
     }
 
-    /// Adds the bytes of a parsed line, or returns its second-pass error. The line must not pass
-    /// the end of the ROM, and the number in an `ORG` or `NAME = NUMBER` must be below 4096. Fails
-    /// if allocation fails.
+    /// Adds the bytes of a parsed line, or returns its second-pass error. In both cases, sets the
+    /// address of the next statement. The line must not pass the end of the ROM, and the number in
+    /// an `ORG` or `NAME = NUMBER` must be below 4096. Fails if allocation fails.
     fn emit_parsed_line_or_error<'a>(
         &mut self,
         alloc: Global,
@@ -156,9 +156,10 @@ impl SecondPassState {
         }
     }
 
-    /// Parses the next line, and adds its bytes or returns its second-pass error. The line must be
-    /// valid and must not pass the end of the ROM. The number in an `ORG` or `NAME = NUMBER` must
-    /// be below 4096. Fails if allocation fails.
+    /// Parses the next line, and adds its bytes or returns its second-pass error. In both cases,
+    /// sets the address of the next statement. The line must be valid and must not pass the end of
+    /// the ROM. The number in an `ORG` or `NAME = NUMBER` must be below 4096. Fails if allocation
+    /// fails.
     fn emit_line_or_error<'a>(
         &mut self,
         alloc: Global,

@@ -25,7 +25,8 @@ use std::marker::Model;
 pub struct Names<'a> {
     at: u16,
     names: ArrayVec<(&'a [u8], u16), NAMES>,
-    // The same pairs, indexed by name, so that the lookup of an operand does not scan all names.
+    // The pairs of `names`, indexed by name, so that the lookup of an operand does not scan all
+    // names.
     values: BTreeMap<&'a [u8], u16>,
 }
 
@@ -114,8 +115,8 @@ impl<'a> Names<'a> {
     }
 
     /// Returns the error that the first pass finds in a parsed line, or `None`. If several errors
-    /// apply, returns the first in this order: a number out of range (33), a name that is already
-    /// defined (31), too many names (37), an address past the end of the ROM (36).
+    /// apply, returns the first of 33, 31, 37 and 36. These are a number out of range, a name that
+    /// is already defined, too many names, and an address past the end of the ROM.
     pub fn fault(&self, line: &SourceLine<'a>) -> Option<SourceFault>
         ensures { result ≡ first_pass_line_fault self.now.at self.now.names (Some (line_view line.now)) }
     {

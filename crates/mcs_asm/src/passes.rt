@@ -66,9 +66,9 @@ fn add_line_number(index: usize, line_result: Result<(), FaultKind>) -> Result<(
 }
 
 /// Runs the first pass. Returns the names that the lines define and the address after the last
-/// line, or the first error that this pass finds. The possible errors are: a bad statement (30), a
-/// name that is already defined (31), a number out of range (33), an address past the end of the
-/// ROM (36), or too many names (37).
+/// line, or the first error that this pass finds. The possible errors are 30 (bad statement), 31
+/// (name already defined), 33 (number out of range), 36 (address past the end of the ROM) and 37
+/// (too many names).
 fn first_pass<'a>(alloc: Global, lines: &[&'a [u8]]) -> Result<Names<'a>, AsmFault>
     ensures { IsFirstPassResult result (read (map (λ l. l.now) lines.now)) }
 {
@@ -102,7 +102,7 @@ pub(crate) struct SecondPassState {
 impl SecondPassState {
     /// Adds the bytes and the span of a line, and sets the address of the next statement to `next`.
     /// Fails with an overlap error if an earlier line has filled the address of one of these bytes.
-    /// Also fails if allocation fails. In both cases, the cells do not change.
+    /// Also fails if allocation fails. After an error, the cells are unchanged.
     #[tactic(auto, using(crate::proofs::SpelledLists::overlap_is_rejected, crate::proofs::SpelledLists::bytes_without_overlap_are_added))]
     pub(crate) fn add(&mut self, bytes: &[u8], next: u16) -> Result<(), FaultKind>
         requires room { self.old.at + length bytes.now ≤ 4096 }

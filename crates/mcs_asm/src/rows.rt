@@ -8,7 +8,7 @@ use crate::surveys::Survey;
 use mcs_source::survey::Span;
 use std::alloc::{AllocError, Global};
 
-/// Returns the upper-case hexadecimal digit of a number below 16.
+/// Returns the uppercase hexadecimal digit of a number below 16.
 fn hex_digit(number: u16) -> char
     requires { number < 16 }
     ensures digit { result ≡ hex_digit number }

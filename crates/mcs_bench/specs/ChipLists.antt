@@ -23,8 +23,7 @@ with_chip_list s StatusCharacters xs = record s { status = xs }
 with_chip_list s RamPorts xs = record s { ram_ports = xs }
 with_chip_list s BankSrcBytes xs = record s { ram_src = xs }
 
--- The length of a list. Every element of the list is below the number that the next definition,
--- `chip_value_limit`, gives.
+-- the length of a list
 abbrev pub chip_list_length : ChipList → ℕ
 chip_list_length RomBytes = 4096
 chip_list_length RamNibbles = 2048
@@ -32,6 +31,7 @@ chip_list_length StatusCharacters = 512
 chip_list_length RamPorts = 32
 chip_list_length BankSrcBytes = 8
 
+-- the limit of the elements of a list; each element is below this number
 abbrev pub chip_value_limit : ChipList → ℕ
 chip_value_limit RomBytes = 256
 chip_value_limit BankSrcBytes = 256

@@ -13,8 +13,8 @@ use Rattle.mcs_bench.specs.declared.running.InstructionResult.{InstructionResult
 use Rattle.mcs_model.specs.Running.{Machine, StopConditions, is_outside_table, after_cycles, at_break, has_changed, stop_reason_after, run_length, after_run, run_stop_reason, step_length, after_step, step_stop_reason}
 use Rattle.mcs_cpu4004.specs.IsInstructionRun.{IsInstructionRun}
 
--- the debug stop after a cycle: a breakpoint if `at_breakpoint` is true, otherwise a changed watch
--- if `changed_watch` is true, otherwise none
+-- the debug stop after a cycle: `Breakpoint` if `at_breakpoint` is true, otherwise `Watched` if
+-- `changed_watch` is true, otherwise none
 abbrev pub debug_stop_of : Bool → Bool → Option Stop
 debug_stop_of at_breakpoint changed_watch = if at_breakpoint then Some Breakpoint else if changed_watch then Some Watched else None
 

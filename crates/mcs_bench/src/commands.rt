@@ -133,7 +133,7 @@ impl Bench {
         }
     }
 
-    /// Replaces the board of the rig and resets the processor.
+    /// Replaces the board of the rig, as the command `Wire` does, and resets the processor.
     fn wire(&mut self, board: &Board)
         ensures { self.new ≡ after_change self.old (Command.Wire board.now) }
     {

@@ -260,8 +260,8 @@ pub(crate) fn run(
         (cpu.new, rig.new) result.0 result.1 }
 {
     let (mut done, mut mark) = run_fast(cpu, rig, breaks, watches, n);
-    // The next instruction can end the run: it is the last one, it changes a watched RAM nibble, or its opcode is
-    // outside the opcode table.
+    // The next instruction can end the run: at most one cycle is left, the instruction changes a
+    // watched RAM nibble, or its opcode is outside the opcode table.
     while done < n && mark.is_none() {
         match continue_run(cpu, rig, breaks, watches, n - done) {
             None => return (done, Stop::Outside),

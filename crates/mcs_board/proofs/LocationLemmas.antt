@@ -33,11 +33,11 @@ length-wired_chains b chains = length-table_of (chain_count b) _
 pub chain_bit-of_absent_chain : (s : BusState) (n i : ℕ) → length s.chains ≤ n → 0 ≡ chain_bit s n i
 chain_bit-of_absent_chain s n i h = sym (ap (λ row. slice_index row i) (get_or_past s.chains n [] h))
 
--- `with_chain_bit` does not change the state if the chain is absent, or if the chain has no bit
--- `i`.
+-- `with_chain_bit` does not change the state if the chain is absent.
 pub with_chain_bit-of_absent_chain : (s : BusState) (n i bit : ℕ) → length s.chains ≤ n → s ≡ with_chain_bit s n i bit
 with_chain_bit-of_absent_chain s n i bit h = sym (ap (λ cs. record s { chains = cs }) (set_past s.chains n (slice_set (get_or s.chains n []) i bit) h))
 
+-- `with_chain_bit` does not change the state if the chain has no bit `i`.
 pub with_chain_bit-past_chain_end : (s : BusState) (n i bit : ℕ) → length (get_or s.chains n []) ≤ i → s ≡ with_chain_bit s n i bit
 with_chain_bit-past_chain_end s n i bit h =
     sym (ap (λ row. record s { chains = slice_set s.chains n row }) (set_past (get_or s.chains n []) i bit h)

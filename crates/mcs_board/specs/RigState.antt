@@ -43,7 +43,7 @@ pub record RigParts : Type 0 where
   pub rom_src : ℕ
   pub test : ℕ
 
--- the flat state that a rig's contents represent
+-- the flat state of a rig with these contents
 abbrev pub state_of_rig : RigParts → BusState
 state_of_rig p = record {
   board = p.board;
@@ -61,8 +61,8 @@ state_of_rig p = record {
 
 -- Holds if a rig's chips match its board. Each list of sockets has the given length, and the
 -- board's chains fit the sockets. Each ROM has the board's line masks, each bank the board's number
--- of chips, and each chain the board's number of bits. Each key has one bit. There are 4,096 ROM
--- bytes, and those of absent ROMs are 0. The SRC byte of the ROMs is below 256.
+-- of chips, and each chain the board's number of bits. There is one key state for each key. There
+-- are 4,096 ROM bytes, and those of absent ROMs are 0. The SRC byte of the ROMs is below 256.
 pub record MatchesBoard (p : RigParts) (rom_sockets bank_sockets chain_sockets : ℕ) : Type 0 where
   pub roms_len : length p.roms ≡ rom_sockets
   pub banks_len : length p.banks ≡ bank_sockets

@@ -41,9 +41,10 @@ pub fn instruction(cpu: &Cpu, rig: &BenchRig, at: Addr) -> Option<Op>
     cpu.instruction(rig, at)
 }
 
-/// Executes `op`, the instruction at address `at`, for at most `max_cycles` cycles. Returns the address at which
-/// execution continues and the number of cycles done, at least 1. Requires that `max_cycles` is not 0 and that no
-/// second cycle is pending. The processor's program counter does not change.
+/// Executes `op`, the instruction at address `at`, for at most `max_cycles` cycles. Returns the
+/// address at which execution continues and the number of cycles done, at least 1. If only the
+/// first of two cycles was done, the second is pending. Requires that `max_cycles` is not 0 and
+/// that no second cycle is pending. The processor's program counter does not change.
 #[inline(always)]
 pub fn run_instruction(
     cpu: &mut Cpu,

@@ -1,5 +1,5 @@
--- If the keys that a search found are a closure, the property holds for the first machine, and for
--- all machines that differ from the first machine only in their input levels.
+-- If the keys that a search found are a closure, the property holds for the first machine. It also
+-- holds for all machines that differ from the first machine only in their input levels.
 use Rattle.std.proofs.Common.{◌≡◌, ℕ, zero, suc, List, Bool, sym, ap, ◌∙◌, subst}
 use Rattle.mcs_drive.specs.DrivenRuns.{AreAllowed, InputLimits, Levels}
 use Rattle.mcs_drive.specs.TrackedMachine.{Observer, TrackedMachine, with_levels, without_levels, cycled, driven, Holds}

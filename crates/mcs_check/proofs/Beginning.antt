@@ -24,7 +24,7 @@ is_key-of_machine_with_highest_keys limits layout property key s m e registers b
   cells = cells;
 }
 
--- suppose that a search from the machine with each key at its highest level finds a closure. The
+-- Suppose that a search from the machine with each key at its highest level finds a closure. The
 -- property then holds for the machine before its keys were set.
 pub property_holds-before_keys_set : (limits : InputLimits) (layout : List KeyByte) (property : PropertyConditions) (key : List ℕ) (n : ℕ) (s m : TrackedMachine) → m ≡ with_highest_keys limits s → IsKeyOf (setting_of m limits layout property) key m → Closure (rules_of (setting_of m limits layout property)) key n → Holds limits (observer_of_property property) (meets_none property.never_lists) s
 property_holds-before_keys_set limits layout property key n s m e is closure =

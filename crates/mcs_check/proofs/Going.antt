@@ -5,7 +5,7 @@ use Rattle.mcs_check.specs.Keys.{KeepsBoardAndInputs}
 use Rattle.mcs_check.specs.ReadPoints.{Reaches}
 use Rattle.mcs_check.proofs.Keeping.{cycle-keeps, keeps-refl, keeps-trans}
 
--- a run from s to t in which no cycle reads an input, and the property holds before each cycle
+-- a run from `s` to `t` in which no cycle reads an input, and the property holds before each cycle
 pub record RunSoFar (w : Observer) (p : TrackedMachine → Bool) (s t : TrackedMachine) : Type 0 where
   pub cycles : ℕ
   pub quiet : (i : ℕ) → i < cycles → next_reads_input (after_cycles w i s) ≡ false

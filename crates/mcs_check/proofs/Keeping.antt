@@ -90,6 +90,7 @@ pub cycle-keeps : (w : Observer) (s : TrackedMachine) → KeepsBoardAndInputs s.
 unfolding cycle_of
 cycle-keeps w s = cycle-keeps_by_cases (machine_in s) (eqb s.0.owed 1) (instruction_at s.0 s.1)
 
--- if `KeepsBoardAndInputs` holds for r and u, it also holds for buses s and t that equal r and u
+-- if `KeepsBoardAndInputs` holds for `r` and `u`, it also holds for buses `s` and `t` that equal
+-- `r` and `u`
 pub keeps-same : (r s t u : BusState) → r ≡ s → t ≡ u → KeepsBoardAndInputs r u → KeepsBoardAndInputs s t
 keeps-same r s t u e f h = record { board = ap (λ (b : BusState). b.board) f ∙ h.board ∙ ap (λ (b : BusState). b.board) e; rom = ap (λ (b : BusState). b.rom) f ∙ h.rom ∙ ap (λ (b : BusState). b.rom) e; keys = ap (λ (b : BusState). b.keys) f ∙ h.keys ∙ ap (λ (b : BusState). b.keys) e; test = ap (λ (b : BusState). b.test) f ∙ h.test ∙ ap (λ (b : BusState). b.test) e }

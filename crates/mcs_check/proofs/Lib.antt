@@ -5,6 +5,7 @@ pub mod ValuesRead
 pub mod Keeping
 pub mod LayoutFilling
 pub mod Saving
+pub mod Memory
 pub mod Pulling
 pub mod Going
 pub mod Steps

@@ -10,7 +10,7 @@ pub and-assoc : (a b c : Bool) → ((a && b) && c) ≡ (a && (b && c))
 and-assoc true b c = refl
 and-assoc false b c = refl
 
--- no list of `xs ++ ys` is met if and only if no list of xs and no list of ys is met
+-- no list of `xs ++ ys` is met if and only if no list of `xs` and no list of `ys` is met
 pub meets_none-append : (xs ys : List (List Condition)) (s : TrackedMachine) → meets_none (xs ++ ys) s ≡ (meets_none xs s && meets_none ys s)
 meets_none-append [] ys s = refl
 meets_none-append (x ∷ xs) ys s = ap (λ b. not (are_met s x) && b) (meets_none-append xs ys s) ∙ sym (and-assoc (not (are_met s x)) (meets_none xs s) (meets_none ys s))
@@ -22,8 +22,8 @@ append-three (x ∷ xs) a b c = ap (λ (ys : List (List Condition)). x ∷ ys) (
 
 -- ---- the bytes
 
--- compares bytes in the way in which the conditions do. True if the number with the bytes a, b and
--- c is not above the limit with the bytes x, y and z.
+-- True if the number with the bytes `a`, `b` and `c` is not above the limit with the bytes `x`, `y`
+-- and `z`. The bytes are compared in the same way as by the conditions.
 abbrev is_within_limit_by_bytes : ℕ → ℕ → ℕ → ℕ → ℕ → ℕ → Bool
 is_within_limit_by_bytes a b c x y z =
     not (not (nat_le 0 a && nat_le a x) && true)
@@ -86,8 +86,8 @@ is_within_limit_by_bytes-is_nat_le n m =
 
 -- ---- the conditions
 
--- three lists of conditions. One of them is met if and only if the stopwatch shows more cycles than
--- the limit with the bytes x, y and z.
+-- Three lists of conditions. One of them is met if and only if the stopwatch shows more cycles than
+-- the limit with the bytes `x`, `y` and `z`.
 abbrev pub lists_beyond_limit : ℕ → ℕ → ℕ → List (List Condition)
 lists_beyond_limit x y z =
     (Compare (elapsed_byte_comparison 0 0 x false) ∷ [])

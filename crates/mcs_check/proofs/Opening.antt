@@ -8,7 +8,7 @@ use Rattle.mcs_check.specs.declared.conditions.Condition.TheVariants.{Compare}
 use Rattle.mcs_check.specs.Conditions.{are_met, is_met, meets_none, fewer_marks_seen}
 use Rattle.mcs_check.proofs.Limiting.{and-assoc, meets_none-append}
 
--- true if no list in `never_lists` is met, and no list in `opens` is met before n marks were seen
+-- true if no list in `never_lists` is met, and no list in `opens` is met before `n` marks were seen
 abbrev pub opens_after_marks : List (List Condition) → List (List Condition) → ℕ → TrackedMachine → Bool
 opens_after_marks never_lists opens n s = meets_none never_lists s && not (not (meets_none opens s) && nat_lt s.2.seen n)
 
@@ -32,11 +32,12 @@ is_met-fewer_marks_seen n s some =
 
 -- ---- the lists
 
--- the requirement with one more list in `opens`:
--- `a`: no list that must never be met is met
--- `k`: no earlier list in `opens` is met
--- `m`: the new list is met
--- `f`: fewer marks were seen than required
+-- The requirement with one more list in `opens`:
+--
+-- - `a`: no list that must never be met is met
+-- - `k`: no earlier list in `opens` is met
+-- - `m`: the new list is met
+-- - `f`: fewer marks were seen than required
 requirement-with_next_open_list : (a k m f : Bool) → ((a && not (not k && f)) && (not (m && f) && true)) ≡ (a && not (not (k && (not m && true)) && f))
 requirement-with_next_open_list false k m f = refl
 requirement-with_next_open_list true true true true = refl

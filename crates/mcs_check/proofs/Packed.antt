@@ -60,8 +60,8 @@ narrow_cell-below_16 t regs bus (Chain n) narrow i = chain_bit-below_16 t n i bu
 equal_nibbles-if_equal_bytes : (a b c d : ℕ) → a < 16 → b < 16 → c < 16 → d < 16 → a % 16 * 16 + b % 16 ≡ c % 16 * 16 + d % 16 → (a ≡ c) × (b ≡ d)
 equal_nibbles-if_equal_bytes a b c d la lb lc ld e = (omega arith, omega arith)
 
--- suppose that cells f and g are the pair that contains cell i. If their key byte has the same
--- value in two machines, cell i also has the same value in both.
+-- Suppose that cells `f` and `g` are the pair that contains cell `i`. If their key byte has the
+-- same value in two machines, cell `i` also has the same value in both machines.
 equal_cells-if_equal_pair_bytes : (s t : TrackedMachine) (list : CellList) (i f g : ℕ) → ((j : ℕ) → slice_index (values_in_list s list) j < 16) → ((j : ℕ) → slice_index (values_in_list t list) j < 16) → f ≡ 2 * (i / 2) → g ≡ 2 * (i / 2) + 1 →
     slice_index (values_in_list s list) f % 16 * 16 + slice_index (values_in_list s list) g % 16 ≡ slice_index (values_in_list t list) f % 16 * 16 + slice_index (values_in_list t list) g % 16 →
     slice_index (values_in_list s list) i ≡ slice_index (values_in_list t list) i
@@ -95,7 +95,7 @@ equal_cells-if_equal_keys b rom levels s t layout on-s on-t whole e list i few t
 equal_lists-if_equal_numbers : (xs ys : List ℕ) (n : ℕ) → length xs ≡ n → length ys ≡ n → ((i : ℕ) → i < n → slice_index xs i ≡ slice_index ys i) → xs ≡ ys
 equal_lists-if_equal_numbers xs ys n lx ly h = ext_get_or 0 xs ys (lx ∙ sym ly) (λ i l. h i (omega arith))
 
--- if item i of a list is above some number n, i is below the length of the list
+-- if item `i` of a list is above some number `n`, `i` is below the length of the list
 index-in-list : (xs : List ℕ) (i n : ℕ) → n < slice_index xs i → i < length xs
 index-in-list xs i n h =
     elim (cases_lt i (length xs)) [

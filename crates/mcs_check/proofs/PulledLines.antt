@@ -51,7 +51,7 @@ pulled-by_key chain keys m chip k row column h =
     some_number_passes _ (length m.columns.items) column h.column_inside
     (rw (h.line, some_number_passes (row_drives_column chain keys m column) m.rows row h.row_inside h.drives) refl)
 
--- a line is only one line of a ROM
+-- a line cannot be two different lines of a ROM
 line-number-unique : (chip j k : ℕ) (line : Line) → is_rom_line chip j line ≡ true → is_rom_line chip k line ≡ true → j ≡ k
 line-number-unique chip j k (Rom c i) h g =
     let first = eqb-true i j (and_parts (eqb c chip) (eqb i j) h).1 in

@@ -6,14 +6,15 @@ use Rattle.std.proofs.lemmas.List.Folds.{list_any-append, list_any_at}
 use Rattle.std.proofs.lemmas.List.FromFn.{get_or-range_with_len, length-range_with_len}
 use Rattle.mcs_model.proofs.ListLemmas.{range-one-more}
 
--- none of the first i + 1 numbers passes the test if none of the first i does and number i does not
+-- if none of the first `i` numbers passes the test and number `i` does not pass it, none of the
+-- first `i + 1` numbers passes
 pub none_passes-with_next_number : (p : ℕ → Bool) (i : ℕ) → list_any p (range_with_len 0 i) ≡ false → p i ≡ false → list_any p (range_with_len 0 (i + 1)) ≡ false
 none_passes-with_next_number p i none here =
     let last : 0 + i ≡ i = omega arith in
     ap (λ (n : ℕ). list_any p (range_with_len 0 n)) (add-one i) ∙ ap (list_any p) (range-one-more 0 i)
     ∙ list_any-append p (range_with_len 0 i) ((0 + i) ∷ []) ∙ or_from _ _ none (or_from (p (0 + i)) false (ap p last ∙ here) refl)
 
--- if number i of a range passes the test, some number of the range passes
+-- if number `i` of a range passes the test, some number of the range passes
 pub some_number_passes : (p : ℕ → Bool) (n i : ℕ) → i < n → p i ≡ true → list_any p (range_with_len 0 n) ≡ true
 some_number_passes p n i within here =
     let at : get_or (range_with_len 0 n) i 0 ≡ i = get_or-range_with_len 0 n i 0 within ∙ (let e : 0 + i ≡ i = omega arith in e) in

@@ -231,7 +231,7 @@ cycle_agrees_in_scope w c s unseen rest = cycle_agrees_in_scope-by_cases c s (co
 pub meets_none-if_no_mistake : (c : Scope) (never_lists : List (List Condition)) (t : TrackedMachine) → has_all_lists c never_lists ≡ true → meets_none_without_mistakes never_lists t ≡ true → makes_mistake_in_scope c t ≡ false → meets_none never_lists t ≡ true
 meets_none-if_no_mistake c never_lists t has apart free = meets_none-equal_without_mistakes c t free never_lists has ∙ apart
 
--- suppose that the property holds before a cycle that changes nothing in the scope and sees no
+-- Suppose that the property holds before a cycle that changes nothing in the scope and sees no
 -- mark. `meets_none_without_mistakes` is then true after the cycle.
 pub meets_none_without_mistakes-after_cycle : (w : Observer) (c : Scope) (never_lists : List (List Condition)) (s t : TrackedMachine) → has_all_lists c never_lists ≡ true → t.2.seen ≡ s.2.seen → cycle_may_change_scope c (next_op s.0 s.1) ≡ false → meets_none never_lists s ≡ true → t ≡ cycled w s → meets_none_without_mistakes never_lists t ≡ true
 meets_none_without_mistakes-after_cycle w c never_lists s t has unseen rest property_holds e =
@@ -251,7 +251,7 @@ meets_none-unchanged_by_cycle w c lists s none has unseen rest =
     ∙ keeps-same c s (cycled w s) (cycle_agrees_in_scope w c s unseen rest) lists has
     ∙ sym (meets_none-equal_without_mistakes c (cycled w s) (no_mistake_in_scope-if_not_included c (cycled w s) none) lists has)
 
--- suppose that the scope covers the observer's condition and includes no mistakes. A cycle that
+-- Suppose that the scope covers the observer's condition and includes no mistakes. A cycle that
 -- changes nothing in the scope and sees no mark then does not change whether the condition holds.
 pub condition_holds-unchanged_by_cycle : (a : PropertyConditions) (c : Scope) (s t : TrackedMachine) → (not c.mistakes && has_all_lists c a.opens) ≡ true → t.2.seen ≡ s.2.seen → cycle_may_change_scope c (next_op s.0 s.1) ≡ false → t ≡ cycled (observer_of_property a) s →
     condition_holds_at (observer_of_property a) s ≡ condition_holds_at (observer_of_property a) t

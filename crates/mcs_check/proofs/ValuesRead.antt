@@ -42,7 +42,7 @@ has_read-by_jcn w value s t v begins e = λ l fit same.
     let is : instruction_at s.0 s.1 ≡ Some (Jcn begins.is.condition begins.is.word) = begins.next ∙ ap Some begins.is.is in
     cycled-decided-by-value-read w l m s v (same ∙ sym (value_read_by_jcn-is_test_level m (instruction_at s.0 s.1) s.1 begins.is.condition begins.is.word is begins.is.odd)) ∙ sym e
 
--- the machine with n in its accumulator
+-- the machine with `n` in its accumulator
 abbrev pub with_accumulator : ℕ → TrackedMachine → TrackedMachine
 with_accumulator n s = (record s.0 { acc = n }, s.1, s.2)
 

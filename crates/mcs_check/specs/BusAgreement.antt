@@ -5,8 +5,8 @@ use Rattle.mcs_model.specs.Boards.{rom_masks}
 use Rattle.mcs_model.specs.Bus.{BusState, chips_of, ram_index, status_index, ram_port_index}
 use Rattle.mcs_model.specs.Validity.{IsValidBus}
 
--- holds if two buses have the same board, the same ROM bytes and the same input levels, and every
--- cell of a chip on this board has the same value in both buses
+-- holds if two buses have the same board, ROM bytes and input levels, and each cell of a chip on
+-- this board has the same value in both
 pub record AgreesInChips (s t : BusState) : Type 0 where
   pub board : s.board ≡ t.board
   pub rom : s.rom ≡ t.rom

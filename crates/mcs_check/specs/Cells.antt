@@ -13,9 +13,9 @@ use Rattle.mcs_check.specs.declared.cells.KeyByte.{KeyByte}
 use Rattle.mcs_check.specs.declared.cells.KeyByte.TheVariants.{One, Pair}
 use Rattle.mcs_check.specs.declared.cells.CellList.TheVariants.{RamNibbles, StatusCharacters, RamPorts, RomPorts, BankSrcBytes, Registers, Counters, Chain}
 
--- the counters of a machine. First come the registers other than the index registers, then the SRC
--- byte that the ROMs store, the number of open calls, the stopwatch's cycles and the number of
--- marks seen. An address takes two bytes and the cycles take three bytes, most significant byte
+-- The counters of a machine. First are the registers other than the index registers, and the SRC
+-- byte that the ROMs store. Then follow the number of open calls, the stopwatch's cycles and the
+-- number of marks seen. An address takes two bytes and the cycles take three bytes, most significant byte
 -- first.
 abbrev pub counters_of : Regs → ℕ → Counts → List ℕ
 counters_of s src t =

@@ -4,6 +4,7 @@ pub mod Cells
 pub mod Mistaken
 pub mod Conditions
 pub mod Keys
+pub mod Memory
 pub mod ReadPoints
 pub mod SearchStep
 pub mod SearchRules

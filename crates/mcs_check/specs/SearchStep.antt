@@ -10,8 +10,8 @@ use Rattle.mcs_check.specs.Keys.{Setting, IsKeyOf, property_of}
 abbrev pub IsState : Setting → List ℕ → Type 0
 IsState g key = (a : TrackedMachine) × IsKeyOf g key a
 
--- holds if each machine that `key` identifies runs to a machine that `next` identifies, at all
--- input levels at which the first machine reads `value`, and the property holds at every step
+-- Holds if each machine that `key` identifies runs to a machine that `next` identifies, at all
+-- input levels at which the first machine reads `value`. The property holds at every step.
 abbrev pub Leads : Setting → List ℕ → ℕ → List ℕ → Type 0
 Leads g key value next =
     (a : TrackedMachine) → IsKeyOf g key a → (b : TrackedMachine) × IsKeyOf g next b

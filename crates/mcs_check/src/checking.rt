@@ -5,6 +5,7 @@ ghost use Rattle.mcs_check.specs.Conditions.{meets_none, observer_of_property};
 ghost use Rattle.mcs_check.specs.OutcomeMeaning.{IsProved};
 
 use crate::cells::layout_of;
+use crate::last_key::LastKey;
 use crate::limits::InputLimits;
 use crate::machine_search::MachineSearch;
 use crate::property::Property;
@@ -59,7 +60,7 @@ pub fn check_all(
     let layout = layout_of(alloc, replica.board())?;
     let mut key = vec![in alloc; 0u8; layout.len()]?;
     replica.save(&layout, &mut key);
-    let last = vec![in alloc; 0u8; layout.len()]?;
+    let last = LastKey::none(alloc, &layout)?;
     replica.show_state_is_valid();
     if !property.keeps(&replica) {
         return Ok(Outcome::MayFail(Vec::new(alloc)));

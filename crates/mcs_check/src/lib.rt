@@ -11,6 +11,7 @@ mod checking;
 mod common_mistakes;
 mod conditions;
 mod highest_levels;
+mod last_key;
 mod laws;
 mod limits;
 mod machine_search;

@@ -2,6 +2,7 @@
 ghost use Rattle.std.specs.Prelude.{◌≡◌};
 
 use crate::cells::KeyByte;
+use crate::last_key::LastKey;
 use crate::limits::InputLimits;
 use crate::property::Property;
 use crate::replica::SearchMachine;
@@ -17,8 +18,8 @@ pub struct MachineSearch {
     pub(crate) replica: SearchMachine,
     pub(crate) limits: InputLimits,
     pub(crate) layout: Vec<KeyByte>,
-    /// The key that `replica` last loaded or saved. All bytes are 0 before the first load.
-    pub(crate) last: Vec<u8>,
+    /// The key that `replica` last loaded or saved.
+    pub(crate) last: LastKey,
     pub(crate) property: Property,
     pub(crate) most: u32,
 }
@@ -27,13 +28,15 @@ impl Model for MachineSearch {
     ghost use Rattle.std.specs.Prelude.{◌≡◌};
     ghost use Rattle.mcs_check.specs.Cells.{IsComplete};
     ghost use Rattle.mcs_check.specs.Keys.{Setting};
+    ghost use Rattle.mcs_check.specs.Memory.{IsLastKeyOf};
 
     ghost Value = { Setting };
 
     ghost view = { λ w. record { board = w.replica.1.board; rom = w.replica.1.rom; limits = w.limits; layout = w.layout.items; property = w.property } };
 
     ghost invariant = { λ w. (w.replica.1.keys ≡ w.limits.keys)
-        × (w.replica.1.test ≡ 0) × IsComplete w.replica.1.board w.layout.items };
+        × (w.replica.1.test ≡ 0) × IsComplete w.replica.1.board w.layout.items
+        × IsLastKeyOf w.layout.items w.last w.replica };
 }
 
 impl System for MachineSearch {

@@ -13,7 +13,7 @@ use std::alloc::Global;
 use std::marker::Model;
 
 /// The conjunctions that a run uses: those that must never be met, those that begin or end a stopwatch, and those
-/// that must not be met before all marks were seen. Contracts see lists of conditions, and the list of marks.
+/// that must not be met before all marks. Contracts see lists of conditions, and the list of marks.
 #[derive(Drop)]
 pub struct Property {
     never_lists: Vec<Conjunction>,

@@ -10,11 +10,13 @@ ghost use Rattle.mcs_drive.specs.InputReads.{reads_input};
 ghost use Rattle.mcs_drive.specs.TrackedMachine.{calls_after, cycled, next_reads_input, next_op, open_calls_after, shows_next_mark, condition_holds_at};
 ghost use Rattle.mcs_check.specs.Conditions.{meets_none, observer_of_property};
 ghost use Rattle.mcs_check.specs.Keys.{KeepsBoardAndInputs};
+ghost use Rattle.mcs_check.specs.Memory.{KeepsMemory, cycle_writes_memory, is_input, op_writes_memory};
 ghost use Rattle.mcs_check.specs.Scopes.{cycle_may_change_scope, makes_mistake_in_scope};
 ghost use Rattle.mcs_check.specs.ReadPoints.{Begins, ReadsTestPin, Reads, CannotRead, HasRead, HasSpun, Reaches, Spins, is_bit_subset, set_bits, unpressed_port_value, with_seen};
 
 use crate::cells::KeyByte;
 use crate::common_mistakes::Mistakes;
+use crate::last_key::both;
 use crate::limits::InputLimits;
 use crate::property::Property;
 use crate::reading::{InputSource, input_source_of};
@@ -85,6 +87,8 @@ struct NextCycleFacts {
     makes_mistake_in_scope: bool,
     /// True if the cycle may change a register or a chip in the scope.
     changes: bool,
+    /// True if the cycle writes no RAM nibble and no status character.
+    keeps_memory: bool,
     /// The number of open calls after the cycle.
     calls: u8,
     /// The register of an ISZ that jumps to itself, if the cycle begins this ISZ and the ISZ will jump. `None` in all
@@ -99,6 +103,16 @@ fn may_read(op: Op) -> bool
     match input_source_of(op) {
         InputSource::NoInput => false,
         InputSource::Port | InputSource::Test => true,
+    }
+}
+
+/// Returns whether an instruction writes a RAM nibble or a status character.
+fn writes_memory(op: Op) -> bool
+    ensures { result ≡ op_writes_memory op }
+{
+    match op {
+        Op::Wrm | Op::Wr0 | Op::Wr1 | Op::Wr2 | Op::Wr3 => true,
+        _ => false,
     }
 }
 
@@ -195,6 +209,7 @@ impl SearchMachine {
         ensures quiet { result.may_read ≡ false → next_reads_input self.now ≡ false }
         ensures makes_mistake_in_scope { result.makes_mistake_in_scope ≡ makes_mistake_in_scope scope.now self.now }
         ensures changes { result.changes ≡ cycle_may_change_scope scope.now (next_op self.now.0 self.now.1) }
+        ensures memory { result.keeps_memory ≡ true → cycle_writes_memory (next_op self.now.0 self.now.1) ≡ false }
         ensures calls { result.calls ≡ open_calls_after self.now.0 self.now.1 self.now.2.calls }
         ensures spins { IfSome result.spins (λ r. Spins (observer_of_property property.now) r self.now) }
     {
@@ -204,6 +219,7 @@ impl SearchMachine {
                 may_read: false,
                 makes_mistake_in_scope: false,
                 changes: false,
+                keeps_memory: true,
                 calls: self.calls,
                 spins: None,
             };
@@ -216,6 +232,7 @@ impl SearchMachine {
                     makes_mistake_in_scope: scope.mistakes
                         && self.op_makes_mistake(&Mistakes::ALL, &op),
                     changes: scope.changes(op),
+                    keeps_memory: !writes_memory(op),
                     calls,
                     spins: self.spins(property, op),
                 }
@@ -224,6 +241,7 @@ impl SearchMachine {
                 may_read: false,
                 makes_mistake_in_scope: scope.mistakes,
                 changes: false,
+                keeps_memory: true,
                 calls: self.calls,
                 spins: None,
             },
@@ -351,6 +369,7 @@ impl SearchMachine {
         requires value { value < 16 }
         ensures read { HasRead (observer_of_property property.now) value self.old self.new }
         ensures keeps { KeepsBoardAndInputs self.old.1 self.new.1 }
+        ensures memory { KeepsMemory self.old.1 self.new.1 }
     {
         let shown = self.shows_next_mark(property, value);
         let seen = self.seen_after(property, property.opens(self), shown);
@@ -365,6 +384,7 @@ impl SearchMachine {
         requires value { value < 2 }
         ensures read { HasRead (observer_of_property property.now) value self.old self.new }
         ensures keeps { KeepsBoardAndInputs self.old.1 self.new.1 }
+        ensures memory { KeepsMemory self.old.1 self.new.1 }
     {
         self.show_state_is_valid();
         let level = self.rig.test_level();
@@ -393,6 +413,7 @@ impl SearchMachine {
         requires reads { Reads self.old source }
         ensures read { IsTrue result → HasRead (observer_of_property property.now) value self.old self.new }
         ensures keeps { KeepsBoardAndInputs self.old.1 self.new.1 }
+        ensures memory { is_input source ≡ true → KeepsMemory self.old.1 self.new.1 }
     {
         match source {
             InputSource::NoInput => {
@@ -459,8 +480,21 @@ impl SearchMachine {
         changes || self.seen != seen
     }
 
+    /// Returns `keeps_memory` if the property holds, and `None` otherwise.
+    fn outcome(&self, property: &Property, keeps_memory: bool) -> Option<bool>
+        ensures holds { IfSome result (λ _. meets_none property.now.never_lists self.now ≡ true) }
+        ensures memory { IfSome result (λ keeps. keeps ≡ keeps_memory) }
+    {
+        if property.keeps(self) {
+            Some(keeps_memory)
+        } else {
+            None
+        }
+    }
+
     /// Runs until the next cycle may read an input, the machine has the key `key` again, or `most` cycles have run.
-    /// `at` is the program counter of the key's machine. Returns true only if the property holds at every step.
+    /// `at` is the program counter of the key's machine. Returns `None` if the property fails at some step. Otherwise
+    /// returns whether the run wrote no RAM nibble and no status character.
     pub fn run_to_read_point(
         &mut self,
         property: &Property,
@@ -468,20 +502,22 @@ impl SearchMachine {
         layout: &[KeyByte],
         key: &[u8],
         at: Addr,
-    ) -> bool
+    ) -> Option<bool>
         requires { length key.now ≡ length layout.now }
-        ensures reaches { IsTrue result → Reaches (observer_of_property property.now) (meets_none property.now.never_lists) self.old self.new }
+        ensures reaches { IfSome result (λ _. Reaches (observer_of_property property.now) (meets_none property.now.never_lists) self.old self.new) }
         ensures keeps { KeepsBoardAndInputs self.old.1 self.new.1 }
+        ensures memory { IfSome result (λ keeps_memory. keeps_memory ≡ true → KeepsMemory self.old.1 self.new.1) }
     {
         let scope = property.scope();
         let has_all_lists = property.is_covered_by(&scope);
         let has_opening = property.is_opening_covered_by(&scope);
         let mut changed = true;
         let mut is_open = false;
+        let mut keeps_memory = true;
         let mut left = most;
         for _ in 0..most {
             if left == 0 {
-                return property.keeps(self);
+                return self.outcome(property, keeps_memory);
             }
             let next_cycle_facts = self.next_cycle_facts(property, &scope);
             if !self.property_still_holds(
@@ -490,14 +526,14 @@ impl SearchMachine {
                 changed,
                 next_cycle_facts.makes_mistake_in_scope,
             ) {
-                return false;
+                return None;
             }
             if next_cycle_facts.may_read {
-                return true;
+                return Some(keeps_memory);
             }
             // The run is in a loop that reads no input. Further passes reach no new state.
             if self.is_back_at_key(layout, key, at) {
-                return true;
+                return Some(keeps_memory);
             }
             let is_sought = self.program_counter().get() == at.get();
             let may = may_spin(left, is_sought, has_all_lists, &next_cycle_facts);
@@ -505,7 +541,8 @@ impl SearchMachine {
             let seen = self.seen;
             left = left.saturating_sub(self.run_step(property, &next_cycle_facts, may, is_open));
             changed = self.has_changed(next_cycle_facts.changes, seen);
+            keeps_memory = both(keeps_memory, next_cycle_facts.keeps_memory);
         }
-        property.keeps(self)
+        self.outcome(property, keeps_memory)
     }
 }

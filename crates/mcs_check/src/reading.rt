@@ -1,5 +1,6 @@
 //! The input that a machine's next cycle reads.
 ghost use Rattle.std.specs.Prelude.{◌≡◌};
+ghost use Rattle.mcs_check.specs.Memory.{is_input};
 ghost use Rattle.mcs_check.specs.ReadPoints.{OpReads};
 
 use mcs_model::op::Op;
@@ -13,6 +14,18 @@ pub enum InputSource {
     Port,
     /// The TEST pin, read by JCN.
     Test,
+}
+
+impl InputSource {
+    /// Returns whether an instruction with this source reads an input.
+    pub(crate) fn is_input(self) -> bool
+        ensures { result ≡ is_input self }
+    {
+        match self {
+            InputSource::NoInput => false,
+            InputSource::Port | InputSource::Test => true,
+        }
+    }
 }
 
 /// Returns the input that an instruction reads.

@@ -1,13 +1,15 @@
 //! A processor on a rig, whose cells are loaded from a key and saved into a key.
-ghost use Rattle.std.specs.Prelude.{◌≡◌, ◌<◌, All, length, slice_index, IsTrue};
+ghost use Rattle.std.specs.Prelude.{◌≡◌, ◌<◌, ◌≤◌, ℕ, All, length, slice_index, true, false, IsTrue};
 ghost use Rattle.mcs_model.specs.Validity.{IsValidBus, IsValidRegs};
 ghost use Rattle.mcs_drive.specs.TrackedMachine.{with_zero_counts};
 ghost use Rattle.mcs_check.specs.declared.cells.CellList.TheVariants.{RamNibbles, Counters};
 ghost use Rattle.mcs_check.specs.declared.cells.KeyByte.TheVariants.{Pair};
 ghost use Rattle.mcs_check.specs.Cells.{key_byte_value, values_in_list, value_at, key_of};
 ghost use Rattle.mcs_check.specs.Keys.{KeepsBoardAndInputs};
+ghost use Rattle.mcs_check.specs.Memory.{HasBytesFrom, HasFirstBytes, IsLastKeyOf, KeepsMemory, is_memory_byte, is_memory_list};
 
 use crate::cells::{Cell, CellList, KeyByte, first_cell_of, second_cell_of};
+use crate::last_key::{LastKey, both, bytes_that_may_differ};
 use crate::stopwatch::StopwatchCycles;
 use mcs_board::BenchRig;
 use mcs_cpu4004::Cpu;
@@ -214,7 +216,8 @@ impl SearchMachine {
     /// not promise the value, so `load` checks it with `matches_key`.
     #[inline(always)]
     fn set(&mut self, regs: &mut Regs, cell: Cell, n: u8)
-        ensures { KeepsBoardAndInputs self.old.1 self.new.1 }
+        ensures keeps { KeepsBoardAndInputs self.old.1 self.new.1 }
+        ensures memory { is_memory_list cell.list ≡ false → KeepsMemory self.old.1 self.new.1 }
     {
         match cell.list {
             CellList::RamNibbles => {
@@ -262,7 +265,8 @@ impl SearchMachine {
     /// Sets both cells of a pair from a key's byte `n`. Calls `set` for each cell.
     #[inline(always)]
     fn split_into_cells(&mut self, regs: &mut Regs, list: CellList, pair: u16, n: u8)
-        ensures { KeepsBoardAndInputs self.old.1 self.new.1 }
+        ensures keeps { KeepsBoardAndInputs self.old.1 self.new.1 }
+        ensures memory { is_memory_list list ≡ false → KeepsMemory self.old.1 self.new.1 }
     {
         self.set(regs, first_cell_of(list, pair), n / 16);
         self.set(regs, second_cell_of(list, pair), n % 16);
@@ -272,7 +276,8 @@ impl SearchMachine {
     /// `byte`, for the same reason.
     #[inline(always)]
     fn set_byte(&mut self, regs: &mut Regs, byte: KeyByte, n: u8)
-        ensures { KeepsBoardAndInputs self.old.1 self.new.1 }
+        ensures keeps { KeepsBoardAndInputs self.old.1 self.new.1 }
+        ensures memory { is_memory_byte byte ≡ false → KeepsMemory self.old.1 self.new.1 }
     {
         match byte {
             KeyByte::One(cell) => self.set(regs, cell, n),
@@ -292,6 +297,21 @@ impl SearchMachine {
         }
     }
 
+    /// Sets the cells of a key's byte to the value `n`, unless `last` is the same value. Returns false if cells of the
+    /// memory may have changed.
+    #[inline(always)]
+    fn change_byte(&mut self, regs: &mut Regs, byte: KeyByte, last: u8, n: u8) -> bool
+        ensures keeps { KeepsBoardAndInputs self.old.1 self.new.1 }
+        ensures memory { result ≡ true → KeepsMemory self.old.1 self.new.1 }
+        ensures equal { result ≡ true → is_memory_byte byte ≡ true → last ≡ n }
+    {
+        if last == n {
+            return true;
+        }
+        self.set_byte(regs, byte, n);
+        !byte.is_memory()
+    }
+
     /// Sets all registers of the processor.
     fn set_registers(&mut self, regs: &Regs)
         ensures { self.new.1 ≡ self.old.1 }
@@ -305,14 +325,63 @@ impl SearchMachine {
         self.cpu.set_owed(regs.owed % 2);
     }
 
+    /// Writes the first `count` bytes of the machine's key for a layout into `key`.
+    fn save_first(&self, layout: &[KeyByte], count: usize, key: &mut [u8])
+        requires length { length key.old ≡ length layout.now }
+        requires count { count ≤ length layout.now }
+        ensures length { length key.new ≡ length key.old }
+        ensures first { HasFirstBytes self.now layout.now key.new count }
+        ensures others { (k : ℕ) → count ≤ k → slice_index key.new k ≡ slice_index key.old k }
+    {
+        for i in 0..count {
+            key[i] = self.byte(layout[i]);
+        }
+    }
+
     /// Writes the machine's key for a layout into `key`, which must have the same length as the layout.
     pub fn save(&self, layout: &[KeyByte], key: &mut [u8])
         requires { length key.old ≡ length layout.now }
         ensures { key.new ≡ key_of layout.now self.now }
     {
-        for i in 0..layout.len() {
-            key[i] = self.byte(layout[i]);
+        self.save_first(layout, layout.len(), key);
+    }
+
+    /// Writes the machine's key into `into`, as `save` does. If `keeps_memory` is true, the bytes of `key` from byte
+    /// `front` on must be those of the machine's key. They are then copied, which is faster.
+    pub(crate) fn save_after(
+        &self,
+        layout: &[KeyByte],
+        front: usize,
+        key: &[u8],
+        keeps_memory: bool,
+        into: &mut [u8],
+    )
+        requires key { length key.now ≡ length layout.now }
+        requires into { length into.old ≡ length layout.now }
+        requires front { front ≤ length layout.now }
+        requires memory { keeps_memory ≡ true → HasBytesFrom self.now layout.now key.now front }
+        ensures { into.new ≡ key_of layout.now self.now }
+    {
+        if !keeps_memory {
+            self.save(layout, into);
+            return;
         }
+        into.copy_from_slice(key);
+        self.save_first(layout, front, into);
+    }
+
+    /// Returns true only if the first `count` bytes of `key` are those of the machine's key for this layout.
+    fn matches_first(&self, layout: &[KeyByte], key: &[u8], count: usize) -> bool
+        requires length { length key.now ≡ length layout.now }
+        requires count { count ≤ length layout.now }
+        ensures { IsTrue result → HasFirstBytes self.now layout.now key.now count }
+    {
+        for i in 0..count {
+            if key[i] != self.byte(layout[i]) {
+                return false;
+            }
+        }
+        true
     }
 
     /// Returns true only if `key` is the machine's key for this layout.
@@ -320,12 +389,7 @@ impl SearchMachine {
         requires { length key.now ≡ length layout.now }
         ensures { IsTrue result → key.now ≡ key_of layout.now self.now }
     {
-        for i in 0..layout.len() {
-            if key[i] != self.byte(layout[i]) {
-                return false;
-            }
-        }
-        true
+        self.matches_first(layout, key, layout.len())
     }
 
     /// Sets the cells of a layout from a key, which must have the same length as the layout. Returns true only if the
@@ -344,38 +408,44 @@ impl SearchMachine {
     }
 
     /// Sets the cells whose bytes differ between the keys `last` and `key`. Returns true only if the machine then has
-    /// the key `key`.
-    fn set_changed_cells(&mut self, layout: &[KeyByte], last: &[u8], key: &[u8]) -> bool
-        requires last { length last.now ≡ length layout.now }
+    /// the key `key`. Does not compare the memory's bytes if `last` is current and none of them differs.
+    fn set_changed_cells(&mut self, layout: &[KeyByte], last: &LastKey, key: &[u8]) -> bool
+        requires last { length last.now.bytes.items ≡ length layout.now }
         requires key { length key.now ≡ length layout.now }
+        requires known { IsLastKeyOf layout.now last.now self.old }
         ensures keeps { KeepsBoardAndInputs self.old.1 self.new.1 }
         ensures loaded { IsTrue result → key.now ≡ key_of layout.now self.new }
     {
         let mut regs = self.cpu.regs();
-        for i in 0..layout.len() {
-            if last[i] != key[i] {
-                self.set_byte(&mut regs, layout[i], key[i]);
-            }
+        let mut keeps_memory = last.is_current;
+        for i in 0..bytes_that_may_differ(&last.bytes, key, last.front) {
+            let is_kept = self.change_byte(&mut regs, layout[i], last.bytes[i], key[i]);
+            keeps_memory = both(keeps_memory, is_kept);
         }
         self.set_registers(&regs);
-        self.matches_key(layout, key)
+        if !keeps_memory {
+            return self.matches_key(layout, key);
+        }
+        self.matches_first(layout, key, last.front)
     }
 
     /// Sets the cells of a layout from `key`, as `load` does, and returns the same result as `load`. This is faster if
-    /// `last` is the machine's current key. Copies `key` into `last` if their lengths are equal.
-    pub(crate) fn reload(&mut self, layout: &[KeyByte], last: &mut [u8], key: &[u8]) -> bool
-        requires { length key.now ≡ length layout.now }
+    /// `last` is current. `last` becomes `key`, or is not current afterwards.
+    pub(crate) fn reload(&mut self, layout: &[KeyByte], last: &mut LastKey, key: &[u8]) -> bool
+        requires key { length key.now ≡ length layout.now }
+        requires known { IsLastKeyOf layout.now last.old self.old }
         ensures keeps { KeepsBoardAndInputs self.old.1 self.new.1 }
         ensures loaded { IsTrue result → key.now ≡ key_of layout.now self.new }
+        ensures known { IsLastKeyOf layout.now last.new self.new }
     {
-        if last.len() != key.len() {
-            return self.load(layout, key);
+        if last.bytes.len() == key.len() {
+            let is_set = self.set_changed_cells(layout, last, key);
+            last.remember(key);
+            if is_set {
+                return true;
+            }
         }
-        let is_set = self.set_changed_cells(layout, last, key);
-        last.copy_from_slice(key);
-        if is_set {
-            return true;
-        }
+        last.is_current = false;
         self.load(layout, key)
     }
 

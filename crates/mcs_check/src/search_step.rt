@@ -7,11 +7,13 @@ ghost use Rattle.mcs_drive.specs.DrivenRuns as driven;
 ghost use Rattle.mcs_check.specs.Cells.{IsComplete};
 ghost use Rattle.mcs_check.specs.Conditions.{PropertyConditions};
 ghost use Rattle.mcs_check.specs.Keys.{KeepsBoardAndInputs, setting_of};
+ghost use Rattle.mcs_check.specs.Memory.{IsLastKeyOf};
 ghost use Rattle.mcs_check.specs.SearchRules.{Covers};
 ghost use Rattle.mcs_check.specs.ReadPoints.{CannotRead};
 ghost use Rattle.mcs_check.specs.SearchStep.{IsState, Leads};
 
 use crate::cells::KeyByte;
+use crate::last_key::{LastKey, both};
 use crate::limits::InputLimits;
 use crate::property::Property;
 use crate::replica::SearchMachine;
@@ -52,20 +54,22 @@ fn push_readable_values(
 }
 
 /// Loads the machine that `key` identifies, and lists in `into` the values that this machine can read in its next
-/// cycle at input levels within the limits. Lists all 16 values if `key` cannot be loaded. `last` is the key that `replica` last loaded or saved; `key`
-/// replaces it. Fails if memory runs out.
+/// cycle at input levels within the limits. Lists all 16 values if `key` cannot be loaded. `last` is the key that
+/// `replica` last loaded or saved; `key` replaces it. Fails if memory runs out.
 pub(crate) fn list_readable_values(
     replica: &mut SearchMachine,
     limits: &InputLimits,
     layout: &[KeyByte],
-    last: &mut [u8],
+    last: &mut LastKey,
     key: &[u8],
     into: &mut Vec<u8>,
 ) -> Result<(), AllocError>
+    requires known { IsLastKeyOf layout.now last.old replica.old }
     requires keys { replica.old.1.keys ≡ limits.now.keys }
     requires test { replica.old.1.test ≡ 0 }
     requires complete { IsComplete replica.old.1.board layout.now }
     ensures keeps { KeepsBoardAndInputs replica.old.1 replica.new.1 }
+    ensures known { IsLastKeyOf layout.now last.new replica.new }
     ensures covers { OnOk result ((property : PropertyConditions) →
         Covers (setting_of replica.old limits.now layout.now property) key.now into.new.items) }
 {
@@ -79,13 +83,6 @@ pub(crate) fn list_readable_values(
     Ok(())
 }
 
-/// Copies `key` into `last` if their lengths are equal.
-fn copy_key(last: &mut [u8], key: &[u8]) {
-    if last.len() == key.len() {
-        last.copy_from_slice(key);
-    }
-}
-
 /// Loads the machine that `key` identifies and runs it until its next read (see `run_to_read_point`). The first cycle
 /// reads `value`. Returns whether the property holds at every step, or `None` if `key` cannot be loaded or the first
 /// cycle cannot read `value`. Saves the machine's new key into `into` if the property holds. `last` is the key that
@@ -93,7 +90,7 @@ fn copy_key(last: &mut [u8], key: &[u8]) {
 pub(crate) fn run_to_next_key(
     replica: &mut SearchMachine,
     layout: &[KeyByte],
-    last: &mut [u8],
+    last: &mut LastKey,
     property: &Property,
     most: u32,
     key: &[u8],
@@ -103,7 +100,9 @@ pub(crate) fn run_to_next_key(
     requires test { replica.old.1.test ≡ 0 }
     requires complete { IsComplete replica.old.1.board layout.now }
     requires into { length into.old ≡ length key.now }
+    requires known { IsLastKeyOf layout.now last.old replica.old }
     ensures keeps { KeepsBoardAndInputs replica.old.1 replica.new.1 }
+    ensures known { IsLastKeyOf layout.now last.new replica.new }
     ensures leads { (limits : driven.InputLimits) → replica.old.1.keys ≡ limits.keys →
         IfSome result (λ property_holds. property_holds ≡ true →
         Leads (setting_of replica.old limits layout.now property.now) key.now value into.new) }
@@ -111,20 +110,25 @@ pub(crate) fn run_to_next_key(
         IfSome result (λ property_holds. property_holds ≡ true →
         IsState (setting_of replica.old limits layout.now property.now) into.new) }
 {
-    if key.len() != layout.len() || !replica.reload(layout, last, key) {
+    if key.len() != layout.len() {
+        return None;
+    }
+    if !replica.reload(layout, last, key) {
         return None;
     }
     replica.show_state_is_valid();
+    last.is_current = false;
     let at = replica.program_counter();
     let source = replica.source();
     if !replica.read(property, source, value) {
         return None;
     }
-    if !replica.run_to_read_point(property, most, layout, key, at) {
+    let Some(keeps_memory) = replica.run_to_read_point(property, most, layout, key, at) else {
         return Some(false);
-    }
+    };
     replica.show_state_is_valid();
-    replica.save(layout, into);
-    copy_key(last, into);
+    let is_kept = both(keeps_memory, source.is_input());
+    replica.save_after(layout, last.front, key, is_kept, into);
+    last.remember(into);
     Some(true)
 }

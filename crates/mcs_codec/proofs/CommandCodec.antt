@@ -1,5 +1,5 @@
 -- Reading is the inverse of encoding, for places and for commands. The proofs of `reads_encoding`
--- and `reads_back` have one line for each kind of place or command.
+-- and `reads_back` have one line for each kind of `Place` or command.
 use Rattle.std.proofs.Common.{◌≡◌, ℕ, ◌<◌, List, [], ◌∷◌, ◌++◌, Option, Some, None, refl, sym, ap, ◌∙◌, arith}
 use Rattle.std.specs.Prelude.{IfSome, IfNone, IfOk, Result, Ok, Err}
 use Rattle.mcs_model.specs.declared.command.Place.{Place}

@@ -10,7 +10,7 @@ use Rattle.mcs_model.specs.declared.command.Command.TheVariants.{Wire, Load, Pre
 use Rattle.mcs_codec.specs.Reading.{◌>>=◌, Reading, give, fail_reading, byte_at, wide_number_at, address_at, bytes_at, number_below_at}
 use Rattle.mcs_codec.specs.BoardReading.{board_at}
 
--- reads the `Place` of a RAM nibble: bank, SRC byte, new value
+-- reads the `Place` of a main nibble of RAM: bank, SRC byte, new value
 abbrev pub ram_nibble_at : Reading Place
 ram_nibble_at = do
   bank ← number_below_at 8
@@ -18,7 +18,7 @@ ram_nibble_at = do
   n ← number_below_at 16
   give (Ram bank src n)
 
--- reads the `Place` of a status nibble: bank, upper nibble of the SRC byte, number, new value
+-- reads the `Place` of a status character: bank, upper nibble of the SRC byte, number, new value
 abbrev pub status_nibble_at : Reading Place
 status_nibble_at = do
   bank ← number_below_at 8

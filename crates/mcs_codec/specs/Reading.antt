@@ -16,7 +16,7 @@ Reading A = List ℕ → Read A
 
 -- ---- steps
 
--- the result of the step `next`, which gets the value just read and reads the bytes after it;
+-- the result of the step `next`, which gets the value that was read and reads the bytes after it;
 -- `None` if no value was read
 abbrev pub and_then : {A B : Type 0} → Read A → (A → Reading B) → Read B
 and_then (Some x) next = next x.0 x.1

@@ -11,7 +11,7 @@ use Rattle.mcs_codec.specs.BoardBytes.{board_bytes, counted_bytes}
 use Rattle.mcs_codec.specs.CommandBytes.{address_bytes}
 use Rattle.mcs_version1.specs.BenchState.{BenchState1}
 
--- the bytes of the ROMs, the main nibbles and the status nibbles of the RAM chips, and the port
+-- the bytes of the ROMs, the main nibbles and the status characters of the RAM chips, and the port
 -- latches of the RAM chips and of the ROMs
 abbrev pub memory_bytes : BusState → List ℕ
 memory_bytes b = b.rom ++ (b.ram ++ (b.status ++ (b.ram_ports ++ b.rom_ports)))

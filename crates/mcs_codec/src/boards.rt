@@ -170,7 +170,7 @@ fn put_keys(keys: &Option<KeyMatrix>, out: &mut [u8], at: usize) -> usize
 }
 
 /// Reads the parts of a board, without checking that they make a valid board. Returns `None` if the
-/// bytes do not start with the encoding of such parts.
+/// bytes do not start with the encoding of the parts of a board.
 #[tactic(auto, unfolding(crate::specs::BoardReading::parts_at))]
 fn read_parts(reader: &mut Reader<'_>) -> Option<BoardParts>
     ensures { option_map (λ x. (x, reader.new)) result ≡ parts_at reader.old }

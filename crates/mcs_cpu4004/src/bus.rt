@@ -5,9 +5,10 @@ ghost use Rattle.mcs_model.specs.Levels.{after_ram_port, after_rom_port, port_of
 
 use mcs_nibble::{Addr, Bit, Nibble};
 
-/// The chips that the processor accesses, and the TEST pin. Contracts describe a call by the flat state of the bus
-/// before and after the call. The bank number is the value of the command register, 0 to 7. (Fethsaim, not Intel,
-/// defines this numbering.)
+/// The chips that the processor accesses, and the TEST pin. In a valid state, absent chips read
+/// as 0. Writes to absent chips have no effect. Contracts describe a call by the flat state of the
+/// bus before and after the call. The bank number is the value of the command register, 0 to 7.
+/// (Fethsaim, not Intel, defines this numbering.)
 pub trait Bus {
     ghost flat: { Self → BusState };
 
@@ -43,12 +44,14 @@ pub trait Bus {
         requires k { k < 4 }
         ensures { flat self.new ≡ after_status (flat self.old) bank k n };
 
-    /// Writes the output port of the selected RAM chip of a bank.
+    /// Writes the output port of the selected RAM chip of a bank. Shifts each chain whose clock
+    /// line rises.
     fn ram_port(&mut self, bank: u8, n: Nibble)
         requires { bank < 8 }
         ensures { flat self.new ≡ after_ram_port (flat self.old) bank n };
 
-    /// Writes the port of the ROM that the last SRC selected.
+    /// Writes the port of the ROM that the last SRC selected. Shifts each chain whose clock line
+    /// rises.
     fn rom_port(&mut self, n: Nibble)
         ensures { flat self.new ≡ after_rom_port (flat self.old) n };
 

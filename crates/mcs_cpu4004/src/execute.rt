@@ -175,9 +175,9 @@ fn active_line(lines: Nibble) -> Nibble
     })
 }
 
-/// Adjusts the accumulator to decimal, as DAA does. The new carry is 1 exactly when 6 is added: either the carry was
-/// already 1, or the sum is above 15. The code has no branches, because the host processor cannot predict branches
-/// that depend on the digits.
+/// Adjusts the accumulator to decimal, as DAA does. The new carry is 1 exactly when 6 is added:
+/// either the carry was already 1, or the accumulator plus 6 is above 15. The code has no branches,
+/// because the host processor cannot predict branches that depend on the digits.
 #[inline(always)]
 fn decimal_adjust(regs: &mut Regs)
     ensures { regs.new ≡ after_daa regs.old }

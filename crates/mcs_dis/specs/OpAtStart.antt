@@ -1,4 +1,5 @@
--- Only the contracts of private functions cite this definition.
+-- The instruction at the start of some bytes. Only the contracts of private functions cite this
+-- module.
 use Rattle.std.specs.Prelude.{ℕ, List, Option, drop, slice_index}
 use Rattle.mcs_model.specs.declared.op.Op.{Op}
 use Rattle.mcs_source.specs.Text.{op_at}

@@ -1,5 +1,5 @@
--- Properties of a disk after any calls: its bytes, the bytes that a power cut can leave, and how a
--- stretch of further calls changes both.
+-- Properties of a disk after any calls: its bytes, its images (the bytes that a power cut can
+-- leave), and how a stretch of further calls changes both.
 use Rattle.std.proofs.Common.{◌≡◌, ◌⊎◌, inl, inr, ⊎_elim, ℕ, zero, suc, ◌+◌, ◌≤◌, ◌<◌, List, [], ◌∷◌, ◌++◌, length, take, refl, arith, sym, ◌∙◌, ap, subst, get_or, length-take}
 use Rattle.mcs_disk.specs.Calls.{DiskCall, WasRead, Wrote, Failed, Synced, Torn, put, bytes_after, clock_of, images_after, images_after_since}
 use Rattle.mcs_disk.specs.Stretches.{writes_of}
@@ -88,8 +88,8 @@ image_since_earlier_time start (call ∷ calls) t u c le (inl now) = inl now
 image_since_earlier_time start (call ∷ calls) t u c le (inr past) =
     inr (omega (arith, le, past.0), image_since_earlier_time start calls t u c le (past.1))
 
--- a power cut since the current time of the clock leaves an image of this moment; a failed call
--- does not advance the clock, so the images before that call are also images after it
+-- A power cut since the current time of the clock leaves an image of this moment. A failed call
+-- does not advance the clock. Therefore the images before that call are also images after it.
 pub image_since_now_is_image : (start : List ℕ) (calls : List DiskCall) (c : List ℕ) → images_after_since start calls (clock_of calls) c → images_after start calls c
 image_since_now_is_image start [] c left = left
 image_since_now_is_image start (WasRead ∷ calls) c (inl now) = now

@@ -27,8 +27,9 @@ IsFailureOf (Wrote at bytes) old new =
     (new ≡ old) ⊎ ((seen : List ℕ) × (new ≡ Failed at bytes seen ∷ old))
 IsFailureOf call old new = new ≡ old
 
--- Holds if one of the given calls failed, and only the calls made before it succeeded.
--- `IsFailureOf` states how the list records the failed call.
+-- Holds if one of the given calls failed, and only the calls made before it succeeded. `old` and
+-- `new` are the list before and after these calls. `IsFailureOf` states how the list records the
+-- failed call.
 abbrev pub IsCutShort : List DiskCall → List DiskCall → List DiskCall → Type 0
 IsCutShort [] old new = ⊥
 IsCutShort (call ∷ before) old new = IsFailureOf call (before ++ old) new ⊎ IsCutShort before old new

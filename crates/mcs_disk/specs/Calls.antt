@@ -1,7 +1,7 @@
 -- The effect of calls on a disk's bytes, and the bytes that a power cut can leave after them. Lists
 -- of calls are newest first. (Fethsaim defines this model of a device: the device writes ranges of
 -- bytes. Before a sync, it promises only that bytes outside the written ranges are unchanged. After
--- a sync, it promises that all bytes stay. We assume this of POSIX's read, write and fdatasync on a
+-- a sync, it promises to keep all bytes. We assume this of POSIX's read, write and fdatasync on a
 -- file that was synced when it was opened. POSIX itself says nothing about power cuts.)
 use Rattle.std.specs.Prelude.{◌≡◌, ◌⊎◌, ℕ, zero, suc, ◌+◌, ◌≤◌, ◌<◌, List, [], ◌∷◌, length, take, drop, slice_index}
 

@@ -4,8 +4,8 @@ use Rattle.mcs_disk.specs.Disk.{CountsFault, DiskState, bytes_of, time_of}
 use Rattle.mcs_disk.specs.Stretches.{AddsNoImage, SatisfiesEither, LeavesOnly}
 use Rattle.mcs_disk.specs.PowerCut.{IsDurable}
 
--- Holds if only reads and syncs were made between `old` and `new`. The fault count rose by one if
--- `failed` holds, and stayed the same otherwise.
+-- Holds if only reads and syncs were added to the list of calls between `old` and `new`. The error
+-- count rose by one if `failed` holds, and stayed the same otherwise.
 pub record ReadsOnly (old new : DiskState) (failed : Type 0) : Type 0 where
   pub counts : CountsFault old new failed
   pub adds_no_image : AddsNoImage old new

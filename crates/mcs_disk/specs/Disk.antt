@@ -1,5 +1,5 @@
 -- The state of a disk: the bytes that it held at the start, and the calls on it since. Everything
--- else is a function of these two, except the fault count and the honesty of the disk.
+-- else is a function of these two, except the error count and the honesty of the disk.
 use Rattle.std.specs.Prelude.{◌≡◌, ◌↔◌, ℕ, ◌+◌, ◌-◌, ◌^◌, min, List, ◌++◌, length}
 use Rattle.mcs_disk.specs.Calls.{DiskCall, bytes_after, images_after, clock_of, images_after_since}
 pub use Rattle.mcs_disk.specs.Calls.{part, put, Torn}
@@ -8,8 +8,8 @@ pub use Rattle.mcs_disk.specs.Calls.{part, put, Torn}
 pub record DiskState : Type 1 where
   -- the number of failed calls, saturating at `max_fault_count`
   pub faults : ℕ
-  -- the premise that the device is honest: if it holds, a read that returns Ok returns the bytes of
-  -- `bytes_of` in its range; each kind of disk states its own premise
+  -- The premise that the device is honest. If the premise holds, a read that returns Ok returns the
+  -- bytes of `bytes_of` in its range. Each kind of disk states its own premise.
   pub honest : Type 0
   -- the bytes before any call; a power cut before the first call leaves exactly these bytes
   pub start : List ℕ
@@ -39,13 +39,13 @@ time_of disk = clock_of disk.calls
 abbrev pub images_since : ℕ → DiskState → List ℕ → Type 0
 images_since time disk = images_after_since disk.start disk.calls time
 
--- the maximum fault count
+-- the maximum of a disk's error count
 abbrev pub max_fault_count : ℕ
 max_fault_count = 2 ^ 64 - 1
 
 -- Holds if the initial bytes and the honesty of a disk are the same in `old` and `new`, and
--- failures were counted. The saturating fault count rises by one if `failed` holds, and stays the
--- same otherwise. `failed` states that a call failed; it is `⊥` if none did.
+-- failures were counted. The error count rises by one, up to `max_fault_count`, if `failed` holds;
+-- otherwise it stays the same. `failed` states that a call failed; it is `⊥` if none did.
 pub record CountsFault (old new : DiskState) (failed : Type 0) : Type 0 where
   pub start : new.start ≡ old.start
   pub honest : new.honest ↔ old.honest
@@ -53,8 +53,8 @@ pub record CountsFault (old new : DiskState) (failed : Type 0) : Type 0 where
   pub no_fault : ¬ failed → new.faults ≡ old.faults
 
 -- Holds if `new` is later than `old`: both have the same initial bytes, and the calls of `new` are
--- those of `old`, possibly followed by more. `IsLater` states nothing about faults or honesty
--- (`CountsFault` does).
+-- those of `old`, possibly followed by more. `IsLater` states nothing about the error count or the
+-- honesty of the disk (`CountsFault` does).
 pub record IsLater (old new : DiskState) : Type 0 where
   pub start : new.start ≡ old.start
   pub added : List DiskCall

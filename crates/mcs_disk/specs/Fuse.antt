@@ -27,7 +27,8 @@ inner_disk disk = disk.disk
 pub record FuseCall {T E : Type 0} (old new : FuseDisk) (result : Result T E) : Type 0 where
   pub fails : FailsAfter old 0 → IsErr result
   pub inner_unchanged : FailsAfter old 0 → inner_disk new ≡ inner_disk old
-  -- if the call is passed on, the wrapped disk counts a fault only if the result is an error
+  -- if the call is passed on, the error count of the wrapped disk rises only if the result is an
+  -- error
   pub passed_on : ¬ (FailsAfter old 0)
       → CountsFault (mem_disk_state (inner_disk old)) (mem_disk_state (inner_disk new))
       (IsErr result)

@@ -1,5 +1,5 @@
--- Stretches of calls on a disk, from one state to a later one: the writes in a stretch, and the
--- bytes that a power cut at any moment of the stretch can leave.
+-- A stretch of calls leads from one state of a disk to a later state. This module counts the writes
+-- of a stretch, and states which bytes a power cut at any moment of the stretch can leave.
 use Rattle.std.specs.Prelude.{◌≡◌, ◌⊎◌, ℕ, ◌+◌, List, [], ◌∷◌}
 use Rattle.mcs_disk.specs.Calls.{DiskCall, WasRead, Wrote, Failed, Synced}
 use Rattle.mcs_disk.specs.Disk.{DiskState, IsLater, images_since, time_of}
@@ -18,8 +18,8 @@ writes_of (Synced ∷ calls) = writes_of calls
 abbrev pub WritesNothing : DiskState → DiskState → Type 0
 WritesNothing old new = writes_of new.calls ≡ writes_of old.calls
 
--- Holds if only reads and syncs were made between `old` and `new`. They change no byte and add no
--- image that a power cut could leave.
+-- Holds if `new` is later than `old`, and only reads and syncs were added to its list of calls.
+-- They change no byte and add no image that a power cut could leave.
 pub record AddsNoImage (old new : DiskState) : Type 0 where
   pub later : IsLater old new
   pub writes_nothing : WritesNothing old new

@@ -7,14 +7,14 @@ ghost use Rattle.mcs_disk.specs.Calls.{WasRead, Wrote, Synced};
 
 use thiserror::Error;
 
-/// A device fault: a call on the disk failed.
+/// An I/O error: a call on the disk failed.
 #[derive(Clone, Copy, Debug, PartialEq, Eq, Error)]
 #[error("the device failed")]
 pub struct DiskFault;
 
 /// A byte device that can read and write ranges, and sync.
 ///
-/// Every disk has a size, a fault count and a list of the calls on it. On an honest disk, a read
+/// Every disk has a size, an error count and a list of the calls on it. On an honest disk, a read
 /// returns the bytes that the listed calls have left. The list also determines which bytes a power
 /// cut can leave. Between two syncs, a cut can leave any bytes in a written range. After a
 /// successful sync, it leaves the current bytes.

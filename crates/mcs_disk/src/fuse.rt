@@ -46,8 +46,8 @@ impl Fuse {
 
 /// A wrapper around a [`MemDisk`] that fails chosen calls without passing them on.
 ///
-/// The wrapper counts its own faults. It is honest because the wrapped disk is. The wrapped disk
-/// answers every call that is passed on, always with Ok.
+/// The wrapper counts the calls that it fails. It is honest because the wrapped disk is honest. The
+/// wrapped disk answers every call that is passed on with Ok.
 #[derive(Drop)]
 pub struct FuseDisk {
     disk: MemDisk,
@@ -98,7 +98,7 @@ impl FuseDisk {
         self.fuse = Fuse::NeverFails;
     }
 
-    // Adds one to the saturating fault count and returns `DiskFault`. Changes nothing else.
+    // Adds one to the error count (which saturates) and returns `DiskFault`. Changes nothing else.
     fn fail(&mut self) -> DiskFault
         ensures inner { self.new.disk ≡ self.old.disk }
         ensures fuse { self.new.fuse ≡ self.old.fuse }

@@ -1,5 +1,5 @@
-//! Laws about images and power cuts. The contract of each function states a law; the function
-//! itself does nothing.
+//! Laws about images and power cuts. An image of a disk is a list of bytes that a power cut can
+//! leave on it. The contract of each function states a law; the function itself does nothing.
 ghost use Rattle.std.specs.Prelude.{◌≡◌, ◌⊎◌, ◌≤◌, ℕ, List, length};
 ghost use Rattle.mcs_disk.specs.Disk.{IsLater, bytes_of, images_of, images_since, size_of, time_of};
 ghost use Rattle.mcs_disk.specs.PowerCut.{IsLeftByCut, IsDurable};

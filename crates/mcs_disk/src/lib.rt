@@ -1,5 +1,5 @@
-//! The journal's model of a disk: a fixed number of bytes, device faults, and the bytes that a
-//! power cut can leave.
+//! The journal's model of a disk: a fixed number of bytes, I/O errors, and the bytes that a power
+//! cut can leave.
 //!
 //! The journal is generic over the trait [`Disk`]. [`MemDisk`] is an honest in-memory disk.
 //! [`FuseDisk`], for tests, is an in-memory disk that fails chosen calls. [`Record`] lists the

@@ -10,7 +10,7 @@ use Rattle.mcs_model.specs.Validity.{AreBelow}
 use Rattle.mcs_drive.specs.DrivenRuns.{AreAllowed, FitsBoard, Levels, no_limits}
 use Rattle.mcs_drive.proofs.ShownMarkLemmas.{key-level-below-two}
 
--- each level of a key is at most 1, the highest level, at its place in a list of that level
+-- the level of each key is at most the number at the same index in a list of `n` ones
 level-at-most-highest : (n i : ℕ) (keys : List ℕ) → AreBelow n 2 keys → slice_index keys i ≤ slice_index (replicate n 1) i
 level-at-most-highest n i keys fit =
     elim (cases_lt i n) [

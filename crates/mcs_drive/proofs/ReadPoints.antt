@@ -78,12 +78,13 @@ module _ (w : Observer) where
 
   -- ---- machines before a read of an input
 
-  -- at the input levels `l`, `a` leads to a machine in `R`
+  -- holds if `a`, at the input levels `l`, leads to a machine in `R`
   abbrev pub Leads : (TrackedMachine → Bool) → (TrackedMachine → Type 0) → TrackedMachine → Levels → Type 0
   Leads p R a l = (to : TrackedMachine) × R to × LeadsTo w p a to l
 
-  -- holds if `p` is true for each machine in `R`, and each machine in `R` leads to a machine in `R`
-  -- at all input levels within the limits
+  -- Holds if `p` is true for each machine in `R`, and each machine in `R` leads to a machine in `R`
+  -- at all input levels within the limits. Each machine in `R` must have a valid board, and `p`
+  -- must ignore the input levels.
   pub record IsClosedSet (limits : InputLimits) (p : TrackedMachine → Bool) (R : TrackedMachine → Type 0) : Type 0 where
     pub ignores : IgnoresLevels p
     pub sound : (a : TrackedMachine) → R a → board_fault_of a.1.board ≡ None
@@ -116,7 +117,7 @@ module _ (w : Observer) where
             ∙ sym (c.ignores (after_cycles w (suc k) b)) ∙ leads.property_holds k within
       ]
 
-  -- if `R` is closed and contains `a`, then `p` holds at every moment of every run from `a` within the
-  -- limits
+  -- if `R` is closed and contains `a`, then `p` holds at every moment of every run from `a` within
+  -- the limits
   pub closed-holds : (limits : InputLimits) (p : TrackedMachine → Bool) (R : TrackedMachine → Type 0) → IsClosedSet limits p R → (a : TrackedMachine) → R a → Holds limits w p a
   closed-holds limits p R c a is = λ f fit k. closed_set-holds limits p R c (suc k) k (omega arith) f a is fit

@@ -46,7 +46,7 @@ shows_next_mark-false-if-no-read w s value quiet =
 seen_after_reading-if-no-read : (w : Observer) (s : TrackedMachine) (value : ℕ) → next_reads_input s ≡ false → seen_after_reading w s value ≡ seen_count_after (length w.marks) s.2.seen (condition_holds_at w s) false
 seen_after_reading-if-no-read w s value quiet = ap (seen_count_after (length w.marks) s.2.seen (condition_holds_at w s)) (shows_next_mark-false-if-no-read w s value quiet)
 
--- a cycle that reads no input sees the same number of marks at all input levels
+-- after a cycle that reads no input, the count of marks is the same at all input levels
 pub seen_after-with_levels-if-no-read : (w : Observer) (l : Levels) (s : TrackedMachine) → next_reads_input s ≡ false → seen_after w (with_levels l s) ≡ seen_after w s
 unfolding fetch_of
 seen_after-with_levels-if-no-read w l s quiet = rw (seen_after_reading-if-no-read w (with_levels l s) (port_of (at_levels l s.1)) quiet, seen_after_reading-if-no-read w s (port_of s.1) quiet) refl
@@ -92,8 +92,8 @@ seen_after_reading-decided-by-value-read w l l' s same =
     (mark_satisfies-for-equal-predicates (slice_get w.marks (seen_mark_count (length w.marks) s.2.seen)) (shows op s.1 (port_of (at_levels l s.1))) (shows op s.1 (port_of (at_levels l' s.1)))
     (λ mark. next-shown-mark-decided-by-value-read (eqb s.0.owed 1) (instruction_at s.0 s.1) l l' s.1 mark same))
 
--- if a cycle reads the same value at two sets of input levels, it sees the same number of marks at
--- both
+-- if a cycle reads the same value at two sets of input levels, the count of marks after the cycle
+-- is the same at both
 pub seen_after-decided-by-value-read : (w : Observer) (l l' : Levels) (s : TrackedMachine) → answer l s ≡ answer l' s → seen_after w (with_levels l s) ≡ seen_after w (with_levels l' s)
 seen_after-decided-by-value-read w l l' s same =
     seen_after_reading-with_levels w l s (port_of (at_levels l s.1)) ∙ seen_after_reading-decided-by-value-read w l l' s same ∙ sym (seen_after_reading-with_levels w l' s (port_of (at_levels l' s.1)))

@@ -1,5 +1,5 @@
 -- The effects of inputs on a machine. Before each cycle the environment sets the keys and the TEST
--- pin to any levels. The machine then executes one cycle, as the instruction table defines it. To
+-- pin to any levels. The machine then executes one cycle, as the opcode table defines it. To
 -- believe that a property holds for all inputs, a reader must trust only this file, TrackedMachine,
 -- Marks, and the definitions that these three use. (Defined by Fethsaim, not by Intel.)
 use Rattle.std.specs.Prelude.{◌<◌, ◌≤◌, ℕ, zero, suc, List, replicate, slice_index, unwrap_or}
@@ -20,8 +20,9 @@ pub record FitsBoard (b : BoardParts) (l : Levels) : Type 0 where
   pub keys : AreBelow (key_count b) 2 l.keys
   pub test : l.test < 2
 
--- Limits of the inputs: the highest level, 0 or 1, of each key, row by row, and of the TEST pin, and
--- the largest number of keys that are down together.
+-- Limits of the inputs. `keys` has the highest level, 0 or 1, of each key, row by row. `test` is
+-- the highest level of the TEST pin. `together` is the largest number of keys that are down at the
+-- same time.
 pub record InputLimits : Type 0 where
   pub keys : List ℕ
   pub test : ℕ
@@ -47,7 +48,7 @@ NoLimitsAllowAllLevels = (b : BoardParts) (l : Levels) → FitsBoard b l → Are
 abbrev pub with_levels : Levels → Machine → Machine
 with_levels l s = (s.0, record s.1 { keys = l.keys; test = l.test })
 
--- a machine after one cycle; an opcode outside the instruction table leaves it unchanged
+-- a machine after one cycle; an opcode outside the opcode table leaves it unchanged
 abbrev pub cycled : Machine → Machine
 cycled s = unwrap_or (cycle_of s.0 s.1) s
 

@@ -58,8 +58,8 @@ ReadsDecideCycle =
 
 -- ---- the values that a read can return
 
--- true if a key can pull line `k` of ROM `chip`: the line is a column of the key matrix, and at
--- least one row is driven
+-- true if a key can pull line `k` of ROM `chip`: a column of the key matrix is wired to the line,
+-- and at least one row is driven
 abbrev pub can_be_pulled : BusState → ℕ → ℕ → Bool
 can_be_pulled s chip k =
     elim s.board.keys [

@@ -25,8 +25,8 @@ is_row_driven s m r = chain_bit s m.chain (m.first + r) == 1
 abbrev pub column_line : KeyMatrix → ℕ → Line
 column_line m j = slice_index_or m.columns.items j (Rom 0 0)
 
--- true if a key other than the key of the mark can pull line `k` of ROM `chip`: the other key is in
--- a driven row, and the column of the other key is wired to that line
+-- True if a key other than the key of the mark can pull line `k` of ROM `chip`. The other key is in
+-- a driven row, and the column of the other key is wired to that line.
 abbrev pub can_other_key_pull : BusState → KeyMatrix → Mark → ℕ → ℕ → Bool
 can_other_key_pull s m mark chip k =
     list_any
@@ -34,9 +34,10 @@ can_other_key_pull s m mark chip k =
     && list_any (λ r. is_row_driven s m r && not (r == mark.row && j == mark.column)) (range_with_len 0 m.rows))
     (range_with_len 0 (length m.columns.items))
 
--- True if a value read at the port of the selected ROM shows a mark whose key can pull this line.
--- The value shows that the key is up if the row of the key is driven and the line reads 0. It shows
--- that the key is down if the line reads 1 and no other key can pull the line.
+-- True if `value`, read at the port of the selected ROM, shows a mark. The line is the one to which
+-- the column of the mark's key is wired. It must be a line of the selected ROM. The value shows
+-- that the key is up if the row of the key is driven and the line reads 0. It shows that the key is
+-- down if the line reads 1 and no other key can pull the line.
 abbrev pub line_shows : BusState → KeyMatrix → ℕ → Mark → Line → Bool
 line_shows s m value mark (Rom chip k) =
     chip == s.rom_src / 16

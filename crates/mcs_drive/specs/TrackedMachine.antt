@@ -44,15 +44,15 @@ without_levels s = with_levels (record { keys = []; test = 0 }) s
 -- ---- open calls
 
 -- The number of open calls after an instruction, if `n` calls are open before it. JMS opens a call,
--- and BBL closes one. At most three calls are open: a fourth call overwrites the return address of
--- the first.
+-- and BBL closes one if any is open. At most three calls are open: a fourth call overwrites the
+-- return address of the first.
 abbrev pub calls_after : Option Op → ℕ → ℕ
 calls_after (Some (Jms h b)) n = if nat_lt n 3 then n + 1 else n
 calls_after (Some (Bbl d)) n = n - 1
 calls_after _ n = n
 
 -- The instruction that the next cycle begins. There is none if the next cycle is the second cycle
--- of an instruction, which does no work, or if the opcode is outside the instruction table.
+-- of an instruction, which does no work, or if the opcode is outside the opcode table.
 abbrev pub next_op : Regs → BusState → Option Op
 next_op s m = if s.owed == 1 then None else instruction_at s m
 
@@ -77,11 +77,11 @@ no_observer = record { begins = λ s. false; ends = λ s. false; opens = λ s. f
 
 -- ---- the stopwatch of an observer
 
--- True if the stopwatch begins at a tracked machine. The next definition, `ends_at`, is true if the
--- stopwatch ends at the machine. Both ignore the input levels of the machine.
+-- true if the stopwatch begins at a tracked machine; the input levels of the machine are ignored
 abbrev pub begins_at : Observer → TrackedMachine → Bool
 begins_at w s = w.begins (without_levels s)
 
+-- true if the stopwatch ends at a tracked machine; the input levels of the machine are ignored
 abbrev pub ends_at : Observer → TrackedMachine → Bool
 ends_at w s = w.ends (without_levels s)
 
@@ -106,9 +106,9 @@ elapsed_after w s = stopwatch_after s.2.elapsed (begins_at w s) (ends_at w s)
 abbrev pub condition_holds_at : Observer → TrackedMachine → Bool
 condition_holds_at w s = w.opens (without_levels s)
 
--- The number of marks, out of `n`, that were seen in order since the condition last held. `seen` is
--- the count of a tracked machine. A count of `n + 1` means that the condition held immediately
--- before, so that no mark has been seen since.
+-- The number of marks, out of `n`, that were seen in order since the condition last held, or since
+-- the start of the run. `seen` is the count of a tracked machine. A count of `n + 1` means that the
+-- condition held immediately before, so that no mark has been seen since.
 abbrev pub seen_mark_count : ℕ → ℕ → ℕ
 seen_mark_count n seen = if nat_lt n seen then 0 else seen
 
@@ -127,11 +127,12 @@ shows_next_mark w s value =
       | None ↦ false
     ]
 
--- The count of marks after the next cycle, if that cycle reads `value`. The next definition,
--- `seen_after`, takes the value at the port of the selected ROM.
+-- the count of marks after the next cycle, if that cycle reads `value`
 abbrev pub seen_after_reading : Observer → TrackedMachine → ℕ → ℕ
 seen_after_reading w s value = seen_count_after (length w.marks) s.2.seen (condition_holds_at w s) (shows_next_mark w s value)
 
+-- the count of marks after the next cycle, if that cycle reads the value at the port of the
+-- selected ROM
 abbrev pub seen_after : Observer → TrackedMachine → ℕ
 seen_after w s = seen_after_reading w s (port_of s.1)
 
@@ -145,8 +146,7 @@ counts_after w s = record {
   seen = seen_after w s;
 }
 
--- a tracked machine after one cycle; an opcode outside the instruction table does not change the
--- machine
+-- a tracked machine after one cycle; an opcode outside the opcode table does not change the machine
 abbrev pub cycled : Observer → TrackedMachine → TrackedMachine
 cycled w s =
     let t = unwrap_or (cycle_of s.0 s.1) (machine_in s) in

@@ -3,8 +3,9 @@
 /// A byte range of a file: its offset in the file, and its bytes.
 pub type FileRange = (usize, &'static [u8]);
 
-/// The non-zero bytes in the session file of a new bench: the format name, the state's length (6,822 bytes), a
-/// `-` for each of the four lines of 16 absent ROMs, and the TEST level 1.
+/// The non-zero bytes in the session file of a new bench. They are the format name, the length of
+/// the state (6,822 bytes), 64 bytes `-`, and the TEST level 1. Each `-` encodes a port line of an
+/// absent ROM.
 pub const NEW_BENCH: [FileRange; 4] = [
     (0, b"MCS4BEN1"),
     (18, &[0x1A, 0xA6]),

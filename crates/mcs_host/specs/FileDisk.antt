@@ -6,14 +6,15 @@ use Rattle.mcs_disk.specs.NotedCalls.{calls_in}
 use Rattle.mcs_disk.specs.declared.call_record.Call.{Call}
 use Rattle.mcs_disk.specs.declared.record.Record.{Record}
 
--- The premise on the host, and on other programs that write the file without requesting its lock:
--- the bytes found in the file after its end are an image that the calls before the end can leave. A
--- write that the end interrupted counts as a failed call.
+-- The premise that a file is honest: the bytes found in the file after its end are an image that
+-- the calls before the end can leave. The premise is about the host, and about other programs that
+-- write the file without requesting its lock. A write that the end interrupted counts as a failed
+-- call.
 abbrev pub IsHonest : Record Call → Record Call → Type 0
 IsHonest history end = images_after history.start (calls_in end.notes) end.start
 
--- the state of a disk whose bytes are in a file, given its fault count, its record of calls and the
--- end of the file
+-- the state of a disk whose bytes are in a file, given the disk's error count and record of calls,
+-- and the end of the file
 abbrev pub file_state : ℕ → Record Call → Record Call → DiskState
 file_state faults history end = record {
   faults = faults;

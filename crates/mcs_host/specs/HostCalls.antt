@@ -37,7 +37,7 @@ pub data AnsweredCall : Type 0 where
 pub record HostState : Type 0 where
   -- the name with which the file was opened
   pub name : List ℕ
-  -- the file's descriptor, the number by which the host identifies the open file
+  -- the file's descriptor: the host's number for the open file
   pub number : ℤ
   -- the calls on the file since it was opened, newest first
   pub calls : List AnsweredCall

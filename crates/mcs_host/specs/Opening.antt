@@ -22,8 +22,8 @@ pub record IsNamedSession (bytes : List ℕ) : Type 0 where
   pub size : length bytes ≡ FILE_SIZE
   pub name : part 0 NAME_SIZE bytes ≡ NAME
 
--- this parent folder, or the program's working folder if there is no parent or the parent's name is
--- empty
+-- the given parent folder, or the program's working folder if there is no parent folder or its name
+-- is empty
 abbrev pub parent_or_working_folder : Option (List ℕ) → List ℕ
 parent_or_working_folder None = codes "."
 parent_or_working_folder (Some []) = codes "."
@@ -94,9 +94,9 @@ pub record IsFilled
   pub is_blank : IsAllZeros written
   pub asked : IsFilledAfter name written bytes (Length 0 true ∷ locked) calls
 
--- Holds if the file was read as it is. `found` is the length of the file. If the file is longer
--- than a session file, only `FILE_SIZE + 1` bytes were read; this shows that it is not a session
--- file.
+-- Holds if the file was read, and was neither filled nor rewritten. `found` is the length of the
+-- file. If the file is longer than a session file, only `FILE_SIZE + 1` bytes were read; this shows
+-- that it is not a session file.
 pub record IsRead
     (create_if_missing : Bool) (name bytes : List ℕ) (is_name_stable : Bool) (locked calls : List AnsweredCall)
     : Type 0 where

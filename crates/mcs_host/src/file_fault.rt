@@ -22,14 +22,15 @@ const HOST_FILE_LIMIT_ERROR: i32 = 23;
 /// The reason why a file was not opened. Each error that a user can act on has its own variant.
 #[derive(Clone, Copy, Debug, PartialEq, Eq, Error)]
 pub enum FileFault {
-    /// Another program is using the file: it holds the lock, or it has just removed or replaced the
-    /// file.
+    /// Another program is using the file: it holds the lock, or it removed or replaced the file
+    /// after this program had opened it.
     #[error("in use")]
     InUse,
     /// The host cannot lock this file. Some network file systems have no locks.
     #[error("no lock")]
     CannotLock,
-    /// No file has this name, or a folder in the name does not exist or is not a folder.
+    /// No file has this name, a folder of its path is missing, or a part of its path is not a
+    /// folder.
     #[error("not there")]
     FileMissing,
     /// The program is not permitted to read and write the file, or the file system is read-only.

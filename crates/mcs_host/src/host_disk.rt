@@ -19,9 +19,9 @@ use std::alloc::{AllocError, Global};
 /// An open file of the host, used as a disk.
 ///
 /// The file is read into memory once, when it is opened, and each write also updates this copy. If
-/// the host returns bytes that differ from the copy, `read` returns a device fault. No call can
-/// check the premise `honest`: the bytes that are found in the file after its end are one of the
-/// images that the calls before the end can leave.
+/// the host returns bytes that differ from the copy, `read` returns `DiskFault`. No call can check
+/// the premise `honest`. The premise states that the bytes found in the file after its end are one
+/// of the images that the calls before the end can leave.
 #[derive(Drop)]
 pub struct HostDisk<H: HostFile> {
     file: H,
@@ -106,8 +106,8 @@ impl<H: HostFile> HostDisk<H> {
         given == &self.bytes[at..at + given.len()]
     }
 
-    // Adds one to the saturating fault count, stores `is_full`, and returns `DiskFault`. Changes
-    // nothing else. `is_full` says whether the device was full or a quota was used up.
+    // Adds one to the error count (which saturates), stores `is_full`, and returns `DiskFault`.
+    // Changes nothing else. `is_full` says whether the device was full or a quota was used up.
     fn fail(&mut self, is_full: bool) -> DiskFault
         ensures file { self.new.file ≡ self.old.file }
         ensures bytes { self.new.bytes ≡ self.old.bytes }

@@ -17,7 +17,7 @@ pub trait HostFile {
     /// The state of the open file, as contracts see it.
     ghost state: { Self → HostState };
 
-    /// Returns the file's descriptor, the number by which the host identifies the open file.
+    /// Returns the file's descriptor: the host's number for the open file.
     fn number(&self) -> i32
         ensures { result ≡ (state self.now).number };
 

@@ -61,8 +61,8 @@ pub(crate) fn open_and_read<N: Host>(
     }
 }
 
-// Opens a file. If the file is missing and `create_if_missing` is true, creates it. Returns the file, and true
-// if the file was created.
+// Opens a file, or creates it if it is missing and `create_if_missing` is true. Returns the file,
+// and true if the file was created.
 fn open_or_create<N: Host>(
     host: &N,
     alloc: Global,

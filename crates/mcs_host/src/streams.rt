@@ -58,11 +58,12 @@ impl Streams {
 /// The reason why the program cannot start with its standard streams.
 #[derive(Clone, Copy, Debug, PartialEq, Eq, Error)]
 pub enum StreamsFault {
-    /// Standard output or standard error is a session file.
+    /// Standard output or standard error is a session file, or a file of the same size that cannot
+    /// be read.
     #[error("standard output or standard error is a session file")]
     IntoSession,
     /// The host does not say which file a stream refers to, for example because /proc is not
-    /// mounted.
+    /// mounted. The stream is not a terminal.
     #[error("the files of the standard streams are unknown")]
     Unknown,
     /// A standard stream is closed, and /dev/null cannot be opened to replace it.
@@ -92,8 +93,8 @@ pub struct StandIns {
 
 impl StandIns {
     /// Opens a stand-in for each closed standard stream, and checks all three streams. Fails if a
-    /// stand-in cannot be opened, if an output stream is a session file, or if the host does not
-    /// say which file a stream is.
+    /// stand-in cannot be opened, or if an output stream is a session file or could be one. Also
+    /// fails if the host does not say which file a stream is, unless the stream is a terminal.
     pub fn open(rt: &HostRuntime) -> Result<StandIns, StreamsError> {
         let opened = StandIns::open_stand_ins(rt);
         let input = stream_kind(check_stream_is_known(rt, INPUT), rt.stdin().is_terminal());
@@ -138,7 +139,7 @@ enum StreamKind {
     /// The stream is another file or a terminal. Standard input counts as `Other` even if it is a
     /// session file.
     Other,
-    /// The host does not say which file the stream is.
+    /// The host does not say which file the stream is, and the stream is not a terminal.
     Unknown,
 }
 
@@ -200,14 +201,16 @@ fn may_be_session(stream: StreamKind) -> bool
     }
 }
 
-// Checks that the host says which file a stream is, and returns false: the stream does not count as
-// a session file. (This is for standard input, which is allowed to be a session file.)
+// Returns false if the host says which file the stream is, and fails otherwise. The name of the
+// stream in /proc/self/fd is `stream`. The result is false because standard input is allowed to be
+// a session file.
 fn check_stream_is_known<R: Files>(rt: &R, stream: &str) -> io::Result<bool> {
     fs::metadata(rt, stream)?;
     Ok(false)
 }
 
-// Returns true if a stream is a session file, or a file of the same size that cannot be read.
+// Returns true if the stream of this name is a session file, or a file of the same size that cannot
+// be read. Fails if the host does not say which file the stream is.
 fn is_session<R: Files<File = File>>(rt: &R, stream: &str) -> io::Result<bool> {
     if !has_session_size(&fs::metadata(rt, stream)?) {
         return Ok(false);

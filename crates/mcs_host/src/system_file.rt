@@ -182,8 +182,9 @@ fn is_name_of_link<R: Files<File = File>>(rt: &R, name: &str) -> io::Result<bool
     Ok(fs::symlink_metadata(rt, name)?.is_symlink())
 }
 
-// Follows symbolic links from `name`, at most `MAX_LINKS` of them. Fails if the host gives no real
-// path for the folder of a link's target, for example because that path is not valid UTF-8.
+// Follows symbolic links from `name`, at most `MAX_LINKS` of them. Fails if a link cannot be read,
+// or if the host gives no real path for the folder that contains the link's target. (That path
+// could be invalid UTF-8, for example.) Also fails if memory runs out.
 fn check_removable<R: Files<File = File>>(rt: &R, alloc: Global, name: &str) -> io::Result<()> {
     let mut link = PathBuf::from_str(alloc, name)?;
     for _ in 0..MAX_LINKS {

@@ -35,7 +35,7 @@ part_torn_around_write at n lo k j f c torn fits is inside =
       ];
     }
 
--- a part of a part is a part of the whole
+-- a part of a part of a list is a part of the list
 pub part_of_part : (lo k j n m : ℕ) (f : List ℕ) → k ≡ j + m → n ≤ m → part j n (part lo k f) ≡ part (lo + j) n f
 part_of_part lo k j n m f is inside =
     ap (λ (q : ℕ). take n (drop j (take q (drop lo f)))) is

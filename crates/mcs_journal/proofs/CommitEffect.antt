@@ -15,7 +15,7 @@ module _ (old : DiskState) (g : ℕ) (q : Type 0) (at : ℕ) (from : List ℕ) w
   abbrev bytes : List ℕ
   bytes = bytes_after old.start old.calls
 
-  -- an image from before the write, possibly with other bytes in the written range
+  -- holds for an image from before the write, possibly with other bytes in the written range
   abbrev IsImageOrTorn : List ℕ → Type 0
   IsImageOrTorn c = images_after old.start old.calls c ⊎ ((d : List ℕ) × images_after old.start old.calls d × Torn at (length from) d c)
 

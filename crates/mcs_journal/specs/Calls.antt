@@ -58,8 +58,8 @@ pub record MakesWithArea {T E : Type 0} (snap : List ℕ) (calls : List ℕ → 
   pub is_area : IsArea snap area
   pub made : MakesCalls (calls area) old new result
 
--- Holds if a failed `create` turned the list of calls `old` into `new`. (The lists do not contain
--- failed reads and syncs.)
+-- Holds if a `create` with the snapshot `snap` failed with this error, and turned the list of calls
+-- `old` into `new`. (The lists do not contain failed reads and syncs.)
 abbrev pub FailedCreateCalls : {T E : Type 0} → StoreFault → List ℕ → List DiskCall → List DiskCall
     → Result T E → Type 0
 FailedCreateCalls store_fault.NotBlank snap old new result = (new ≡ old) ⊎ (new ≡ WasRead ∷ old)

@@ -11,7 +11,7 @@ use Rattle.mcs_journal.specs.declared.slot.Slot.{Slot}
 -- a store as contracts see it, on a disk of type D
 pub record StoreView (D : Type 0) : Type 0 where
   pub disk : D
-  -- true if no call on the store has returned a device fault
+  -- true if no call on the store has returned `DiskFault`
   pub live : Bool
   -- the active slot, which holds the snapshot and the log
   pub slot : Slot

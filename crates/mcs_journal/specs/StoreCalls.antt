@@ -28,7 +28,7 @@ IsOpenFault store_fault.Device = Unit {0}
 IsOpenFault store_fault.NoMemory = Unit {0}
 IsOpenFault store_fault.NotBlank = ⊥
 
--- the condition that an error of `open` implies for the disk before the call
+-- the condition that an error of `open` implies for an honest disk before the call
 abbrev pub OpenErrorImplies : StoreFault → DiskState → Type 0
 OpenErrorImplies store_fault.NotASession disk = IsNotSessionFile disk
 OpenErrorImplies store_fault.Damaged disk = ¬ (IsNotSessionFile disk) × HoldsNoContents disk
@@ -43,7 +43,7 @@ pub record OpensStore (old new : DiskState) (snap : List ℕ) (records : List (L
   pub adds_no_image : AddsNoImage old new
   pub durable : IsDurable new
 
--- the condition that an error of `create` implies for the disk before and after the call
+-- the condition that an error of `create` implies for an honest disk before and after the call
 abbrev pub CreateErrorImplies : StoreFault → DiskState → DiskState → Type 0
 CreateErrorImplies store_fault.NotBlank old new = ¬ (IsBlank old) × AddsNoImage old new
 CreateErrorImplies store_fault.Device old new = IsLater old new

@@ -20,8 +20,8 @@ pub enum StoreFault {
     /// `create` and `open` return this error if a call on the disk failed (refusal 53).
     #[error("the device failed")]
     Device,
-    /// `create` returns this error if the disk is not blank (refusal 55): it does not have the size
-    /// of a session file, or one of its first 16 bytes is not 0.
+    /// `create` returns this error if the disk is not blank (refusal 55). A blank disk has the size
+    /// of a session file, and its first 16 bytes are 0.
     #[error("not blank")]
     NotBlank,
     /// `create` and `open` return this error if memory runs out for a buffer, the snapshot or a

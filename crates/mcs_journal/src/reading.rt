@@ -20,8 +20,8 @@ use crate::slot::Slot;
 use mcs_disk::{Disk, DiskFault};
 use std::alloc::Global;
 
-/// Fills `into` with the bytes of the disk that start at offset `at`. The read adds no image to the
-/// disk. Fails if the device fails.
+/// Fills `into` with the bytes of the disk that start at offset `at`. The read does not change
+/// which bytes a power cut can leave. Fails if the device fails.
 pub fn read_at<D: Disk>(disk: &mut D, at: usize, into: &mut [u8]) -> Result<(), DiskFault>
     requires { at + length into.old ≤ size_of (D.state disk.old) }
     ensures reads { ReadsOnly (D.state disk.old) (D.state disk.new) (IsErr result) }

@@ -23,7 +23,7 @@ use std::marker::Model;
 
 /// A snapshot and the records after it, on a disk.
 ///
-/// A call that returns a device fault closes the store. An honest disk then holds the contents from
+/// A call that returns [`DiskFault`] closes the store. An honest disk then holds the contents from
 /// before that call or those from after that call. Opening the disk again shows which contents it
 /// holds.
 #[derive(Drop)]
@@ -180,7 +180,7 @@ impl<D: Disk + Drop> Store<D> {
         }
     }
 
-    /// Returns true if no call on the store has returned a device fault.
+    /// Returns true if no call on the store has returned [`DiskFault`].
     pub fn is_open(&self) -> bool
         ensures is { result ≡ self.now.live }
         ensures synced { IsTrue self.now.live → unsynced_writes (D.state self.now.disk).calls ≡ 0 }
@@ -204,7 +204,7 @@ impl<D: Disk + Drop> Store<D> {
     }
 
     /// Appends a record of 1 to 8,192 bytes to the log. The store must be open, and the log must
-    /// have room for the record. A device fault closes the store.
+    /// have room for the record. If the call fails, it closes the store.
     pub fn append(&mut self, payload: &[u8]) -> Result<(), DiskFault>
         requires live { IsTrue self.old.live }
         requires valid_length { IsRecord payload.now }
@@ -241,7 +241,7 @@ impl<D: Disk + Drop> Store<D> {
     }
 
     /// Replaces the snapshot and all records with a new snapshot of at most 16,380 bytes and no
-    /// records. The store must be open. A device fault closes the store.
+    /// records. The store must be open. If the call fails, it closes the store.
     pub fn replace(&mut self, snap: &[u8]) -> Result<(), DiskFault>
         requires live { IsTrue self.old.live }
         requires within_limit { length snap.now ≤ MAX_SNAPSHOT_SIZE }

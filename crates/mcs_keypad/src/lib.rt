@@ -15,8 +15,9 @@ use mcs_nibble::{Bit, Nibble};
 use mcs_shift4003::Chain;
 use std::marker::Model;
 
-/// A board and the states of its keys. Only the board stores the key matrix. In contracts, the value of a key pad is
-/// the board and a list of key states, row by row: 1 for a key that is down, 0 for a key that is up.
+/// A board and the states of its keys. Only the board stores the key matrix. In contracts, the
+/// value of a key pad is the board and a list of key states, row by row. The state of a key is 1 if
+/// the key is down, and 0 if it is up.
 #[derive(Drop)]
 pub struct KeyPad {
     board: Board,

@@ -1,9 +1,10 @@
 //! Key states, and the column masks from which a read of a port is computed.
 //!
-//! A column mask is a byte in which bit `j` represents column `j`. Each row has a mask of the columns in which its
-//! key is down. Each line of each ROM has a mask of the columns that are connected to this line. A read of a port
-//! takes at most ten ORs of row masks, and four ANDs with line masks. The number of these operations does not depend
-//! on the number of columns or on the number of keys that are down.
+//! A column mask is a byte with a bit for each column: bit `j` is for column `j`. Each row has a
+//! mask of the columns in which its key is down. Each line of each ROM has a mask of the columns
+//! that are connected to this line. A read of a port takes at most ten ORs of row masks, and four
+//! ANDs with line masks. The number of these operations does not depend on the number of columns or
+//! on the number of keys that are down.
 
 ghost use Rattle.std.specs.Prelude.{◌≡◌, ℕ, ◌+◌, ◌*◌, ◌/◌, ◌%◌, ◌<◌, ◌≤◌, Bool, ◌&&◌, All, length, replicate, slice_index, slice_index_or, slice_set};
 ghost use Rattle.std.specs.List.{list_any, range_with_len};
@@ -25,8 +26,8 @@ const ROW_MASKS: usize = KEY_ROWS as usize;
 // The number of line masks: one for each line of each ROM.
 const LINE_MASKS: usize = 4 * ROMS;
 
-/// The key states of a matrix, and the column masks of its rows and of all ROM lines. In a column mask, bit `j`
-/// represents column `j`.
+/// The key states of a matrix, and the column masks of its rows and of all ROM lines. In a column
+/// mask, bit `j` is for column `j`.
 #[derive(Drop)]
 pub(crate) struct ScannedKeys {
     // The key states, row by row.

@@ -14,26 +14,26 @@ use Rattle.mcs_lines.specs.Requests.{cycle_count_of_word, request_of_word}
 use Rattle.mcs_lines.specs.Words.{is_allowed_byte}
 use Rattle.mcs_model.specs.TextLines.{words_of}
 
--- the request of `trace`, from the parsed number of cycles and the parsed places; an error in the
--- places takes precedence over a bad number of cycles
+-- the request that `trace` makes, from the parsed number of cycles and the parsed places; an error
+-- in the places takes precedence over a bad number of cycles
 abbrev pub trace_of : Option ℕ → Result (List Probe) LineFault → Request
 trace_of n (Err fault) = Refused fault
 trace_of None (Ok probes) = Refused BadNumber
 trace_of (Some n) (Ok probes) = Trace n (record { items = probes })
 
--- the request of a `trace` line, from the words after the word `trace`
+-- the request that a `trace` line makes, from the words after the word `trace`
 abbrev pub trace_request : List (List ℕ) → Request
 trace_request [] = Refused NotACommand
 trace_request (n ∷ places) = trace_of (cycle_count_of_word n) (probes_within MAX_PROBES places)
 
--- the request of a line, from its words; a line without words requests nothing
+-- the request that a line makes, from its words; a line without words requests nothing
 abbrev pub request_of_words : List (List ℕ) → Request
 request_of_words [] = Nothing
 request_of_words (word ∷ words) =
     if bytes_eq word (codes "trace") then trace_request words else request_of_word word words
 
--- The request of a line. A line that is too long is rejected first (refusal 12), then a line with a
--- byte that is not allowed (refusal 14). Only then are its words parsed.
+-- The request that a line makes. A line that is too long is rejected first (refusal 12), then a
+-- line with a byte that is not allowed (refusal 14). Only then are its words parsed.
 unfoldable pub request_of : List ℕ → Request
 request_of line =
     if nat_lt LINE_BYTES (length line) then Refused LineTooLong

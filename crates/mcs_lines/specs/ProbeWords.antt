@@ -33,8 +33,8 @@ abbrev pub probe_of_command : Command → Result Probe LineFault
 probe_of_command (Poke place) = Ok (probe_at place)
 probe_of_command _ = Err NotACommand
 
--- The probe that reads the place to which a `poke` request writes. For a refused request, the error
--- is the reason for the refusal. For any other request, the error is `NotACommand`.
+-- The probe that reads the place to which a `poke` request writes. For a rejected line (`Refused`),
+-- the error is the reason for the rejection. For any other request, the error is `NotACommand`.
 abbrev pub probe_of_request : Request → Result Probe LineFault
 probe_of_request (Change command) = probe_of_command command
 probe_of_request (Refused fault) = Err fault

@@ -4,7 +4,7 @@ use Rattle.mcs_model.specs.declared.refusal_numbers.TheConstants.{BAD_NUMBER, LI
 use Rattle.mcs_lines.specs.declared.requests.LineFault.{LineFault}
 use Rattle.mcs_lines.specs.declared.requests.LineFault.TheVariants.{NotACommand, BadNumber, LineTooLong, NotAscii}
 
--- the refusal number for the reason that a line is rejected
+-- the refusal number for the reason why a line is rejected
 abbrev pub line_fault_number : LineFault → ℕ
 line_fault_number NotACommand = NOT_A_COMMAND
 line_fault_number BadNumber = BAD_NUMBER

@@ -31,32 +31,33 @@ request_with_number most word ask =
 
 -- ---- places, and the values that `poke` writes to them
 
--- the request of `poke` for a place and a value; refusal 11 if the value is not a number, or if the
--- number is above `most`
+-- the request to write the number in `value` to a place; refusal 11 if `value` is not a number, or
+-- if the number is above `most`
 abbrev pub poke_value : ℕ → List ℕ → (ℕ → Place) → Request
 poke_value most value place = request_with_number most value (λ v. Change (Poke (place v)))
 
--- the request of `poke rK`, from the words for K and the value
+-- the request that `poke rK VALUE` makes, from the words `k` for K and `value` for VALUE
 abbrev pub poke_register : List ℕ → List ℕ → Request
 poke_register k value = request_with_number 15 k (λ k. poke_value 15 value (λ n. Register k n))
 
--- the request of `poke rom.A`, from the words for A and the value
+-- the request that `poke rom.A VALUE` makes, from the words for A and VALUE
 abbrev pub poke_rom : List ℕ → List ℕ → Request
 poke_rom a value = request_with_number 4095 a (λ at. poke_value 255 value (λ byte. Rom at byte))
 
--- the request of `poke ram.B.S`, from the words for B, S and the value
+-- the request that `poke ram.B.S VALUE` makes, from the words for B, S and VALUE
 abbrev pub poke_ram : List ℕ → List ℕ → List ℕ → Request
 poke_ram b s value =
     request_with_number 7 b (λ bank. request_with_number 255 s (λ src. poke_value 15 value (λ n. Ram bank src n)))
 
--- the request of `poke st.B.H.K`, from the words for B, H, K and the value
+-- the request that `poke st.B.H.K VALUE` makes, from the words for B, H, K and VALUE
 abbrev pub poke_status : List ℕ → List ℕ → List ℕ → List ℕ → Request
 poke_status b h k value =
     request_with_number 7 b (λ bank.
     request_with_number 15 h (λ high.
     request_with_number 3 k (λ k. poke_value 15 value (λ n. Status bank high k n))))
 
--- the request of `poke rK`, from the place and the value; refusal 10 if the place is not `rK`
+-- the request that `poke` makes for a place of the form `rK`, from the words for the place and the
+-- value; refusal 10 if the place has another form
 abbrev pub poke_numbered : List ℕ → List ℕ → Request
 poke_numbered [] value = Refused NotACommand
 poke_numbered (b ∷ k) value =
@@ -71,13 +72,14 @@ poke_names =
     ∷ (codes "dcl", λ value. poke_value 7 value (λ bank. Dcl bank))
     ∷ []
 
--- the request of `poke` for a place without dots: a fixed name or `rK`
+-- the request that `poke` makes for a place without dots: a fixed name or `rK`
 abbrev pub poke_named : List ℕ → List ℕ → Request
 poke_named name value =
     elim (table_entry name poke_names) [ None ↦ poke_numbered name value | Some poke ↦ poke value ]
 
--- The request of `poke`, from the parts of its place and the value. A place of the wrong form
--- (refusal 10) takes precedence over a number that is out of range (refusal 11).
+-- The request that `poke` makes, from the parts of the word for the place and from the word for the
+-- value. A place of the wrong form (refusal 10) takes precedence over a number that is out of range
+-- (refusal 11).
 abbrev pub poke_parts : List (List ℕ) → List ℕ → Request
 poke_parts (name ∷ []) value = poke_named name value
 poke_parts (name ∷ a ∷ []) value =
@@ -90,7 +92,7 @@ poke_parts (name ∷ b ∷ h ∷ k ∷ []) value =
     then poke_status b h k value else Refused NotACommand
 poke_parts parts value = Refused NotACommand
 
--- the request of `poke`, from the words for its place and for the value
+-- the request that `poke` makes, from the words for the place and the value
 abbrev pub poke_of : List ℕ → List ℕ → Request
 poke_of place value = poke_parts (parts_of_word place) value
 
@@ -124,7 +126,7 @@ cycle_count_of_word word = elim (number_up_to RUN_CYCLES word) [
   | Some n ↦ if nat_lt 0 n then Some n else None
 ]
 
--- the request of `count`, from the word for the number of cycles
+-- the request that `count` makes, from the word for the number of cycles
 abbrev pub count_request : List ℕ → Request
 count_request n = elim (cycle_count_of_word n) [ None ↦ Refused BadNumber | Some n ↦ Count n ]
 
@@ -139,13 +141,13 @@ one_argument_commands =
     ∷ (codes "count", count_request)
     ∷ []
 
--- the request of `list` for an address and a number of lines; refusal 11 if the number of lines is
--- 0
+-- the request that `list` makes for an address and a number of lines; refusal 11 if the number of
+-- lines is 0
 abbrev pub listing : ℕ → ℕ → Request
 listing at lines = if nat_lt 0 lines then Listing at lines else Refused BadNumber
 
--- the request that `ask` makes from the numbers in the words `a` and `b`; refusal 11 if a word is
--- not a number, or if a number is above its limit (`most` for `a`, `most'` for `b`)
+-- The request that `ask` makes from the numbers in the words `a` and `b`. Refusal 11 if a word is
+-- not a number, or if a number is above its limit (`most` for `a`, `most'` for `b`).
 abbrev pub request_with_numbers : ℕ → List ℕ → ℕ → List ℕ → (ℕ → ℕ → Request) → Request
 request_with_numbers most a most' b ask = request_with_number most a (λ n. request_with_number most' b (λ m. ask n m))
 
@@ -161,7 +163,8 @@ two_argument_commands =
     ∷ (codes "list", λ a b. request_with_numbers 4095 a LISTING_LINES b listing)
     ∷ []
 
--- the request of a line, from its first word and the words after it; `trace` lines are not included
+-- the request that a line makes, from its first word and the words after it; `trace` lines are not
+-- included
 abbrev pub request_of_word : List ℕ → List (List ℕ) → Request
 request_of_word word [] = elim (table_entry word one_word_commands) [ None ↦ Refused NotACommand | Some r ↦ r ]
 request_of_word word (a ∷ []) =

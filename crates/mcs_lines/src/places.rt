@@ -17,37 +17,40 @@ fn poke(place: Place) -> Option<Request>
     Some(Request::Change(Command::Poke(place)))
 }
 
-/// Returns the request of `poke rK VALUE`. Returns `None` if `K` or the value is not a number or is out of range.
+/// Returns the request that `poke rK VALUE` makes. Returns `None` if K or VALUE is not a number or
+/// is out of range.
 fn parse_register_poke(k: &[u8], value: &[u8]) -> Option<Request>
     ensures { or_bad_number result ≡ poke_register k.now value.now }
 {
     poke(Place::Register(register(k)?, nibble(value)?))
 }
 
-/// Returns the request of `poke rom.A VALUE`. Returns `None` if `A` or the value is not a number or is out of range.
+/// Returns the request that `poke rom.A VALUE` makes. Returns `None` if A or VALUE is not a number
+/// or is out of range.
 fn parse_rom_poke(a: &[u8], value: &[u8]) -> Option<Request>
     ensures { or_bad_number result ≡ poke_rom a.now value.now }
 {
     poke(Place::Rom(address(a)?, byte(value)?))
 }
 
-/// Returns the request of `poke ram.B.S VALUE`. Returns `None` if `B`, `S` or the value is not a number or is out of
-/// range.
+/// Returns the request that `poke ram.B.S VALUE` makes. Returns `None` if B, S or VALUE is not a
+/// number or is out of range.
 fn parse_ram_poke(b: &[u8], s: &[u8], value: &[u8]) -> Option<Request>
     ensures { or_bad_number result ≡ poke_ram b.now s.now value.now }
 {
     poke(Place::Ram(bank(b)?, byte(s)?, nibble(value)?))
 }
 
-/// Returns the request of `poke st.B.H.K VALUE`. Returns `None` if `B`, `H`, `K` or the value is not a number or is out
-/// of range.
+/// Returns the request that `poke st.B.H.K VALUE` makes. Returns `None` if B, H, K or VALUE is not
+/// a number or is out of range.
 fn parse_status_poke(b: &[u8], h: &[u8], k: &[u8], value: &[u8]) -> Option<Request>
     ensures { or_bad_number result ≡ poke_status b.now h.now k.now value.now }
 {
     poke(Place::Status(bank(b)?, nibble(h)?, status(k)?, nibble(value)?))
 }
 
-/// Parses `poke` with the place `rK`. Rejects any other place with `NotACommand`.
+/// Parses `poke` with the place `rK`. Rejects any other place with `NotACommand`, and a bad number
+/// with `BadNumber`.
 fn parse_numbered_poke(name: &[u8], value: &[u8]) -> Request
     ensures { result ≡ poke_numbered name.now value.now }
 {
@@ -58,7 +61,7 @@ fn parse_numbered_poke(name: &[u8], value: &[u8]) -> Request
 }
 
 /// Parses `poke` with a place that has no dots. Returns `None` if the place is `acc`, `cy`, `pc` or `dcl`, and the
-/// value is not a number or is out of range.
+/// value is not a number or is out of range. Returns a refusal for any other error.
 fn parse_named_poke(name: &[u8], value: &[u8]) -> Option<Request>
     ensures { or_bad_number result ≡ poke_named name.now value.now }
 {
@@ -76,7 +79,7 @@ fn parse_named_poke(name: &[u8], value: &[u8]) -> Option<Request>
 }
 
 /// Parses `poke` with a place of two parts, separated by a dot. Rejects any place other than `rom.A` with
-/// `NotACommand`.
+/// `NotACommand`, and a bad number with `BadNumber`.
 fn parse_two_part_poke(name: &[u8], a: &[u8], value: &[u8]) -> Request
     ensures { result ≡ poke_parts (name.now ∷ a.now ∷ []) value.now }
 {
@@ -88,7 +91,7 @@ fn parse_two_part_poke(name: &[u8], a: &[u8], value: &[u8]) -> Request
 }
 
 /// Parses `poke` with a place of three parts, separated by dots. Rejects any place other than `ram.B.S` with
-/// `NotACommand`.
+/// `NotACommand`, and a bad number with `BadNumber`.
 fn parse_three_part_poke(name: &[u8], b: &[u8], s: &[u8], value: &[u8]) -> Request
     ensures { result ≡ poke_parts (name.now ∷ b.now ∷ s.now ∷ []) value.now }
 {
@@ -100,7 +103,7 @@ fn parse_three_part_poke(name: &[u8], b: &[u8], s: &[u8], value: &[u8]) -> Reque
 }
 
 /// Parses `poke` with a place of four parts, separated by dots. Rejects any place other than `st.B.H.K` with
-/// `NotACommand`.
+/// `NotACommand`, and a bad number with `BadNumber`.
 fn parse_four_part_poke(name: &[u8], b: &[u8], h: &[u8], k: &[u8], value: &[u8]) -> Request
     ensures { result ≡ poke_parts (name.now ∷ b.now ∷ h.now ∷ k.now ∷ []) value.now }
 {

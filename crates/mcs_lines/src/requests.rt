@@ -1,4 +1,4 @@
-//! Parses a command line into a request, or into the reason that it is rejected.
+//! Parses a command line into a request, or into the reason why the line is rejected.
 ghost use Rattle.std.specs.Prelude.{[], ◌∷◌, ◌≡◌};
 ghost use Rattle.std.specs.List.{list_all};
 ghost use Rattle.mcs_lines.specs.RefusalNumbers.{line_fault_number};
@@ -22,7 +22,7 @@ use mcs_nibble::Addr;
 use mcs_probe::{MAX_PROBES, Probe};
 use thiserror::Error;
 
-/// The reason that a line is rejected.
+/// The reason why a line is rejected.
 #[derive(Clone, Copy, Debug, Error)]
 pub enum LineFault {
     /// The words are not a command.
@@ -61,9 +61,10 @@ pub enum TextKind {
     /// A program to assemble and load.
     Asm,
     /// A program. The answer gives the address of each line, the number of bytes that the line assembles to, and the
-    /// value of each name.
+    /// value of each name, or reports the first error.
     Map,
-    /// A board. The answer reports its first error and the line of the error.
+    /// A board. The answer reports its first error and the line of the error, or that the board
+    /// text is valid.
     Wiring,
     /// A program. The answer reports its errors.
     Errors,
@@ -94,7 +95,8 @@ pub enum Request {
     Begin(TextKind),
 }
 
-/// Parses a line that consists of the single word `word`.
+/// Parses a line that consists of the single word `word`. Rejects an unknown word with
+/// `NotACommand`.
 fn parse_one_word(word: &[u8]) -> Request
     ensures { result ≡ request_of_word word.now [] }
 {
@@ -166,7 +168,8 @@ fn parse_trace(line: &[u8]) -> Request
     }
 }
 
-/// Parses a command with one argument. Returns `None` if the argument is not a number or is out of range.
+/// Parses a command with one argument. Returns `None` if the argument is not a number or is out of
+/// range, and the refusal `NotACommand` if no command with one argument has this word.
 fn parse_one_argument(word: &[u8], a: &[u8]) -> Option<Request>
     ensures { or_bad_number result ≡ request_of_word word.now (a.now ∷ []) }
 {
@@ -201,7 +204,8 @@ fn parse_list(a: &[u8], n: &[u8]) -> Option<Request>
     Some(Request::Listing(at, lines as u16))
 }
 
-/// Parses a command with two arguments. Returns `None` if an argument is not a number or is out of range.
+/// Parses a command with two arguments. Returns `None` if an argument of `press`, `release`,
+/// `watch` or `unwatch` is not a number or is out of range. Returns a refusal for any other error.
 fn parse_two_arguments(word: &[u8], a: &[u8], b: &[u8]) -> Option<Request>
     ensures { or_bad_number result ≡ request_of_word word.now (a.now ∷ b.now ∷ []) }
 {
@@ -260,8 +264,8 @@ fn has_only_allowed_bytes(line: &[u8]) -> bool
     line.iter().all(|b| is_allowed_byte(*b))
 }
 
-/// Parses a command line, given without its line end. Returns a refusal if the line is too long, has a byte that is
-/// not allowed, or is not a command.
+/// Parses a command line, given without its line end. Returns a refusal if the line is too long,
+/// has a byte that is not allowed, is not a command, or has a number that is out of range.
 #[tactic(auto, unfolding(crate::specs::LineRequests::request_of))]
 pub fn parse_request(line: &[u8]) -> Request
     ensures { result ≡ request_of line.now }

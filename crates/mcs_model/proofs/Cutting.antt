@@ -16,7 +16,8 @@ onto_first-prepend_to_first : (b : ℕ) (p : List ℕ) (ps : List (List ℕ)) �
 onto_first-prepend_to_first b p [] = refl
 onto_first-prepend_to_first b p (q ∷ qs) = refl
 
--- if the first byte is a separator, the first piece is empty
+-- if the first byte is a separator, the first piece is empty, and the other pieces are those of the
+-- bytes after the separator
 pub split-leading_separator : (is_separator : ℕ → Bool) (b : ℕ) (bs : List ℕ) → is_separator b ≡ true → slice_split is_separator (b ∷ bs) ≡ [] ∷ slice_split is_separator bs
 split-leading_separator is_separator b bs e = ap (λ v. if v then [] ∷ slice_split is_separator bs else onto_first b (slice_split is_separator bs)) e
 

@@ -20,7 +20,7 @@ prepend_to_first-onto_first : (line : List ℕ) (b : ℕ) (ps : List (List ℕ))
 prepend_to_first-onto_first line b [] p rest e = absurd (cc)
 prepend_to_first-onto_first line b (q ∷ qs) p rest e = ap (λ (v : List ℕ). v ∷ qs) (sym (append_assoc line (b ∷ []) q))
 
--- a piece before another piece is a line; `line ++ []` is this piece
+-- if a piece is not the last piece, it is a line; the statement writes this piece as `line ++ []`
 lines_in-cons : (whole : Bool) (line : List ℕ) (ps : List (List ℕ)) (p : List ℕ) (rest : List (List ℕ)) → ps ≡ p ∷ rest → lines_in whole ((line ++ []) ∷ ps) ≡ strip_carriage_return line ∷ lines_in whole ps
 lines_in-cons whole line [] p rest e = absurd (cc)
 lines_in-cons whole line (q ∷ qs) p rest e = ap (λ (v : List ℕ). strip_carriage_return v ∷ lines_in whole (q ∷ qs)) (append-nil line)

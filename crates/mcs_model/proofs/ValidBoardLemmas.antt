@@ -13,7 +13,7 @@ no_fault false true c h = absurd (cc)
 no_fault false false true h = absurd (cc)
 no_fault false false false h = (refl, refl, refl)
 
--- holds if all numbers in the parts are in range
+-- holds if all numbers in the parts are in range, and a key matrix has at least one column
 pub record HasGoodValues (b : BoardParts) : Type 0 where
   pub banks : list_any (λ n. nat_lt 4 n) b.banks ≡ false
   pub chains : list_any (λ c. not (is_chain_size c)) b.chains.items ≡ false

@@ -76,15 +76,15 @@ is_output_line b (Rom chip k) = is_on_board b (Rom chip k) && not (is_rom_input_
 is_output_line b (Ram bank chip k) = is_on_board b (Ram bank chip k)
 is_output_line b (Chain n i) = false
 
--- True if `p` is true for the clock line or the data line of at least one chain. `any_column` is
--- true if `p` is true for the line of at least one key column, and `any_lamp` for the line of at
--- least one lamp.
+-- true if `p` is true for the clock line or the data line of at least one chain
 abbrev pub any_chain_line : (Line → Bool) → BoardParts → Bool
 any_chain_line p b = list_any (λ (c : ChainPart). p c.clock || p c.data_in) b.chains.items
 
+-- true if `p` is true for the line of at least one key column
 abbrev pub any_column : (Line → Bool) → BoardParts → Bool
 any_column p b = elim b.keys [ Some m ↦ list_any p m.columns.items | None ↦ false ]
 
+-- true if `p` is true for the line of at least one lamp
 abbrev pub any_lamp : (Line → Bool) → BoardParts → Bool
 any_lamp p b = list_any p b.lamps.items
 
@@ -151,11 +151,12 @@ has_key b row column =
       | None ↦ false
     ]
 
--- The number of keys on the board. `key_index` is the index of the key at a row and a column; keys
--- are indexed row by row. Both are 0 if the board has no key matrix.
+-- the number of keys on the board; 0 if the board has no key matrix
 abbrev pub key_count : BoardParts → ℕ
 key_count b = elim b.keys [ Some m ↦ m.rows * length m.columns.items | None ↦ 0 ]
 
+-- the index of the key at a row and a column; keys are indexed row by row; 0 if the board has no
+-- key matrix
 abbrev pub key_index : BoardParts → ℕ → ℕ → ℕ
 key_index b row column = elim b.keys [ Some m ↦ row * length m.columns.items + column | None ↦ 0 ]
 

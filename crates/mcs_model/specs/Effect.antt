@@ -1,8 +1,8 @@
 -- The effect of each instruction, and one instruction cycle. (Intel MCS-4 Users Manual, instruction
 -- set: each rule is the manual's description of the instruction, in the manual's three groups. Five
--- rules are defined by Fethsaim, not by Intel: some opcodes are outside the table; the return
--- addresses are one list; the command register contains the bank number; each bank stores its own
--- SRC byte; a two-cycle instruction does all its work in the first cycle.)
+-- rules are defined by Fethsaim, not by Intel. Some opcodes are outside the table. The return
+-- addresses are one list. The command register contains the bank number. Each bank stores its own
+-- SRC byte. A two-cycle instruction does all its work in the first cycle.)
 use Rattle.std.specs.Prelude.{ℕ, ◌+◌, ◌-◌, ◌*◌, ◌/◌, ◌%◌, Bool, ◌&&◌, ◌||◌, not, [], ◌∷◌, Option, Some, None, slice_index, if◌then◌else◌, nat_lt, ◌==◌}
 use Rattle.mcs_model.specs.declared.regs.Regs.{Regs}
 use Rattle.mcs_model.specs.declared.op.Op.{Op}
@@ -32,9 +32,9 @@ address_on_page_of address w = word_on_page (page_of address) w
 abbrev pub with_pc_on_page : Regs → ℕ → Regs
 with_pc_on_page s w = record s { pc = address_on_page_of s.pc w }
 
--- JCN: true if the jump is taken. Condition bit 2 tests whether the accumulator is 0, bit 1 whether
--- the carry is 1, and bit 0 whether TEST is 0. The jump is taken if at least one of the selected
--- tests is true. Condition bit 3 inverts the result.
+-- JCN: true if the processor jumps. Condition bit 2 tests whether the accumulator is 0, bit 1
+-- whether the carry is 1, and bit 0 whether TEST is 0. The processor jumps if at least one of the
+-- selected tests is true. Condition bit 3 inverts the result.
 abbrev pub is_taken : ℕ → Regs → ℕ → Bool
 is_taken condition s test =
     let holds =
@@ -43,7 +43,8 @@ is_taken condition s test =
     || (condition % 2 == 1 && test == 0) in
     if condition / 8 % 2 == 1 then not holds else holds
 
--- JCN: sets the program counter to word `w` on the program counter's page if the jump is taken
+-- JCN: sets the program counter to word `w` on the program counter's page if the processor jumps
+-- (`is_taken`)
 abbrev pub after_jcn : ℕ → ℕ → Regs → ℕ → Regs
 after_jcn condition w s test = if is_taken condition s test then with_pc_on_page s w else s
 
@@ -54,9 +55,9 @@ after_isz r w s =
     let n = (register_of s r + 1) % 16 in
     if n == 0 then with_register s r n else with_pc_on_page (with_register s r n) w
 
--- JMS: sets the program counter to the target; the old program counter becomes the first return
--- address, and the last return address is lost (Fethsaim, not Intel, defines that the return
--- addresses are one list)
+-- JMS: sets the program counter to the target. The old program counter becomes the first return
+-- address, and the last return address is lost. (Fethsaim, not Intel, defines that the return
+-- addresses are one list.)
 abbrev pub after_jms : ℕ → Regs → Regs
 after_jms target s =
     record s { pc = target; ret = s.pc ∷ slice_index s.ret 0 ∷ slice_index s.ret 1 ∷ [] }

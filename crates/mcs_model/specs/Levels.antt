@@ -83,11 +83,11 @@ after_chain_clocks before s = record s {
   chains = table_of (chain_count s.board) (λ i. chain_bits_after_clock s i (slice_index before i) (slice_index_or s.chains i []));
 }
 
--- The bus with the port latch of ROM `c` set to `n`; no chain is clocked. `with_ram_ports_at` sets
--- the port latch of the RAM chip whose `ram_port_index` is `i`.
+-- the bus with the port latch of ROM `c` set to `n`; no chain is clocked
 abbrev pub with_rom_ports_at : BusState → ℕ → ℕ → BusState
 with_rom_ports_at s c n = record s { rom_ports = slice_set s.rom_ports c n }
 
+-- the bus with the RAM port latch at index `i` (`ram_port_index`) set to `n`; no chain is clocked
 abbrev pub with_ram_ports_at : BusState → ℕ → ℕ → BusState
 with_ram_ports_at s i n = record s { ram_ports = slice_set s.ram_ports i n }
 

@@ -6,7 +6,8 @@ use Rattle.std.specs.List.{list_any, filter}
 abbrev pub is_listed : List ℕ → ℕ → Bool
 is_listed numbers at = list_any (λ a. a == at) numbers
 
--- the list with a number inserted before the first greater number
+-- the list with a number inserted before the first greater number, or at the end if no number is
+-- greater
 abbrev pub insert_in_order : List ℕ → ℕ → List ℕ
 insert_in_order [] at = at ∷ []
 insert_in_order (a ∷ numbers) at =

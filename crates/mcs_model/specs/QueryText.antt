@@ -57,7 +57,8 @@ regs_text registers test =
 abbrev pub lamp_mark : ℕ → ℕ
 lamp_mark level = if level == 1 then 42 else 46
 
--- the answer to `lamps`: a mark for each lamp of the board, in order
+-- the answer to `lamps`: a mark for each lamp of the board, in order, or a dash if the board has no
+-- lamps
 abbrev pub lamps_text : BusState → List ℕ
 lamps_text s =
     codes "lamps " ++ or_dash (map (λ line. lamp_mark (level s line)) s.board.lamps.items)
@@ -89,7 +90,7 @@ ram_lines s bank =
     (codes "ram " ++ digit_text bank ++ codes " chips " ++ digit_text (chips_of s bank))
     ∷ flat_map (chip_lines s bank) (range_with_len 0 (chips_of s bank))
 
--- the answer to `breaks`: the breakpoints in ascending order
+-- the answer to `breaks`: the breakpoints in ascending order, or a dash if there are none
 abbrev pub breaks_text : List ℕ → List ℕ
 breaks_text breakpoints = codes "breaks " ++ or_dash (join_by address_text (codes " ") breakpoints)
 
@@ -101,7 +102,7 @@ two_hex_digits b = hex_digit (b / 16) ∷ hex_digit (b % 16) ∷ []
 abbrev pub watch_text : ℕ → List ℕ
 watch_text w = digit_text (w / 256) ++ codes "." ++ two_hex_digits (w % 256)
 
--- the answer to `watches`: the watched RAM nibbles in ascending order
+-- the answer to `watches`: the watched RAM nibbles in ascending order, or a dash if there are none
 abbrev pub watches_text : List ℕ → List ℕ
 watches_text watches = codes "watches " ++ or_dash (join_by watch_text (codes " ") watches)
 
@@ -115,8 +116,8 @@ bank_items s bank =
     then (digit_text bank ++ codes "." ++ two_hex_digits (slice_index s.ram_src bank)) ∷ []
     else []
 
--- a list with the item of a ROM: the chip number, the contents of the port latch, and the value
--- that the processor reads from the port; empty if the ROM is absent
+-- A list with the item of a ROM: the chip number, the contents of the port latch, and the value
+-- that the processor reads from the port. The list is empty if the ROM is absent.
 abbrev pub rom_items : BusState → ℕ → List (List ℕ)
 rom_items s chip =
     elim (rom_masks s.board chip) [
@@ -134,7 +135,7 @@ key_item s row column =
     then (digit_text row ++ codes "." ++ digit_text column) ∷ []
     else []
 
--- the items of the keys in a row that are down
+-- the items of those keys in row `row` that are down; the key matrix has `columns` columns
 abbrev pub row_items : BusState → ℕ → ℕ → List (List ℕ)
 row_items s columns row = flat_map (key_item s row) (range_with_len 0 columns)
 

@@ -27,11 +27,11 @@ row upper lower op = record { upper = upper; lower = lower; op = op }
 abbrev pub one_opcode_row : ℕ → ℕ → Op → Row
 one_opcode_row upper lower op = row upper (Only lower) (λ _ _. op)
 
--- The operand in the lower nibble of an opcode: a condition, a register, a page or a value.
--- `pair_in` is the register pair in the upper three bits of that nibble.
+-- the operand in the lower nibble of an opcode: a condition, a register, a page or a value
 abbrev pub nibble_in : ℕ → ℕ
 nibble_in code = code % 16
 
+-- the register pair in the upper three bits of the lower nibble of an opcode
 abbrev pub pair_in : ℕ → ℕ
 pair_in code = code % 16 / 2
 

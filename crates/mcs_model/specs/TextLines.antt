@@ -18,14 +18,15 @@ as_line bytes = bytes ++ line_feed ∷ []
 abbrev pub text_of : List (List ℕ) → List ℕ
 text_of lines = flat_map as_line lines
 
--- a list with the line after the last line feed, without its final CR; the list is empty if that
--- line is empty, or if the text was cut off (`whole` is false)
+-- A list with the line after the last line feed, without its final CR. The list is empty if that
+-- line is empty, or if the text was cut off (`whole` is false).
 abbrev pub last_line : Bool → List ℕ → List (List ℕ)
 last_line false line = []
 last_line true [] = []
 last_line true (b ∷ line) = strip_carriage_return (b ∷ line) ∷ []
 
--- the lines of a text that is already split at its line feeds
+-- the lines of a text that is already split at its line feeds; `whole` is false if the text was cut
+-- off
 abbrev pub lines_in : Bool → List (List ℕ) → List (List ℕ)
 lines_in whole [] = []
 lines_in whole (last ∷ []) = last_line whole last

@@ -38,8 +38,8 @@ pub const DOUBLE_CHIP: u8 = 24;
 /// needs.
 pub const NO_SUCH_LINE: u8 = 25;
 
-/// The refusal number for a clock or data line that is not an output line, a column that is not an input line, or a
-/// lamp that shows an input line.
+/// The refusal number for a line of the wrong direction. A clock or data line is not an output
+/// line, a column is not an input line, or a lamp shows an input line.
 pub const WRONG_DIRECTION: u8 = 26;
 
 /// The refusal number for more parts of one kind than a board can have.

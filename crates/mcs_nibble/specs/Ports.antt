@@ -1,7 +1,7 @@
 -- The port of a 4001, line by line: the contents of its latch, and the value that the processor
 -- reads. (4001 data sheet: the mask makes each line an input or an output. WRR writes the latch,
--- and RDR reads the input lines. Defined by Fethsaim, not by Intel: logic is positive, the latch
--- bit of an input line is 0, and the processor reads an output line as the constant of its mask.)
+-- and RDR reads the input lines. Fethsaim, not Intel, defines three rules. Logic is positive. The
+-- latch bit of an input line is 0. The processor reads an output line as the constant of its mask.)
 use Rattle.std.specs.Prelude.{ℕ, Bool, true, false, ◌==◌, List, Option, Some, None, slice_index_or, if◌then◌else◌}
 use Rattle.mcs_nibble.specs.Bits.{bit_of, nibble_of}
 use Rattle.mcs_nibble.specs.declared.lines.LineMask.{LineMask}
@@ -13,15 +13,15 @@ is_input Input = true
 is_input Zero = false
 is_input One = false
 
--- The character that represents a mask option in board texts and session files (defined by
--- Fethsaim, not by Intel): `i` for an input line, `0` or `1` for an output line that the processor
--- reads as 0 or 1.
+-- The character for a mask option in board texts and session files. An input line has `i`. An
+-- output line has `0` or `1`, the constant that the processor reads. (Defined by Fethsaim, not by
+-- Intel.)
 abbrev pub mask_character : LineMask → ℕ
 mask_character Input = 105
 mask_character Zero = 48
 mask_character One = 49
 
--- the mask option that a character represents, or none if the character is not `i`, `0` or `1`
+-- the mask option with the given character, or none if the character is not `i`, `0` or `1`
 abbrev pub mask_of : ℕ → Option LineMask
 mask_of c =
     if c == 105 then Some Input

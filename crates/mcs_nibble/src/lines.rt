@@ -18,7 +18,7 @@ pub enum LineMask {
 }
 
 impl LineMask {
-    /// Returns the character that represents the mask option in board texts and session files: `i`, `0` or `1`.
+    /// Returns the character for the mask option in board texts and session files: `i`, `0` or `1`.
     pub fn character(self) -> u8
         ensures { result ≡ mask_character self }
     {
@@ -29,7 +29,8 @@ impl LineMask {
         }
     }
 
-    /// Returns the mask option that a character represents, or `None` if the character is not `i`, `0` or `1`.
+    /// Returns the mask option with the given character, or `None` if the character is not `i`, `0`
+    /// or `1`.
     pub fn from_character(character: u8) -> Option<LineMask>
         ensures { result ≡ mask_of character }
     {

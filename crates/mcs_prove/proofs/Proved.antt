@@ -43,7 +43,8 @@ board-of_rig board program rig g =
 
 -- ---- an outcome that is proved for a rig
 
--- an outcome that is proved for p is also proved for q, if p and q are equal at every machine
+-- an outcome that is proved for `p` is also proved for `q`, if `p` and `q` are equal at every
+-- machine
 pub proved-for_equal_property : (limits : InputLimits) (w : Observer) (p q : TrackedMachine → Bool) (s : TrackedMachine) (found : Outcome) → ((t : TrackedMachine) → p t ≡ q t) → IsProved limits w p s found → IsProved limits w q s found
 proved-for_equal_property limits w p q s (outcome.Holds n) same h = λ f allowed k. sym (same _) ∙ h f allowed k
 proved-for_equal_property limits w p q s (outcome.MayFail values) same h = h
@@ -98,7 +99,7 @@ no_marks-if_entries_allowed q false is h some =
     let zero = eqb-true q.max_entries 0 (and_parts (not (eqb (length q.opens) 0)) (eqb q.max_entries 0) h).1 in
     absurd (omega arith)
 
--- a consistent question that allows entries (a proof with sets of values) has no stopwatch and no
+-- A consistent question that allows entries (a proof with sets of values) has no stopwatch and no
 -- marks. An outcome that is proved for the question's `never` lists is therefore proved for the
 -- question.
 question_proved-if_never_lists_proved : (board program : List ℕ) (limits : BoardParts → InputLimits) (q : QuestionSoFar) (found : Outcome) → is_consistent q ≡ true → 0 < q.max_entries → IsProvedOf board program limits no_observer (meets_none q.never_lists) found →

@@ -4,8 +4,8 @@ use Rattle.std.proofs.lemmas.List.{at_drop_more, at_drop_all, get_or-map, length
 use Rattle.mcs_model.specs.Options.{◌>>=◌}
 use Rattle.mcs_prove.specs.Questions.{QuestionSoFar, after_line, after_lines}
 
--- suppose that line i changes the question a to the question b. Then a with the lines from line i
--- on gives the same question as b with the lines from line i + 1 on.
+-- Suppose that line `i` changes the question `a` to the question `b`. Then `a` with the lines from
+-- line `i` on gives the same question as `b` with the lines after line `i`.
 pub after_lines_from_next_line : {X : Type 0} (f : X → List ℕ) (a b : QuestionSoFar) (xs : List X) (i : ℕ) (x : X) → i < length xs → x ≡ get_or xs i x → after_line a (f x) ≡ Some b → after_lines b (drop (i + 1) (map f xs)) ≡ after_lines a (drop i (map f xs))
 after_lines_from_next_line f a b xs i x inside e h =
     let one : get_or (map f xs) i [] ≡ f x = get_or-map f xs i x [] inside ∙ ap f (sym e) in

@@ -25,7 +25,7 @@ use Rattle.mcs_prove.specs.AllowedInputs.{AllowedInputs, all_inputs, limits_of}
 use Rattle.mcs_prove.specs.MachineOfTexts.{IsProvedOf}
 use Rattle.mcs_prove.specs.QuestionLines.{line_of}
 
--- a question as read so far. `never_lists`, `begins`, `ends` and `opens` are the complete lists of
+-- A question as read so far. `never_lists`, `begins`, `ends` and `opens` are the complete lists of
 -- conditions. `conditions` is the current list, which follows the last `never`, `begin`, `end` or
 -- `open` line. `role` is the role of the current list. `inputs` are the inputs that the question
 -- allows. `section` is the section to which the next line belongs. `has_prove_line` is true after

@@ -362,8 +362,8 @@ fn three_word_line(name: &[u8], row: &[u8], column: &[u8]) -> Option<QuestionLin
     Some(QuestionLine::NextMark(mark_of(name, row, column)?))
 }
 
-/// Parses a line of four or more words, of which `rest` are the words after the third. Returns `None` unless the line
-/// is a comparison, which has six words.
+/// Parses a line of four or more words; `rest` has the words after the third. Returns `None` unless the line is a
+/// comparison, which has six words.
 fn comparison_line(kind: &[u8], list: &[u8], index: &[u8], rest: &[u8]) -> Option<QuestionLine>
     ensures { result ≡ comparison_line kind.now list.now index.now (words_of rest.now) }
 {

@@ -22,7 +22,7 @@ pub enum BankWrite {
     Status(Nibble, u8, Nibble),
     /// The output port latch of a chip: the number of the chip, 0 to 3, and the new value.
     Port(u8, Nibble),
-    /// The SRC byte that the bank stores. The write has no effect if the bank lacks chip 0.
+    /// The SRC byte that the bank stores. The write has no effect if the bank has no chips.
     Src(u8),
 }
 

@@ -18,12 +18,12 @@ unfoldable pub keys_of_blocks : List KeyStore → List (List ℕ)
 keys_of_blocks [] = []
 keys_of_blocks (b ∷ bs) = b.keys ++ keys_of_blocks bs
 
--- holds if each block has `n` keys of the given width
+-- holds if each block has `n` keys, each with `width` bytes
 abbrev pub AreFull : ℕ → ℕ → List KeyStore → Type 0
 AreFull width n = All (λ (b : KeyStore). (b.width ≡ width) × (length b.keys ≡ n))
 
--- the invariant of an arena: each block has the key width `width`, all blocks but the last are
--- full, the last is not full, and `len` is the number of keys
+-- The invariant of an arena. Each block has the key width `width`, all blocks but the last are
+-- full, and the last is not full. `len` is the number of keys.
 pub record ArenaInvariant (width len : ℕ) (full : List KeyStore) (last : KeyStore) : Type 0 where
   pub blocks : AreFull width KEYS_PER_BLOCK full
   pub last_width : last.width ≡ width

@@ -2,12 +2,13 @@
 use Rattle.std.specs.Prelude.{◌≡◌, ◌⊎◌, ℕ, List, [], ◌∷◌, length}
 use Rattle.std.specs.List.{All, Contains}
 
--- the rules of a transition system:
--- `is_state`: the key is that of a state
--- `covers`: the choices include all choices that a search must follow from the state
--- `leads`: the choice leads from the first state to the second, and the property holds at every
--- step
--- `fails`: the property fails while the choice is followed from the state
+-- The rules of a transition system:
+--
+-- - `is_state`: the key is the key of a state
+-- - `covers`: the choices include all choices that a search must follow from the state
+-- - `leads`: the choice leads from the first state to the second, and the property holds at every
+--   step
+-- - `fails`: the property fails while the choice is followed from the state
 pub record Rules : Type 1 where
   pub is_state : List ℕ → Type 0
   pub covers : List ℕ → List ℕ → Type 0

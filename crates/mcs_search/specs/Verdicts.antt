@@ -30,7 +30,7 @@ pub record SearchProgress : Type 0 where
 abbrev pub start_of : SearchProgress → List ℕ
 start_of p = slice_index_or p.keys 0 []
 
--- the invariant of a search: each key found is that of a state. All choices that the search must
+-- The invariant of a search. Each key found is the key of a state. All choices that the search must
 -- follow from the first `followed` states lead to keys that were found.
 pub record IsUnderWay (r : Rules) (p : SearchProgress) : Type 0 where
   pub states : All r.is_state p.keys

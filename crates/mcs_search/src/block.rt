@@ -8,8 +8,8 @@ use std::marker::Model;
 /// The number of keys in a full block.
 pub(crate) const KEYS_PER_BLOCK: usize = 65_536;
 
-/// The step by which the search first reached a state: the index of the previous state, and the choice that leads from
-/// there.
+/// The step with which the search first reached a state: the index of the previous state, and the choice that leads
+/// from there.
 #[derive(Clone, Copy)]
 pub(crate) struct Parent {
     pub(crate) state: u32,

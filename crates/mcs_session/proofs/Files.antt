@@ -212,8 +212,8 @@ is_session disk snap records holds other = elim other [
   | inr unnamed ↦ unnamed holds.name
 ]
 
--- if the snapshot and the records represent no state, the guarantee of the error `Damaged` holds,
--- and opening the store added no image
+-- if the snapshot and the records represent no state, the condition that the error `Damaged`
+-- implies is true, and opening the store added no image
 pub damaged_if_no_state_is_represented : (old new : DiskState) (snap : List ℕ) (records : List (List ℕ)) → OpensStore old new snap records → ((v : Version) (s : BenchState) → RecordsRepresent v snap records s → ⊥) → SessionErrorImplies Damaged old × AddsNoImage old new
 damaged_if_no_state_is_represented old new snap records opened none = (
   (

@@ -34,8 +34,8 @@ acknowledgements_of_both_runs d e f s cs ds a b =
       within = omega (arith, whole, b.within);
     }
 
--- each image that a power cut since the time `u` can leave represents the state after a prefix; the
--- prefix has every command of both runs that was acknowledged by `u`
+-- Each image that a power cut since the time `u` can leave represents the state after a prefix. The
+-- prefix has every command of both runs that was acknowledged by `u`.
 image_represents_prefix_of_both_runs : (d e f : DiskState) (s t : BenchState) (cs done ds : List Command) (a : KeepsAllCommands d e s cs) → t ≡ fold s cs → (b : KeepsCommands e f t done ds)
     → (u : ℕ) (image : List ℕ) → time_of d ≤ u → images_since u f image → RepresentsPrefix s (cs ++ ds) (acknowledged_by u (a.kept.acknowledged.moments ++ b.acknowledged.moments)) image
 image_represents_prefix_of_both_runs d e f s t cs done ds a same b u image le now =

@@ -64,7 +64,7 @@ all_acknowledged_by_last_moment t clock (m ∷ ms) le h =
     let rest = all_acknowledged_by_last_moment t m ms le h.1 in
     let whole = acknowledged-cons t m ms in omega (arith, first, rest, whole)
 
--- by the moment with index j, at least j + 1 commands were acknowledged
+-- by the moment with index `j`, at least `j + 1` commands were acknowledged
 pub acknowledged_by_moment_at_index : (clock : ℕ) (ms : List ℕ) (j m : ℕ) → slice_get ms j ≡ Some m → AreRising clock ms → (clock ≤ m) × (j + 1 ≤ acknowledged_by m ms)
 acknowledged_by_moment_at_index clock [] j m e h = absurd (cc e)
 acknowledged_by_moment_at_index clock (n ∷ ms) zero m e h =

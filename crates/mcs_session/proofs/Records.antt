@@ -66,7 +66,8 @@ state_of_records_is_unique v snap other records more s t e f a b =
     let same = start_and_commands_are_unique v snap other records more s t e f a b in
     a.state ∙ ap (fold a.start) same.1 ∙ ap (λ (x : BenchState). fold x b.commands) same.0 ∙ sym b.state
 
--- a list split into the items before index i, the item at index i, and the items after it
+-- a list split into the items before index `i`, the item at index `i`, and the items after this
+-- item
 pub split_at_index : {A : Type 0} (xs : List A) (r : A) (i : ℕ) → slice_get xs i ≡ Some r → (more : List A) × (xs ≡ take i xs ++ r ∷ more)
 split_at_index xs r i e =
     let inside = slice_get_within xs i r e in

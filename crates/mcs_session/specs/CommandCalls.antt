@@ -23,8 +23,10 @@ AppliesCommand true s c (Err Device) new = (refusal s c ≡ None) × (new ≡ s)
 AppliesCommand false s c (Err Closed) new = new ≡ s
 AppliesCommand live s c result new = ⊥
 
--- For a device fault, holds if the call closed the session and increased the fault count by 1, up
--- to the maximum. For any other result, holds if `live` and the fault count are unchanged.
+-- For the result `Device`, holds if the call closed the session and increased the disk's error
+-- count by 1, up to the maximum. For any other result, holds if `live` and the error count are
+-- unchanged. The arguments are `live` and the error count before the call, the result, and `live`
+-- and the error count after the call.
 abbrev pub ClosesAtDeviceFault : {T : Type 0} → Bool → ℕ → Result T SessionFault → Bool → ℕ → Type 0
 ClosesAtDeviceFault live faults (Ok r) new_live new_faults =
     (new_live ≡ live) × (new_faults ≡ faults)
@@ -59,8 +61,8 @@ RecordsOrFails (Err fault) old new s c = new.calls ≡ old.calls
 
 -- ---- `settle`
 
--- holds if `settle` can return this result: Ok or a device fault from an open session, or `Closed`
--- from a closed session
+-- Holds if `settle` can return this result: Ok or `Device` from an open session, or `Closed` from a
+-- closed session. The first argument is true if the session is open.
 abbrev pub IsSettleResult : {T : Type 0} → Bool → Result T SessionFault → Type 0
 IsSettleResult true (Ok x) = Unit {0}
 IsSettleResult true (Err Device) = Unit {0}

@@ -10,6 +10,6 @@ replay_cycles (Run n) = n
 replay_cycles Step = 2
 replay_cycles _ = 0
 
--- the sum of the cycle counts of these commands
+-- the total of these commands' cycle counts
 abbrev pub log_cycles : List Command → ℕ
 log_cycles commands = sum_by replay_cycles commands

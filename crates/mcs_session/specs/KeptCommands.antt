@@ -57,8 +57,8 @@ abbrev pub IsOpenOnHonestDisk : Premise
 IsOpenOnHonestDisk a = IsTrue a.live × a.disk.honest
 
 -- Holds if these commands were executed between the session states `a` and `b`, each was accepted,
--- and no fault was counted. If the premise `Given` holds for `a`, the disk also recorded the
--- commands and keeps them.
+-- and the disk's error count is unchanged. If the premise `Given` holds for `a`, the disk also
+-- recorded the commands and keeps them.
 pub record RecordsCommands
     (Given : Premise) (a b : SessionState) (commands : List Command) : Type 0 where
   pub live : b.live ≡ a.live

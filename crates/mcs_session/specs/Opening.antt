@@ -1,4 +1,5 @@
--- The state in which a session is opened, and what an error of `open` guarantees about the disk.
+-- The state in which a session is opened, and the condition that an error of `open` implies for the
+-- disk.
 use Rattle.mcs_disk.specs.Disk.{DiskState, bytes_of}
 use Rattle.mcs_journal.specs.File.{IsNotSessionFile}
 use Rattle.mcs_journal.specs.declared.fault.StoreFault.{StoreFault}
@@ -13,8 +14,9 @@ pub record OpensSession (old new : DiskState) (s : BenchState) : Type 0 where
   pub represented_before : RepresentsInEitherVersion (bytes_of old) s
   pub represents : DiskRepresents new s
 
--- What an error of `open` guarantees about the disk: its bytes are not a session file, or they
--- represent no state. After a lack of memory or a device fault, nothing is guaranteed.
+-- The condition that an error of `open` implies for an honest disk before the call. For
+-- `NotASession`, the disk holds no session file. For `Damaged`, its bytes represent no state.
+-- `Device` and `NoMemory` imply nothing, and `open` never returns `NotBlank`.
 abbrev pub SessionErrorImplies : StoreFault → DiskState → Type 0
 SessionErrorImplies store_fault.NotASession disk = IsNotSessionFile disk
 SessionErrorImplies store_fault.Damaged disk =

@@ -26,7 +26,9 @@ ReplaysCommands version s (r ∷ rs) [] = ⊥
 ReplaysCommands version s (r ∷ rs) (c ∷ cs) =
     EncodesCommandBy version r c × (refusal s c ≡ None) × ReplaysCommands version (after s c) rs cs
 
--- holds if a snapshot and the records after it represent the state `s`
+-- Holds if a snapshot and the records after it represent the state `s` in this version. The
+-- commands of the records lead from the snapshot's state to `s`, and their cycle count is within
+-- the limit of a log.
 pub record RecordsRepresent
     (version : Version) (snap : List ℕ) (records : List (List ℕ)) (s : BenchState) : Type 0 where
   pub start : BenchState

@@ -1,5 +1,5 @@
--- The state of a session as contracts see it: its disk, whether the session is open, and the state
--- of its bench.
+-- The state of a session as contracts see it: the state of its disk, whether the session is open,
+-- and the state of its bench.
 use Rattle.std.specs.Prelude.{Bool}
 use Rattle.mcs_disk.specs.Disk.{DiskState}
 use Rattle.mcs_model.specs.BenchState.{BenchState}
@@ -7,14 +7,14 @@ use Rattle.mcs_model.specs.BenchState.{BenchState}
 -- a session as contracts see it: its disk of type D, whether it is open, and the state of its bench
 pub record SessionView (D : Type 0) : Type 0 where
   pub disk : D
-  -- true if the session is open: no call on it has returned a device fault
+  -- true if the session is open: no call on it has failed with `Device`
   pub live : Bool
   pub state : BenchState
 
 -- the state of a session, with the state of its disk instead of the disk itself
 pub record SessionState : Type 1 where
   pub disk : DiskState
-  -- true if the session is open: no call on it has returned a device fault
+  -- true if the session is open: no call on it has failed with `Device`
   pub live : Bool
   pub state : BenchState
 

@@ -21,7 +21,9 @@ ReplaysCommands1 s (r ∷ rs) (c ∷ cs) =
     (Encodes r c × (is_command_of_version_1 c ≡ true)) × (refusal_1 s c ≡ None)
     × ReplaysCommands1 (after_1 s c) rs cs
 
--- holds if a snapshot and the records after it represent the version 1 state `s`
+-- Holds if a snapshot and the records after it represent the version 1 state `s`. The commands of
+-- the records lead from the snapshot's state to `s`, and their cycle count is within the limit of a
+-- log.
 pub record RecordsRepresent1
     (snap : List ℕ) (records : List (List ℕ)) (s : BenchState1) : Type 0 where
   pub start : BenchState1

@@ -36,7 +36,7 @@ pub fn reopened_session_has_acknowledged_commands<D: Disk, E: Disk>()
 {}
 
 /// Shows that a session can be opened on the disk that a power cut during a run left. Only a lack
-/// of memory or a device fault can prevent this.
+/// of memory or an I/O error can prevent this.
 pub fn disk_left_by_cut_can_be_opened<D: Disk, E: Disk>()
     ensures { (time : ℕ) (old new : D) (found : E) (s : BenchState) (done reached : List Command)
         (fault : StoreFault)
@@ -56,7 +56,7 @@ pub fn acknowledged_commands_are_kept<D: Disk>()
 {}
 
 /// Shows that a power cut at the end of a run leaves a disk that keeps all acknowledged commands.
-/// If no call failed, that disk represents the state after all commands.
+/// If every command of the run was acknowledged, that disk represents the state after all commands.
 pub fn run_end_keeps_all_commands<D: Disk>()
     ensures acknowledged { (old new : D) (s : BenchState) (done reached : List Command)
         (image : List ℕ) → KeepsCommands (D.state old) (D.state new) s done reached

@@ -24,7 +24,7 @@ use std::marker::Model;
 
 /// A bench and the disk on which it records each accepted command before it answers.
 ///
-/// A command that is answered with a device fault closes the session. An honest disk then
+/// A command that fails with `SessionFault::Device` closes the session. An honest disk then
 /// represents the state before that command or the state after it. Opening the disk again shows
 /// which of the two it represents.
 #[derive(Drop)]
@@ -47,10 +47,10 @@ impl<D: Disk + Drop> Model for Session<D> {
 }
 
 impl<D: Disk + Drop> Session<D> {
-    /// Creates a session with a new bench on a blank disk. On an error, it also returns the disk.
+    /// Creates a session with a new bench on a blank disk. An error also returns the disk.
     ///
-    /// It fails if memory runs out (refusal 90), or if the disk is not blank (refusal 55). In both
-    /// cases it writes nothing. It also fails if a call on the disk fails (refusal 53). In this
+    /// Fails if memory runs out (refusal 90), or if the disk is not blank (refusal 55). In both
+    /// cases, nothing is written. Also fails if a call on the disk fails (refusal 53). In this
     /// case, the contents of the disk are unspecified.
     pub fn create(alloc: Global, disk: D) -> Result<Session<D>, (StoreFault, D)>
         // the next clauses hold on any disk
@@ -104,10 +104,9 @@ impl<D: Disk + Drop> Session<D> {
     /// version 1, a snapshot of version 2 replaces the contents, after all memory was allocated. An
     /// honest disk represents the same state at every moment.
     ///
-    /// It fails if memory runs out (refusal 90), or if the size or the first eight bytes are not
-    /// those of a session file (refusal 50). It also fails if the file is damaged and represents no
-    /// state (refusal 51), or if a call on the disk fails (refusal 53). On an error, it also
-    /// returns the disk.
+    /// Fails if memory runs out (refusal 90), or if the size or the first eight bytes are not those
+    /// of a session file (refusal 50). Also fails if the file is damaged and represents no state
+    /// (refusal 51), or if a call on the disk fails (refusal 53). An error also returns the disk.
     pub fn open(alloc: Global, disk: D) -> Result<Session<D>, (StoreFault, D)>
         // the next clauses hold on any disk
         ensures open { IfOk result (λ s. IsTrue s.live) }
@@ -156,7 +155,7 @@ impl<D: Disk + Drop> Session<D> {
         }
     }
 
-    /// Returns true if no call on the session has returned a device fault.
+    /// Returns true if no call on the session has failed with `SessionFault::Device`.
     pub fn is_open(&self) -> bool
         ensures { result ≡ self.now.live }
     {
@@ -186,9 +185,9 @@ impl<D: Disk + Drop> Session<D> {
     /// a snapshot of the state before the command. This snapshot replaces the old snapshot and all
     /// records.
     ///
-    /// It fails on a closed session (refusal 54), or if the bench rejects the command (refusals 41 to
-    /// 47). Both errors leave the disk untouched. It also fails if a call on the disk fails
-    /// (refusal 53).
+    /// Fails on a closed session (refusal 54), or if the bench rejects the command (refusals 41 to
+    /// 47). These errors leave the disk unchanged. Also fails if a call on the disk fails (refusal
+    /// 53).
     pub fn apply(&mut self, command: &Command) -> Result<Reply, SessionFault>
         // the next clauses hold on any disk
         ensures applied { AppliesCommand self.old.live self.old.state command.now result
@@ -221,7 +220,7 @@ impl<D: Disk + Drop> Session<D> {
     /// no commands to replay. The state of the bench does not change, and an honest disk represents
     /// this state at every moment.
     ///
-    /// It fails on a closed session (refusal 54), or if a call on the disk fails (refusal 53).
+    /// Fails on a closed session (refusal 54), or if a call on the disk fails (refusal 53).
     pub fn settle(&mut self) -> Result<(), SessionFault>
         // the next clauses hold on any disk
         ensures state { self.new.state ≡ self.old.state }

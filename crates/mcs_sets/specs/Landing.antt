@@ -178,7 +178,7 @@ machine_after op s = (
   },
 )
 
--- the choice that consists of a machine's own values
+-- the choice that consists of a machine's values
 abbrev pub choice_of : Op → TrackedMachine → Choice
 choice_of op s = record { acc = s.0.acc; cy = s.0.cy; bank = s.0.dcl; first_operand = first_operand_of op s.0 s.1; second_operand = second_operand_of op s.0 s.1 }
 
@@ -214,8 +214,8 @@ pub record CoversLanding (source target : Entry) (o : Landing) : Type 0 where
 
 -- ---- the laws
 
--- holds if the premises of the law below are met: the bus `m` and the return addresses `rets` of
--- the stand-in processor fit the machine `s`
+-- holds if the premises of `LandingIsCorrect` are met: the bus `m` and the return addresses `rets`
+-- of the stand-in processor fit the machine `s`
 pub record StandInFits (op : Op) (s : TrackedMachine) (m : BusState) (rets : List ℕ) : Type 0 where
   pub valid : IsValidOp op
   pub calls : CallsAllow op s.2.calls

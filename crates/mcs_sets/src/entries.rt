@@ -18,8 +18,8 @@ pub struct Entry {
     pub acc_if_carry_0: u16,
     /// The values that the accumulator may hold while the carry is 1.
     pub acc_if_carry_1: u16,
-    /// A set of values for each other location: the 16 index registers, the bank number, and the upper nibbles of the
-    /// SRC bytes that the ROMs and the eight banks store.
+    /// A set of values for each other location: the 16 index registers, the bank number, and the upper nibble of each
+    /// SRC byte that the ROMs or a bank stores.
     pub sets: [u16; 26],
     /// The index of this entry's first link. A link is the index of an entry that may follow this entry.
     pub first_link: usize,

@@ -36,8 +36,8 @@ struct Key {
     exact: u64,
 }
 
-/// Returns the key of an entry: the values that all of its machines share. `exact` has the exact registers, each of
-/// which has a single value in the entry.
+/// Returns the key of an entry: the values that all of its machines share. `exact` has the exact registers. Each of
+/// them has a single value in the entry.
 fn key_of(entry: &Entry, exact: u16) -> Key {
     let mut values = 0u64;
     for r in 0..16u8 {

@@ -33,7 +33,7 @@ no_read_fault_by_exchanges (x ∷ xs) end faults e = elim (either_is_some_if_opt
   | inr h ↦ no_read_fault_by_exchanges xs end faults h
 ]
 
--- ---- a run without a fault
+-- ---- a run without a failed call
 
 not_one_more_without_fault : (old new : KnownFaults) → HasNotFailed old new → new ≡ one_more_fault old → ⊥
 not_one_more_without_fault None new h e = h
@@ -78,7 +78,7 @@ ends_without_fault DeviceFault r r' a b ran read read' written written' counts_m
     (device_fault_counted (has_device_fault ran.served.exchanges) a.session b.session (results_in_order acknowledged_commands s ran.served.exchanges) (results_in_order reached_commands s ran.served.exchanges) failed ran.served.serves.leaves))
 ends_without_fault NoMemory r r' a b ran read read' written written' counts_match_end no_read no_write no_call memory = absurd (memory refl)
 
--- If a run reached the end of its input or the input limit, no failed write, device fault or lack
+-- If a run reached the end of its input or the input limit, no failed write, failed device or lack
 -- of memory ended the run.
 no_fault_at_end_or_limit : (end : ShellEnd) → (end ≡ End) ⊎ (end ≡ InputLimit) → (end ≢ WriteFault) × (end ≢ DeviceFault) × (end ≢ NoMemory)
 no_fault_at_end_or_limit end (inl is) = let P : ShellEnd → Type 0 = λ v. (v ≢ WriteFault) × (v ≢ DeviceFault) × (v ≢ NoMemory) in subst P (sym is) (λ e. absurd (cc e), λ e. absurd (cc e), λ e. absurd (cc e))

@@ -77,7 +77,7 @@ kept_if_stopped_after_opening state_of run t s found same given late cut =
     let kept = keeps_commands_of_run state_of run given in
     prefix_kept_from_run state_of run t t s same given (answers_and_acknowledges_run state_of run kept) (omega arith) (state_of found) cut.honest cut.durable (kept.each t (bytes_of (state_of found)) late cut.found)
 
--- A run that was stopped while its session was being opened, or at the end of the opening: some
+-- A run that was stopped while its session was being opened, or at the end of the opening. Some
 -- commands (perhaps none) are kept, and the disk found represents the state after these commands.
 kept_if_stopped_while_opening : {D : Type 0} (state_of : D → DiskState) → (disk : D) (run : ShellRun state_of) (t : ℕ) (s : BenchState) (found : D) → DurablyRepresents (state_of disk) s → run.before.state ≡ s → IsOpenOnHonestDisk (session_state state_of run.before)
     → MigratesSession (state_of disk) (state_of run.before.disk) run.before.state → time_of (state_of disk) ≤ t → t ≤ time_of (state_of run.before.disk) → IsLeftByCut t (state_of run.after.disk) (state_of found)
@@ -115,7 +115,7 @@ kept_from_served_run state_of disk run t s found here began late cut =
       | inr since ↦ kept_if_stopped_after_opening state_of run t s found same given since left
     ]
 
--- ---- a refused opening
+-- ---- an `open` that began no session
 
 not_a_session_impossible : (disk : DiskState) (s : BenchState) → RepresentsInEitherVersion (bytes_of disk) s → SessionErrorImplies NotASession disk → ⊥
 not_a_session_impossible disk s (inl represents) none = is_session disk represents.snap represents.records represents.holds none

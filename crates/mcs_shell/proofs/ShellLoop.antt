@@ -183,7 +183,7 @@ pub either_is_some_if_option_or_is : (h k : Option ShellEnd) (end : ShellEnd) �
 either_is_some_if_option_or_is None k end e = inr e
 either_is_some_if_option_or_is (Some x) k end e = inl e
 
--- Exchanges halt the shell only because of a failed write or a device fault.
+-- Exchanges halt the shell only if a write or the device failed.
 ends_by_exchanges : (xs : List Exchange) (end : ShellEnd) (bytes : List ℕ) (whole : Bool) (exchanges : List Exchange) → end_caused_by_exchanges xs ≡ Some end → EndsBy end true bytes whole exchanges (Some end)
 ends_by_exchanges [] end bytes whole exchanges e = absurd (cc e)
 ends_by_exchanges (x ∷ xs) end bytes whole exchanges e = elim (either_is_some_if_option_or_is (end_caused_by x.whole x.outcome) (end_caused_by_exchanges xs) end e) [

@@ -43,8 +43,8 @@ pub record CountsMatchEnd (end : ShellEnd) (read read' written written' : KnownF
   pub reader : read' ≡ read_faults_after end read
   pub writer : written' ≡ write_faults_after (Some end) written
 
--- A reader and a writer, as contracts see them: the bytes that the reader can still return, the
--- bytes that the writer has received, and the number of failures of each.
+-- A reader and a writer, as contracts see them. The fields are the bytes that the reader can still
+-- return, the bytes that the writer has received, and the number of failed calls of each.
 pub record StreamsView : Type 0 where
   pub left : KnownBytes
   pub read_faults : KnownFaults

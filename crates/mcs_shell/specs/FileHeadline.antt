@@ -26,8 +26,7 @@ pub record IsReopenedFile (time : ℕ) (file reopened_file : FileDisk) : Type 0 
 -- `open` then begins a session on the contents found in the file. This session has executed a
 -- prefix of `reached_commands_of_run`: the commands answered `ok`, followed by the one answered
 -- `no 53` (device failed), if there is one. The prefix includes each command that was acknowledged
--- by the moment of the stop. `open` fails only because of a device fault (53) or lack of memory
--- (90).
+-- by the moment of the stop. `open` fails only because of an I/O error (53) or lack of memory (90).
 pub record SurvivesInFile (run : ShellRun as_disk) : Type 0 where
   pub answered : AnswersAndAcknowledges run
   pub reopened : (time : ℕ) (reopened_file : FileDisk) (session : SessionView FileDisk)

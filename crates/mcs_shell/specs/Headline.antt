@@ -70,8 +70,8 @@ pub record AnswersAndAcknowledges
 -- clock `time` or later leaves, during the run or after the run. (`found_of` maps `found` to its
 -- `DiskState`.) A session opened on `found` has executed a prefix of `reached_commands_of_run`: the
 -- commands answered `ok`, followed by the one answered `no 53` (device failed), if there is one.
--- The prefix includes each command that was acknowledged by `time`. Only lack of memory or a device
--- fault can prevent the opening.
+-- The prefix includes each command that was acknowledged by `time`. Only lack of memory or an I/O
+-- error can prevent the opening.
 pub record SurvivesPowerCuts
     {D E : Type 0} {state_of : D → DiskState} (found_of : E → DiskState) (run : ShellRun state_of)
     (moments : List ℕ) : Type 0 where

@@ -15,14 +15,14 @@ use Rattle.mcs_shell.specs.Shell.{ShellRun}
 -- ---- the sittings of a history
 
 -- A sitting: the use of a disk from one stop to the next. `Served`: a session was opened on the
--- disk and a shell ran. `Refused`: the opening was refused; the fields are the refusal number and
--- the disk after the opening.
+-- disk and a shell ran. `Refused`: `open` began no session; the fields are the refusal number and
+-- the disk after the call.
 pub data Sitting {D : Type 0} (state_of : D → DiskState) : Type 0 where
   Served : ShellRun state_of → Sitting state_of
   Refused : ℕ → D → Sitting state_of
 
--- Holds if a sitting began on `disk`: the session of its run was opened on `disk`, or the opening
--- of a session on `disk` was refused.
+-- Holds if a sitting began on `disk`: the session of its run was opened on `disk`, or `open` began
+-- no session on `disk`.
 abbrev pub IsSittingOn : {D : Type 0} {state_of : D → DiskState} → D → Sitting state_of → Type 0
 IsSittingOn {state_of = state_of} disk (Served run) = IsOpenedOn state_of disk run.before
 IsSittingOn {state_of = state_of} disk (Refused number left) =
@@ -56,9 +56,10 @@ IsHistory {state_of = state_of} IsFound disk (x ∷ xs) last =
 abbrev pub IsFoundByCut : {D : Type 0} → (D → DiskState) → ℕ → D → D → Type 0
 IsFoundByCut state_of time left found = IsLeftByCut time (state_of left) (state_of found)
 
--- A history: a first run of a shell, and the sittings after it. The first run has a session, which
--- can have begun in any way. The run was stopped at some moment, and the other sittings followed on
--- the disk that was found then.
+-- A history: a first run of a shell, and the sittings after it. The session of the first run can
+-- have begun in any way. This run was stopped at clock `time` or later, and the disk `found` was
+-- found after the stop. The other sittings followed on this disk (`came`), and `last` is the disk
+-- found at the end.
 pub record History
     {D : Type 0} (state_of : D → DiskState) (IsFound : ℕ → D → D → Type 0) : Type 0 where
   pub first : ShellRun state_of
@@ -93,8 +94,9 @@ pub record AreKeptFromRun
   pub parts : reached_commands_of_run run ≡ kept ++ lost
   pub holds : acknowledged_by time answered.acknowledged.moments ≤ length kept
 
--- Holds if `kept` are the commands kept from a sitting that began in the state `s`. If the opening
--- was refused, no commands are kept, and the reason was a device fault (53) or lack of memory (90).
+-- Holds if `kept` are the commands kept from a sitting that began in the state `s` and was stopped
+-- at clock `time` or later. If `open` began no session, no commands are kept, and the reason was an
+-- I/O error (53) or lack of memory (90).
 abbrev pub AreKeptFromSitting : {D : Type 0} (state_of : D → DiskState) → Sitting state_of → ℕ → BenchState
     → List Command → Type 0
 AreKeptFromSitting state_of (Served run) time s kept = AreKeptFromRun state_of run time s kept
@@ -112,8 +114,8 @@ AreKeptFromSittings state_of (x ∷ xs) s kept =
     × AreKeptFromSitting state_of x.sitting x.time s first × AreKeptFromSittings state_of xs (fold s first) rest
 
 -- Holds if the commands kept from each sitting survive the history: a session opened at the end has
--- the state after all these commands, in order. Only a device fault or lack of memory can prevent
--- the opening.
+-- the state after all these commands, in order. Only an I/O error or lack of memory can prevent the
+-- opening.
 pub record SurvivesHistory
     {D : Type 0} {state_of : D → DiskState} {IsFound : ℕ → D → D → Type 0}
     (history : History state_of IsFound) : Type 0 where

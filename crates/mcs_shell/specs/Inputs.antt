@@ -63,8 +63,8 @@ kind_of_begun_text request = None
 
 -- The input of a text, given the lines after the line that began the text. The text consists of the
 -- lines before the first dot line, each followed by a line feed. Without a dot line, the text is
--- refused (`NoEnd`) if input ended (`whole`). If input can continue, the text does not form an
--- input yet.
+-- rejected (`NoEnd`) if input ended after the lines (`whole` is true). If input can continue, the
+-- text does not form an input yet.
 abbrev pub text_input : Bool → TextKind → List (List ℕ) → List Input
 text_input whole kind ls =
     if list_any is_dot_line ls

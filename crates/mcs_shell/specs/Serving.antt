@@ -38,7 +38,7 @@ WroteAnswers s (x ∷ rest) old new =
 
 -- ---- the session
 
--- Holds if a device fault closed the session. The commands `done` were answered `ok`. `reached`
+-- Holds if an I/O error closed the session. The commands `done` were answered `ok`. `reached`
 -- consists of these commands, followed by the command at which the device failed. Any command in
 -- `reached` may be on the disk.
 pub record ClosesSession

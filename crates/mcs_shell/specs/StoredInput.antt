@@ -13,7 +13,7 @@ mode_of None text = OutsideText
 mode_of (Some kind) text = InText kind text
 
 -- Holds if `new` is the text with the line and a line feed appended. If this text would have more
--- than `TEXT_BYTES` bytes, `new` can instead be any text that is too long. The shell refuses both
+-- than `TEXT_BYTES` bytes, `new` can instead be any text that is too long. The shell rejects both
 -- texts in the same way, no matter which bytes follow.
 abbrev pub AppendsLine : List ℕ → List ℕ → List ℕ → Type 0
 AppendsLine text line new =

@@ -53,10 +53,11 @@ needs_allocation (Line (Count n)) = true
 needs_allocation (Line (Trace n probes)) = true
 needs_allocation i = false
 
--- Holds if the outcome is possible for the input. `Answered` is possible for an input without a
--- command, and for a command if the session is open. `Device` is possible for a command that the
--- state accepts if the session is open. `Closed` is possible for a command if the session is
--- closed. `NoMemory` is possible for an input that needs an allocation.
+-- Holds if the outcome is possible for the input. The Bool is true if the session is open.
+-- `Answered` is possible for an input without a command, and for a command if the session is open.
+-- `Device` is possible for a command that the state accepts if the session is open. `Closed` is
+-- possible for a command if the session is closed. `NoMemory` is possible for an input that needs
+-- an allocation.
 unfoldable pub IsPossibleOutcome : Bool → BenchState → Input → Outcome → Type 0
 IsPossibleOutcome live s i Answered = (requested_command i ≡ None) ⊎ (live ≡ true)
 IsPossibleOutcome live s i Device = (accepted_commands s (requested_command i) ≢ []) × (live ≡ true)
@@ -70,7 +71,7 @@ acknowledged_commands s i Answered = accepted_commands s (requested_command i)
 acknowledged_commands s i o = []
 
 -- The command that may have reached the disk, as a list of one element. The command was answered
--- `ok` or, after a device fault, `no 53`. The list is empty if no command can have reached the
+-- `ok` or, if the device failed, `no 53`. The list is empty if no command can have reached the
 -- disk.
 unfoldable pub reached_commands : BenchState → Input → Outcome → List Command
 reached_commands s i Answered = accepted_commands s (requested_command i)
@@ -85,8 +86,8 @@ change_answer s c =
       | Some fault ↦ no_text (bench_fault_number fault)
     ]
 
--- The answer to a text with this meaning, from the state before the text: the answer to the text's
--- command, the lines of its report, or the refusal for its error.
+-- The answer to a text with this meaning, from the state before the text. It is the answer to the
+-- text's command, the lines of the text's report, or the refusal for the text's error.
 abbrev pub meaning_answer : BenchState → Result TextMeaning TextRefusal → List ℕ
 meaning_answer s (Ok (Executes c)) = change_answer s c
 meaning_answer s (Ok (Reports lines)) = lines
@@ -131,9 +132,9 @@ abbrev pub inputs_in : List Exchange → List Input
 inputs_in exchanges = map (λ (x : Exchange). x.input) exchanges
 
 -- The concatenated results of `f` for the exchanges, in order. For each exchange, `f` gets the
--- state before its input. `results_in_order answer` gives the answers. `results_in_order
--- acknowledged_commands` gives the commands answered `ok`. `results_in_order reached_commands`
--- gives the commands that may have reached the disk.
+-- state before its input. `results_in_order answer` gives the answers.
+-- `results_in_order acknowledged_commands` gives the commands answered `ok`.
+-- `results_in_order reached_commands` gives the commands that may have reached the disk.
 abbrev pub results_in_order : {A : Type 0} → (BenchState → Input → Outcome → List A) → BenchState
     → List Exchange → List A
 results_in_order f s [] = []
@@ -152,13 +153,13 @@ abbrev pub end_caused_by_exchanges : List Exchange → Option ShellEnd
 end_caused_by_exchanges [] = None
 end_caused_by_exchanges (x ∷ rest) = option_or (end_caused_by x.whole x.outcome) (end_caused_by_exchanges rest)
 
--- true if the outcome is a device fault
+-- true if the outcome is `Device`: the device failed
 abbrev pub is_device_fault : Outcome → Bool
 is_device_fault Device = true
 is_device_fault o = false
 
 -- Holds if each outcome is possible for its input, in the state before that input, and only the
--- last exchange can halt the shell.
+-- last exchange can halt the shell. The Bool is true if the session is open.
 abbrev pub ArePossibleExchanges : Bool → BenchState → List Exchange → Type 0
 ArePossibleExchanges live s [] = Unit {0}
 ArePossibleExchanges live s (x ∷ rest) =

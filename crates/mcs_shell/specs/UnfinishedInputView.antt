@@ -14,7 +14,8 @@ pub data LineMode : Type 0 where
   OutsideText : LineMode
   InText : TextKind → List ℕ → LineMode
 
--- the inputs that lines form if the first line is read in the given mode
+-- the inputs that lines form if the first line is read in the given mode; the Bool is true if input
+-- ended after the lines
 unfoldable pub inputs_in_mode : Bool → LineMode → List (List ℕ) → List Input
 inputs_in_mode whole OutsideText [] = []
 inputs_in_mode whole (InText kind text) [] = if whole then BadText NoEnd ∷ [] else []
@@ -36,6 +37,7 @@ pub record UnfinishedInputView : Type 0 where
 abbrev pub no_unfinished_input : UnfinishedInputView
 no_unfinished_input = record { mode = OutsideText; line = [] }
 
--- the inputs that the unfinished input and the bytes after it form
+-- the inputs that the unfinished input and the bytes after it form; the Bool is true if input ended
+-- after these bytes
 abbrev pub inputs_after : UnfinishedInputView → List ℕ → Bool → List Input
 inputs_after p bytes whole = inputs_in_mode whole p.mode (lines (p.line ++ bytes) whole)

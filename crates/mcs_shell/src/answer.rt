@@ -55,7 +55,7 @@ impl Answer {
         }
     }
 
-    /// Sets the answer to a line that consists of `word` (at most 20 bytes) and the decimal number `n`.
+    /// Stores a line as the answer: `word` (at most 20 bytes) and the decimal number `n`.
     pub(crate) fn set_number(&mut self, word: &[u8], n: u32)
         requires { length word.now ≤ 20 }
         ensures { self.new ≡ word.now ++ as_line (decimal n) }
@@ -65,14 +65,14 @@ impl Answer {
         put_number(&mut self.inline_bytes, word, u64::from(n));
     }
 
-    /// Sets the answer to the line `no NN`, where NN is the refusal number.
+    /// Stores the line `no NN` as the answer, where NN is the refusal number.
     pub(crate) fn set_refusal(&mut self, number: u8)
         ensures { self.new ≡ no_text number }
     {
         self.set_number(b"no ", u32::from(number));
     }
 
-    /// Sets the answer to the refusal of a text. The answer has the refusal number and, for a program, the number of
+    /// Stores the answer to a rejected text: the refusal number and, for a program, the number of
     /// the line with the error.
     pub(crate) fn set_text_refusal(&mut self, refusal: TextRefusal)
         ensures { self.new ≡ text_refusal_answer refusal }
@@ -87,8 +87,8 @@ impl Answer {
         }
     }
 
-    /// Makes this the answer to an accepted command. `reply` is the command's reply, and `bench` is the bench after
-    /// the command.
+    /// Stores the answer to an accepted command. `reply` is the command's reply, and `bench` is the
+    /// bench after the command.
     pub(crate) fn set_reply(&mut self, reply: &Reply, bench: &Bench)
         ensures { self.new ≡ ok_text reply.now bench.now }
     {
@@ -97,7 +97,7 @@ impl Answer {
         put_reply(&mut self.inline_bytes, reply, bench);
     }
 
-    /// Makes this the answer to a query about the state of the bench.
+    /// Stores the answer to a query about the state of the bench.
     pub(crate) fn set_query(&mut self, query: Query, bench: &Bench)
         ensures { self.new ≡ query_answer query bench.now }
     {
@@ -106,8 +106,8 @@ impl Answer {
         put_query(&mut self.inline_bytes, query, bench);
     }
 
-    /// Makes this the answer to `list`: the listing of at most `lines` lines of ROM from address `from`. Fails if
-    /// memory runs out; the answer is then unspecified.
+    /// Stores the answer to `list`: the listing of at most `lines` lines of ROM from address
+    /// `from`. Fails if memory runs out; the answer is then unspecified.
     pub(crate) fn set_listing(
         &mut self,
         alloc: Global,
@@ -122,8 +122,8 @@ impl Answer {
         Ok(())
     }
 
-    /// Makes this the answer to `board`: the text that describes the board. Fails if memory runs out; the answer is
-    /// then unspecified.
+    /// Stores the answer to `board`: the text that describes the board. Fails if memory runs out;
+    /// the answer is then unspecified.
     pub(crate) fn set_board(&mut self, alloc: Global, bench: &Bench) -> Result<(), AllocError>
         ensures { OnOk result (self.new ≡ board_answer bench.now) }
     {
@@ -132,8 +132,8 @@ impl Answer {
         Ok(())
     }
 
-    /// Makes this the answer to `count`: how often a run of at most `n` cycles would begin an instruction at each
-    /// address. Fails if memory runs out; the answer is then unspecified.
+    /// Stores the answer to `count`: how often a run of at most `n` cycles would begin an
+    /// instruction at each address. Fails if memory runs out; the answer is then unspecified.
     pub(crate) fn set_count(
         &mut self,
         alloc: Global,
@@ -147,9 +147,9 @@ impl Answer {
         Ok(())
     }
 
-    /// Makes this the answer to `trace`: the changes that a run of at most `n` cycles would make at the locations of
-    /// the probes. `probes` must have at most `MAX_PROBES` entries. Fails if memory runs out; the answer is then
-    /// unspecified.
+    /// Stores the answer to `trace`: the changes that a run of at most `n` cycles would make at the
+    /// locations of the probes. `probes` must have at most `MAX_PROBES` entries. Fails if memory
+    /// runs out; the answer is then unspecified.
     pub(crate) fn set_trace(
         &mut self,
         alloc: Global,
@@ -165,7 +165,7 @@ impl Answer {
         Ok(())
     }
 
-    /// Sets the answer to the given lines. Each line ends with a line feed.
+    /// Stores the given lines as the answer. Each line ends with a line feed.
     pub(crate) fn set_lines(&mut self, lines: Vec<u8>)
         ensures { self.new ≡ lines.items }
     {

@@ -1,4 +1,4 @@
-//! Functions that execute an input on a session and set the answer to the input.
+//! Functions that execute an input on a session and store the answer to the input.
 ghost use Rattle.std.specs.Prelude.{◌≡◌, [], OnErr, OnOk};
 ghost use Rattle.mcs_answers.specs.AnswerTexts.{no_text};
 ghost use Rattle.mcs_lines.specs.declared.requests.Request.TheVariants.{Change};
@@ -30,7 +30,8 @@ fn outcome_of(fault: SessionFault) -> Outcome
     }
 }
 
-/// Executes a command on a session and sets the answer to the command: `ok` or a refusal. Returns the outcome.
+/// Executes a command on a session and stores the answer to the command: `ok` or a refusal. Returns
+/// the outcome.
 fn answer_change<D: Disk + Drop>(
     command: &Command,
     session: &mut Session<D>,
@@ -51,8 +52,9 @@ fn answer_change<D: Disk + Drop>(
     }
 }
 
-/// Returns the outcome of a request whose answer needs memory. `put` is the result of the call that set `answer`. If an
-/// allocation failed in that call, sets the answer to the refusal `NO_MEMORY` (90).
+/// Returns the outcome of a request whose answer needs memory. `put` is the result of the call that
+/// stored `answer`. If an allocation failed in that call, stores the refusal `NO_MEMORY` (90) as
+/// the answer.
 fn outcome_of_allocation(put: Result<(), AllocError>, answer: &mut Answer) -> Outcome
     ensures put { OnOk put ((result ≡ Outcome.Answered) × (answer.new ≡ answer.old)) }
     ensures refused { OnErr put ((result ≡ Outcome.NoMemory) × (answer.new ≡ no_text NO_MEMORY)) }
@@ -66,8 +68,9 @@ fn outcome_of_allocation(put: Result<(), AllocError>, answer: &mut Answer) -> Ou
     }
 }
 
-/// Executes the request of a line outside a text, sets the answer, and returns the outcome. The answer must be empty
-/// before the call. The answer stays empty for a line without a request and for a line that begins a text.
+/// Executes the request of a line outside a text, stores the answer, and returns the outcome. The
+/// answer must be empty before the call. The answer stays empty for a line without a request and
+/// for a line that begins a text.
 pub(crate) fn answer_request<D: Disk + Drop>(
     alloc: Global,
     request: &Request,
@@ -109,7 +112,8 @@ pub(crate) fn answer_request<D: Disk + Drop>(
     }
 }
 
-/// Parses a complete text, executes its command, if it has one, and sets the answer. Returns the outcome.
+/// Parses a complete text, executes its command, if it has one, and stores the answer. Returns the
+/// outcome.
 pub(crate) fn answer_text<D: Disk + Drop>(
     alloc: Global,
     kind: TextKind,

@@ -1,6 +1,7 @@
-//! The headline of docs/PROOF.md, as laws. Each law is the contract of a function with an empty body. The laws about
-//! power cuts and stops combine the contracts of `run_shell` and `Session::open`. The last law is about a run in which
-//! no call failed.
+//! The headline of docs/PROOF.md, as laws. Each law is the contract of a function with an empty
+//! body. The laws about power cuts and stops combine the contracts of `run_shell` and
+//! `Session::open`. Their premise is that the first session is open and its disk is honest. The
+//! last law is about a run in which no call failed.
 ghost use Rattle.mcs_host.specs.Ending.{as_disk};
 ghost use Rattle.mcs_session.specs.KeptCommands.{IsOpenOnHonestDisk};
 ghost use Rattle.mcs_session.specs.SessionState.{session_state};
@@ -30,12 +31,13 @@ pub fn a_file_survives_power_cuts()
         → SurvivesInFile run }
 {}
 
-/// Proves the headline for any number of runs. A power cut ends each run, and the next run opens a session on the disk
-/// that the cut left. A cut can happen at any moment, even while a session is opened or converted from version 1. A
-/// refused opening also counts as a run. The session opened at the end has executed the commands kept from each run, in
-/// order. The commands kept from a run are a prefix of a list: those answered `ok`, followed by the one answered
-/// `no 53` (device failed), if there is one. The prefix includes every command that was acknowledged before the power
-/// cut.
+/// Proves the headline for any number of runs. A power cut ends each run, and the next run opens a
+/// session on the disk that the cut left. A cut can happen at any moment, even while a session is
+/// opened or converted from version 1. An `open` that begins no session also counts as a run. The
+/// session opened at the end has executed the commands kept from each run, in order. The commands
+/// kept from a run are a prefix of a list: those answered `ok`, followed by the one answered
+/// `no 53` (device failed), if there is one. The prefix includes every command that was
+/// acknowledged before the power cut.
 pub fn any_number_of_runs_survive_power_cuts<D: Disk>()
     ensures { (history : History D.state (IsFoundByCut D.state))
         → IsOpenOnHonestDisk (session_state D.state history.first.before)

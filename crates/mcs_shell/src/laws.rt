@@ -12,10 +12,11 @@ ghost use Rattle.mcs_shell.specs.Inputs.{BadText, inputs_of_lines, is_dot_line, 
 ghost use Rattle.mcs_shell.specs.TextMeanings.{meaning_of_text};
 ghost use Rattle.mcs_shell.specs.Transcript.{RequestsNoCommand};
 
-/// Proves that a text ends at a line with a single dot. The line that begins the text, the lines up to the first dot
-/// line, and the dot line form one input. The text consists of the lines between the first and the last of these lines,
-/// each followed by a line feed. The lines after the dot line are parsed as if they were the first lines of the input.
-/// If input ends without a dot line, the text is refused (`NoEnd`).
+/// Proves that a text ends at a line with a single dot. The line that begins the text, the lines up
+/// to the first dot line, and the dot line form one input. The text consists of the lines between
+/// the first and the last of these lines, each followed by a line feed. The lines after the dot
+/// line are parsed as if they were the first lines of the input. If input ends without a dot line,
+/// the text is rejected (`NoEnd`).
 pub fn a_text_ends_at_a_dot()
     ensures ended { (whole : Bool) (kind : TextKind) (line : List ℕ) (text rest : List (List ℕ))
         → request_of line ≡ Begin kind → list_any is_dot_line text ≡ false
@@ -27,8 +28,8 @@ pub fn a_text_ends_at_a_dot()
         → inputs_of_lines true false (line ∷ text) ≡ BadText NoEnd ∷ [] }
 {}
 
-/// Proves that `map` requests no command. For each reason, `map` rejects a text for this reason if and only if `asm`
-/// does.
+/// Proves that `map` requests no command. `map` rejects a text for a reason if and only if `asm`
+/// rejects the text for the same reason.
 pub fn a_map_requests_no_command()
     ensures asks { RequestsNoCommand Map }
     ensures refused { (text : List ℕ) (why : TextRefusal)

@@ -1,16 +1,16 @@
-//! Messages for the user on standard error: the usage, and the reason why a session is refused or ends early. If a
-//! message cannot be written, the program ignores the error. Standard output and the exit status do not depend on
-//! these messages.
+//! Messages for the user on standard error: the usage, and the reason why a session does not begin
+//! or ends early. If a message cannot be written, the program ignores the error. Standard output
+//! and the exit status do not depend on these messages.
 use crate::ends::ShellEnd;
 use crate::faults::BeginFault;
 use mcs_host::{Choice, FileDisk, FileFault, StreamsError, StreamsFault};
 use mcs_journal::StoreFault;
 use std::path::Path;
 
-/// The reason why a session was refused, and facts about its file that the message needs.
+/// The reason why no session began, and the facts about its file that the message needs.
 #[derive(Clone, Copy)]
 pub struct Refusal {
-    /// The reason for the refusal.
+    /// The reason why no session began.
     pub fault: BeginFault,
     /// True if the device is full or a quota is used up.
     pub is_full: bool,
@@ -27,7 +27,8 @@ pub fn print_usage(rt: &HostRuntime) {
     );
 }
 
-/// Prints why the standard streams are refused. Prints nothing if standard error may be a session file.
+/// Prints why the program cannot run with its standard streams. Prints nothing if standard error
+/// may be a session file.
 pub fn print_streams_refusal(rt: &HostRuntime, refused: StreamsError) {
     if refused.unusable.errors {
         return;
@@ -58,8 +59,8 @@ pub fn print_name_warning(rt: &HostRuntime, file: &str, opened: &Result<FileDisk
     }
 }
 
-/// Prints what is wrong with the file of a refused session, and what to do. Prints nothing if no session was refused
-/// or if standard error is that file.
+/// Prints why no session began in the chosen file, and what to do. Prints nothing if `refused` is
+/// `None`, or if standard error is that file.
 pub fn print_session_refusal(rt: &HostRuntime, choice: &Choice, refused: Option<Refusal>) {
     let Some(refusal) = refused else {
         return;

@@ -35,7 +35,7 @@ use std::process::ExitCode;
 /// The exit status if the arguments are invalid.
 const WRONG_ARGUMENTS_STATUS: u8 = 2;
 
-/// The exit status if the session is refused.
+/// The exit status if no session begins or no shell runs, although the arguments are valid.
 const REFUSED_STATUS: u8 = 3;
 
 /// Returns the command-line arguments, with the program's name first. An argument that is not valid UTF-8 is a usage
@@ -104,7 +104,8 @@ pub fn refuse_arguments(rt: &HostRuntime, fault: ArgumentsFault) -> ExitCode
 pub struct BeginFailure<D: Disk + Drop> {
     /// The reason why no session began.
     pub fault: BeginFault,
-    /// The disk that was opened for the session, as the refused call left it, or `None` if no disk was opened.
+    /// The disk that was opened for the session, as the failed call left it, or `None` if no disk
+    /// was opened.
     pub disk: Option<D>,
 }
 
@@ -241,8 +242,8 @@ pub fn serve_if_begun<R: InputSource, W: AnswerSink, D: Disk + Drop>(
     }
 }
 
-/// Returns the reason why a session was refused, with the facts that the message needs, or `None` if the session
-/// began.
+/// Returns the reason why no session began, with the facts that the message needs, or `None` if a
+/// session began.
 fn refusal_of(begun: &Result<Session<FileDisk>, BeginFailure<FileDisk>>) -> Option<Refusal> {
     match begun {
         Ok(_) => None,
@@ -331,9 +332,10 @@ fn run_given_arguments(rt: &HostRuntime) -> ProgramResult<FileDisk>
     }
 }
 
-/// Runs the program with the command-line arguments, standard input and standard output. Returns the exit status, and
-/// the session as its shell left it. The exit status is 3 if an output stream is a session file, or if the host does
-/// not say which file a stream is. It is also 3 if `/dev/null` cannot replace a closed stream.
+/// Runs the program with the command-line arguments, standard input and standard output. Returns
+/// the exit status, and the session as its shell left it. The exit status is 3 if an output stream
+/// is a session file or could be one. It is also 3 if `/dev/null` cannot replace a closed stream,
+/// or if a stream is not a terminal and the host does not say which file it is.
 pub fn run_program(rt: &HostRuntime) -> ProgramResult<FileDisk>
     ensures served { IfSome result.session (λ after.
         ServedBySomeArguments as_disk (exit_status result.status) after) }

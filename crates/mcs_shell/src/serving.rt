@@ -24,8 +24,9 @@ use mcs_model::text_lines::without_carriage_return;
 use mcs_session::session::Session;
 use std::alloc::Global;
 
-/// Writes the answer to an input. `outcome` is the outcome of the input, and `session` is the session after the input.
-/// Fails with the reason why the shell ends, if the write failed or the outcome is a device fault.
+/// Writes the answer to an input. `outcome` is the outcome of the input, and `session` is the
+/// session after the input. Fails with the reason why the shell ends, if the write failed or the
+/// outcome is `Device`.
 fn deliver<W: AnswerSink, D: Disk + Drop>(
     outcome: Outcome,
     answer: &Answer,

@@ -32,11 +32,11 @@ bit_and-below_1024 word m h = let e = and_le_l word m in omega arith
 bit_of-remainder : (n k i : ℕ) → i < k → bit_of (n % 2 ^ k) i ≡ bit_of n i
 bit_of-remainder n k i h = sym (bit_at_cat_low (n / 2 ^ k) k (n % 2 ^ k) i h) ∙ ap (λ m. bit_of m i) (div-add-mod' n (2 ^ k))
 
--- After a word is shifted, bit 0 is the level that was shifted in, and bit `j + 1` is the old bit
--- `j`.
+-- After a word is shifted, bit 0 is the level that was shifted in.
 bit_0-after_word_shift : (word level : ℕ) → level < 2 → bit_of ((2 * word + level) % 1024) 0 ≡ level
 bit_0-after_word_shift word level l = bit_of-remainder (2 * word + level) 10 0 (omega arith) ∙ bit_at_lowest (2 * word + level) ∙ omega arith
 
+-- After a word is shifted, bit `j + 1` is the old bit `j`.
 higher_bit-after_word_shift : (word level j : ℕ) → level < 2 → suc j < 10 → bit_of ((2 * word + level) % 1024) (suc j) ≡ bit_of word j
 higher_bit-after_word_shift word level j l h =
     let half : (2 * word + level) / 2 ≡ word = omega arith in
@@ -227,7 +227,7 @@ ten_bits-from_two_words words first low high j is-low is-high small h =
           bit_at_cat_high high 10 low (s + j) small l ∙ ap (λ w. bit_of w (s + j - 10)) (is-high ∙ ap (slice_index words) p) ∙ ap (bit_of (slice_index words ((first + j) / 10))) q
     ]
 
--- Refilling a list with the same number of new elements gives the new elements.
+-- If the number of new elements is the length of the list, `refill` returns the new elements.
 pub refill-all : (old new : List ℕ) → length new ≡ length old → refill (length old) old new ≡ new
 refill-all old new len = ap (λ n. take n (new ++ drop (length new) old)) (sym len) ∙ take-append_seam new (drop (length new) old)
 

@@ -87,8 +87,8 @@ abbrev pub all_names : List (Option SourceLine) → Names
 all_names lines = names_before lines (length lines)
 
 -- ---- errors of the first pass: a bad statement (30), a name that is already defined (31), an
--- address past the end (36), too many names (37), and a number out of range in `ORG` or
--- `NAME = NUMBER` (33). They depend only on the line and the lines before it.
+-- address past the end (36) and too many names (37). Error 33 is also possible: a number out of
+-- range in `ORG` or `NAME = NUMBER`. These errors depend only on the line and the lines before it.
 
 -- true if a name is in the list of defined names; a line that defines it again has error 31
 abbrev pub is_defined : List ℕ → Names → Bool
@@ -102,12 +102,12 @@ abbrev pub is_defined_name : Option (List ℕ) → Names → Bool
 is_defined_name None names = false
 is_defined_name (Some w) names = is_defined w names
 
--- true if the number in an `ORG` (`is_bad_origin`), or in an `ORG` or `NAME = NUMBER`
--- (`has_bad_number`), is above 4095 (error 33)
+-- true if the statement is an `ORG` with a number above 4095 (error 33)
 abbrev pub is_bad_origin : Option Statement → Bool
 is_bad_origin (Some (Origin n)) = not (nat_lt n 4096)
 is_bad_origin s = false
 
+-- true if the line has an `ORG` or is `NAME = NUMBER`, and the number is above 4095 (error 33)
 abbrev pub has_bad_number : SourceLine → Bool
 has_bad_number (Define w n) = not (nat_lt n 4096)
 has_bad_number (Code label s) = is_bad_origin s

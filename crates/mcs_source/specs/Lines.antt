@@ -86,28 +86,31 @@ abbrev pub word_before_comma : List Token → Option (List ℕ × List Token)
 word_before_comma (Word w ∷ Comma ∷ ts) = Some (w, ts)
 word_before_comma ts = None
 
--- `one_operand`, `one_number`, `one_register`, `one_pair`: the operand, number, register or pair,
--- if it is the only token
+-- the operand, if it is the only token; otherwise `None`
 abbrev pub one_operand : List Token → Option Operand
 one_operand ts = single_word ts >>= operand_of
 
+-- the number, capped at 2^32, if it is the only token; otherwise `None`
 abbrev pub one_number : List Token → Option ℕ
 one_number ts = single_word ts >>= λ w. number_in_word w >>= λ n. Some (capped_number n)
 
+-- the number of the register, if it is the only token; otherwise `None`
 abbrev pub one_register : List Token → Option ℕ
 one_register ts = single_word ts >>= register_named
 
+-- the number of the register pair, if it is the only token; otherwise `None`
 abbrev pub one_pair : List Token → Option ℕ
 one_pair ts = single_word ts >>= pair_named
 
--- `first_operand`, `first_register`, `first_pair`: the operand, register or pair before the first
--- comma, and the tokens after this comma
+-- the operand before the first comma, and the tokens after this comma
 abbrev pub first_operand : List Token → Option (Operand × List Token)
 first_operand ts = word_before_comma ts >>= λ x. operand_of x.0 >>= λ v. Some (v, x.1)
 
+-- the number of the register before the first comma, and the tokens after this comma
 abbrev pub first_register : List Token → Option (ℕ × List Token)
 first_register ts = word_before_comma ts >>= λ x. register_named x.0 >>= λ r. Some (r, x.1)
 
+-- the number of the register pair before the first comma, and the tokens after this comma
 abbrev pub first_pair : List Token → Option (ℕ × List Token)
 first_pair ts = word_before_comma ts >>= λ x. pair_named x.0 >>= λ p. Some (p, x.1)
 
@@ -156,8 +159,8 @@ pub data SourceLine : Type 0 where
   Code : Option (List ℕ) → Option Statement → SourceLine
   Define : List ℕ → ℕ → SourceLine
 
--- the line with the given label, if any, and the statement that the tokens form; if there are no
--- tokens, the line has no statement; `None` if the tokens do not form a statement
+-- The line with the given label, if any, and the statement that the tokens form. If there are no
+-- tokens, the line has no statement. `None` if the tokens do not form a statement.
 abbrev pub code_line : Option (List ℕ) → List Token → Option SourceLine
 code_line label [] = Some (Code label None)
 code_line label (t ∷ ts) = statement_of (t ∷ ts) >>= λ s. Some (Code label (Some s))

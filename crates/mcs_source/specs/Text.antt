@@ -58,8 +58,8 @@ abbrev pub second_word : List ℕ → ℕ
 second_word [] = 0
 second_word (c ∷ rest) = c
 
--- the instruction with the first word `b` and, if it has two words, the first byte of `rest` as its
--- second word; `None` if `b` is listed as a single byte
+-- The instruction with the first word `b` and, if it has two words, the first byte of `rest` as its
+-- second word. `None` if `b` is listed as a single byte.
 unfoldable pub op_at : ℕ → List ℕ → Option Op
 op_at b rest = complete_op (instruction_of b (second_word rest)) b rest
 

@@ -1,4 +1,5 @@
--- A run in two parts begins the same instructions as one run of the same number of cycles.
+-- A run in two parts begins the same instructions as one run of the same number of cycles, if
+-- nothing stops this run early.
 use Rattle.std.proofs.Common.{◌≡◌, ℕ, zero, suc, ◌+◌, ◌-◌, ◌<◌, ◌≤◌, Bool, true, false, cond, Option, Some, None, is_some, unwrap_or, List, [], ◌∷◌, ◌++◌, map, find, inl, inr, refl, sym, ap, ◌∙◌, subst, arith, eqb, eq-eqb, append_assoc}
 use Rattle.std.specs.List.{range_with_len}
 use Rattle.std.proofs.lemmas.Bool.{cases_eq}
@@ -115,15 +116,15 @@ full_run_length-if_uninterrupted stops n s w =
     let end : is_some (stop_reason_after stops n s n) ≡ true = some_stop_reason-if_ended (is_outside_table (after_cycles n s)) (at_break stops.breaks n (after_cycles n s)) (has_changed stops.watches (after_cycles (n - 1) s) (after_cycles n s)) (eqb n n) (eq-eqb n n refl) in
     ap (λ o. unwrap_or o n) (find_at (λ k. is_some (stop_reason_after stops n s k)) 0 (n + 1) n (omega arith) (omega arith) (λ j l. ap is_some (no_stop_reason-if_uninterrupted stops n s w j l)) end)
 
--- if nothing stops a run of `m + n` cycles early, nothing stops a run of `m` cycles early
+-- if nothing stops a run of `m + n` cycles early, nothing stops a run of its first `m` cycles early
 first_part-uninterrupted : (stops : StopConditions) (m n : ℕ) (s : Machine) → IsUninterrupted stops (m + n) s → IsUninterrupted stops m s
 first_part-uninterrupted stops m n s w = record {
   inside = λ l. w.inside (omega arith);
   early = λ j some l. w.early j some (omega arith);
 }
 
--- if a run of at most `m + n` cycles executes all of them, nothing stops a run of its last `n`
--- cycles early
+-- Suppose that a run of at most `m + n` cycles from `s` executes `m + n` cycles. A run of `n`
+-- cycles from the machine after the first `m` cycles is then not stopped early (`IsUninterrupted`).
 second_part-uninterrupted : (stops : StopConditions) (m n : ℕ) (s : Machine) → run_length stops (m + n) s ≡ m + n → IsUninterrupted stops n (after_cycles m s)
 second_part-uninterrupted stops m n s e = record {
   inside = λ l. inside_table-if_no_stop_reason stops (m + n) m (after_cycles (m - 1) s) (after_cycles m s) (no_stop_reason-before_end stops (m + n) s e m (omega arith));

@@ -1,4 +1,4 @@
-//! A law about forecasts of runs, proved as the contract of an empty function.
+//! A law about forecasts of runs, proved as the contract of a function with an empty body.
 ghost use Rattle.mcs_probe.specs.Forecast.{InstructionsAddUp};
 
 /// Proves that two consecutive runs of `m` and `n` cycles begin the same instructions as one run of `m + n` cycles,

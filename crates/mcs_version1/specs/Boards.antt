@@ -14,7 +14,8 @@ use Rattle.mcs_model.specs.declared.limits.TheConstants.{ROMS, BANKS, BANK_CHIPS
 use Rattle.mcs_model.specs.Boards.{HasDeclaredLengths, any_line, has_wrong_direction, lacks_line}
 use Rattle.mcs_model.specs.Validity.{IsValidBoard}
 
--- true if each number in a line (bank, chip, chain, line or bit) is in its range in version 1
+-- true if each number that names the line (bank, chip, chain, line or bit) is in its range in
+-- version 1
 abbrev pub in_range_1 : Line → Bool
 in_range_1 (Rom chip k) = nat_lt chip ROMS && nat_lt k 4
 in_range_1 (Ram bank chip k) = nat_lt bank BANKS && nat_lt chip BANK_CHIPS && nat_lt k 4
@@ -63,8 +64,8 @@ fits_version_1 b =
     nat_le (length b.chains.items) 2
     && not (list_any (λ chain. nat_lt 4 chain.chips) b.chains.items)
 
--- Holds if the valid boards of version 1 are exactly the small valid boards of version 2. The other
--- range limits of version 1 follow, because all lines of a board, and the chain bits of its key
--- rows, must exist.
+-- Holds if the valid boards of version 1 are exactly the small valid boards of version 2
+-- (`fits_version_1`). The other range limits of version 1 follow, because all lines of a board, and
+-- the chain bits of its key rows, must exist.
 abbrev pub Version1BoardsAreSmall : Type 0
 Version1BoardsAreSmall = (b : BoardParts) → IsValidBoard1 b ↔ (IsValidBoard b × (fits_version_1 b ≡ true))

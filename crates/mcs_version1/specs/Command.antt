@@ -1,5 +1,6 @@
 -- The effects of commands in version 1, which has no watches and only small boards. For a command
--- that version 1 does not have (`is_command_of_version_1` is false), the other definitions have no meaning.
+-- that version 1 does not have (`is_command_of_version_1` is false), the other definitions have no
+-- meaning.
 use Rattle.std.specs.Prelude.{Bool, true, false, ◌+◌, ◌==◌, ◌&&◌, ◌||◌, length, Option, Some, None, nat_lt, nat_le, slice_set, if◌then◌else◌}
 use Rattle.std.specs.List.{list_any}
 use Rattle.mcs_model.specs.declared.command.Command.{Command}

@@ -18,8 +18,8 @@ one_line_without_line_feed (b ∷ text) e =
     ] in
     by_byte e
 
--- `split_once` at a line feed gives the first line and the rest; the lines of the text are that
--- line and the lines of the rest
+-- `split_once` at a line feed returns the first line and the text after it. The lines of the whole
+-- text are the first line, followed by the lines of the text after it.
 pub first_line_splits_off : (text : List ℕ) (r : Option (Bor (List ℕ) × Bor (List ℕ))) → IsSplitOnceResult 10 text r
     → MatchOption r (slice_split is_line_feed text ≡ text ∷ []) (λ x. (slice_split is_line_feed text ≡ x.0.now ∷ slice_split is_line_feed x.1.now) × (length x.1.now < length text))
 first_line_splits_off text None h = one_line_without_line_feed text (split_once_first 10 text None h (omega arith))

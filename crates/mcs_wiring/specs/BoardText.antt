@@ -71,11 +71,11 @@ board_lines b =
 abbrev pub board_text : BoardParts → List ℕ
 board_text b = text_of (board_lines b)
 
--- `query_lines`: the lines of the answer to the query `board`: the line `board`, then the lines of
--- the board's text. `query_text`: these lines with a line feed between two lines, but not after the
--- last line.
+-- the lines of the answer to the query `board`: the line `board`, then the lines of the board's
+-- text
 abbrev pub query_lines : BoardParts → List (List ℕ)
 query_lines b = codes "board" ∷ board_lines b
 
+-- the answer to the query `board`, with a line feed between two lines, but not after the last line
 abbrev pub query_text : BoardParts → List ℕ
 query_text b = join_with_byte line_feed (query_lines b)

@@ -26,10 +26,10 @@ table_keys Chain = codes "clock" ∷ codes "data" ∷ codes "chips" ∷ []
 table_keys Keys = codes "chain" ∷ codes "first" ∷ codes "rows" ∷ codes "columns" ∷ []
 table_keys Lamp = codes "line" ∷ []
 
--- `is_board_key`: true if a key is the top-level key of a section. `is_table_key`: true if a table
--- of the section must have the key.
+-- true if a key is the top-level key of a section
 abbrev pub is_board_key : List ℕ → Bool
 is_board_key key = list_any (λ s. bytes_eq key (section_key s)) sections
 
+-- true if a table of the section must have the key
 abbrev pub is_table_key : Section → List ℕ → Bool
 is_table_key s key = list_any (bytes_eq key) (table_keys s)

@@ -17,8 +17,9 @@ use Rattle.mcs_model.specs.Options.{◌>>=◌}
 abbrev pub below_or_none : ℕ → ℕ → Option ℕ
 below_or_none limit n = if nat_lt n limit then Some n else None
 
--- the number that one or two decimal digits spell, or none if the number has a leading zero or is
--- not below `limit`; every number in a line name has at most two digits
+-- The number that one or two decimal digits spell. None if the text has another form, or if the
+-- number has a leading zero or is not below `limit`. Every number in a line name has at most two
+-- digits.
 abbrev pub number_below : ℕ → List ℕ → Option ℕ
 number_below limit (d ∷ []) = if is_ascii_digit d then below_or_none limit (d - 48) else None
 number_below limit (t ∷ d ∷ []) =
@@ -39,14 +40,14 @@ texts_around_dot text =
     if nat_lt (position_or_len (λ b. b == 46) text) (length text)
     then Some (before_first (λ b. b == 46) text, after_first (λ b. b == 46) text) else None
 
--- `rom_line_named`, `ram_line_named`, `chain_line_named`: the line with the name `rom`, `ram` or
--- `chain` followed by the given text, or none if this is not a line name
+-- the line whose name is `rom` followed by the given text, or none if this is not a line name
 abbrev pub rom_line_named : List ℕ → Option Line
 rom_line_named text =
     texts_around_dot text >>= (λ (p : List ℕ × List ℕ).
     number_below ROMS p.0 >>= (λ chip.
     number_below 4 p.1 >>= (λ k. Some (Rom chip k))))
 
+-- the line whose name is `ram` followed by the given text, or none if this is not a line name
 abbrev pub ram_line_named : List ℕ → Option Line
 ram_line_named text =
     texts_around_dot text >>= (λ (p : List ℕ × List ℕ).
@@ -55,6 +56,7 @@ ram_line_named text =
     number_below BANK_CHIPS q.0 >>= (λ chip.
     number_below 4 q.1 >>= (λ k. Some (Ram bank chip k))))))
 
+-- the line whose name is `chain` followed by the given text, or none if this is not a line name
 abbrev pub chain_line_named : List ℕ → Option Line
 chain_line_named text =
     texts_around_dot text >>= (λ (p : List ℕ × List ℕ).
@@ -81,8 +83,8 @@ line_name (Chain n i) = codes "chain" ++ (decimal n ++ (codes "." ++ decimal i))
 
 -- ---- ports: four characters, line 3 first
 
--- the masks that the text of a port represents, in the order from line 0 to line 3, or none if the
--- text is not valid
+-- the masks in the text of a port, in the order from line 0 to line 3, or none if the text is not
+-- valid
 abbrev pub masks_named : List ℕ → Option (List LineMask)
 masks_named (c3 ∷ c2 ∷ c1 ∷ c0 ∷ []) =
     mask_of c0 >>= (λ m0.

@@ -157,8 +157,8 @@ double_part_in roms rams =
 abbrev pub double_chip_part : Members → Option Part
 double_chip_part ms = double_part_in (roms_of ms) (rams_of ms)
 
--- ---- errors 25 (a line that the board lacks) and 26 (wrong direction): the first table with such
--- a line
+-- ---- errors 25 (a line, a chain or a chain bit that the board lacks) and 26 (wrong direction):
+-- the first table with such an error
 
 abbrev pub is_wrong : LineFlaw → BoardParts → Line → Bool
 is_wrong Missing b line = not (is_on_board b line)
@@ -258,12 +258,12 @@ line_after holds n found before (l ∷ next ∷ ls) =
     line_after holds (n + 1) (if holds (before ++ as_line l) then n + 1 else found)
     (before ++ as_line l) (next ∷ ls)
 
--- `line_of_part`: the smallest `n` such that the first `n` lines are TOML and contain the part. If
--- there is no such `n`, it is the number of the line after the last line feed. `line_after_toml`:
--- `n` + 1 for the largest `n` such that the first `n` lines are TOML.
+-- The smallest `n` such that the first `n` lines are TOML and contain the part. If there is no such
+-- `n`, the number of the line after the last line feed.
 unfoldable pub line_of_part : List ℕ → Part → ℕ
 line_of_part text p = line_from (has_part p) 1 [] (slice_split is_line_feed text)
 
+-- `n` + 1 for the largest `n` such that the first `n` lines, each followed by a line feed, are TOML
 unfoldable pub line_after_toml : List ℕ → ℕ
 line_after_toml text = line_after is_toml 1 1 [] (slice_split is_line_feed text)
 

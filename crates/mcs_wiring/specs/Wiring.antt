@@ -74,14 +74,14 @@ entry_lacks_key s d = false
 abbrev pub has_missing_key : Members → Bool
 has_missing_key ms = any_section_entry entry_lacks_key ms
 
--- ---- error 23: a value of the wrong type or form, or a number out of range
+-- ---- error 23: a value of the wrong type or form, a number out of range, or no columns
 
--- `within_or_none`: the integer, or none if it is outside the range `least` to `most`. `number_at`:
--- the integer at a key, or none if there is no integer in that range at the key.
+-- the integer, or none if it is outside the range `least` to `most`
 abbrev pub within_or_none : ℕ → ℕ → ℤ → Option ℕ
 within_or_none least most (pos n) = if nat_le least n && nat_le n most then Some n else None
 within_or_none least most (negsuc n) = None
 
+-- the integer at a key, or none if there is no integer in the range `least` to `most` at the key
 abbrev pub number_at : List ℕ → ℕ → ℕ → Members → Option ℕ
 number_at key least most ms = get_member key ms >>= as_integer >>= within_or_none least most
 
@@ -91,14 +91,16 @@ line_in d = as_str d >>= line_named
 abbrev pub line_at : List ℕ → Members → Option Line
 line_at key ms = get_member key ms >>= line_in
 
--- the ROM that a table describes, as its chip number and its masks
+-- the ROM that a table describes, as its chip number and its masks; none if a value is missing or
+-- malformed
 abbrev pub rom_in : Members → Option (Numbered (Option (List LineMask)))
 rom_in ms =
     number_at (codes "chip") 0 (ROMS - 1) ms >>= (λ chip.
     get_member (codes "port") ms >>= as_str >>= masks_named >>= (λ masks.
     Some (record { number = chip; part = Some masks })))
 
--- the RAM bank that a table describes, as its bank number and its number of chips
+-- the RAM bank that a table describes, as its bank number and its number of chips; none if a number
+-- is missing or out of range
 abbrev pub ram_in : Members → Option (Numbered ℕ)
 ram_in ms =
     number_at (codes "bank") 0 (BANKS - 1) ms >>= (λ bank.
@@ -147,7 +149,8 @@ abbrev pub part_of : {A : Type 0} → (Members → Option A) → Data → Option
 part_of read d = as_table d >>= read
 
 -- True if a section entry does not describe a part of the section's kind. It is not a table, or one
--- of its values is missing, has the wrong type or form, or is out of range.
+-- of its values is missing, has the wrong type or form, or is out of range. A key matrix must also
+-- have at least one column.
 abbrev pub is_malformed : Section → Data → Bool
 is_malformed Rom d = is_none (part_of rom_in d)
 is_malformed Ram d = is_none (part_of ram_in d)
@@ -156,13 +159,13 @@ is_malformed Keys d =
     is_none (part_of matrix_in d) || option_map_or has_bad_columns (as_table d) true
 is_malformed Lamp d = is_none (part_of lamp_in d)
 
--- `is_not_array`: true if there is a value and it is not an array. `has_value_that_is_not_array`: true if a section
--- requires an array and the value at its key is not an array. The section `Keys` requires no array.
--- A missing value is not an error.
+-- true if there is a value and it is not an array
 abbrev pub is_not_array : Option Data → Bool
 is_not_array None = false
 is_not_array (Some d) = is_none (as_array d)
 
+-- True if a section requires an array and the value at its key is not an array. The section `Keys`
+-- requires no array. A missing value is not an error.
 abbrev pub has_value_that_is_not_array : Members → Section → Bool
 has_value_that_is_not_array ms Keys = false
 has_value_that_is_not_array ms s = is_not_array (get_member (section_key s) ms)

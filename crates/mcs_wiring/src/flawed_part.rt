@@ -157,7 +157,7 @@ fn has_bad_port(table: &Table) -> bool
 }
 
 /// Returns the first key of a section's table whose value is missing, has the wrong type or form,
-/// or is out of range.
+/// or is out of range. Returns none if there is no such key.
 fn first_bad_key<'a>(section: Section, table: &Table) -> Option<&'a str>
     ensures { option_copied result ≡ first_bad_key section (table_view table.now) }
 {
@@ -227,7 +227,7 @@ fn first_flawed_key<'a>(flaw: Flaw, section: Section, value: &'a Value) -> Optio
     }
 }
 
-/// Returns the part for the first array element that has the flaw.
+/// Returns the part for the first array element that has the flaw, or none.
 #[tactic(auto, using(crate::proofs::PartLists::first_flawed_from_index))]
 fn first_flawed_value<'a>(flaw: Flaw, section: Section, values: &'a [Value]) -> Option<Part<'a>>
     ensures { option_map part_view result ≡ first_flawed_from flaw section 0 (map view values.now) }
@@ -240,7 +240,7 @@ fn first_flawed_value<'a>(flaw: Flaw, section: Section, values: &'a [Value]) -> 
     None
 }
 
-/// Returns the part for the first entry of a section that has the flaw.
+/// Returns the part for the first entry of a section that has the flaw, or none.
 fn first_flawed_in<'a>(flaw: Flaw, table: &'a Table, section: Section) -> Option<Part<'a>>
     ensures { option_map part_view result ≡ first_flawed_in flaw (table_view table.now) section }
 {
@@ -259,8 +259,8 @@ fn first_flawed_in<'a>(flaw: Flaw, table: &'a Table, section: Section) -> Option
     }
 }
 
-/// Returns the part for the first entry that has the flaw. Searches the sections in the order ROM,
-/// RAM, chain, keys, lamp.
+/// Returns the part for the first entry that has the flaw, or none. Searches the sections in the
+/// order ROM, RAM, chain, keys, lamp.
 fn flawed_part<'a>(flaw: Flaw, table: &'a Table) -> Option<Part<'a>>
     ensures { option_map part_view result ≡ flawed_part flaw (table_view table.now) }
 {
@@ -279,7 +279,7 @@ fn flawed_part<'a>(flaw: Flaw, table: &'a Table) -> Option<Part<'a>>
     first_flawed_in(flaw, table, Section::Lamp)
 }
 
-/// Returns the first unknown top-level key.
+/// Returns the first unknown top-level key, or none.
 #[tactic(auto, using(crate::proofs::TomlViews::keys_in_view))]
 fn first_unknown_board_key(table: &Table) -> Option<&str>
     ensures { option_copied result ≡ find (λ key. not (is_board_key key)) (keys_of (table_view table.now)) }
@@ -302,6 +302,7 @@ fn unknown_key_part<'a>(table: &'a Table) -> Option<Part<'a>>
 }
 
 /// Returns the first section that requires an array but whose key has a value that is not an array.
+/// Returns none if there is no such section.
 fn section_without_array(table: &Table) -> Option<Section>
     ensures { result ≡ find (has_value_that_is_not_array (table_view table.now)) sections }
 {
@@ -357,7 +358,7 @@ fn excess_part<'a>(table: &Table) -> Option<Part<'a>>
     None
 }
 
-/// Returns the index of the first part that has the same number as an earlier part.
+/// Returns the index of the first part that has the same number as an earlier part, or none.
 #[tactic(auto, using(crate::proofs::PartLists::first_repeated_from_index))]
 fn first_repeated<T: Copy>(parts: &[Numbered<T>]) -> Option<usize>
     ensures same { result ≡ first_repeated_from [] 0 parts.now }
@@ -485,7 +486,7 @@ fn wrong_key<'a>(flaw: LineFlaw, parts: &BoardParts, chain: ChainPart) -> Option
     None
 }
 
-/// Returns the part for the first chain with a line that has the error.
+/// Returns the part for the first chain with a line that has the error, or none.
 #[tactic(auto, using(crate::proofs::PartLists::wrong_chain_from_index))]
 fn wrong_chain<'a>(flaw: LineFlaw, parts: &BoardParts) -> Option<Part<'a>>
     ensures { option_map part_view result ≡ wrong_chain_from flaw parts.now 0 parts.now.chains.items }
@@ -518,7 +519,7 @@ fn wrong_column<'a>(flaw: LineFlaw, parts: &BoardParts) -> Option<Part<'a>>
     None
 }
 
-/// Returns the part for the first lamp whose line has the error.
+/// Returns the part for the first lamp whose line has the error, or none.
 #[tactic(auto, using(crate::proofs::PartLists::wrong_lamp_from_index))]
 fn wrong_lamp<'a>(flaw: LineFlaw, parts: &BoardParts) -> Option<Part<'a>>
     ensures { option_map part_view result ≡ wrong_lamp_from flaw parts.now 0 parts.now.lamps.items }

@@ -24,7 +24,7 @@ pub(crate) enum Flaw {
     UnknownKey,
     /// A table lacks a required key.
     MissingKey,
-    /// A value of the wrong type or form, or a number out of range.
+    /// A value of the wrong type or form, a number out of range, or a key matrix without columns.
     BadValue,
 }
 

@@ -15,14 +15,14 @@ pub(crate) const DIE_PROGRAM: [u8; 29] = [
     177, 64, 11, 0, 0, 64, 11,
 ];
 
-/// The lamp patterns of the die's six faces. The program reads them from ROM at `FACES_ADDRESS`.
+/// The six lamp patterns of the die. The program reads them from ROM at `FACES_ADDRESS`.
 pub(crate) const FACES: [u8; 6] = [8, 1, 9, 3, 11, 7];
 
 /// The ROM address of the lamp patterns.
 const FACES_ADDRESS: u16 = 42;
 
-/// Returns the die's board with keys in `rows` rows, whose columns are wired to these lines. The board has a ROM with outputs, a ROM with
-/// inputs and a RAM chip.
+/// Returns the die's board with keys in `rows` rows, whose columns are wired to these lines. The
+/// board also has a ROM with outputs, a ROM with inputs and a RAM chip.
 fn board_with_keys(rows: u8, columns: &[Line]) -> Result<Board, BoardFault> {
     let mut roms = [None; ROMS];
     roms[0] = Some(OUTPUTS);
@@ -50,8 +50,9 @@ fn write_rom(rig: &mut BenchRig, from: u16, bytes: &[u8]) {
     }
 }
 
-/// Returns a rig with the die's board, its faces and the given program, before its first cycle. The board has keys in
-/// `rows` rows, whose columns are wired to these lines.
+/// Returns a rig with the die's board before its first cycle. The ROM has the given program, and
+/// `FACES` at `FACES_ADDRESS`. The board has keys in `rows` rows, whose columns are wired to these
+/// lines.
 fn rig_with_keys(
     alloc: Global,
     rt: &impl Abort,
@@ -73,8 +74,8 @@ pub(crate) fn rig(alloc: Global, rt: &impl Abort, program: &[u8]) -> Result<Benc
     rig_with_keys(alloc, rt, 1, &[Line::Rom(1, 0)], program)
 }
 
-/// Returns a machine with the die's board and faces and with the given program, before its first
-/// cycle.
+/// Returns a machine with the die's board before its first cycle. The ROM has the given program,
+/// and `FACES` at `FACES_ADDRESS`.
 pub(crate) fn machine(
     alloc: Global,
     rt: &impl Abort,

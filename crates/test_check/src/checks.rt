@@ -6,9 +6,9 @@ use mcs_check::{
 use std::alloc::{AllocError, Global};
 use std::process::Abort;
 
-/// The number of states of the die: one at the start, and two for each of the six faces. For each face, the first state
-/// follows the display of the face, and the second follows a read that shows the key as up. An independent model of
-/// the chips gives the same number.
+/// The number of states of the die: one at the start, and two for each of the six patterns in
+/// `FACES`. The first state of a pattern follows the display of the pattern. The second follows a
+/// read that shows the key as up. An independent model of the chips gives the same number.
 pub(crate) const STATES: usize = 13;
 
 /// The number of cycles after which a search step ends if the program reads no input. The die's program reads its key
@@ -24,8 +24,8 @@ const LAMPS: Cell = Cell {
     index: 0,
 };
 
-/// Returns the condition that the lamps show the pattern `n`, or another pattern if `inside` is
-/// false.
+/// Returns the condition that the lamps show the pattern `n`, or the condition that they show
+/// another pattern if `inside` is false.
 fn lamps_show(n: u8, inside: bool) -> Condition {
     Condition::Compare(Comparison {
         cell: LAMPS,
@@ -36,7 +36,7 @@ fn lamps_show(n: u8, inside: bool) -> Condition {
     })
 }
 
-/// Returns the property that the lamps are always dark or show a face.
+/// Returns the property that the lamps are always dark or show a pattern in `FACES`.
 pub(crate) fn lamps_show_only_faces(alloc: Global) -> Result<Property, AllocError> {
     let mut conditions = Vec::new(alloc);
     conditions.push(lamps_show(0, false))?;

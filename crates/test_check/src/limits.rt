@@ -1,4 +1,5 @@
-//! Tests of checks with limits of the inputs: what only excluded inputs can reach is never reached.
+//! Tests of checks with limits of the inputs. A program never reaches an address that only excluded
+//! inputs can reach.
 use crate::boards::{machine, machine_with_two_columns, machine_with_two_keys};
 use crate::checks::{MEMORY, PAUSE};
 use crate::openings::{LOCK, OPEN_ADDRESS};
@@ -11,9 +12,10 @@ use std::process::Abort;
 /// The maximum number of states of a check, more than these programs have.
 const MAX_STATES: usize = 1_000;
 
-/// A program that drives row 0 and reads its two keys in an endless loop. It reaches address 18 if a read shows both
-/// keys down: FIM P0 0, SRC P0, LDM 2, WRR, IAC, WRR, FIM P0 16, SRC P0, (10) RDR, RAR, JCN NC 10, RAR, JCN NC 10, NOP,
-/// (18) JUN 10.
+/// A program that drives row 0 and reads its two keys in an endless loop. It reaches address 18 if
+/// a read shows both keys down. The instructions from address 0: FIM P0 0, SRC P0, LDM 2, WRR, IAC,
+/// WRR, FIM P0 16, SRC P0. From address 10: RDR, RAR, JCN NC 10, RAR, JCN NC 10, NOP. At address
+/// 18: JUN 10.
 const BOTH_KEYS: [u8; 20] = [
     32, 0, 33, 210, 226, 242, 226, 32, 16, 33, 234, 246, 26, 10, 246, 26, 10, 0, 64, 10,
 ];
@@ -23,7 +25,9 @@ const TEST_AT_1: [u8; 20] = [
     0x19, 18, 0x40, 0, 0, 0, 0, 0, 0, 0, 0, 0, 0, 0, 0, 0, 0, 0, 0x40, 18,
 ];
 
-/// Checks, with limits of the inputs, that a machine never reaches the address `OPEN_ADDRESS`. Returns the outcome.
+/// Checks that a machine never reaches the address `OPEN_ADDRESS`, and returns the outcome. The
+/// limits of the inputs are `keys` (1 for each key that can be down), the highest level `test` of
+/// TEST, and at most `together` keys down at once.
 fn check_with_limits(
     alloc: Global,
     rt: &impl Abort,
@@ -38,8 +42,9 @@ fn check_with_limits(
     check_all(alloc, machine, property, limits, MAX_STATES, MEMORY, PAUSE).expect(rt, "memory")
 }
 
-/// Returns whether a machine with two keys may reach the address `OPEN_ADDRESS` at input levels within limits, or
-/// aborts if the check gives no answer. TEST stays at 0.
+/// Returns true if the outcome of the check is `MayFail`: the machine may reach the address
+/// `OPEN_ADDRESS`. Returns false if the check proves that it does not. Aborts at any other outcome.
+/// TEST stays at 0.
 fn may_open(
     alloc: Global,
     rt: &impl Abort,

@@ -35,9 +35,9 @@ fn the_die_makes_no_mistake(rt: HostRuntime) {
     );
 }
 
-/// Programs that make one mistake each: an invalid opcode, four nested calls, BBL without a call,
-/// WRM after DCL selects bank 1, a jump to 0x200, RDR of the port of ROM 0, and WRR to the port of
-/// ROM 1. No program reaches the addresses of the die's faces.
+/// Programs that make one mistake each. The first four are an invalid opcode, four nested calls,
+/// BBL without a call, and WRM after DCL selects bank 1. The others are a jump to 0x200, RDR of the
+/// port of ROM 0, and WRR to the port of ROM 1. No program reaches the addresses of `FACES`.
 pub(crate) const MISTAKEN_PROGRAMS: [[u8; 10]; 7] = [
     [0xFE, 0, 0, 0, 0, 0, 0, 0, 0, 0],
     [0x50, 2, 0x50, 4, 0x50, 6, 0x50, 8, 0x40, 8],

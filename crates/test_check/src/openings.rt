@@ -9,10 +9,10 @@ use std::process::Abort;
 /// The maximum number of states of a check, more than these programs have.
 const MAX_STATES: usize = 10_000;
 
-/// A program that drives row 0. In an endless loop, it reads the key of this row until the key is up, and then until
-/// the key is down. After each press it reaches address 18. The instructions, with some addresses in parentheses:
-/// FIM P0 0, SRC P0, LDM 2, WRR, IAC, WRR, FIM P0 16, SRC P0, (10) RDR, RAR, JCN C 10, (14) RDR, RAR, JCN NC 14,
-/// (18) JUN 10.
+/// A program that drives row 0. In an endless loop, it reads the key of this row until the key is
+/// up, and then until the key is down. After each press it reaches address 18. The instructions
+/// from address 0: FIM P0 0, SRC P0, LDM 2, WRR, IAC, WRR, FIM P0 16, SRC P0. From address 10: RDR,
+/// RAR, JCN C 10. From address 14: RDR, RAR, JCN NC 14. At address 18: JUN 10.
 pub(crate) const LOCK: [u8; 20] = [
     32, 0, 33, 210, 226, 242, 226, 32, 16, 33, 234, 246, 18, 10, 234, 246, 26, 14, 64, 10,
 ];
@@ -23,7 +23,8 @@ const STUCK: [u8; 20] = [
     32, 0, 33, 210, 226, 242, 226, 32, 16, 33, 234, 246, 18, 10, 234, 246, 26, 14, 64, 14,
 ];
 
-/// The program `LOCK`, extended to drive both rows: (5) JUN 20, and (20) IAC, WRR, LDM 2, WRR, IAC, WRR, JUN 7.
+/// The program `LOCK`, changed to drive both rows. At address 5: JUN 20. From address 20: IAC, WRR,
+/// LDM 2, WRR, IAC, WRR, JUN 7.
 const BOTH_ROWS: [u8; 28] = [
     32, 0, 33, 210, 226, 64, 20, 32, 16, 33, 234, 246, 18, 10, 234, 246, 26, 14, 64, 10, 242, 226,
     210, 226, 242, 226, 64, 7,

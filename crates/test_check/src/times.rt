@@ -16,14 +16,15 @@ const MAX_STATES: usize = 10_000;
 /// stopwatch's most significant byte is not 0 at the end of the first step.
 const PAUSE: u32 = 137_000;
 
-/// FIM P0 0, ISZ R0 2, JUN 0. The FIM takes 2 cycles, the ISZ 16 times 2 cycles, and the JUN 2 cycles.
+/// The program FIM P0 0, ISZ R0 2, JUN 0. The FIM takes 2 cycles, the ISZ is executed 16 times and
+/// takes 2 cycles each time, and the JUN takes 2 cycles.
 const DELAY: [u8; 6] = [0x20, 0, 0x70, 2, 0x40, 0];
 
 /// The number of cycles from address 0 back to address 0.
 const DELAY_CYCLES: u32 = 36;
 
-/// FIM P0 0, 16 times (JCN TEST 6, NOP, NOP, ISZ R0 2), JUN 0. Each of the 16 passes takes 4 or 6
-/// cycles.
+/// A program that loops 16 times: FIM P0 0, JCN TEST 6, NOP, NOP, ISZ R0 2, JUN 0. Each pass from
+/// the JCN to the ISZ takes 4 or 6 cycles.
 const BRANCHES: [u8; 10] = [0x20, 0, 0x11, 6, 0, 0, 0x70, 2, 0x40, 0];
 
 /// The maximum number of cycles from address 0 back to address 0.
@@ -33,8 +34,8 @@ const BRANCHES_CYCLES: u32 = 100;
 /// is one more state.
 const BRANCHES_STATES: usize = 137;
 
-/// FIM P0 0, FIM P1 8, four nested loops with ISZ R0 to R3, and JUN 0. The outermost loop has 8
-/// passes.
+/// A program with four nested loops: FIM P0 0, FIM P1 8, the loops with ISZ R0 to R3, and JUN 0.
+/// The outermost loop has 8 passes.
 const NESTED: [u8; 14] = [
     0x20, 0, 0x22, 8, 0x70, 4, 0x71, 4, 0x72, 4, 0x73, 4, 0x40, 0,
 ];
@@ -57,7 +58,8 @@ fn counter_is(index: u16, n: u8) -> Condition {
     })
 }
 
-/// Returns the condition that an instruction begins at an address of page 0.
+/// Returns lists of conditions that are met if an instruction begins at the address `low` of page
+/// 0.
 pub(crate) fn begins_at(alloc: Global, low: u8) -> Result<Vec<Conjunction>, AllocError> {
     let mut conditions = Vec::new(alloc);
     conditions.push(counter_is(3, 0))?;

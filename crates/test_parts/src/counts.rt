@@ -13,7 +13,7 @@ fn nibble(n: u8) -> Nibble {
 }
 
 /// Builds a rig, wires a board to it, and runs a program for `cycles` cycles. Returns the rig and
-/// the processor.
+/// the processor. `MAX` is the maximum length of a chain in bits.
 fn run_program<const ROMS: usize, const BANKS: usize, const CHAINS: usize, const MAX: usize>(
     alloc: Global,
     rt: &impl Abort,
@@ -37,9 +37,9 @@ fn run_program<const ROMS: usize, const BANKS: usize, const CHAINS: usize, const
     (rig, cpu)
 }
 
-/// Checks lamp 0, which is at the end of a chain of 80 bits. The first bit of the chain is 1. After
-/// 79 shifts this 1 is at the end, and the next shift drops it. The clock is line 0 of the selected
-/// ROM.
+/// Checks lamp 0, which is at the end of a chain of 80 bits (`MAX`). The first bit of the chain is
+/// 1. After 79 shifts this 1 is at the end, and the next shift drops it. The clock is line 0 of the
+/// selected ROM.
 fn expect_bit_at_chain_end<
     const ROMS: usize,
     const BANKS: usize,
@@ -58,7 +58,7 @@ fn expect_bit_at_chain_end<
 }
 
 /// Runs FIM P0 FF, SRC P0, LDM 9, WRM, FIM P0 00, SRC P0, LDM 3, WRR on a rig with one part of each
-/// kind. The program writes the last character of bank 0 and shifts the chain once.
+/// kind. The program writes the last main nibble of bank 0 and shifts the chain once.
 #[test]
 fn rig_with_one_part_of_each_kind(rt: HostRuntime) {
     let program = [0x20, 0xFF, 0x21, 0xD9, 0xE0, 0x20, 0x00, 0x21, 0xD3, 0xE2];

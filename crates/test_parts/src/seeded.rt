@@ -20,8 +20,8 @@ fn nibble(numbers: &mut RandomNumbers) -> Nibble {
     Nibble::low_of(numbers.below(16))
 }
 
-/// Checks that setting one nibble of a byte does not change the other nibble, for RAM characters
-/// and status characters.
+/// Checks that setting one nibble of a byte does not change the other nibble, for main nibbles and
+/// status characters.
 #[test]
 fn nibbles_of_a_byte_are_independent(rt: HostRuntime) -> Result<(), Fail> {
     let four = Nibble::of(4).ok_or("a nibble")?;

@@ -12,7 +12,7 @@ fn expect_bytes(rt: &impl Abort, command: &Command, want: &[u8]) {
     assert_eq!(rt; &bytes[..count], want);
 }
 
-/// Returns the command that the bytes encode, or `None` if they do not encode one. Memory must not
+/// Returns the command that the bytes encode, or `None` if they encode no command. Memory must not
 /// run out.
 fn read(rt: &impl Abort, alloc: Global, bytes: &[u8]) -> Option<Command> {
     command_of(alloc, bytes).expect(rt, "memory")

@@ -1,4 +1,4 @@
-//! Tests of benches that are restored from plain numbers or from bytes.
+//! Tests of benches that are restored from numbers or from bytes.
 use crate::checks::expect_equal;
 use mcs_bench::{Bench, Flat};
 use mcs_codec::{STATE_BYTES, bench_of, state_bytes};
@@ -64,7 +64,7 @@ fn bench_with_pending_cycle(alloc: Global, rt: &impl Abort) -> Bench {
     bench
 }
 
-/// Returns the encoded state of a bench in a buffer, and the number of its bytes.
+/// Returns a buffer with the encoded state of a bench, and the length of the encoding in bytes.
 fn encoded_state(bench: &Bench) -> ([u8; STATE_BYTES], usize) {
     let mut bytes = [0; STATE_BYTES];
     let count = state_bytes(bench, &mut bytes);

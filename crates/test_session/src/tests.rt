@@ -42,8 +42,8 @@ fn stop_in_replace_keeps_the_state_before(rt: HostRuntime) {
     }
 }
 
-/// Checks that a device fault during `poke r5 9` closes the session, and that the bench has
-/// accepted no command.
+/// Checks that an I/O error during `poke r5 9` closes the session, and that the bench has accepted
+/// no command.
 fn expect_close(rt: &impl Abort, session: &mut Session<FuseDisk>) {
     let command = poke(rt, 5, 9);
     expect_fault(rt, session, &command, SessionFault::Device);

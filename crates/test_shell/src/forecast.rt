@@ -7,7 +7,7 @@ use mcs_disk::FuseDisk;
 use mcs_fixtures::streams::CutWriter;
 use mcs_shell::ends::ShellEnd;
 
-/// Checks that a session that was closed by a device fault still answers `count` and `trace`.
+/// Checks that a session still answers `count` and `trace` after an I/O error has closed it.
 #[test]
 fn a_closed_session_answers_count_and_trace(rt: HostRuntime) {
     let alloc = rt.alloc();

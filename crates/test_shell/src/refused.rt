@@ -85,8 +85,8 @@ const ANSWERS: [[&[u8]; 6]; 5] = [
     ],
 ];
 
-/// Returns true if the output consists of the given answers. If `is_device` is true, the output must instead consist
-/// of the first few answers, followed by `no 53` (device fault).
+/// Returns true if the output consists of the given answers. If `is_device` is true, the output
+/// must instead consist of the first few answers, followed by `no 53` (device failed).
 fn is_answered(output: &[u8], answers: &[&[u8]], is_device: bool) -> bool {
     let mut rest = output;
     for answer in answers {

@@ -58,8 +58,8 @@ fn failing_blank_disk(alloc: Global, rt: &impl Abort, calls: usize, is_once: boo
     }
 }
 
-/// Checks that the shell executes the first `done` commands. If more commands follow, checks that the device fails
-/// during the next command, and that the session is then closed.
+/// Checks that the shell executes the first `done` commands of `INPUTS`. If more commands follow,
+/// checks that the device fails during the next command, and that the session is then closed.
 fn expect_executed_before_stop(
     alloc: Global,
     rt: &impl Abort,

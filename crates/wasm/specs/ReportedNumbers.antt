@@ -44,8 +44,8 @@ abbrev pub count_of_fault : ServeFault → ℕ
 count_of_fault (Refused fault) = 0
 count_of_fault (NoRoom count) = count
 
--- holds if a call with this file and this input can fail with the error that the number and the
--- count report; `room` is the number of bytes in the buffer
+-- Holds if a call with this file and this input can fail with the error that the number and the
+-- count report. The buffer has `room` bytes.
 pub record ReportsFault (file input : List ℕ) (number count room : ℕ) : Type 0 where
   pub fault : ServeFault
   pub number_reported : number ≡ number_of_fault fault

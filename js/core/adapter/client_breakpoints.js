@@ -68,17 +68,18 @@ function readCommonFields(item) {
 }
 
 /**
- * Returns the address of a reference plus an offset, and an error message ("" for none). The address is -1 if the reference has no address.
+ * Returns the address of a reference plus an offset, and an error message ("" for none). If the reference has no address, the address is
+ * -1. An address outside ROM is also an error.
  * @param {string} reference
  * @param {number} offset
- * @param {(reference: string) => number} addressOf
+ * @param {(reference: string) => number} addressOf returns the address of a reference; throws if the reference has no address
  */
 function resolveAddress(reference, offset, addressOf) {
   try {
-    const requested = addressOf(reference) + offset;
-    return { requested, error: requested >= 0 && requested <= LAST_ADDRESS ? "" : say.ADDRESSES_ARE };
+    const requestedAddress = addressOf(reference) + offset;
+    return { requestedAddress, error: requestedAddress >= 0 && requestedAddress <= LAST_ADDRESS ? "" : say.ADDRESSES_ARE };
   } catch (thrown) {
-    return { requested: -1, error: errorMessage(thrown) };
+    return { requestedAddress: -1, error: errorMessage(thrown) };
   }
 }
 
@@ -87,8 +88,8 @@ export class ClientBreakpoints {
   constructor(session) {
     this.session = session;
     this.lastId = 0;
-    /** @type {Record<BreakpointKind, RequestedBreakpoint[]>} */
-    this.requested = { lines: [], labels: [], addresses: [] };
+    /** @type {Record<BreakpointKind, RequestedBreakpoint[]>} the breakpoints that the client requested, by kind */
+    this.requestedByKind = { lines: [], labels: [], addresses: [] };
     /** The addresses of the bench's breakpoints that the client did not set. */
     this.otherAddresses = session.debugger.session.breakpointAddresses;
     /** The RAM characters that the bench watches, but not for the client. Each has the form `B 0xSS`: its bank and its SRC byte. */
@@ -108,14 +109,17 @@ export class ClientBreakpoints {
    * the breakpoints that moved.
    * @param {ClientBreakpoints} other
    */
-  async copyBreakpointsFrom({ requested, lastId, dataBreakpoints, exceptionFilters }) {
-    Object.assign(this, { requested, lastId, dataBreakpoints, exceptionFilters });
+  async copyBreakpointsFrom({ requestedByKind, lastId, dataBreakpoints, exceptionFilters }) {
+    Object.assign(this, { requestedByKind, lastId, dataBreakpoints, exceptionFilters });
     await this.applyDataBreakpoints();
     this.applyExceptionFilters();
     return this.relocateLineBreakpoints();
   }
 
-  /** @param {Partial<RequestedBreakpoint>} fields */
+  /**
+   * Returns a requested breakpoint with a new id.
+   * @param {Partial<RequestedBreakpoint>} fields
+   */
   newBreakpoint(fields) {
     this.lastId += 1;
     return { ...DEFAULT_BREAKPOINT, ...fields, id: this.lastId };
@@ -160,25 +164,27 @@ export class ClientBreakpoints {
   setAddressBreakpoints(args, addressOf) {
     const { map } = this.session;
     return this.setRequestedBreakpoints("addresses", optionalList(args, "breakpoints").map((item) => {
-      const { requested, error } = resolveAddress(needText(item, "instructionReference"), needNumber(item, "offset", 0), addressOf);
-      const { line, address } = error === "" ? instructionAtAddress(requested, map) : { line: 0, address: -1 };
+      const { requestedAddress, error } = resolveAddress(needText(item, "instructionReference"), needNumber(item, "offset", 0), addressOf);
+      const { line, address } = error === "" ? instructionAtAddress(requestedAddress, map) : { line: 0, address: -1 };
       return this.newBreakpoint({ ...readCommonFields(item), line, address, ...(error === "" ? {} : { error }) });
     }));
   }
 
   /**
+   * Replaces the requested breakpoints of a kind. Resolves to the breakpoints in the response.
    * @param {BreakpointKind} kind
    * @param {RequestedBreakpoint[]} requested
    */
   async setRequestedBreakpoints(kind, requested) {
-    this.requested[kind] = requested;
+    this.requestedByKind[kind] = requested;
     const errors = await this.applyBreakpoints();
     return requested.map((breakpoint) => this.toResponse(breakpoint, errors.get(breakpoint) || ""));
   }
 
   /**
+   * Converts a breakpoint to its form in a response.
    * @param {RequestedBreakpoint} requested
-   * @param {string} applyError the error from applying the breakpoint, "" for none
+   * @param {string} applyError the error message of `applyBreakpoints` for this breakpoint, "" for none
    * @returns {SentBreakpoint}
    */
   toResponse({ id, line, address, error }, applyError) {
@@ -188,11 +194,11 @@ export class ClientBreakpoints {
 
   // --- the debugger's list ---
 
-  /** Returns all breakpoints by address. At an address with a client breakpoint, any other breakpoint is omitted. */
+  /** Returns all breakpoints without errors, by address. At an address with a client breakpoint, any other breakpoint is omitted. */
   mergeBreakpoints() {
     /** @type {Map<number, RequestedBreakpoint>} */
     const byAddress = new Map();
-    const { lines, labels, addresses } = this.requested;
+    const { lines, labels, addresses } = this.requestedByKind;
     for (const breakpoint of [...lines, ...labels, ...addresses]) {
       const { address, error } = breakpoint;
       if (error === "" && address >= 0 && !byAddress.has(address)) byAddress.set(address, breakpoint);
@@ -204,7 +210,8 @@ export class ClientBreakpoints {
   }
 
   /**
-   * Sets the debugger's breakpoints. Resolves to a message for each breakpoint that cannot be set, or whose condition or note has an error.
+   * Sets the debugger's breakpoints. Resolves to a map with an error message for each breakpoint that cannot be set, or whose condition or
+   * note has an error.
    */
   async applyBreakpoints() {
     const { session } = this;
@@ -236,7 +243,7 @@ export class ClientBreakpoints {
   hitBreakpoint(id) {
     const breakpoint = this.byId.get(id);
     if (!breakpoint || breakpoint.id === 0) return { id: 0, reason: "breakpoint" };
-    const { labels, addresses } = this.requested;
+    const { labels, addresses } = this.requestedByKind;
     if (labels.includes(breakpoint)) return { id: breakpoint.id, reason: "function breakpoint" };
     return { id: breakpoint.id, reason: addresses.includes(breakpoint) ? "instruction breakpoint" : "breakpoint" };
   }
@@ -244,7 +251,7 @@ export class ClientBreakpoints {
   /** Moves each line breakpoint to its instruction after a program change. Resolves to the breakpoints that moved. */
   async relocateLineBreakpoints() {
     const { map } = this.session;
-    const movedBreakpoints = this.requested.lines.filter((breakpoint) => {
+    const movedBreakpoints = this.requestedByKind.lines.filter((breakpoint) => {
       const { line, address, message } = instructionForLine(Math.max(1, breakpoint.line), map);
       const hasMoved = line !== breakpoint.line || address !== breakpoint.address;
       // If the breakpoint had no instruction before, its old error message no longer applies.
@@ -288,9 +295,9 @@ export class ClientBreakpoints {
     const { session, otherWatches } = this;
     const validRequests = this.dataBreakpoints.filter(({ error }) => error === "");
     const freeCount = MAX_WATCHES - otherWatches.length;
-    const unconditional = validRequests.filter(({ name, condition, from }) => (
+    const unconditionalRequests = validRequests.filter(({ name, condition, from }) => (
       watchOperand(name) !== "" && condition.trim() === "" && from === 1));
-    const ramPlaces = [...new Set(unconditional.map(({ name }) => watchOperand(name)))];
+    const ramPlaces = [...new Set(unconditionalRequests.map(({ name }) => watchOperand(name)))];
     const watches = ramPlaces.filter((place) => !otherWatches.includes(place)).slice(0, freeCount);
     const removedWatches = this.clientWatches.filter((place) => !watches.includes(place));
     const addedWatches = watches.filter((place) => !this.clientWatches.includes(place));
@@ -299,7 +306,7 @@ export class ClientBreakpoints {
     this.clientWatches = watches;
     const benchWatches = readBenchWatches(session);
     const isWatchedByBench = (/** @type {RequestedDataBreakpoint} */ request) => (
-      unconditional.includes(request) && benchWatches.includes(watchOperand(request.name)));
+      unconditionalRequests.includes(request) && benchWatches.includes(watchOperand(request.name)));
     return session.debugger.setWatches(validRequests.filter((request) => !isWatchedByBench(request)), session.names);
   }
 
@@ -310,10 +317,10 @@ export class ClientBreakpoints {
    * @param {any} args
    */
   setExceptionFilters(args) {
-    const unconditional = optionalList(args, "filters").map((kind) => ({ kind: String(kind), condition: "" }));
+    const unconditionalFilters = optionalList(args, "filters").map((kind) => ({ kind: String(kind), condition: "" }));
     const options = optionalList(args, "filterOptions").map((item) => (
       { kind: needText(item, "filterId"), condition: optionalText(item, "condition") }));
-    this.exceptionFilters = [...unconditional, ...options];
+    this.exceptionFilters = [...unconditionalFilters, ...options];
     return this.applyExceptionFilters();
   }
 
@@ -342,9 +349,9 @@ export class ClientBreakpoints {
     return answers;
   }
 
-  /** Determines the breakpoints and watches that the client did not set. Called after console lines have changed breakpoints or watches. */
+  /** Finds the breakpoints and watches that the client did not set, after console lines have changed breakpoints or watches. */
   updateOtherBreakpoints() {
-    const { lines, labels, addresses } = this.requested;
+    const { lines, labels, addresses } = this.requestedByKind;
     const clientAddresses = new Set([...lines, ...labels, ...addresses].map(({ address }) => address));
     this.otherAddresses = this.session.debugger.session.breakpointAddresses.filter((address) => !clientAddresses.has(address));
     this.otherWatches = readBenchWatches(this.session).filter((place) => !this.clientWatches.includes(place));
@@ -352,7 +359,7 @@ export class ClientBreakpoints {
 
   /** Removes the client's breakpoints and watches. Resolves to an error message, "" if there is no error. */
   async removeClientBreakpoints() {
-    this.requested = { lines: [], labels: [], addresses: [] };
+    this.requestedByKind = { lines: [], labels: [], addresses: [] };
     try {
       await this.applyBreakpoints();
       await this.setDataBreakpoints({});

@@ -20,7 +20,7 @@ import { noKeyMessage } from "../../words/testing.js";
  * @typedef {import("../bench/error_messages.js").ErrorMessages} ErrorMessages
  *
  * The result of a line. `text` is the text to show. `changes` is true if the line changed the machine. `move` starts the move that the
- * line requests; the caller first shows the text. It is null if the line requests no move.
+ * line requests, after the caller has shown the text; null if the line requests no move.
  * @typedef {{ text: string, changes: boolean, move: (() => void) | null }} LineResult
  *
  * A callback that is called between two pieces of a long input, with the number of processed characters. If it resolves to false, the input
@@ -87,6 +87,7 @@ export class Console {
   }
 
   /**
+   * Returns a result with the value of an expression; throws AdapterError if the expression has an error.
    * @param {string} line
    * @param {import("./number_format.js").Base} [base] the number base of the output
    */
@@ -100,7 +101,10 @@ export class Console {
 
   // --- keys ---
 
-  /** @param {string} name */
+  /**
+   * Returns the key with a name; throws AdapterError if there is none.
+   * @param {string} name
+   */
   findKey(name) {
     const names = [...this.keys.keys()].join(" ");
     const key = this.keys.get(name);
@@ -108,7 +112,8 @@ export class Console {
   }
 
   /**
-   * Presses or releases keys at once. While the machine runs, however, `press` queues a press and a release of each key.
+   * Presses or releases keys at once. While the machine runs, however, `press` queues a press and a release of each key. Throws
+   * AdapterError if no name is given, or if a name is unknown.
    * @param {"press" | "release"} word
    * @param {string[]} names
    */
@@ -121,7 +126,7 @@ export class Console {
   }
 
   /**
-   * Presses and releases keys, one after another.
+   * Presses and releases keys, one after another. Throws AdapterError for an unknown name.
    * @param {string[]} words the key names; a word that is not a key name is split into letters
    */
   typeKeys(words) {
@@ -145,7 +150,8 @@ export class Console {
   // --- moves ---
 
   /**
-   * Returns a result whose `move` runs the machine, or goes back or forward in time.
+   * Returns a result whose `move` runs the machine, or goes back or forward in time. Throws AdapterError if the machine runs or the goal
+   * has an error.
    * @param {string} word `until`, `change`, `back` or `forward`
    * @param {string[]} operands the words of the goal; empty for `forward`, and for `back` by one instruction
    * @returns {LineResult}
@@ -162,17 +168,17 @@ export class Console {
       return move(() => this.machine.goBack(goal));
     }
     if (target === "") fail(say.placeSyntax(word === "until" ? say.UNTIL_SYNTAX : say.CHANGE_SYNTAX));
-    if (word === "change") return move(() => this.machine.go({ kind: "change", place: target }));
+    if (word === "change") return move(() => this.machine.runToGoal({ kind: "change", place: target }));
     if (/[\s=<>!]/.test(target)) {
       const goal = this.readGoal(target);
-      return move(() => this.machine.go(goal));
+      return move(() => this.machine.runToGoal(goal));
     }
     const address = findAddress(target, this.context);
-    return move(() => this.machine.go({ kind: "here", address }));
+    return move(() => this.machine.runToGoal({ kind: "here", address }));
   }
 
   /**
-   * Parses the goal of a move: a place or a condition.
+   * Parses the goal of a move: a place or a condition. Throws AdapterError if the text is neither.
    * @param {string} text
    */
   readGoal(text) {
@@ -183,7 +189,8 @@ export class Console {
   // --- lines of the bench ---
 
   /**
-   * Sends typed bench lines to the bench, after the names in them are replaced by addresses.
+   * Executes typed bench lines, after the names in them are replaced by values. Throws AdapterError if a name is unknown, if there are too
+   * many lines, or if the bench rejects all lines. Also throws it for a run while the machine runs.
    * @param {string} line one or more lines, separated by line feeds
    * @param {ShouldContinue} [shouldContinue]
    * @returns {Promise<LineResult>}
@@ -223,7 +230,7 @@ export class Console {
 }
 
 /**
- * Returns the address of a label or number; throws AdapterError if the text is neither.
+ * Returns the address of a label or number. Throws AdapterError if the text is neither, or if the address is outside ROM.
  * @param {string} text a label with or without `@`, a number, or three hexadecimal digits
  * @param {ExpressionContext} context
  * @returns {number}

@@ -42,7 +42,7 @@ export function needText(from, name) {
 }
 
 /**
- * Returns an optional string field of a request's arguments; "" if it is missing.
+ * Returns an optional string field of a request's arguments; "" if it is missing. Throws AdapterError if the field is not a string.
  * @param {any} from the arguments
  * @param {string} name
  */
@@ -52,8 +52,8 @@ export function optionalText(from, name) {
 }
 
 /**
- * Returns an integer field of a request's arguments. If the field is missing, returns the default value, or throws AdapterError if there is
- * no default value.
+ * Returns an integer field of a request's arguments. If the field is missing, returns the default value. Throws AdapterError if the field
+ * is not an integer, or is missing without a default value.
  * @param {any} from the arguments
  * @param {string} name
  * @param {number} [defaultValue] returned if the field is missing
@@ -66,7 +66,8 @@ export function needNumber(from, name, defaultValue) {
 }
 
 /**
- * Returns an optional boolean field of a request's arguments; the default value if it is missing.
+ * Returns an optional boolean field of a request's arguments; the default value if it is missing. Throws AdapterError if the field is not a
+ * boolean.
  * @param {any} from the arguments
  * @param {string} name
  * @param {boolean} defaultValue returned if the field is missing
@@ -79,7 +80,7 @@ export function optionalFlag(from, name, defaultValue) {
 }
 
 /**
- * Returns an optional list field of a request's arguments; an empty list if it is missing.
+ * Returns an optional list field of a request's arguments; an empty list if it is missing. Throws AdapterError if the field is not a list.
  * @param {any} from the arguments
  * @param {string} name
  * @returns {any[]}

@@ -97,7 +97,7 @@ export class DebugAdapter {
     this.progress = new Progress((event, body) => connection.sendEvent(event, body));
     this.moves = new MoveHandlers(this);
     /** @type {OpenSession | null} the debug session; null before launch or attach, and after the end of debugging */
-    this.open = null;
+    this.openSession = null;
     /** True after the request `configurationDone`. */
     this.isConfigured = false;
     /** @type {Promise<string> | null} the result of `endDebugging`; null before `leave` is called */
@@ -117,7 +117,7 @@ export class DebugAdapter {
    * @returns {OpenSession}
    */
   get current() {
-    return this.open || fail(say.NOTHING_LAUNCHED);
+    return this.openSession || fail(say.NOTHING_LAUNCHED);
   }
 
   // --- from launch to disconnect ---
@@ -145,7 +145,7 @@ export class DebugAdapter {
         if (this.isConfigured) fail(say.CONFIGURED_ONCE);
         this.isConfigured = true;
         return new ResponseWithFollowUp(undefined, () => (
-          launchResult.stopsOnEntry ? this.sendStopped(this.createMoveEnd("entry")) : this.current.machine.go(null)));
+          launchResult.stopsOnEntry ? this.sendStopped(this.createMoveEnd("entry")) : this.current.machine.runToGoal(null)));
       },
       restart: (args) => this.restart(args),
       terminate: () => new ResponseWithFollowUp(undefined, () => {
@@ -160,21 +160,21 @@ export class DebugAdapter {
   }
 
   /**
-   * Handles the requests `launch` and `attach`.
+   * Handles the requests `launch` and `attach`. Throws AdapterError if a session is already open.
    * @param {any} args
    * @param {typeof launch} act the function `launch` or `attach`, which creates the session
    */
   async launch(args, act) {
-    if (this.open) fail(say.LAUNCH_ONCE);
-    await this.begin(await act(this.engine, args, this.host, this.errorMessages));
+    if (this.openSession) fail(say.LAUNCH_ONCE);
+    await this.beginSession(await act(this.engine, args, this.host, this.errorMessages));
     return new ResponseWithFollowUp(undefined, () => this.connection.sendEvent("initialized"));
   }
 
   /**
-   * Begins a debug session.
+   * Begins a debug session. Replaces an earlier one.
    * @param {LaunchResult} launchResult
    */
-  async begin(launchResult) {
+  async beginSession(launchResult) {
     const { session } = launchResult;
     /** @type {Machine} */
     const machine = new Machine(session, launchResult.writer, {
@@ -182,7 +182,7 @@ export class DebugAdapter {
       output: (text, category) => this.sendOutput(text, category),
       pause: this.host.pause,
       stateChanged: () => this.sendFrontPanel(),
-      startTask: (title) => this.progress.begin(title, () => machine.pause()),
+      startTask: (title) => this.progress.createTask(title, () => machine.pause()),
     }, launchResult.isRealTime);
     const breakpoints = new ClientBreakpoints(session);
     await breakpoints.applyBreakpoints();
@@ -193,7 +193,7 @@ export class DebugAdapter {
       breaksChanged: () => breakpoints.updateOtherBreakpoints(), romChanged: () => this.reportRom(launchResult),
     });
     const queryHandlers = new QueryHandlers(launchResult, new Scopes(session, face), expressionContext, this);
-    this.open = { launchResult, machine, breakpoints, console: debugConsole, queryHandlers };
+    this.openSession = { launchResult, machine, breakpoints, console: debugConsole, queryHandlers };
     if (this.remoteFrontPanel) this.remoteFrontPanel = new RemoteFrontPanel(machine);
     this.sendFrontPanel();
     if (launchResult.note) this.sendOutput(`${launchResult.note}\n`, "console");
@@ -221,8 +221,9 @@ export class DebugAdapter {
       await machine.saveAndReport();
     } else {
       const newArgs = getField(args, "arguments");
+      const launchArgs = newArgs === undefined ? launchResult.args : newArgs;
       const act = launchResult.isAttached ? attach : launch;
-      await this.begin(await act(this.engine, newArgs === undefined ? launchResult.args : newArgs, this.host, this.errorMessages));
+      await this.beginSession(await act(this.engine, launchArgs, this.host, this.errorMessages));
       for (const movedBreakpoint of await this.current.breakpoints.copyBreakpointsFrom(breakpoints)) this.sendBreakpoint(movedBreakpoint);
     }
     return new ResponseWithFollowUp(undefined, () => this.sendStopped(this.createMoveEnd("entry")));
@@ -230,8 +231,8 @@ export class DebugAdapter {
 
   /** Pauses the machine and waits for the end of its move. */
   async halt() {
-    if (!this.open) return;
-    const { machine } = this.open;
+    if (!this.openSession) return;
+    const { machine } = this.openSession;
     machine.pause();
     await machine.move;
   }
@@ -245,13 +246,13 @@ export class DebugAdapter {
   }
 
   async endDebugging() {
-    const { open } = this;
-    if (!open) return "";
+    const { openSession } = this;
+    if (!openSession) return "";
     await this.halt();
-    this.open = null;
-    const { writer, session } = open.launchResult;
+    this.openSession = null;
+    const { writer, session } = openSession.launchResult;
     if (!writer) return "";
-    const message = await open.breakpoints.removeClientBreakpoints();
+    const message = await openSession.breakpoints.removeClientBreakpoints();
     try {
       await writer.write(session.debugger.session);
       return message;
@@ -427,7 +428,7 @@ export class DebugAdapter {
     const { machine, console: debugConsole, queryHandlers } = this.current;
     const [expression, context, base] = [needText(args, "expression"), optionalText(args, "context"), requestedBase(args)];
     if (context !== "repl") return machine.runWhenFree(() => queryHandlers.evaluate(expression, context, base));
-    const task = this.progress.begin(say.RUNNING_LINES, () => { pending.isCancelled = true; });
+    const task = this.progress.createTask(say.RUNNING_LINES, () => { pending.isCancelled = true; });
     const shouldContinue = async (/** @type {number} */ done) => {
       task.reportIfDue(() => say.charactersOf(done, expression.length));
       await this.host.pause();
@@ -499,12 +500,12 @@ export class DebugAdapter {
    * @param {MoveEnd} moveEnd
    */
   sendStopped(moveEnd) {
-    const { open } = this;
-    if (!open) return;
+    const { openSession } = this;
+    if (!openSession) return;
     this.lastStop = moveEnd;
     this.sendFrontPanel();
     const isDataBreakpoint = moveEnd.reason === "data breakpoint";
-    const hit = moveEnd.reason === "breakpoint" ? open.breakpoints.hitBreakpoint(moveEnd.id)
+    const hit = moveEnd.reason === "breakpoint" ? openSession.breakpoints.hitBreakpoint(moveEnd.id)
       : { id: isDataBreakpoint ? moveEnd.id : 0, reason: moveEnd.reason };
     this.connection.sendEvent("stopped", {
       reason: hit.reason, description: moveEnd.message, threadId: THREAD_ID, allThreadsStopped: true,

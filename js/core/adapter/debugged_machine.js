@@ -16,7 +16,7 @@ import { stoppedAt } from "../../words/stops.js";
  * @typedef {import("../debug/goals.js").Goal} Goal
  * @typedef {import("../engine/past_search.js").BackGoal} BackGoal
  * @typedef {import("./session_writer.js").SessionWriter} SessionWriter
- * @typedef {ReturnType<import("./progress.js").Progress["begin"]>} LongTask
+ * @typedef {ReturnType<import("./progress.js").Progress["createTask"]>} LongTask
  *
  * The end of a move: the stop reason in the protocol, the message, and the id of the breakpoint that stopped the machine (0 for none).
  * @typedef {{ reason: string, message: string, id: number }} MoveEnd
@@ -33,7 +33,7 @@ import { stoppedAt } from "../../words/stops.js";
  * @property {(title: string) => LongTask} [startTask] Creates the progress report of a move.
  */
 
-/** @type {Record<string, string>} the stop reasons of the protocol, by the debugger's stop reason */
+/** @type {Record<string, string>} the stop reasons of the protocol, by the debugger's stop reason; "exception" for any other reason */
 const PROTOCOL_REASONS = {
   goal: "step", break: "breakpoint", watch: "data breakpoint", pause: "pause", lacks: "step", arrival: "pause", beginning: "entry",
   call: "restart",
@@ -68,7 +68,7 @@ export class Machine {
     /** @type {(() => Promise<void>)[]} the tasks that wait for the end of a piece */
     this.waitingTasks = [];
     /** The number of log messages of the current move that have already been reported. */
-    this.reportedNotes = 0;
+    this.reportedNoteCount = 0;
     /** The time of the last report of lamps and displays, in milliseconds. */
     this.lastReportTime = 0;
     /** @type {Promise<void>} resolves at the end of the current or last move */
@@ -83,7 +83,7 @@ export class Machine {
    * Starts a run to a goal or an earlier stop.
    * @param {Goal | null} goal null to run to the next stop
    */
-  go(goal) {
+  runToGoal(goal) {
     const allowsTasks = () => goal === null || this.session.debugger.isMoving;
     const act = () => this.session.runToGoal(goal, (done, tally) => this.finishPiece(tally, done));
     this.beginMove(act, allowsTasks);
@@ -103,7 +103,7 @@ export class Machine {
       if (session.address === address) return session.stepInto();
       const stop = await session.runToGoal({ kind: "here", address }, (done, tally) => this.finishPiece(tally, done));
       if (stop.reason !== "goal") return stop;
-      this.reportTally(stop.tally, stop.tally.noteCount - this.reportedNotes);
+      this.reportTally(stop.tally, stop.tally.noteCount - this.reportedNoteCount);
       return session.stepInto();
     }, () => session.debugger.isMoving);
   }
@@ -144,7 +144,7 @@ export class Machine {
     this.isMoving = true;
     this.mustPause = false;
     this.allowsTasks = allowsTasks;
-    this.reportedNotes = 0;
+    this.reportedNoteCount = 0;
     this.startTime = performance.now();
     this.task = this.isRealTime || !this.callbacks.startTask ? null : this.callbacks.startTask(title);
     this.move = this.runMove(act);
@@ -159,7 +159,7 @@ export class Machine {
     let moveEnd;
     try {
       const { reason, message, id, tally } = await act();
-      if (tally) this.reportTally(tally, tally.noteCount - this.reportedNotes);
+      if (tally) this.reportTally(tally, tally.noteCount - this.reportedNoteCount);
       moveEnd = { reason: PROTOCOL_REASONS[reason] || "exception", message, id };
     } catch (thrown) {
       const isPause = thrown instanceof CancelledError;
@@ -266,7 +266,7 @@ export class Machine {
    * @param {number} count the number of log messages to report
    */
   reportTally({ notes, mistakes }, count) {
-    this.reportedNotes += count;
+    this.reportedNoteCount += count;
     if (count > notes.length) this.callbacks.output(`${say.earlierNotesOmitted(count - notes.length)}\n`, "console");
     for (const { text } of notes.slice(notes.length - Math.min(count, notes.length))) this.callbacks.output(`${text}\n`, "console");
     for (const { message } of mistakes) this.callbacks.output(`${message}\n`, "console");

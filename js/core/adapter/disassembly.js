@@ -46,11 +46,11 @@ export function listInstructionRows(session, address, offset, count) {
   // An instruction has at most two bytes. If the source map has an instruction nearby, the listing is aligned to it, so that no row starts
   // at the second byte of an instruction.
   const start = Math.max(0, address + 2 * Math.min(0, offset) - 1);
-  const candidates = indices(4).map((more) => start + more);
+  const candidates = indices(4).map((distance) => start + distance);
   const alignedStart = candidates.find((candidate) => candidate <= address && session.map.beginsInstruction(candidate)) ?? start;
-  const wholeInstructions = (/** @type {number} */ from, /** @type {number} */ to) => (
+  const instructionsIn = (/** @type {number} */ from, /** @type {number} */ to) => (
     listInstructions(session, from, to).filter((instruction) => nextAddress(instruction) <= to));
-  const instructionsBefore = [...wholeInstructions(start, alignedStart), ...wholeInstructions(alignedStart, address)];
+  const instructionsBefore = [...instructionsIn(start, alignedStart), ...instructionsIn(alignedStart, address)];
   const instructionsAfter = listInstructions(session, address, Math.min(LAST_ADDRESS + 1, address + 2 * Math.max(0, offset + count)));
   const instructions = [...instructionsBefore, ...instructionsAfter];
   return indices(count).map((row) => {
@@ -62,7 +62,8 @@ export function listInstructionRows(session, address, offset, count) {
 }
 
 /**
- * @param {ListingLine} found
+ * Returns the row of a listed instruction.
+ * @param {ListingLine} listed
  * @param {DebugSession} session
  * @returns {InstructionRow}
  */
@@ -72,7 +73,8 @@ function instructionRow({ address, line }, { map }) {
 }
 
 /**
- * @param {number} address outside ROM
+ * Returns a row outside ROM.
+ * @param {number} address
  * @returns {InstructionRow}
  */
 function emptyRow(address) {
@@ -80,7 +82,7 @@ function emptyRow(address) {
 }
 
 /**
- * Returns all bytes of ROM.
+ * Returns the bytes of ROM, by address.
  * @param {DebugSession} session
  */
 export function readRomBytes(session) {

@@ -23,11 +23,12 @@ import { errorInColumn } from "../../words/conditions.js";
 
 /** Matches the places whose values are hexadecimal digits. */
 const HEX_PLACES = /^(acc|dcl|src|r\d+|p\d|ram\.\d\..*|st\..*|rom\d+|ram\d\.\d)$/;
-/** Matches the places whose value is a text with one character per bit or lamp. Any other value is shown as a number. */
+/** Matches the places whose value is a text with one character per bit or lamp. */
 const MARK_PLACES = /^(chain\d|lamps)$/;
 
 /**
- * Returns the value of a place; "" if the text is not a place, or if the board does not have the place.
+ * Returns the value of a place as text; for a lamp, a word that says whether the lamp is on. Returns "" if the text is not a place, or if
+ * the board does not have the place.
  * @param {string} text
  * @param {ExpressionContext} context
  * @param {Base} base
@@ -99,7 +100,8 @@ export function evaluateExpression(text, context, base = "usual") {
 }
 
 /**
- * Returns the hover text for a word or expression: the current value, or the effect of an instruction without a value.
+ * Returns the hover text for a word or expression: the current value, or the effect of an instruction without a value. Throws AdapterError
+ * if the text is neither an instruction nor a valid expression.
  * @param {string} text the word or expression under the pointer
  * @param {ExpressionContext} context
  */

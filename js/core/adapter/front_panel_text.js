@@ -26,8 +26,9 @@ export class FrontPanelText {
   }
 
   /**
-   * Returns the display text and the names of the other lamps that are on. Without a display, returns the marks of all lamps and the names
-   * of the lamps that are on. For a multiplexed display, returns the digits that a person perceives.
+   * Returns `display` with the display text and the names of the other lamps that are on. For a multiplexed display, the text contains the
+   * digits that a person perceives. Without a display, returns `lamps` with the marks of all lamps and the names of the lamps that are on.
+   * Returns "" for a board without lamps.
    */
   currentText() {
     const { marks } = this;
@@ -45,7 +46,10 @@ export class FrontPanelText {
     return new PerceivedText(this.face, count).read(this.session.debugger.session.ask(LAMPS_FORECAST_QUERY));
   }
 
-  /** Returns the current text if it differs from the last text that this method returned; otherwise "". */
+  /**
+   * Returns the current text if it has changed since the previous call; otherwise "". The first call compares it with the text at the time
+   * of the constructor.
+   */
   take() {
     const currentText = this.currentText();
     if (currentText === this.lastText) return "";

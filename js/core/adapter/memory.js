@@ -34,7 +34,7 @@ export function formatReference(number) {
   return number < 0 ? `-${formatReference(-number)}` : `0x${hex(number, 3)}`;
 }
 
-/** @type {(bank: number) => string} returns the memory reference of a bank's first nibble */
+/** @type {(bank: number) => string} returns the memory reference of a bank's first RAM character */
 export const bankReference = (bank) => formatReference(CHARACTERS_BASE + BANK_SIZE * bank);
 
 /**
@@ -101,7 +101,7 @@ function readRequestedLocation(args, session, addressOf) {
 }
 
 /**
- * Handles the `readMemory` request.
+ * Handles the `readMemory` request. Throws AdapterError if the board does not have this memory, or if the count is negative.
  * @param {any} args
  * @param {DebugSession} session
  * @param {(reference: string) => number} addressOf

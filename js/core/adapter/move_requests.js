@@ -34,8 +34,8 @@ export class MoveHandlers {
     const move = (/** @type {(machine: Machine) => void} */ act) => (/** @type {any} */ args) => this.moveResponse(args, act);
     return {
       continue: (args) => (
-        new ResponseWithFollowUp({ allThreadsContinued: true }, this.moveResponse(args, (machine) => machine.go(null)).followUp)),
-      next: move((machine) => machine.go({ kind: "over" })),
+        new ResponseWithFollowUp({ allThreadsContinued: true }, this.moveResponse(args, (machine) => machine.runToGoal(null)).followUp)),
+      next: move((machine) => machine.runToGoal({ kind: "over" })),
       stepIn: (args) => this.stepIn(args),
       stepInTargets: (args) => {
         this.checkPaused();
@@ -77,7 +77,7 @@ export class MoveHandlers {
 
   /** @param {any} args */
   stepOut(args) {
-    const moveResponse = this.moveResponse(args, (machine) => machine.go({ kind: "out" }));
+    const moveResponse = this.moveResponse(args, (machine) => machine.runToGoal({ kind: "out" }));
     if (readStackFrames(this.adapter.current.launchResult.session).length === 1) throw new AdapterError(NO_CALL_WAITS, true);
     return moveResponse;
   }

@@ -8,7 +8,7 @@ import * as say from "../../words/adapter.js";
 /** @typedef {"usual" | "hex" | "decimal"} Base a number base; "usual" is the default base of each value */
 
 /**
- * Returns a boolean field of the `format` argument of a request.
+ * Returns a boolean field of the `format` argument of a request. Throws AdapterError if the argument or the field has a wrong type.
  * @param {any} args
  * @param {"hex" | "line"} name
  * @returns {boolean | null} null if the request does not specify the field

@@ -30,7 +30,8 @@ export function evaluateNumber(text, session, startColumn = 0) {
 }
 
 /**
- * Returns the bench lines that set a place to the value of an expression.
+ * Returns the bench lines that set a place to the value of an expression. Throws AdapterError if the expression has an error, or if the
+ * place cannot have this value.
  * @param {string} place a place from `settablePlace`, or a key in the form `key 0 2`
  * @param {string} text the value as an expression
  * @param {DebugSession} session
@@ -49,7 +50,7 @@ function assignmentLines(place, text, session, startColumn = 0) {
 }
 
 /**
- * Returns the bench lines for a `set` line.
+ * Returns the bench lines for a `set` line; throws AdapterError if the line has an error.
  * @param {string} text the text after `set`: `r4 = r5 + 1`
  * @param {DebugSession} session
  */
@@ -79,12 +80,12 @@ export function findSettablePlace(text, face) {
 }
 
 /**
- * Sets a place to the value of an expression; throws AdapterError if the bench rejects the value.
+ * Sets a place to the value of an expression. Throws AdapterError if the expression has an error, or if the bench rejects the value.
  * @param {DebugSession} session
  * @param {string} place a place from `settablePlace`, or a key in the form `key 0 2`
  * @param {string} text the value as an expression
  */
 export async function setPlace(session, place, text) {
-  const { first } = await session.debugger.session.serve(assignmentLines(place, text, session), async () => true);
-  if (parseRefusal(first)) throw new AdapterError(say.cannotBeSetMessage(place, first));
+  const { firstAnswer } = await session.debugger.session.serve(assignmentLines(place, text, session), async () => true);
+  if (parseRefusal(firstAnswer)) throw new AdapterError(say.cannotBeSetMessage(place, firstAnswer));
 }

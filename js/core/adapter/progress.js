@@ -35,6 +35,7 @@ class LongTask {
     else this.progress.sendEvent("progressUpdate", { progressId: this.id, message: message() });
   }
 
+  /** Reports the end of the task, if its progress was reported. */
   end() {
     if (this.id !== "") this.progress.end(this.id);
     this.id = "";
@@ -54,11 +55,11 @@ export class Progress {
   }
 
   /**
-   * Creates an object that reports the progress of a task. The task starts now.
+   * Creates an object that reports the progress of a task, which starts now.
    * @param {string} title
    * @param {() => void} stop ends the task early
    */
-  begin(title, stop) {
+  createTask(title, stop) {
     return new LongTask(this, title, stop);
   }
 

@@ -62,7 +62,10 @@ export class QueryHandlers {
     return { name: program.replace(/^.*[\\/]/, ""), path: program };
   }
 
-  /** @param {any} source */
+  /**
+   * Returns whether a source of the client is the program.
+   * @param {any} source
+   */
   isProgram(source) {
     const { program, nameOf } = this.launchResult;
     if (program === "") return getField(source, "sourceReference") === ROM_SOURCE_REFERENCE;
@@ -83,9 +86,9 @@ export class QueryHandlers {
     const stack = readStackFrames(this.session);
     const from = Math.max(0, needNumber(args, "startFrame", 0));
     const levels = needNumber(args, "levels", 0);
-    const [isHex, withLine] = [readFormatFlag(args, "hex"), readFormatFlag(args, "line") === true];
+    const [isHex, showsLine] = [readFormatFlag(args, "hex"), readFormatFlag(args, "line") === true];
     const frames = stack.map(({ address, line, name, call }, index) => ({
-      id: index + 1, name: formatFrameName(name, isHex) + (withLine && line > 0 ? `, ${lineReference(line)}` : ""),
+      id: index + 1, name: formatFrameName(name, isHex) + (showsLine && line > 0 ? `, ${lineReference(line)}` : ""),
       instructionPointerReference: formatReference(address), canRestart: call >= 0,
       ...(line > 0 ? { line: line - 1 + this.firstLine, column: this.firstColumn, source: this.source }
         : { line: 0, column: 0, presentationHint: "subtle" }),
@@ -172,8 +175,9 @@ export class QueryHandlers {
   }
 
   /**
+   * Returns the response to `evaluate` outside the debug console: the value of an expression, or its hover text.
    * @param {string} expression
-   * @param {string} context
+   * @param {string} context the context in the protocol, such as `hover` or `watch`
    * @param {import("./number_format.js").Base} base
    */
   evaluate(expression, context, base) {

@@ -23,7 +23,7 @@ import * as say from "../../words/adapter.js";
  * - `keys`: the pressed keys as `row.column`; `test`: the TEST level;
  * - `isRunning`: true if the machine runs;
  * - `litShares`: while the machine runs, how long each lamp is on during the next 30 ms;
- * - `printed`: the new output of the printer.
+ * - `printed`: the complete printout, after new output of the printer.
  * @typedef {{ board?: string[], boardText?: string, lamps?: string, keys?: string[], test?: string, isRunning?: boolean,
  *   litShares?: import("../engine/brightness_meter.js").LitShares,
  *   printed?: import("../engine/printer_codes.js").PrintoutData }} FrontPanelUpdate
@@ -60,12 +60,14 @@ export class RemoteFrontPanel {
       const boardParts = readBoard(bench.statusQueries.board);
       this.lampCount = boardParts.lamps.length;
       const printer = findPrinter(boardParts, this.face);
-      if (!printer) bench.printing = null;
-      else if (!bench.printing || !bench.printing.isSamePrinter(printer)) bench.printing = new PrinterCodes({ ...printer, codes: [] });
+      if (!printer) bench.printerCodes = null;
+      else if (!bench.printerCodes || !bench.printerCodes.isSamePrinter(printer)) {
+        bench.printerCodes = new PrinterCodes({ ...printer, codes: [] });
+      }
       Object.assign(update, { board: bench.statusQueries.board, boardText: session.boardText });
     }
     Object.assign(update, this.reader.take(bench.ask("state\n")));
-    const newOutput = bench.printing && bench.printing.takeChanges(bench.count.total);
+    const newOutput = bench.printerCodes && bench.printerCodes.takeChanges(bench.count.total);
     if (newOutput) update.printed = newOutput;
     if (isMoving !== this.isRunning) update.isRunning = isMoving;
     this.isRunning = isMoving;
@@ -74,8 +76,8 @@ export class RemoteFrontPanel {
 
   /** Clears the printout. */
   clear() {
-    const { printing } = this.machine.session.debugger.session;
-    if (printing) printing.clear();
+    const { printerCodes } = this.machine.session.debugger.session;
+    if (printerCodes) printerCodes.clear();
   }
 
   /** Returns `litShares` if the machine runs and the shares have changed; otherwise an empty object. */
@@ -90,7 +92,8 @@ export class RemoteFrontPanel {
 }
 
 /**
- * Presses or releases a key: at once while the machine is paused, otherwise through the key queue.
+ * Presses or releases a key: at once while the machine is paused, otherwise through the key queue. Throws AdapterError if the text is not a
+ * key.
  * @param {Machine} machine
  * @param {Console} debugConsole
  * @param {string} text the key: `0 2` (row and column) or `test 0`

@@ -39,7 +39,7 @@ const [BANK_BASE, REGISTER_BASE] = [100, 200];
 const toHex = (digit) => `0x${digit}`;
 
 /**
- * Creates a variable.
+ * Creates a variable without child variables.
  * @param {string} name
  * @param {string} value
  * @param {string} [place]
@@ -110,7 +110,8 @@ function ramRegisterVariables({ machineState }, bank) {
 const placeReference = (place) => formatReference(referenceNumberForPlace(place));
 
 /**
- * Returns the nibbles and status characters of a RAM register. The name of a nibble includes the program constants that equal its SRC byte.
+ * Returns the nibbles and status characters of a RAM register; an empty list if the board does not have the register. The name of a nibble
+ * includes the program constants that equal its SRC byte.
  * @param {ShownState} state
  * @param {number} bank
  * @param {number} register

@@ -24,20 +24,6 @@ import { leadsOut } from "../../words/server.js";
  * @typedef {import("../bench/error_messages.js").ErrorMessages} ErrorMessages
  * @typedef {import("./session_writer.js").OpenFile} OpenFile
  *
- * The functions of the host:
- * - `nameOf` returns the absolute name of a file from its name relative to `folder`; `beside`, from its name relative to the folder that
- *   contains the file `other`;
- * - `read` returns the text of a file, null if the file cannot be read; `readErrorMessage` returns the reason as a message;
- * - `fileExists` returns whether a file exists; `isInside` returns whether a file is in a folder after symbolic links are resolved;
- * - `open` and `make` start a program that opens or creates a session file, and resolve to the open file;
- * - `readSession` resolves to the bytes of a session file that no other program has open;
- * - `pause` yields to other tasks.
- * @typedef {{ nameOf: (name: string, folder: string) => string, beside: (name: string, other: string) => string,
- *   read: (name: string) => string | null, readErrorMessage: (name: string) => string, fileExists: (name: string) => boolean,
- *   isInside: (name: string, folder: string) => boolean,
- *   open: (name: string) => Promise<OpenFile>, make: (name: string) => Promise<OpenFile>,
- *   readSession: (name: string) => Promise<Uint8Array>, pause: () => Promise<void> }} Host
- *
  * The result of a launch or attach. `writer` is null if the session is not saved to a file. `program` and `board` are file names. `program`
  * is "" if the source was disassembled from ROM. `isDebugged` is false if the client asked for a run without debugging. `args` are the
  * arguments of the request. `nameOf` returns the absolute name of a file. `test` is the debugged test, null for none. `note` is the result
@@ -51,6 +37,22 @@ import { leadsOut } from "../../words/server.js";
  * The files that a launch or attach uses. `board`, `program` and `session` are absolute file names, "" for none. `load` is true if the
  * program must be written to the ROM of a session file. `test` contains the files of the debugged test, null for none.
  * @typedef {{ board: string, program: string, session: string, load: boolean, test: TestFiles | null }} RequestedFiles
+ */
+
+/**
+ * The functions of the host.
+ * @typedef {object} Host
+ * @property {(name: string, folder: string) => string} nameOf Returns the absolute name of a file from its name relative to `folder`.
+ * @property {(name: string, other: string) => string} beside Returns the absolute name of a file from its name relative to the folder that
+ *   contains the file `other`.
+ * @property {(name: string) => string | null} read Returns the text of a file; null if the file cannot be read.
+ * @property {(name: string) => string} readErrorMessage Returns the reason why a file cannot be read, as a message.
+ * @property {(name: string) => boolean} fileExists Returns whether a file exists.
+ * @property {(name: string, folder: string) => boolean} isInside Returns whether a file is in a folder, after symbolic links are resolved.
+ * @property {(name: string) => Promise<OpenFile>} open Starts a program that opens a session file. Resolves to the open file.
+ * @property {(name: string) => Promise<OpenFile>} make Starts a program that creates a session file. Resolves to the open file.
+ * @property {(name: string) => Promise<Uint8Array>} readSession Resolves to the bytes of a session file that no other program has open.
+ * @property {() => Promise<void>} pause Yields to other tasks.
  */
 
 /** @param {string} name */
@@ -73,16 +75,16 @@ export function readRequestedFiles(args, host) {
     return { board: texts.board, program: texts.program, session: "", load: false, test: texts };
   }
   const names = ["project", "board", "program", "session"].map((field) => optionalText(args, field));
-  const [project, ownBoard, ownProgram, session] = names.map((name) => (name === "" ? "" : host.nameOf(name, folder)));
+  const [project, namedBoard, namedProgram, session] = names.map((name) => (name === "" ? "" : host.nameOf(name, folder)));
   const projectNames = project === "" ? { board: "", program: "" } : findProjectFiles(project, host);
-  const program = ownProgram || projectNames.program;
+  const program = namedProgram || projectNames.program;
   if (program === "" && session === "") {
     const message = say.LAUNCH_NEEDS;
     throw new AdapterError(say.boardHint(message), true);
   }
   if (program !== "" && session === program) throw new AdapterError(say.ONE_FILE, true);
   const boardFile = program === "" ? "" : findBoardFile(program, host);
-  const board = ownBoard || projectNames.board || (host.fileExists(boardFile) ? boardFile : "");
+  const board = namedBoard || projectNames.board || (host.fileExists(boardFile) ? boardFile : "");
   return { board, program, session, load: optionalFlag(args, "load", false), test: null };
 }
 
@@ -106,7 +108,8 @@ function findProjectFiles(name, host) {
 }
 
 /**
- * Returns the name of the board file of a program. The language server finds a board by the same rule.
+ * Returns the name of the board file of a program. The language server finds a board by the same rule. Throws AdapterError if the file is a
+ * link that leads out of the project's folder.
  * @param {string} program the file name of the program
  * @param {Host} host
  */
@@ -146,7 +149,8 @@ function refusalError(name, { number, line }, messages) {
 }
 
 /**
- * Creates a session in memory from the texts of a board and a program.
+ * Creates a session in memory from the texts of a board and a program. Throws AdapterError if there is no board file, or if a text cannot
+ * be read or is rejected.
  * @param {Engine} engine
  * @param {RequestedFiles} requestedFiles
  * @param {Host} host
@@ -178,7 +182,8 @@ async function sessionFromTest(engine, test, host) {
 }
 
 /**
- * Opens or creates a session file. Resolves to the session and its writer.
+ * Opens or creates a session file. Resolves to the session and its writer. Rejects if a text is missing or has errors, or if ROM differs
+ * from a program that is not loaded.
  * @param {Engine} engine
  * @param {RequestedFiles} requestedFiles
  * @param {Host} host
@@ -209,7 +214,8 @@ async function sessionFromFile(engine, requestedFiles, host, messages) {
 }
 
 /**
- * Loads a copy of a session file into memory. Resolves to the session.
+ * Loads a copy of a session file into memory. Resolves to the session. Rejects if a text has errors, or if ROM differs from a program that
+ * is not loaded.
  * @param {Engine} engine
  * @param {RequestedFiles} requestedFiles
  * @param {Host} host
@@ -238,8 +244,8 @@ async function sessionFromCopy(engine, requestedFiles, host, messages) {
  * @param {ErrorMessages} messages
  */
 async function serveText(session, word, text, name, messages) {
-  const { first } = await session.debugger.session.serve(`${word}\n${text}.\n`, async () => true);
-  const refusal = parseRefusal(first);
+  const { firstAnswer } = await session.debugger.session.serve(`${word}\n${text}.\n`, async () => true);
+  const refusal = parseRefusal(firstAnswer);
   if (refusal) throw refusalError(name, refusal, messages);
 }
 
@@ -288,8 +294,8 @@ export async function launch(engine, args, host, messages) {
 }
 
 /**
- * Creates the session for an `attach` to an existing session file. Unless `write` is true, the session is a copy, and the file does not
- * change.
+ * Creates the session for an `attach` to an existing session file. Rejects if the request names no such file. Unless `write` is true, the
+ * session is a copy, and the file does not change.
  * @param {Engine} engine
  * @param {any} args
  * @param {Host} host

@@ -27,7 +27,7 @@ export class SessionWriter {
   constructor(file, session) {
     this.file = file;
     /** @type {Segment | null} the segment of the timeline whose commands are in the file; null if the file contents are unknown */
-    this.segment = session.timeline.last;
+    this.segment = session.timeline.lastSegment;
     /** The number of commands in the file, counted from the start of the segment. */
     this.count = 0;
   }
@@ -49,10 +49,10 @@ export class SessionWriter {
    * @param {WorkerSession} session
    */
   async write(session) {
-    const { last } = session.timeline;
+    const { lastSegment } = session.timeline;
     const missingLines = this.missingLines(session);
     const state = session.ask("state\n")[0];
-    const allLines = [...last.entries, ...session.unrecordedCommands].map(({ line }) => line);
+    const allLines = [...lastSegment.entries, ...session.unrecordedCommands].map(({ line }) => line);
     this.segment = null;
     /** @type {(answers: string[]) => void} */
     const check = (answers) => {
@@ -62,8 +62,8 @@ export class SessionWriter {
       if (!isSame) throw new AdapterError(say.STATES_DIFFER);
     };
     if (missingLines) check(await this.file.ask(`${joinLines(missingLines)}state\n`, missingLines.length + 1));
-    else await this.file.replace(last.file, `${joinLines(allLines)}state\n`, allLines.length + 1, check);
-    this.segment = last;
+    else await this.file.replace(lastSegment.file, `${joinLines(allLines)}state\n`, allLines.length + 1, check);
+    this.segment = lastSegment;
     this.count = allLines.length;
   }
 

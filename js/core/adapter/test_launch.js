@@ -49,7 +49,8 @@ function replayLines({ actions }) {
 }
 
 /**
- * Runs a test. Resolves to a session that has run the same commands, and to the test result as text.
+ * Runs a test. Resolves to a session that has run the same commands, and to the test result as text. Throws AdapterError if the tests have
+ * errors, or if the test does not exist or cannot start.
  * @param {Engine} engine
  * @param {TestedTexts} texts
  * @param {TestFiles} test
@@ -59,7 +60,7 @@ export async function createTestSession(engine, texts, { name, file }, pause) {
   /** @type {TestSession[]} */
   const sessions = [];
   const shouldContinue = () => pause().then(() => true);
-  const options = { only: { name, source: file }, ran: (/** @type {TestSession} */ session) => sessions.push(session) };
+  const options = { selectedTest: { name, source: file }, handleTestEnd: (/** @type {TestSession} */ session) => sessions.push(session) };
   const { errors: [error], outcomes } = await runTests(engine, texts, shouldContinue, options);
   if (error) throw new AdapterError(say.testsHaveError(error.file || error.text, error.line, error.words || ""), true);
   const outcome = outcomes.pop();

@@ -32,12 +32,12 @@ export function parseAnswerTable(text) {
 export const ANSWER_FORMATS = parseAnswerTable(table);
 
 /**
- * Returns whether a word starts a query. A query does not change the session.
+ * Returns whether a word is the first word of a query. A query does not change the session.
  * @param {string} word
  */
 export function isQuery(word) {
-  const form = ANSWER_FORMATS.get(word);
-  return form !== undefined && form.isQuery;
+  const format = ANSWER_FORMATS.get(word);
+  return format !== undefined && format.isQuery;
 }
 
 /** The pattern of a listing line, a line in the answer to `list`. */

@@ -3,7 +3,7 @@
 import { isListingLine } from "./answer_table.js";
 
 /**
- * @typedef {{ cycles: number, end: string }} Run the number of cycles that ran, and the word for the reason why the run ended
+ * @typedef {{ cycles: number, end: string }} Run the number of cycles that ran, and the bench's word for the reason why the run ended
  * @typedef {{ number: number, line: number }} Refusal an error number of the bench, and the text line with the error (0 for none)
  *
  * The registers, as texts in the form in which the bench prints them. `owed` is "1" while the second cycle of an instruction is pending.
@@ -11,7 +11,7 @@ import { isListingLine } from "./answer_table.js";
  * @typedef {{ accumulator: string, carry: string, counter: string, owed: string, bank: string, test: string, registers: string[],
  *   returns: string[] }} Registers
  *
- * The nibbles and the status characters of a RAM register, one hexadecimal digit each.
+ * The RAM characters and the status characters of a RAM register, one hexadecimal digit each.
  * @typedef {{ characters: string, status: string }} RamRegister
  * @typedef {{ registers: Map<string, RamRegister>, ports: Map<string, string> }} Ram the registers and output ports of a RAM bank, by name
  * @typedef {{ chip: string, out: string, in: string }} RomPort the latched output and the input levels of a ROM port
@@ -46,7 +46,7 @@ export function parseRefusal(answer) {
 }
 
 /**
- * Parses the answer to a run, such as `ok 7 ran 100 end`. Returns the number of cycles, and the word for the reason why the run ended.
+ * Parses the answer to a run, such as `ok 7 ran 100 end`. Returns the number of cycles, and the bench's word for the reason of the end.
  * Returns null for any other answer.
  * @param {string} answer
  * @returns {Run | null}

@@ -1,5 +1,5 @@
-// Connects the page to the bench: sends requests to the worker and receives the replies. Terminates and replaces a worker that stops
-// answering.
+// Connects the page to the bench: sends requests to the worker and receives the replies. Terminates a worker that stops answering; the page
+// can then start a new one.
 
 import { WorkerDiedError, unpackError } from "./bench_errors.js";
 
@@ -9,12 +9,12 @@ import { WorkerDiedError, unpackError } from "./bench_errors.js";
  * @typedef {import("./protocol.js").Frame} Frame
  * @typedef {import("./protocol.js").ToPage} ToPage
  * @typedef {import("./protocol.js").ToWorker} ToWorker
- * @typedef {keyof Requests} CallName
+ * @typedef {import("./protocol.js").CallName} CallName
  *
  * The callbacks of a request that has no reply yet: for its result, its error, and its progress.
  * @typedef {{ done: (result: any) => void, fail: (error: Error) => void, progress: (done: number, total: number) => void }} PendingRequest
  *
- * Options of a request: a signal that cancels it, and a callback for its progress.
+ * Options of a request: a signal that cancels the request, and a callback for its progress.
  * @typedef {{ signal?: AbortSignal, progress?: (done: number, total: number) => void }} CallOptions
  *
  * The worker methods that the page uses.
@@ -35,7 +35,7 @@ import { WorkerDiedError, unpackError } from "./bench_errors.js";
 
 /** The interval between pings of a worker with unanswered requests, in milliseconds. */
 const PING_INTERVAL_MS = 1000;
-/** The maximum number of unanswered pings. After one more, the page terminates the worker. */
+/** The maximum number of unanswered pings. If the worker does not answer the last of them within an interval, the page terminates it. */
 const MAX_UNANSWERED_PINGS = 10;
 
 /** The page's end of the connection to the worker. */
@@ -64,11 +64,11 @@ export class Bench {
     /** The size of a session file in bytes. */
     this.size = 0;
     /** @type {ArrayBuffer[]} buffers of received files; the next request returns them to the worker */
-    this.spare = [];
+    this.spareBuffers = [];
     setInterval(() => this.pingWorker(), PING_INTERVAL_MS);
   }
 
-  /** Starts a worker. Resolves after the worker has loaded the module. */
+  /** Starts a worker. Resolves after the worker has loaded the module; rejects if that fails. */
   async start() {
     const worker = this.makeWorker();
     this.worker = worker;
@@ -82,7 +82,7 @@ export class Bench {
   }
 
   /**
-   * Sends a request. Resolves to its result.
+   * Sends a request. Resolves to its result, or rejects with its error.
    * @template {CallName} Name
    * @param {Name} name
    * @param {Parameters<Requests[Name]>} parameters
@@ -100,7 +100,7 @@ export class Bench {
         return;
       }
       this.pendingRequests.set(number, { done, fail, progress });
-      const spareBuffers = this.spare.splice(0);
+      const spareBuffers = this.spareBuffers.splice(0);
       this.send({ kind: "request", number, call: name, parameters, spare: spareBuffers }, spareBuffers);
     });
   }
@@ -124,27 +124,28 @@ export class Bench {
     if (message.kind === "frame") this.listener.frame(message.frame);
     if (message.kind === "failed") this.listener.failed(unpackError(message.error));
     if (message.kind !== "reply" && message.kind !== "early" && message.kind !== "progress") return;
-    const waiting = this.pendingRequests.get(message.number);
-    if (!waiting) return;
+    const request = this.pendingRequests.get(message.number);
+    if (!request) return;
     if (message.kind === "progress") {
-      waiting.progress(message.done, message.total);
+      request.progress(message.done, message.total);
       return;
     }
     // Ignore an early result while older requests wait for their replies. The request then waits for its regular reply.
     if (message.kind === "early" && message.number !== this.oldestRequest) return;
     this.pendingRequests.delete(message.number);
-    if (message.kind === "reply" && message.error) waiting.fail(unpackError(message.error));
-    else waiting.done(message.result);
+    if (message.kind === "reply" && message.error) request.fail(unpackError(message.error));
+    else request.done(message.result);
   }
 
   /**
-   * Returns the buffer of a received file to the worker: at once at full speed, otherwise with the next request.
+   * Returns the buffer of a received file to the worker: at once at full speed, otherwise with the next request. Ignores a buffer whose
+   * size differs from that of a session file.
    * @param {ArrayBuffer} buffer
    */
   returnBuffer(buffer) {
     if (buffer.byteLength !== this.size) return;
     if (this.isRunning) this.send({ kind: "spare", buffer }, [buffer]);
-    else this.spare.push(buffer);
+    else this.spareBuffers.push(buffer);
   }
 
   /**
@@ -170,7 +171,7 @@ export class Bench {
     else this.send({ kind: "ping" });
   }
 
-  /** Terminates a worker that does not answer, rejects its requests, and calls the listener's `died`. */
+  /** Terminates a worker that does not answer or has failed, rejects its requests, and calls the listener's `died`. */
   terminateSilentWorker() {
     if (!this.worker) return;
     this.end();

@@ -1,5 +1,5 @@
-// Defines the format of a board text for the page: the TOML keys of each part, the ranges of their values, the maximum number of parts, and
-// the signal lines of each part. Only the bench decides whether a board is valid. A unit test compares each limit with the bench.
+// Defines the format of a board text for the page: the TOML keys and signal lines of each part, the ranges of values, and the maximum
+// number of parts. Only the bench decides whether a board is valid. A unit test compares each limit with the bench.
 
 import { indices } from "./numbers.js";
 
@@ -22,7 +22,7 @@ export const PART_KEYS = {
 /** The kinds of parts, in the order in which the bench reports them. */
 export const PART_KINDS = /** @type {Kind[]} */ (Object.keys(PART_KEYS));
 
-/** @type {Record<string, { from: number, to: number }>} the range of each numeric value, by `part.key` */
+/** @type {Record<string, { from: number, to: number }>} the range of each numeric value, both limits included, by `part.key` */
 export const VALUE_RANGES = {
   "rom.chip": { from: 0, to: 15 }, "ram.bank": { from: 0, to: 7 }, "ram.chips": { from: 1, to: 4 }, "chain.chips": { from: 1, to: 8 },
   "keys.chain": { from: 0, to: 3 }, "keys.first": { from: 0, to: 79 }, "keys.rows": { from: 1, to: 10 },

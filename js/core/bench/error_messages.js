@@ -52,7 +52,8 @@ export function formatErrorCount(count) {
 }
 
 /**
- * Formats a duration with its two largest units, such as `1 hour 2 minutes`; "" for less than half a second.
+ * Formats a duration, rounded to seconds, with its two largest units that are not 0, such as `1 hour 2 minutes`. Returns "" for less than
+ * half a second.
  * @param {number} milliseconds
  */
 export function formatDuration(milliseconds) {

@@ -6,10 +6,10 @@ import { LAST_ADDRESS, parseNumber } from "./numbers.js";
 
 /** The maximum line length in characters; the bench rejects longer lines. */
 export const MAX_LINE_LENGTH = 255;
-/** The error numbers of the bench for a line that is too long, and for a line with a non-ASCII character. */
+/** The error numbers of the bench for a line that is too long, and for a line with a character that INVALID_CHARACTER matches. */
 export const LINE_TOO_LONG = 12;
 export const NOT_ASCII = 14;
-/** Matches a character that the bench never accepts. */
+/** Matches a character that the bench never accepts: any character other than a tab and printable ASCII characters. */
 export const INVALID_CHARACTER = /[^\t -~]/u;
 /** The maximum number of places in a `trace` line. */
 export const MAX_PLACES = 16;
@@ -17,7 +17,8 @@ export const MAX_PLACES = 16;
 const ONE_WORD = /^[ \t]*([a-z]+)[ \t]*$/;
 
 /**
- * A command or query: its line, the words of the line, the first word (`kind`), and the lines of the text that follows it.
+ * A command or query: its line, the words of the line, the first word (`kind`, "" for a line that is too long), and the lines of the text
+ * after it.
  * @typedef {{ line: string, words: string[], kind: string, text: string[] }} Input
  */
 
@@ -51,7 +52,7 @@ export function isSeqQuery(line) {
 export const SEQ_ANSWER = /^seq \d+$/;
 
 /**
- * Splits lines into inputs. Returns each input with the number of its line, from 1.
+ * Splits lines into inputs, without blank lines. Returns each input with the number of its line, from 1.
  * @param {string} lines
  */
 export function readNumberedInputs(lines) {
@@ -77,7 +78,7 @@ export function readNumberedInputs(lines) {
 }
 
 /**
- * Splits lines into inputs.
+ * Splits lines into inputs, without blank lines.
  * @param {string} lines
  * @returns {Input[]}
  */

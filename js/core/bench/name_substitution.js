@@ -1,4 +1,4 @@
-// Replaces names in bench lines: `@NAME` becomes the value of the program name, and `set PLACE = VALUE` becomes the lines that set the
+// Replaces names in bench lines: `@NAME` becomes the value of a name in the program, and `set PLACE = VALUE` becomes the lines that set the
 // place. Texts after a line, such as a program after `asm`, do not change.
 
 import { readSetting } from "../conditions/set_command.js";
@@ -19,7 +19,7 @@ const NAME_REFERENCE = /(^|[ \t])@([^ \t]*)/g;
 const SET_LINE = /^\s*set(?!\S)(.*)$/;
 
 /**
- * Replaces the names in lines.
+ * Replaces the names and the `set` lines in bench lines, but not in the texts after lines such as `asm`.
  * @param {string} lines
  * @param {SourceMap | null} map the source map of the program in ROM; null if unknown
  * @returns {ReplacedLines}
@@ -46,11 +46,11 @@ export function replaceNames(lines, map) {
     reportError(`${match.trim()}: ${map ? say.NO_SUCH_NAME : say.NAMES_UNKNOWN}.`, lineNumber);
     return match;
   });
-  const changed = lines.split("\n").map((rawLine, index) => {
+  const replacedLines = lines.split("\n").map((rawLine, index) => {
     const text = stripCarriageReturn(rawLine);
     const isInText = isOpen;
     isOpen = isOpen ? text !== "." : opensText(text);
     return isInText ? rawLine : replaceIn(text, index + 1);
   });
-  return { lines: changed.join("\n"), message, line };
+  return { lines: replacedLines.join("\n"), message, line };
 }

@@ -21,13 +21,13 @@ export function parseNumber(word) {
 }
 
 /**
- * Parses a count, which can contain commas. Returns 0 for other text or a count above `max`.
+ * Parses a count, which can contain commas. Returns 0 for other text, for a count above `max`, and for a count with more than 9 digits.
  * @param {string} text
  * @param {number} max the largest valid count
  */
 export function parseCount(text, max) {
-  const plain = text.trim().replace(/,/g, "");
-  const count = /^[0-9]{1,9}$/.test(plain) ? Number(plain) : 0;
+  const digits = text.trim().replace(/,/g, "");
+  const count = /^[0-9]{1,9}$/.test(digits) ? Number(digits) : 0;
   return count <= max ? count : 0;
 }
 

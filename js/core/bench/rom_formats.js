@@ -15,7 +15,8 @@ const ADDRESS_SIZES = new Map([["1", 2], ["2", 3], ["3", 4]]);
 const END_TYPES = ["7", "8", "9"];
 
 /**
- * Stores the bytes of a data record in the image. Returns whether the record ends the file.
+ * Stores the bytes of a data record in the image. Ignores other records. Returns whether the record ends the file. Throws `RecordError` or
+ * `ImageError` for an error.
  * @param {string} record
  * @param {ImageBytes} image
  */
@@ -23,9 +24,9 @@ function storeSRecord(record, image) {
   if (!/^S\d([0-9A-F]{2}){4,}$/i.test(record)) throw new RecordError(say.S_RECORD_SYNTAX);
   const [count, ...bytes] = (record.slice(2).match(/../g) || []).map((digits) => parseInt(digits, 16));
   if (bytes.length !== count) throw new RecordError(say.wrongByteCount(count, bytes.length));
-  const expected = 0xff - (bytes.slice(0, -1).reduce((sum, byte) => sum + byte, count) & 0xff);
+  const expectedChecksum = 0xff - (bytes.slice(0, -1).reduce((sum, byte) => sum + byte, count) & 0xff);
   const checksum = bytes[bytes.length - 1];
-  if (checksum !== expected) throw new ImageError(say.wrongChecksum(hex(checksum, 2), hex(expected, 2)));
+  if (checksum !== expectedChecksum) throw new ImageError(say.wrongChecksum(hex(checksum, 2), hex(expectedChecksum, 2)));
   const size = ADDRESS_SIZES.get(record[1]);
   if (size === undefined) return END_TYPES.includes(record[1]);
   if (bytes.length < size + 1) throw new ImageError(say.SHORT_RECORD);
@@ -71,8 +72,8 @@ function beginsWord(line, index) {
 }
 
 /**
- * Parses BNPF; returns the image bytes. A word is `B`, eight letters `P` (1) or `N` (0) with the highest bit first, and `F`. A word can
- * continue on the next line. Ignores text between words.
+ * Parses BNPF; returns the image bytes. Throws `ImageError` for an error. A word is `B`, eight letters `P` (1) or `N` (0) with the highest
+ * bit first, and `F`. A word can continue on the next line. Ignores text between words.
  * @param {string} text
  * @param {number} [from] the address of the first word
  */

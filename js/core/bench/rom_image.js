@@ -90,9 +90,9 @@ function readRecord(text) {
   const bytes = (text.slice(1).match(/../g) || []).map((digits) => parseInt(digits, 16));
   const [count, high, low, type] = bytes;
   if (bytes.length !== count + 5) throw new RecordError(say.wrongByteCount(count, bytes.length - 5));
-  const expected = -bytes.slice(0, -1).reduce((sum, byte) => sum + byte, 0) & 0xff;
-  if (bytes[count + 4] !== expected) {
-    throw new ImageError(say.wrongChecksum(hex(bytes[count + 4], 2), hex(expected, 2)));
+  const expectedChecksum = -bytes.slice(0, -1).reduce((sum, byte) => sum + byte, 0) & 0xff;
+  if (bytes[count + 4] !== expectedChecksum) {
+    throw new ImageError(say.wrongChecksum(hex(bytes[count + 4], 2), hex(expectedChecksum, 2)));
   }
   return { address: high * 256 + low, type, data: bytes.slice(4, -1) };
 }
@@ -126,9 +126,9 @@ export function readHex(text, offset = 0) {
     const record = line.trim();
     if (record === "") return;
     if (isEnded) throw new ImageError(say.AFTER_LAST);
-    const read = readRecord(record);
-    storeRecord(read, image);
-    isEnded = read.type === END_TYPE;
+    const parsedRecord = readRecord(record);
+    storeRecord(parsedRecord, image);
+    isEnded = parsedRecord.type === END_TYPE;
   });
   if (!isEnded) throw new ImageError(say.NO_LAST_RECORD);
   if (image.isEmpty) throw new ImageError(say.NO_BYTE);
@@ -143,8 +143,8 @@ export function readHex(text, offset = 0) {
  */
 function formatRecord(address, type, data) {
   const bytes = [data.length, address >> 8, address & 0xff, type, ...data];
-  const sum = -bytes.reduce((all, byte) => all + byte, 0) & 0xff;
-  return `:${[...bytes, sum].map((byte) => hex(byte, 2)).join("")}\n`;
+  const checksum = -bytes.reduce((sum, byte) => sum + byte, 0) & 0xff;
+  return `:${[...bytes, checksum].map((byte) => hex(byte, 2)).join("")}\n`;
 }
 
 /**

@@ -25,8 +25,8 @@ const SESSION_ANSWER = /^session (\d+)$/;
 function canBeginAnswer({ kind, line }, answer) {
   const refusal = parseRefusal(answer);
   if (refusal) return refusal.line === 0 || opensText(line);
-  const form = ANSWER_FORMATS.get(kind);
-  return form !== undefined && form.first.test(answer);
+  const format = ANSWER_FORMATS.get(kind);
+  return format !== undefined && format.first.test(answer);
 }
 
 /**
@@ -34,26 +34,28 @@ function canBeginAnswer({ kind, line }, answer) {
  * missing at the end of `answers`.
  * @param {Input} input
  * @param {string[]} answers
- * @param {number} from
+ * @param {number} from the index of the answer's first line
  */
 function completeLength(input, answers, from) {
-  const form = ANSWER_FORMATS.get(input.kind);
-  if (!form || !form.further || parseRefusal(answers[from])) return 1;
-  return form.count === "all" || form.count === "list" ? answerLength(input, answers, from)
-    : maxAnswerLines(input, answers[from], form.count);
+  const format = ANSWER_FORMATS.get(input.kind);
+  if (!format || !format.further || parseRefusal(answers[from])) return 1;
+  return format.count === "all" || format.count === "list" ? answerLength(input, answers, from)
+    : maxAnswerLines(input, answers[from], format.count);
 }
 
 /**
  * Returns the index of the first line with a wrong format, among the lines of an answer after its first; -1 if all have the correct format.
  * @param {Input} input
  * @param {string[]} answers
- * @param {number} from
- * @param {number} end
+ * @param {number} from the index of the answer's first line
+ * @param {number} end the index after its last line
  */
 function findInvalidLine(input, answers, from, end) {
-  const form = ANSWER_FORMATS.get(input.kind);
-  const further = form && form.further;
-  for (let index = from + 1; index < Math.min(end, answers.length); index++) if (!further || !further.test(answers[index])) return index;
+  const format = ANSWER_FORMATS.get(input.kind);
+  const furtherPattern = format && format.further;
+  for (let index = from + 1; index < Math.min(end, answers.length); index++) {
+    if (!furtherPattern || !furtherPattern.test(answers[index])) return index;
+  }
   return -1;
 }
 
@@ -72,7 +74,7 @@ class AnswerMatcher {
     this.isIncomplete = false;
   }
 
-  /** True if the matcher reads no more answers. */
+  /** True if the matcher reads no more answers, because of an error or the end of the answers. */
   get isDone() {
     return this.message !== "" || this.isIncomplete || this.nextIndex >= this.answers.length;
   }
@@ -85,10 +87,10 @@ class AnswerMatcher {
   takeAnswer(input, line) {
     if (this.isDone) return "";
     const { answers, nextIndex: start } = this;
-    const first = answers[start];
+    const firstLine = answers[start];
     const messageAt = (/** @type {number} */ index) => say.noAnswerMessage(index + 1, answers[index], line, input.line);
-    const [word, count] = first.split(" ");
-    if (!canBeginAnswer(input, first)) this.message = messageAt(start);
+    const [word, count] = firstLine.split(" ");
+    if (!canBeginAnswer(input, firstLine)) this.message = messageAt(start);
     else if (word === "ok" && Number(count) !== this.commandCount + 1) {
       this.message = say.wrongCommandCount(messageAt(start), this.commandCount);
     }
@@ -99,23 +101,24 @@ class AnswerMatcher {
     if (invalidLine >= 0) this.message = messageAt(invalidLine);
     this.isIncomplete = end > answers.length;
     this.nextIndex = end;
-    return invalidLine >= 0 || this.isIncomplete ? "" : first;
+    return invalidLine >= 0 || this.isIncomplete ? "" : firstLine;
   }
 }
 
 /**
- * Finds the answers to the inputs of a script. The first answer must be `session N`; each following `ok` must have the next command number.
+ * Finds the answers to the inputs of a script. The first answer must be `session N`, or a refusal of the session, which leaves all inputs
+ * without an answer. Each following `ok` must have the next command number.
  * @param {string} script
  * @param {string[]} answers
  * @returns {AnsweredScript}
  */
 export function matchScriptAnswers(script, answers) {
   const inputs = readNumberedInputs(script);
-  const unanswered = inputs.map((numberedInput) => ({ ...numberedInput, answer: "" }));
-  if (answers.length > 0 && parseRefusal(answers[0])) return { inputs: unanswered, message: "" };
-  if (answers.length === 0 || !SESSION_ANSWER.test(answers[0])) return { inputs: unanswered, message: say.FIRST_IS_SESSION };
+  const unansweredInputs = inputs.map((numberedInput) => ({ ...numberedInput, answer: "" }));
+  if (answers.length > 0 && parseRefusal(answers[0])) return { inputs: unansweredInputs, message: "" };
+  if (answers.length === 0 || !SESSION_ANSWER.test(answers[0])) return { inputs: unansweredInputs, message: say.FIRST_IS_SESSION };
   const matcher = new AnswerMatcher(answers);
-  const answered = inputs.map(({ input, lineNumber }) => ({ input, lineNumber, answer: matcher.takeAnswer(input, lineNumber) }));
+  const answeredInputs = inputs.map(({ input, lineNumber }) => ({ input, lineNumber, answer: matcher.takeAnswer(input, lineNumber) }));
   const { message, isDone, nextIndex } = matcher;
-  return { inputs: answered, message: message || (isDone ? "" : say.afterLastAnswer(nextIndex + 1, answers[nextIndex])) };
+  return { inputs: answeredInputs, message: message || (isDone ? "" : say.afterLastAnswer(nextIndex + 1, answers[nextIndex])) };
 }

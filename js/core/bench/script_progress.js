@@ -11,14 +11,14 @@ import * as say from "../../words/bench.js";
  * @typedef {import("../engine/engine_host.js").State} State
  *
  * The number of script lines that a session has received. If the session did not start with the script, `message` is an error message.
- * `differing` then lists the differing answers: `<` marks the answers of the session, `>` those of the script.
- * @typedef {{ lines: number, message: string, differing: string[] }} ScriptComparison
+ * `differingLines` then lists the differing answers: `<` marks the answers of the session, `>` those of the script.
+ * @typedef {{ lineCount: number, message: string, differingLines: string[] }} ScriptComparison
  */
 
 const BANK_COUNT = 8;
 /** The minimum length of a piece of a script, in characters. Between two pieces, the user can interrupt the work. */
 const MIN_PIECE_LENGTH = 4096;
-/** The maximum number of differing lines to show. */
+/** The maximum number of lines in the list of differing lines. */
 const MAX_DIFFERING_LINES = 4;
 /** The queries whose answers must be the same in the session and in a new session that has executed the script lines. */
 const COMPARED_QUERIES = `seq\nboard\nstate\n${indices(BANK_COUNT).map((bank) => `ram ${bank}\n`).join("")}${listQueries(PAGE_NUMBERS)}`;
@@ -36,39 +36,39 @@ function splitStateAnswers(answers) {
 }
 
 /**
- * Returns the first lines that differ. `<` marks a line of `actual`, `>` a line of `expected`. If the lists differ in length, returns the
- * lines between the common prefix and the common suffix.
+ * Returns the first lines that differ, at most MAX_DIFFERING_LINES. `<` marks a line of `actual`, `>` a line of `expected`. If the lists
+ * differ in length, returns the lines between the common prefix and the common suffix.
  * @param {string[]} actual
  * @param {string[]} expected
  */
-export function differingLines(actual, expected) {
+export function findDifferingLines(actual, expected) {
   const differs = (/** @type {number} */ index) => actual[index] !== expected[index];
   if (actual.length === expected.length) {
     const differingIndexes = indices(actual.length).filter(differs).slice(0, MAX_DIFFERING_LINES / 2);
     return [...differingIndexes.map((index) => `< ${actual[index]}`), ...differingIndexes.map((index) => `> ${expected[index]}`)];
   }
-  const shorter = Math.min(actual.length, expected.length);
-  const prefix = indices(shorter).find(differs) ?? shorter;
+  const minLength = Math.min(actual.length, expected.length);
+  const prefix = indices(minLength).find(differs) ?? minLength;
   const differsAtEnd = (/** @type {number} */ back) => actual[actual.length - 1 - back] !== expected[expected.length - 1 - back];
-  const suffix = indices(shorter - prefix).find(differsAtEnd) ?? shorter - prefix;
+  const suffix = indices(minLength - prefix).find(differsAtEnd) ?? minLength - prefix;
   const actualLines = actual.slice(prefix, actual.length - suffix).map((line) => `< ${line}`);
   return [...actualLines, ...expected.slice(prefix, expected.length - suffix).map((line) => `> ${line}`)].slice(0, MAX_DIFFERING_LINES);
 }
 
 /**
- * Returns the number of script lines after which `commands` inputs have been accepted; -1 if the script has fewer accepted inputs.
+ * Returns the number of script lines after which `commandCount` commands have been accepted; -1 if the script has fewer accepted commands.
  * @param {import("./script_answers.js").AnsweredInput[]} inputs
- * @param {number} commands
+ * @param {number} commandCount
  */
-function linesUpTo(inputs, commands) {
+function countLinesUpTo(inputs, commandCount) {
   let acceptedCount = 0;
-  let lines = 0;
+  let lineCount = 0;
   for (const { input, lineNumber, answer } of inputs) {
-    if (acceptedCount === commands) break;
+    if (acceptedCount === commandCount) break;
     if (answer.startsWith("ok ")) acceptedCount += 1;
-    lines = opensText(input.line) ? lineNumber + input.text.length + 1 : lineNumber;
+    lineCount = opensText(input.line) ? lineNumber + input.text.length + 1 : lineNumber;
   }
-  return acceptedCount === commands ? lines : -1;
+  return acceptedCount === commandCount ? lineCount : -1;
 }
 
 /**
@@ -91,7 +91,7 @@ async function serveScript(engine, lines, yieldToMessages) {
 }
 
 /**
- * Compares a session with a new session that has executed the same number of script commands.
+ * Compares a session with a new session that has accepted the same number of commands from the script.
  * @param {EngineHost} engine
  * @param {State} state the state of the session
  * @param {string} script
@@ -99,18 +99,19 @@ async function serveScript(engine, lines, yieldToMessages) {
  * @returns {Promise<ScriptComparison>}
  */
 export async function compareWithScript(engine, state, script, yieldToMessages) {
-  const { opened, answers: actual } = engine.ask(state, COMPARED_QUERIES);
-  const commands = Number(opened.slice("session ".length));
+  const { opened, answers: actualAnswers } = engine.ask(state, COMPARED_QUERIES);
+  const commandCount = Number(opened.slice("session ".length));
   const fullRun = await serveScript(engine, script, yieldToMessages);
   const { inputs, message } = matchScriptAnswers(script, ["session 0", ...fullRun.answers]);
-  if (message !== "") return { lines: 0, message, differing: [] };
-  const lines = linesUpTo(inputs, commands);
-  if (lines < 0) {
-    const accepted = inputs.filter(({ answer }) => answer.startsWith("ok ")).length;
-    return { lines: 0, message: say.acceptedMore(commands, accepted), differing: [] };
+  if (message !== "") return { lineCount: 0, message, differingLines: [] };
+  const lineCount = countLinesUpTo(inputs, commandCount);
+  if (lineCount < 0) {
+    const acceptedCount = inputs.filter(({ answer }) => answer.startsWith("ok ")).length;
+    return { lineCount: 0, message: say.acceptedMore(commandCount, acceptedCount), differingLines: [] };
   }
-  const partialRun = await serveScript(engine, script.split("\n").slice(0, lines).map((line) => `${line}\n`).join(""), yieldToMessages);
-  const expected = engine.ask(partialRun.state, COMPARED_QUERIES).answers;
-  const differing = differingLines(splitStateAnswers(actual), splitStateAnswers(expected));
-  return { lines, message: differing.length > 0 ? say.answersDiffer(commands) : "", differing };
+  const partialScript = script.split("\n").slice(0, lineCount).map((line) => `${line}\n`).join("");
+  const partialRun = await serveScript(engine, partialScript, yieldToMessages);
+  const expectedAnswers = engine.ask(partialRun.state, COMPARED_QUERIES).answers;
+  const differingLines = findDifferingLines(splitStateAnswers(actualAnswers), splitStateAnswers(expectedAnswers));
+  return { lineCount, message: differingLines.length > 0 ? say.answersDiffer(commandCount) : "", differingLines };
 }

@@ -68,11 +68,11 @@ export class SnapshotReader {
     this.snapshot = snapshot;
     this.parts = parts;
     /** @type {FrontPanelChanges} */
-    const changed = {};
-    if (parts.lamps !== previousParts.lamps) changed.lamps = parseItems(parts.lamps).join("");
-    if (parts.keys !== previousParts.keys) changed.keys = parseItems(parts.keys);
-    if (parts.test !== previousParts.test) changed.test = parts.test;
-    return changed;
+    const changes = {};
+    if (parts.lamps !== previousParts.lamps) changes.lamps = parseItems(parts.lamps).join("");
+    if (parts.keys !== previousParts.keys) changes.keys = parseItems(parts.keys);
+    if (parts.test !== previousParts.test) changes.test = parts.test;
+    return changes;
   }
 
   /**
@@ -84,15 +84,15 @@ export class SnapshotReader {
     this.lastReadSnapshot = snapshot;
     this.lastReadParts = parts;
     /** @type {StateChanges} */
-    const changed = {};
-    if (snapshot === previousSnapshot) return changed;
-    if (parts.registers !== previousParts.registers) changed.registers = this.registers = parseRegisters(parts.registers);
-    if (parts.ports !== previousParts.ports) changed.ports = parsePorts(parts.ports);
-    if (parts.breaks !== previousParts.breaks) changed.breakpoints = parseItems(parts.breaks);
-    if (parts.watches !== previousParts.watches) changed.watches = parseItems(parts.watches);
+    const changes = {};
+    if (snapshot === previousSnapshot) return changes;
+    if (parts.registers !== previousParts.registers) changes.registers = this.registers = parseRegisters(parts.registers);
+    if (parts.ports !== previousParts.ports) changes.ports = parsePorts(parts.ports);
+    if (parts.breaks !== previousParts.breaks) changes.breakpoints = parseItems(parts.breaks);
+    if (parts.watches !== previousParts.watches) changes.watches = parseItems(parts.watches);
     for (let index = 1; index < snapshot.length; index++) {
-      if (snapshot[index] !== previousSnapshot[index]) (changed.ram = changed.ram || []).push(readRam(snapshot[index].split("\n")));
+      if (snapshot[index] !== previousSnapshot[index]) (changes.ram = changes.ram || []).push(readRam(snapshot[index].split("\n")));
     }
-    return changed;
+    return changes;
   }
 }

@@ -15,7 +15,7 @@ import { readRegisters } from "./answers.js";
 const STATE_ANSWER = /^state seq \d+ (acc .* test (\d) .*) src (.* keys (\S+)) lamps (\S+) breaks (\S+) watches (\S+)$/;
 
 /**
- * Splits the answer to `state` into its parts.
+ * Splits the answer to `state` into its parts. Throws an error for any other answer.
  * @param {string} answer
  * @returns {StateParts}
  */
@@ -27,7 +27,7 @@ export function parseState(answer) {
 }
 
 /**
- * Returns the value that follows a key in the answer, as unparsed text.
+ * Returns the value that follows a key in the answer, as unparsed text. Throws an error if the answer does not contain the key.
  * @param {string} answer
  * @param {string} key
  */
@@ -38,7 +38,7 @@ export function stateValue(answer, key) {
 }
 
 /**
- * Removes the command count from the answer, so that callers can compare the states of two sessions.
+ * Returns the answer without the command count, so that callers can compare the states of two sessions.
  * @param {string} answer the answer to `state`; other answers can follow in the same text
  */
 export function stripSeq(answer) {

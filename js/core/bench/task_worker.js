@@ -7,7 +7,8 @@ import { WorkerDiedError } from "./bench_errors.js";
  * @typedef {import("./bench_client.js").Bench} Bench
  * @typedef {import("../testing/test_preparation.js").ProjectTextError} ProjectTextError
  *
- * The result of the work: the errors in the texts that prevented the work, and whether the user stopped the work.
+ * The result of the work: the errors in the texts that prevented the work, and whether the worker stopped before the end, for example
+ * because the user stopped the work.
  * @typedef {{ errors: ProjectTextError[], isStopped: boolean }} TaskResult
  */
 
@@ -34,7 +35,7 @@ export class TaskWorker {
   }
 
   /**
-   * Starts the worker, runs the work in it, and ends the worker.
+   * Starts the worker, runs the work in it, and ends the worker. Rejects if the work fails while the worker still runs.
    * @param {AbortSignal} signal when aborted, terminates the worker at once
    * @param {(bench: Bench) => Promise<ProjectTextError[]>} work
    * @returns {Promise<TaskResult>}

@@ -1,4 +1,5 @@
-// Parses the answers to `wiring` and `errors`. These queries check a board text and a program text. They do not change the session.
+// Parses the answers to `wiring` and `errors`. The query `wiring` checks a board text, and `errors` checks a program text. Neither changes
+// the session.
 
 /**
  * The error in a board text.

@@ -1,5 +1,5 @@
-// Announces a changing text to screen readers. A text is announced after it has been unchanged for ANNOUNCEMENT_DELAY_MS. A text that
-// changes earlier is not announced.
+// Announces a changing text to screen readers. A text is announced after it has been unchanged for at least ANNOUNCEMENT_DELAY_MS. A text
+// that changes earlier is not announced.
 
 /** The time for which a text must be unchanged before its announcement, in milliseconds. Also the minimum time between announcements. */
 export const ANNOUNCEMENT_DELAY_MS = 1000;
@@ -24,7 +24,7 @@ export class Announcer {
   }
 
   /**
-   * Sets the text. The text is announced after it has been unchanged for ANNOUNCEMENT_DELAY_MS.
+   * Sets the text. The text is announced after it has been unchanged for at least ANNOUNCEMENT_DELAY_MS, unless it was announced last.
    * @param {string} text
    */
   announce(text) {

@@ -9,12 +9,13 @@ import * as say from "../../words/board.js";
  *
  * @typedef {import("./key_place.js").Key} Key
  *
- * A key of the board, or the button or switch at the TEST pin. `legend` is the text on the key. `description` describes it. `isNamed` is
- * true if the front panel defines its legend. `letter` is the keyboard character that presses the key, "" for none.
+ * A key of the board, or the button or switch at the TEST pin. `legend` is the text on the key, "" for a position without a key.
+ * `description` is a longer text with the key's position. `isNamed` is true if the front panel defines the legend. `letter` is the keyboard
+ * character that presses the key, "" for none.
  * @typedef {{ key: Key, legend: string, description: string, isNamed: boolean, isSwitch: boolean, letter: string }} BoardKey
  */
 
-/** The keyboard characters for keys whose names contain no free character, in order of preference. */
+/** The keyboard characters for keys whose names contain only characters that other keys use, in order of preference. */
 const FALLBACK_LETTERS = "1234567890qwertyuiopasdfghjklzxcvbnm";
 
 /**
@@ -73,8 +74,8 @@ function testKey({ kind, name, level }, takeLetter) {
 const SPECIAL_KEYS = { Enter: "=", Escape: "C", Backspace: "CE", Delete: "CE", ",": "." };
 
 /**
- * Returns the board key that a keyboard key presses: the key with exactly this letter, the key with the legend in SPECIAL_KEYS, or a key
- * whose letter differs only in case. Returns undefined if there is no such key.
+ * Returns the board key that a keyboard key presses; undefined if there is none. The first match counts, in this order: a key with exactly
+ * this letter, a key with the legend in SPECIAL_KEYS, a key whose letter differs only in case.
  * @template {BoardKey} ShownKey
  * @param {ShownKey[]} keys
  * @param {string} keyboardKey the `key` of the keyboard event
@@ -96,6 +97,6 @@ export function findBoardKey(keys, keyboardKey) {
  */
 export function keyHint(keys) {
   if (keys.length === 0) return say.NO_KEYS;
-  const naming = keys.some((key) => key.isNamed) ? "" : say.NAMES_KEYS;
-  return say.keysHint(naming);
+  const namesHint = keys.some((key) => key.isNamed) ? "" : say.NAMES_KEYS;
+  return say.keysHint(namesHint);
 }

@@ -44,8 +44,9 @@ export function brightnessLevel(duty) {
 
 /**
  * Decides whether a lamp or display is steady. A "rest" is an interval without a change. A lamp is steady if the current rest is at least
- * EYE_PERSISTENCE_MS, or more than twice the longest rest in the current series of changes. A single change is therefore perceived at once,
- * and bits that shift through a chain are perceived at the end of the shift. A flickering lamp is never steady.
+ * EYE_PERSISTENCE_MS. A rest of at least MIN_REST_MS is also enough if it is more than twice the longest rest in the current series of
+ * changes. A single change is therefore perceived at once, and bits that shift through a chain are perceived at the end of the shift. A
+ * flickering lamp is never steady.
  */
 class SteadinessDetector {
   constructor() {
@@ -102,7 +103,7 @@ export class PerceivedDigit {
 
   /**
    * Reduces the shares of all patterns in the mixture.
-   * @param {number} remainingShare the factor by which each share is multiplied, from 0 to 1
+   * @param {number} remainingShare the factor for each share, from 0 to 1
    */
   fade(remainingShare) {
     this.steadyPattern = UNLIT_PATTERN;
@@ -139,7 +140,7 @@ export class PerceivedDigit {
     return largest;
   }
 
-  /** The duty cycles of the segments and the decimal point. */
+  /** The duty cycles of the segments a to g and of the decimal point. */
   get segments() {
     const duties = new Array(SEGMENT_COUNT).fill(0);
     for (const [pattern, share] of this.shares) {
@@ -162,14 +163,14 @@ export class Brightness {
     this.isOn = [];
     const groups = fittingGroups(face, count);
     this.displays = groups.filter(({ kind }) => kind === "display");
-    /** @type {number[][]} the duty cycles of the lamps in other multiplexed groups, row by row */
+    /** @type {number[][]} for each multiplexed group that is not a display, the duty cycles of its lamps, row by row */
     this.scannedGroups = groups.filter((group) => isMultiplexed(group) && group.kind !== "display")
       .map(({ rows, columns }) => new Array(rows * columns).fill(0));
     /** @type {PerceivedDigit[][]} */
     this.digits = [];
-    /** @type {SteadinessDetector[]} whether each lamp is steady */
+    /** @type {SteadinessDetector[]} the detector of each lamp */
     this.lampSteadiness = [];
-    /** @type {SteadinessDetector[]} whether each display is steady */
+    /** @type {SteadinessDetector[]} the detector of each display */
     this.displaySteadiness = [];
     this.begin("");
   }
@@ -188,8 +189,8 @@ export class Brightness {
   }
 
   /**
-   * Updates the brightness with the light of a period.
-   * @param {LitShares} litShares the light
+   * Updates the brightness with the lamp measurements of a period.
+   * @param {LitShares} litShares the measurements
    * @param {number} time the length of the period in milliseconds; Infinity if earlier light must be ignored
    */
   add(litShares, time) {
@@ -197,15 +198,15 @@ export class Brightness {
     if (cycles === 0) return;
     const remainingShare = Math.exp(-time / EYE_PERSISTENCE_MS);
     this.updateDuties(this.lamps, litShares.lamps, cycles, remainingShare);
-    this.lampSteadiness.forEach((stillness, lamp) => {
-      stillness.add(litShares.changeSummaries[lamp], cycles, time);
-      const { isSteady: isStill } = stillness;
+    this.lampSteadiness.forEach((detector, lamp) => {
+      detector.add(litShares.changeSummaries[lamp], cycles, time);
+      const { isSteady } = detector;
       const isLitNow = isLit(litShares.marks, lamp);
       // A lamp that goes off fades, so that a short flash stays visible.
-      if (isStill && isLitNow) this.lamps[lamp] = 1;
-      this.isOn[lamp] = isStill ? isLitNow : this.lamps[lamp] >= MIN_ON_DUTY;
+      if (isSteady && isLitNow) this.lamps[lamp] = 1;
+      this.isOn[lamp] = isSteady ? isLitNow : this.lamps[lamp] >= MIN_ON_DUTY;
     });
-    this.scannedGroups.forEach((parts, index) => this.updateDuties(parts, litShares.scanned[index], cycles, remainingShare));
+    this.scannedGroups.forEach((duties, index) => this.updateDuties(duties, litShares.scanned[index], cycles, remainingShare));
     litShares.displays.forEach((display, index) => {
       this.displaySteadiness[index].add(display.changeSummary, cycles, time);
       this.addDisplay(index, display, cycles, remainingShare);
@@ -213,7 +214,7 @@ export class Brightness {
   }
 
   /**
-   * Updates duty cycles with the light of a period.
+   * Updates duty cycles with the lamp measurements of a period.
    * @param {number[]} duties the duty cycles, by lamp
    * @param {number[]} litCycles the number of cycles for which each lamp was on
    * @param {number} cycles the length of the period in cycles
@@ -227,16 +228,16 @@ export class Brightness {
   }
 
   /**
-   * Updates a display with the patterns of a period.
+   * Updates a display with the patterns of a period. Only a steady display without multiplexing shows its last patterns at once.
    * @param {number} displayIndex the index of the display
    * @param {ShownDisplay} shown the patterns
    * @param {number} cycles the length of the period in cycles
    * @param {number} remainingShare the share of the earlier light that remains, from 0 to 1
    */
   addDisplay(displayIndex, { patterns, changeSummary, patternTimes }, cycles, remainingShare) {
-    const isStill = this.displaySteadiness[displayIndex].isSteady && !isMultiplexed(this.displays[displayIndex]);
+    const isSteady = this.displaySteadiness[displayIndex].isSteady && !isMultiplexed(this.displays[displayIndex]);
     this.digits[displayIndex].forEach((digit, index) => {
-      if (isStill) {
+      if (isSteady) {
         digit.showSteady(patterns[index]);
         return;
       }

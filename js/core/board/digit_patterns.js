@@ -15,7 +15,7 @@ export const UNLIT_PATTERN = -1;
 const LIT_MARK_CODE = "*".charCodeAt(0);
 
 /** @type {Map<number, string>} the displayed characters, by seven-segment pattern */
-const DISPLAY_CHARACTERS = new Map([...SEGMENT_CHARACTERS].map(([marks, sign]) => [segmentsAt(marks, 0), sign]));
+const DISPLAY_CHARACTERS = new Map([...SEGMENT_CHARACTERS].map(([marks, character]) => [segmentsAt(marks, 0), character]));
 /** The pattern for a BCD value above 9: segments a, b, e and g. */
 const INVALID_DIGIT_PATTERN = 1 + 2 + 16 + 64;
 /** The patterns of the digits 0 to 9, in the shapes of a 7447 decoder. */
@@ -40,7 +40,7 @@ export function isLit(marks, lamp) {
 }
 
 /**
- * Returns the pattern of seven consecutive lamps, of which the first is segment a.
+ * Returns the pattern of seven consecutive lamps. The first lamp is segment a.
  * @param {string} marks one mark per lamp, `*` if the lamp is on
  * @param {number} firstLamp the number of the first lamp
  */
@@ -51,7 +51,7 @@ function segmentsAt(marks, firstLamp) {
 }
 
 /**
- * Returns whether a digit with a given number of lamps has a decimal point.
+ * Returns whether a digit with this number of lamps has a decimal point.
  * @param {number} columns the number of lamps
  */
 export function hasPoints(columns) {
@@ -59,7 +59,7 @@ export function hasPoints(columns) {
 }
 
 /**
- * Returns the binary value of four consecutive lamps, of which the first is the most significant bit.
+ * Returns the binary value of four consecutive lamps. The first lamp is the most significant bit.
  * @param {string} marks one mark per lamp, `*` if the lamp is on
  * @param {number} firstLamp the number of the first lamp
  */

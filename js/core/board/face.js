@@ -1,4 +1,4 @@
-// Parses the front panel of a board: the names, colours and positions in the comments of the board text. tools/lib/face.txt defines the
+// Parses the front panel of a board: the names, colours and positions in the comments of the board text. `tools/lib/face.txt` defines the
 // syntax.
 
 import { COLOURS, fitsHead, fitsWords, parseFaceLine, isNumber, findLimit, formatMessage, parseSize, splitWords } from "./face_words.js";
@@ -80,7 +80,7 @@ export class Face {
   }
 
   /**
-   * Reports an error.
+   * Adds an error to the list of errors.
    * @param {number} line
    * @param {string} message
    */
@@ -194,7 +194,7 @@ export class Face {
   }
 
   /**
-   * Sets the colours of consecutive lamps. Reports an error for an unknown colour and for a lamp that already has a colour.
+   * Sets the colours of consecutive lamps. Reports an error for an unknown colour. Stops with an error at a lamp that already has a colour.
    * @param {number} first the number of the first lamp
    * @param {Iterable<string>} colours the colours; `_` for none
    * @param {number} line
@@ -233,8 +233,8 @@ export class Face {
    * @param {{ row: number, column: number, word: string, line: number }} gridWord `word` is the name or number of the lamp
    */
   addToGrid({ row, column, word, line }) {
-    const named = this.lampNumbers.get(word);
-    if (named !== undefined) this.grid.push({ row, column, lamp: named, line });
+    const namedLamp = this.lampNumbers.get(word);
+    if (namedLamp !== undefined) this.grid.push({ row, column, lamp: namedLamp, line });
     else if (isNumber(word)) this.grid.push({ row, column, lamp: Number(word), line });
     else this.reportError(line, formatMessage("no such lamp", word));
   }

@@ -100,9 +100,9 @@ export function minusLamp({ lampNumbers }) {
  */
 export function lampsOutsideGroups(face, count) {
   const groups = fittingGroups(face, count);
-  const placed = new Set([...groups.flatMap(groupLamps), ...face.grid.map(({ lamp }) => lamp)]);
-  if (groups.some(({ kind }) => kind === "display")) placed.add(minusLamp(face));
-  return indices(count).filter((lamp) => !placed.has(lamp));
+  const placedLamps = new Set([...groups.flatMap(groupLamps), ...face.grid.map(({ lamp }) => lamp)]);
+  if (groups.some(({ kind }) => kind === "display")) placedLamps.add(minusLamp(face));
+  return indices(count).filter((lamp) => !placedLamps.has(lamp));
 }
 
 /**

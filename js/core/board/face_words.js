@@ -1,5 +1,5 @@
 // The syntax of the front-panel lines in a board text: their first words, the words after them, and the error messages. The syntax comes
-// from the table tools/lib/face.txt; its header explains the columns.
+// from the table `tools/lib/face.txt`; its header explains the columns.
 
 import table from "#face-table";
 
@@ -40,13 +40,13 @@ export const LINE_KINDS = new Map(tableRows("kind").map(parseKind));
 /** The colour names that a front panel can use. */
 export const COLOURS = new Set(tableRows("colour").map(([word]) => word));
 /** @type {Map<string, string>} the characters of a seven-segment digit, by the marks of segments a to g */
-export const SEGMENT_CHARACTERS = new Map(tableRows("digit").map(([marks, sign]) => [marks, sign === "_" ? " " : sign]));
+export const SEGMENT_CHARACTERS = new Map(tableRows("digit").map(([marks, word]) => [marks, word === "_" ? " " : word]));
 /** The limits in the table, by name. */
 const LIMITS = new Map(tableRows("limit").map(([name, number]) => [name, Number(number)]));
 /** The patterns of the text between the first word and the colon, by name. */
 const HEADS = new Map(tableRows("head").map(([name, expression]) => [name, new RegExp(expression)]));
-/** The first word of a line that each synonym replaces. */
-const SYNONYMS = new Map(tableRows("other").map(([word, meant]) => [word, meant]));
+/** For each synonym, the first word of a line that it can replace. */
+const SYNONYMS = new Map(tableRows("other").map(([synonym, word]) => [synonym, word]));
 /** The error messages, by name. */
 const MESSAGES = new Map(tableRows("say").map(([name, words]) => [name, words]));
 /** Matches a front-panel line: the first word, the number or place, the number after `to`, and the text after the colon. */
@@ -56,7 +56,7 @@ const FACE_LINE = /^[ \t]*#[ \t]*([A-Za-z]+)(?:[ \t]+([^ \t:]+)(?:[ \t]+to[ \t]+
 export const findLimit = (name) => LIMITS.get(name) || 0;
 
 /**
- * Returns an error message.
+ * Returns an error message with its values.
  * @param {string} name the name of the message
  * @param {...(string | number)} values values for `{1}`, `{2}` ..
  */

@@ -22,8 +22,8 @@ export function lampAt(lamp) {
 }
 
 /**
- * Returns the functions that read a lamp of a multiplexed group. Each row is on for at most 1 / `rows` of the time, so the duty cycle is
- * multiplied by `rows`.
+ * Returns the functions that read a lamp of a multiplexed group. Only one row is on at a time, so the duty cycle is multiplied by `rows`;
+ * the maximum is 1.
  * @param {import("./face.js").Group} group
  * @param {number} number the index of the group in the list of multiplexed groups that are not displays
  * @param {number} index the lamp's index in the group, row by row
@@ -32,10 +32,10 @@ export function lampAt(lamp) {
 export function scannedLampAt({ first, rows, columns, by }, number, index) {
   const [column, row] = [first + (index % columns), by + Math.floor(index / columns)];
   /** @type {LampReader["duty"]} */
-  const part = ({ scannedGroups }) => Math.min(1, scannedGroups[number][index] * rows);
+  const duty = ({ scannedGroups }) => Math.min(1, scannedGroups[number][index] * rows);
   return {
-    column, row, duty: part,
+    column, row, duty,
     isLit: (marks) => isLit(marks, column) && isLit(marks, row),
-    isOn: (brightness) => part(brightness) >= MIN_ON_DUTY,
+    isOn: (brightness) => duty(brightness) >= MIN_ON_DUTY,
   };
 }

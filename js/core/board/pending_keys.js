@@ -37,8 +37,8 @@ export class PendingKeys {
    */
   willBeDown(key, isDown) {
     /** @type {RequestedChange[]} */
-    const all = [...this.waitingChanges, ...this.changesInTransit];
-    const last = all.filter((pendingChange) => isSameKey(pendingChange.key, key)).pop();
-    return last && last.word !== "forget" ? last.word === "press" : isDown;
+    const pendingChanges = [...this.waitingChanges, ...this.changesInTransit];
+    const lastChange = pendingChanges.filter((pendingChange) => isSameKey(pendingChange.key, key)).pop();
+    return lastChange && lastChange.word !== "forget" ? lastChange.word === "press" : isDown;
   }
 }

@@ -78,7 +78,7 @@ export function isCurveCovered(curve, box) {
 }
 
 /**
- * Returns the y coordinates of the lanes above and below each part, shortest detour first.
+ * Returns the y coordinates of the lanes above and below each part, shortest detour first. Omits lanes above the diagram.
  * @param {Ends} ends
  * @param {Box[]} boxes the boxes of the parts
  */
@@ -163,6 +163,6 @@ export function routeWire(ends, boxes, number) {
  */
 export function pathText(curves) {
   /** @type {(point: Point) => string} */
-  const textOfPoint = ({ x, y }) => `${x} ${y}`;
-  return `M${textOfPoint(curves[0][0])}${curves.map(([, ...points]) => `C${points.map(textOfPoint).join(" ")}`).join("")}`;
+  const formatPoint = ({ x, y }) => `${x} ${y}`;
+  return `M${formatPoint(curves[0][0])}${curves.map(([, ...points]) => `C${points.map(formatPoint).join(" ")}`).join("")}`;
 }

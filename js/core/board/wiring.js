@@ -53,8 +53,8 @@ const DIAGRAM_COLUMNS = [
 const MAX_TITLE_LENGTH = 11;
 
 /**
- * Pin numbers on the chip package: the TEST pin of the 4004; port lines 0 to 3 of the 4001 and 4002; and the clock, data and bits 0 to 9 of
- * the 4003.
+ * Pin numbers on the chip packages. The 4004 has the TEST pin. The 4001 and 4002 have the pins of port lines 0 to 3. The 4003 has the
+ * clock, the data and the pins of bits 0 to 9.
  */
 const TEST_PIN_NUMBER = 10;
 const PORT_PIN_NUMBERS = [16, 15, 14, 13];
@@ -75,7 +75,7 @@ class Column {
   }
 
   /**
-   * Adds a part with pins on its left and right sides.
+   * Adds a part with pins on its left and right sides; returns the part with all positions.
    * @param {Pick<Part, "id" | "kind" | "title" | "descriptions">} part
    * @param {UnplacedPin[]} left
    * @param {UnplacedPin[]} right
@@ -167,7 +167,7 @@ function portPins(chip) {
 }
 
 /**
- * Adds the processor to a column.
+ * Adds the processor to a column; returns it as a part.
  * @param {Column} column
  * @param {TestPin | null} test
  */
@@ -187,7 +187,7 @@ function displayedName({ name }) {
 }
 
 /**
- * Adds the button or switch at the TEST pin to a column.
+ * Adds the button or switch at the TEST pin to a column; returns it as a part.
  * @param {Column} column
  * @param {TestPin} test
  */
@@ -199,7 +199,7 @@ function addTestPart(column, test) {
 }
 
 /**
- * Adds a ROM to a column.
+ * Adds a ROM to a column; returns it as a part.
  * @param {Column} column
  * @param {Board["roms"][number]} rom
  * @param {LineUses} uses
@@ -212,7 +212,7 @@ function addRom(column, { chip, port }, uses) {
 }
 
 /**
- * Adds a RAM chip to a column.
+ * Adds a RAM chip to a column; returns it as a part.
  * @param {Column} column
  * @param {number} bank
  * @param {number} chip
@@ -225,7 +225,7 @@ function addRam(column, bank, chip, uses) {
 }
 
 /**
- * Adds a chain to a column, with its used bits and some unused bits.
+ * Adds a chain to a column, with its used bits and some unused bits; returns it as a part.
  * @param {Column} column
  * @param {Board["chains"][number]} chain
  * @param {number} number the chain number
@@ -245,7 +245,7 @@ function addChain(column, { clock, data, chips }, number, uses) {
 }
 
 /**
- * Adds the key matrix to a column.
+ * Adds the key matrix to a column; returns it as a part.
  * @param {Column} column
  * @param {NonNullable<Board["matrix"]>} matrix
  */
@@ -260,7 +260,7 @@ function addKeys(column, { chain, first, rows, columns }) {
 }
 
 /**
- * Adds the lamps to a column, as one part.
+ * Adds the lamps to a column; returns them as one part.
  * @param {Column} column
  * @param {string[]} lamps
  * @param {Appearance} appearance
@@ -273,7 +273,7 @@ function addLamps(column, lamps, { names, colours }) {
 }
 
 /**
- * Adds the buzzer to a column.
+ * Adds the buzzer to a column; returns it as a part.
  * @param {Column} column
  * @param {Buzzer} buzzer
  */

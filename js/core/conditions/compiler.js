@@ -52,8 +52,9 @@ function compareValues(value, sign, required) {
     matches: (values) => compare(value.read(values), required.read(values)),
     explain: (values, _, isNot) => {
       const number = required.read(values);
-      const expected = required.isConstant ? String(number) : say.valueIs(required.name, number);
-      return say.mustBeMessage(value.name, String(value.read(values)), sign === "=" ? expected : `${sign} ${expected}`, false, isNot);
+      const requiredText = required.isConstant ? String(number) : say.valueIs(required.name, number);
+      const requirement = sign === "=" ? requiredText : `${sign} ${requiredText}`;
+      return say.mustBeMessage(value.name, String(value.read(values)), requirement, false, isNot);
     },
   };
 }
@@ -127,8 +128,8 @@ function compilePlaceValues({ place, values, text, column }, names, dependencies
  */
 function compileKeyword({ words: [head, ...following] }, names, dependencies) {
   const words = following.map(({ text }) => text);
-  const form = COMPILERS[head.text];
-  return form ? form(words, names, dependencies) : compileChain(head.text, words, names, dependencies);
+  const compile = COMPILERS[head.text];
+  return compile ? compile(words, names, dependencies) : compileChain(head.text, words, names, dependencies);
 }
 
 /**
@@ -169,7 +170,7 @@ function negateCondition(condition, text) {
  * Joins compiled conditions with `and` or `or`.
  * @param {"or" | "and"} operator
  * @param {CompiledCondition[]} parts
- * @param {string} text
+ * @param {string} text the text of the joined condition
  * @returns {CompiledCondition}
  */
 function joinConditions(operator, parts, text) {

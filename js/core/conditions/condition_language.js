@@ -27,8 +27,8 @@ import * as say from "../../words/conditions.js";
  * @typedef {import("../machine/source_map.js").SourceMap} SourceMap
  * @typedef {import("./parser.js").ConditionNode} ConditionNode
  *
- * The names that a condition can use: those of the front panel, of the board (from the answer to `board`) and of the program, and the watch
- * names with their expressions.
+ * The objects that define the names in a condition. `face` is the front panel, `board` is the parsed answer to `board`, and `map` is the
+ * source map of the program. `watched` are the watch names with their expressions.
  * @typedef {{ face: Face, board: Board, map: Pick<SourceMap, "names" | "nameOf"> | null, watched?: Map<string, string> }} Names
  *
  * Values that `trace` does not report. `test`, `owed` (1 if a second cycle is pending) and `keys` are texts from the answer to `state`.
@@ -69,9 +69,9 @@ function checkPlaceCount({ length }) {
 /**
  * Calls a function that parses and compiles a text. Returns the function's result in `result`, or the message and column of the
  * `ConditionError` that the function throws.
- * @template Read
- * @param {() => Read} compile
- * @returns {{ result: Read, error: "", column: -1 } | { result: null, error: string, column: number }}
+ * @template Result
+ * @param {() => Result} compile
+ * @returns {{ result: Result, error: "", column: -1 } | { result: null, error: string, column: number }}
  */
 function resultOrError(compile) {
   try {
@@ -162,8 +162,8 @@ export function compileTestCondition(conditionText, names) {
       text, negation, places, needs: [...dependencies.needs, ...statePlaces], address,
       holds: (values, extraValues = DEFAULT_VALUES) => matches(selectValues(values, extraValues), extraValues),
       explain: (values, extraValues = DEFAULT_VALUES) => {
-        const known = selectValues(values, extraValues);
-        return matches(known, extraValues) ? "" : explain(known, extraValues, false);
+        const selectedValues = selectValues(values, extraValues);
+        return matches(selectedValues, extraValues) ? "" : explain(selectedValues, extraValues, false);
       },
     };
   });
@@ -176,9 +176,9 @@ export function compileTestCondition(conditionText, names) {
  * @returns {ConditionResult}
  */
 export function compileTracedCondition(text, names) {
-  const read = compileCondition(text, names);
-  const statePlace = read.condition ? read.condition.places.find((place) => STATE_PLACES.has(place)) : undefined;
-  return statePlace === undefined ? read : { condition: null, error: say.noTraceShowsMessage(statePlace), column: 0 };
+  const result = compileCondition(text, names);
+  const statePlace = result.condition ? result.condition.places.find((place) => STATE_PLACES.has(place)) : undefined;
+  return statePlace === undefined ? result : { condition: null, error: say.noTraceShowsMessage(statePlace), column: 0 };
 }
 
 /**

@@ -1,5 +1,6 @@
 // Compiles conditions that start with a keyword: `lamps`, `display`, `printed`, `cycles`, or the name of a chain (`chain0`). Also compiles
-// conditions on the program counter. The parser has already split the conditions into words.
+// conditions on the program counter. The parser has already split the conditions into words. All functions that compile a condition throw
+// `ConditionError` for an error.
 
 import { hex, indices } from "../bench/numbers.js";
 import { DisplayText } from "../board/display_text.js";
@@ -64,8 +65,8 @@ function isDisplayLamp(lamp, { face }) {
 }
 
 /**
- * Compiles `lamps` with a pattern of `*` (on), `.` (off) and `?` (on or off), or with the names of all lamps that must be on. If names are
- * used, unnamed display lamps are ignored.
+ * Compiles `lamps` with a pattern of `*` (on), `.` (off) and `?` (on or off), or with the names of all lamps that must be on. The word
+ * `none` means that all must be off. If names or `none` are used, unnamed display lamps are ignored.
  * @param {string[]} words
  * @param {Names} names
  * @param {Dependencies} dependencies
@@ -92,8 +93,8 @@ export function compileLamps(words, names, dependencies) {
 }
 
 /**
- * Compiles `display 42`, which compares the number on the display, or `display 0 overflow`, which compares the number and the lamp names as
- * `mcs4 display` prints them. The number on a multiplexed display is the perceived number.
+ * Compiles `display 42`, which compares the number on the display, or `display 0 overflow`, which compares the number and the lamp names
+ * that `mcs4 display` prints. The number on a multiplexed display is the perceived number.
  * @param {string[]} words
  * @param {Names} names
  * @param {Dependencies} dependencies
@@ -105,13 +106,14 @@ export function compileDisplay(words, names, dependencies) {
   if (words.length === 0 || /^([<>]=?|!=?|==?)$/.test(words[0])) fail(say.DISPLAY_SYNTAX);
   const required = words.join(" ");
   /** @type {(shown: { number: string, names: string }) => string} */
-  const displayedWords = ({ number, names: lit }) => (lit === "" || number === required ? number : `${number} ${lit}`);
+  const displayedWords = ({ number, names: lampWords }) => (
+    lampWords === "" || number === required ? number : `${number} ${lampWords}`);
   const matches = (/** @type {string} */ actual) => actual === required;
   if (hasScannedDisplay(face)) {
     dependencies.addNeed("seen", say.DIGITS_ARE_MULTIPLEXED);
-    const seen = new PerceivedText(face, board.lamps.length);
+    const perceivedText = new PerceivedText(face, board.lamps.length);
     return createCondition({
-      subject: "display", required, matches, measure: (_, extraValues) => displayedWords(seen.read(extraValues.seen)),
+      subject: "display", required, matches, measure: (_, extraValues) => displayedWords(perceivedText.read(extraValues.seen)),
     });
   }
   const reader = new DisplayText(displays, [...face.lamps].map(([lamp, { text }]) => ({ lamp, text })));
@@ -170,9 +172,9 @@ export function compileCycles(words, names, dependencies) {
 export function compileChain(name, words, { board }, dependencies) {
   const place = parsePlace(name);
   if (!place || place.probesOn(board).length === 0) return fail(say.boardLacks(name));
-  const bits = 10 * board.chains[Number(name.slice("chain".length))].chips;
+  const bitCount = 10 * board.chains[Number(name.slice("chain".length))].chips;
   const required = words.join("");
-  if (!/^[01?]+$/.test(required) || required.length !== bits) fail(say.chainBits(name.slice("chain".length), bits));
+  if (!/^[01?]+$/.test(required) || required.length !== bitCount) fail(say.chainBits(name.slice("chain".length), bitCount));
   const valueIndex = dependencies.addPlace(name);
   return createCondition({
     subject: name, required, measure: (values) => values[valueIndex], matches: (actual) => matchesPattern(actual, required),

@@ -67,7 +67,7 @@ export function isCondition(node) {
   return CONDITION_KINDS.has(node.kind);
 }
 
-/** A recursive-descent parser. */
+/** A recursive-descent parser. Its methods throw `ConditionError` at a syntax error. */
 class Parser {
   /**
    * @param {string} text

@@ -31,7 +31,7 @@ const MAX_DIGIT = 15;
 /** The maximum number of lamps that a JavaScript number can represent exactly with one bit per lamp. */
 const MAX_NUMERIC_LAMPS = 52;
 
-/** Place names for completion. These places exist on every board. */
+/** Place names for completion. All of these places except `lamps` exist on every board. */
 export const PLACE_WORDS = [
   "acc", "cy", "pc", "dcl", "src", "test", "lamps", ...indices(16).map((register) => `r${register}`),
   ...indices(8).map((pair) => `p${pair}`)];
@@ -51,23 +51,24 @@ const parseHexDigits = (answers) => parseInt(answers.join(""), 16);
 /**
  * Returns the place that `trace` reports under this name.
  * @param {string} name
- * @param {(board: Board) => boolean} [isOn] returns whether a board has the place
+ * @param {(board: Board) => boolean} [existsOn] returns whether a board has the place
  * @returns {Place}
  */
-function singlePlace(name, isOn = () => true) {
+function singlePlace(name, existsOn = () => true) {
   return {
-    name, maxValue: () => maxPlaceValue(name), probesOn: (board) => (isOn(board) ? [name] : []), value: firstAnswer, number: parseHexDigits,
+    name, maxValue: () => maxPlaceValue(name), probesOn: (board) => (existsOn(board) ? [name] : []), value: firstAnswer,
+    number: parseHexDigits,
   };
 }
 
 /**
  * Returns the place for a signal line, with value 0 or 1.
  * @param {string} name
- * @param {(board: Board) => boolean} isOn returns whether a board has the line
+ * @param {(board: Board) => boolean} existsOn returns whether a board has the line
  * @returns {Place}
  */
-function linePlace(name, isOn) {
-  return { ...singlePlace(name, isOn), maxValue: () => 1 };
+function linePlace(name, existsOn) {
+  return { ...singlePlace(name, existsOn), maxValue: () => 1 };
 }
 
 /**
@@ -120,9 +121,9 @@ function portPlace(name) {
   if (!match) return null;
   const [, isRom, rom, bank, chip, line] = match;
   /** @type {(board: Board) => boolean} */
-  const isOn = (board) => (
+  const existsOn = (board) => (
     isRom ? board.roms.some((romChip) => Number(romChip.chip) === Number(rom)) : hasRam(board, Number(bank), Number(chip)));
-  return line ? linePlace(name, isOn) : singlePlace(name, isOn);
+  return line ? linePlace(name, existsOn) : singlePlace(name, existsOn);
 }
 
 /**

@@ -13,10 +13,10 @@ export class Probes {
   /** @param {string[]} places */
   constructor(places) {
     this.places = places;
-    const traced = places.filter((place) => !STATE_PLACES.has(place));
+    const tracedPlaces = places.filter((place) => !STATE_PLACES.has(place));
     this.groups = [];
-    for (let from = 0; from < traced.length; from += MAX_PLACES) this.groups.push(traced.slice(from, from + MAX_PLACES));
-    this.queriesState = traced.length < places.length;
+    for (let from = 0; from < tracedPlaces.length; from += MAX_PLACES) this.groups.push(tracedPlaces.slice(from, from + MAX_PLACES));
+    this.queriesState = tracedPlaces.length < places.length;
     /** The query lines. */
     this.lines = this.groups.map((group) => `trace 1 ${group.join(" ")}\n`).join("") + (this.queriesState ? "state\n" : "");
   }
@@ -27,10 +27,10 @@ export class Probes {
    * @returns {string[]}
    */
   take(answers) {
-    const traced = this.groups.flatMap(() => rowValues(answers.takeTrace().row));
-    if (!this.queriesState) return traced;
+    const tracedValues = this.groups.flatMap(() => rowValues(answers.takeTrace().row));
+    if (!this.queriesState) return tracedValues;
     const state = answers.take();
     let index = 0;
-    return this.places.map((place) => (STATE_PLACES.has(place) ? stateValue(state, place) : traced[index++]));
+    return this.places.map((place) => (STATE_PLACES.has(place) ? stateValue(state, place) : tracedValues[index++]));
   }
 }

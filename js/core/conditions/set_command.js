@@ -20,7 +20,7 @@ import * as say from "../../words/conditions.js";
 const SETTABLE_PLACE = /^(acc|cy|pc|dcl|r\d+|p\d|(ram|st)\..*)$/;
 
 /**
- * Returns the bench's spelling of a place if `set` can change it; "" for any other text.
+ * Returns the standard spelling of a place, such as `ram.0.0x12`, if `set` can change it; "" for any other text.
  * @param {string} text
  */
 export function settablePlace(text) {
@@ -41,8 +41,8 @@ export function settingLines(place, value) {
   if (place === "test") return `test ${value}\n`;
   const pair = /^p(\d)$/.exec(place);
   if (!pair) return `poke ${place} ${value}\n`;
-  const high = 2 * Number(pair[1]);
-  return `poke r${high} ${value >> 4}\npoke r${high + 1} ${value & 15}\n`;
+  const register = 2 * Number(pair[1]);
+  return `poke r${register} ${value >> 4}\npoke r${register + 1} ${value & 15}\n`;
 }
 
 /**

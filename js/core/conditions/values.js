@@ -83,8 +83,8 @@ function constantValue(number) {
  * @param {number} right
  */
 function bitwiseAnd(left, right) {
-  const high = Math.floor(left / HALF_FACTOR) & Math.floor(right / HALF_FACTOR);
-  return high * HALF_FACTOR + ((left % HALF_FACTOR) & (right % HALF_FACTOR));
+  const highHalf = Math.floor(left / HALF_FACTOR) & Math.floor(right / HALF_FACTOR);
+  return highHalf * HALF_FACTOR + ((left % HALF_FACTOR) & (right % HALF_FACTOR));
 }
 
 /** @type {Record<SumNode["sign"], (left: number, right: number) => number>} */
@@ -107,15 +107,15 @@ function bitValue(name, index, readBit) {
  * @param {Names} names
  */
 export function findLampNumber(name, { face, board }) {
-  const named = face.lampNumbers.get(name);
-  if (named !== undefined) return named;
+  const namedLamp = face.lampNumbers.get(name);
+  if (namedLamp !== undefined) return namedLamp;
   if (/^\d+$/.test(name) && Number(name) < board.lamps.length) return Number(name);
   const knownNames = [...face.lampNumbers].sort((a, b) => a[1] - b[1]).map(([lampName]) => lampName);
   return fail(say.noLampMessage(name, knownNames.join(" ")));
 }
 
 /**
- * Returns the value of a lamp: 1 if the lamp is on.
+ * Returns the value of a lamp: 1 if the lamp is on. Throws `ConditionError` if there is no such lamp.
  * @param {string} name
  * @param {Names} names
  * @param {Dependencies} dependencies
@@ -127,7 +127,7 @@ export function lampValue(name, names, dependencies) {
 }
 
 /**
- * Returns the value of a key: 1 if the key is pressed.
+ * Returns the value of a key: 1 if the key is pressed. Throws `ConditionError` if there is no such key.
  * @param {string} name
  * @param {Names} names
  * @param {Dependencies} dependencies
@@ -189,7 +189,8 @@ function placeValue(place, { board }, dependencies) {
 
 /**
  * Returns the value of a port with a direction. `rom1 in` is the value that RDR reads; an output line reads as its bit in the port mask of
- * the board. `rom1 out` and `ram0.1 out` are the value in the port latch, with 0 for input lines.
+ * the board. `rom1 out` and `ram0.1 out` are the value in the port latch, with 0 for input lines. Throws `ConditionError` if the board
+ * lacks the port, and for `in` after a RAM port.
  * @param {NameNode} node
  * @param {Names} names
  * @param {Dependencies} dependencies
@@ -246,7 +247,8 @@ function failForUnknownName(text, names) {
 }
 
 /**
- * Returns the value of a watch name, whose expression can contain other watch names.
+ * Returns the value of a watch name, whose expression can contain other watch names. Throws `ConditionError` if they are nested too deeply,
+ * or if the expression is a condition.
  * @param {string} name
  * @param {string} text the expression of the watch name
  * @param {Names} names
@@ -269,7 +271,7 @@ function watchNameValue(name, text, names, dependencies) {
 }
 
 /**
- * Returns the value of a name or place.
+ * Returns the value of a name or place; throws `ConditionError` if it is unknown.
  * @param {NameNode} node
  * @param {Names} names
  * @param {Dependencies} dependencies
@@ -286,8 +288,8 @@ function nameValue(node, names, dependencies) {
   if (word === "test" || word === "owed") return bitValue(word, dependencies.addPlace(word), Number);
   const place = placeValue(parsePlace(text), names, dependencies);
   if (place) return place;
-  const watched = names.watched && names.watched.get(text);
-  if (watched !== undefined) return watchNameValue(text, watched, names, dependencies);
+  const watchExpression = names.watched && names.watched.get(text);
+  if (watchExpression !== undefined) return watchNameValue(text, watchExpression, names, dependencies);
   const programName = findProgramName(text, names.map);
   if (programName) return constantValue(programName.value);
   if (names.face.lampNumbers.has(text)) return lampValue(text, names, dependencies);
@@ -295,7 +297,8 @@ function nameValue(node, names, dependencies) {
 }
 
 /**
- * Returns the values of consecutive RAM nibbles, starting at a place.
+ * Returns the values of consecutive RAM nibbles, starting at a place. Throws `ConditionError` if the place is not a RAM nibble, or if the
+ * board does not have all of the nibbles.
  * @param {NameNode} node
  * @param {number} count
  * @param {Names} names
@@ -329,7 +332,7 @@ function sumValue({ sign, left, right, text }, names, dependencies) {
 }
 
 /**
- * Returns the number of a constant value; throws `ConditionError` if the value depends on the machine state.
+ * Returns the number of a constant value; throws `ConditionError` if the value depends on the machine state or contains an unknown name.
  * @param {ValueNode} node
  * @param {Names["map"]} map
  * @returns {number}
@@ -342,7 +345,7 @@ export function evaluateConstant(node, map) {
 }
 
 /**
- * Compiles a value.
+ * Compiles a value; throws `ConditionError` for an error.
  * @param {ValueNode} node
  * @param {Names} names
  * @param {Dependencies} dependencies

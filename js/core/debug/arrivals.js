@@ -32,7 +32,7 @@ const MAX_RUNS = 400;
 export const MAX_NOTES = 200;
 
 /**
- * Returns a result without any event.
+ * Returns events without a stop, a hit or a note.
  * @returns {BreakpointEvents}
  */
 export function createEmptyEvents() {
@@ -53,6 +53,7 @@ export class Arrivals {
     this.probes = new Probes(this.places);
     /** The number of arrivals per cycle in the previous run. */
     this.arrivalsPerCycle = 0;
+    /** The copy of the session that runs in advance. */
     this.copy = new Uint8Array(0);
   }
 
@@ -91,7 +92,7 @@ export class Arrivals {
   }
 
   /**
-   * Returns whether the next lines reach no breakpoint. This check takes only one request to the bench.
+   * Returns whether the next lines run to their end without a stop. This check takes only one request to the bench.
    * @param {Engine} engine
    * @param {Uint8Array} file
    * @param {PlannedLine[]} plannedLines
@@ -108,28 +109,28 @@ export class Arrivals {
    * @param {Uint8Array} file the copy of the session; changed
    * @param {{ lines: string, count: number, cycles: number }} run the lines before the run, the number of their answers, and the number of
    *   cycles to run
-   * @param {(end: string, row: string[], ran: number) => boolean} visit called at each stop with the word that ended the run ("break"), the
-   *   values of `places`, and the cycles so far; returns true to end the run
+   * @param {(end: string, row: string[], cyclesRun: number) => boolean} visit called at each stop with the bench's reason for the stop
+   *   (such as "break"), the values of `places`, and the cycles so far; returns true to end the run
    */
   run(engine, file, { lines, count, cycles }, visit) {
-    let [before, skippedCount, cyclesRun, arrivals] = [lines, count, 0, 0];
+    let [linesBefore, skippedCount, cyclesRun, arrivalCount] = [lines, count, 0, 0];
     while (cyclesRun < cycles) {
       const cyclesLeft = cycles - cyclesRun;
       const runs = Math.min(cyclesLeft, MAX_RUNS, Math.max(1, Math.round(2 * this.arrivalsPerCycle * cyclesLeft)));
       const pair = `run ${Math.floor(cyclesLeft / runs)}\n${this.probes.lines}`;
-      const answers = new ForecastAnswers(engine.serve(file, before + pair.repeat(runs), file).answers);
+      const answers = new ForecastAnswers(engine.serve(file, linesBefore + pair.repeat(runs), file).answers);
       answers.skip(skippedCount);
-      [before, skippedCount] = ["", 0];
+      [linesBefore, skippedCount] = ["", 0];
       while (!answers.isEmpty) {
         const { cycles: partCycles, end } = answers.takeRun();
         const row = this.probes.take(answers);
         cyclesRun += partCycles;
         if (end === "end") continue;
-        arrivals += 1;
+        arrivalCount += 1;
         if (visit(end, row, cyclesRun)) return -1;
       }
     }
-    this.arrivalsPerCycle = arrivals / cycles;
+    this.arrivalsPerCycle = arrivalCount / cycles;
     return cyclesRun;
   }
 

@@ -15,7 +15,8 @@ const BREAKPOINT_LINE = new RegExp("^break(?: line (\\d{1,5}))?(?: at 0x([0-9A-F
 export const MAX_TEXT_LENGTH = 250;
 
 /**
- * Puts a text in quotes, with escapes.
+ * Returns a text in quotes, with escapes. The text is truncated to MAX_TEXT_LENGTH characters, and one blank replaces each sequence of
+ * blanks, tabs and line ends.
  * @param {string} text
  */
 function quote(text) {
@@ -23,7 +24,7 @@ function quote(text) {
 }
 
 /**
- * Removes the escapes from a quoted text.
+ * Returns a text without its escapes, truncated to MAX_TEXT_LENGTH characters.
  * @param {string} [text]
  */
 function unquote(text = "") {

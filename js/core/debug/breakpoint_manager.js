@@ -18,13 +18,13 @@ import * as say from "../../words/debug.js";
 /**
  * The callbacks of the breakpoint manager.
  * @typedef {object} ManagerCallbacks
- * @property {(placed: LocatedBreakpoint[]) => Promise<[number, string][]>} set Replaces all breakpoints of the bench. Resolves to the ids
- *   and error messages of breakpoints that cannot be compiled.
- * @property {() => void} changed Handles a change of the list or of its error messages.
- * @property {() => void} counted Handles a change of hit counts only.
- * @property {() => void} listEdited Handles a change that the user made, after which the list must be saved.
+ * @property {(breakpoints: LocatedBreakpoint[]) => Promise<[number, string][]>} setBreakpoints Replaces all breakpoints of the bench.
+ *   Resolves to the ids and error messages of breakpoints that cannot be compiled.
+ * @property {() => void} handleChange Handles a change of the list or of its error messages.
+ * @property {() => void} handleNewHits Handles a change of hit counts only.
+ * @property {() => void} saveList Saves the list after a change that the user made.
  * @property {(message: string) => void} showMessage Shows a message near the user's last action.
- * @property {(error: unknown) => void} failed Reports an error that `set` threw.
+ * @property {(error: unknown) => void} reportFailure Reports an error that `setBreakpoints` threw.
  */
 
 const TOO_MANY_ENABLED = say.tooManyEnabledMessage(MAX_ENABLED_BREAKPOINTS);
@@ -67,8 +67,8 @@ export class BreakpointManager {
   // --- Reports from other parts of the page ---
 
   /**
-   * Switches to another session. If its list is still in memory and equals the saved breakpoints, reuses that list, because only that list
-   * can restore breakpoints on undo.
+   * Switches to the list of another session. If this list is still in memory and equals the saved breakpoints, reuses it, because only the
+   * list in memory can restore breakpoints on undo.
    * @param {string} id the session id
    * @param {SavedBreakpoint[] | undefined} savedBreakpoints the saved breakpoints; if undefined, the breakpoints of the session file are
    *   used
@@ -89,7 +89,7 @@ export class BreakpointManager {
     this.lastRequest = "";
     this.typedEdit = null;
     this.errors.clear();
-    this.callbacks.changed();
+    this.callbacks.handleChange();
   }
 
   /**
@@ -112,10 +112,10 @@ export class BreakpointManager {
    * @param {Edit[]} edits the edits, in order
    */
   applyTextEdits(edits) {
-    const effectiveEdits = edits.filter((edit) => this.list.edit(edit));
+    const effectiveEdits = edits.filter((edit) => this.list.applyEdit(edit));
     if (effectiveEdits.length === 0) return;
     if (this.benchAddresses) this.apply();
-    else this.callbacks.changed();
+    else this.callbacks.handleChange();
   }
 
   /**
@@ -133,7 +133,7 @@ export class BreakpointManager {
   }
 
   /**
-   * Updates the list from the bench's breakpoint addresses.
+   * Updates the list from the bench's breakpoint addresses. While a request to the bench is unanswered, postpones the update.
    * @param {string[]} breaks the addresses, as hexadecimal digits
    */
   updateFromBench(breaks) {
@@ -147,7 +147,7 @@ export class BreakpointManager {
     if (!previousAddresses) {
       // This is the first report after opening. If the session was saved without a list, its breakpoints come from the file.
       if (!this.hasSavedList) for (const address of addresses) this.addFromBench(address);
-      this.callbacks.changed();
+      this.callbacks.handleChange();
       return;
     }
     const wantedAddresses = new Set(this.hardAddresses);
@@ -160,11 +160,12 @@ export class BreakpointManager {
 
   /** The addresses of the enabled breakpoints that stop the machine at every arrival. */
   get hardAddresses() {
-    return this.list.placed.filter((breakpoint) => !isSoft(breakpoint)).map(({ address }) => address);
+    return this.list.locatedBreakpoints.filter((breakpoint) => !isSoft(breakpoint)).map(({ address }) => address);
   }
 
   /**
-   * Adds a bench breakpoint to the list. If the list already has a breakpoint at the address, enables that breakpoint.
+   * Adds a bench breakpoint to the list. If the list already has a breakpoint at the address, enables that breakpoint. If it already has
+   * one on the line of the address, adds nothing.
    * @param {number} address
    */
   addFromBench(address) {
@@ -196,7 +197,7 @@ export class BreakpointManager {
   count({ hits }) {
     if (hits.length === 0) return;
     this.list.count(hits);
-    this.callbacks.counted();
+    this.callbacks.handleNewHits();
   }
 
   // --- Actions of the user ---
@@ -220,7 +221,8 @@ export class BreakpointManager {
   }
 
   /**
-   * Returns the breakpoint of a line; adds a breakpoint if the line has none. Returns undefined if no instruction follows the line.
+   * Returns the breakpoint of a line; adds a breakpoint if the line has none. If the line has no instruction, uses the line of the next
+   * instruction. Returns undefined if no instruction follows, or if the list is full.
    * @param {number} line
    */
   breakpointOnLine(line) {
@@ -235,7 +237,8 @@ export class BreakpointManager {
   }
 
   /**
-   * Removes the breakpoint at an address, or adds a breakpoint if there is none.
+   * Removes the breakpoint at an address, or adds a breakpoint if there is none. If the address is the second byte of an instruction, adds
+   * the breakpoint at the next instruction.
    * @param {number} address
    */
   toggleAddress(address) {
@@ -250,7 +253,8 @@ export class BreakpointManager {
   }
 
   /**
-   * Adds a breakpoint, which is disabled if the maximum number of breakpoints is already enabled.
+   * Adds a breakpoint, which is disabled if the maximum number of breakpoints is already enabled. If the list is full, only shows a
+   * message.
    * @param {Partial<SavedBreakpoint>} fields
    */
   add(fields) {
@@ -271,14 +275,14 @@ export class BreakpointManager {
   }
 
   /**
-   * Saves the changes of a breakpoint while the user types. The bench receives the changes when the user has finished (`change`).
+   * Saves the changes of a breakpoint while the user types. The bench receives the changes only from `change`, after the user has finished.
    * @param {number} id
    * @param {Partial<SavedBreakpoint>} changes the changed fields
    */
   saveTypedEdit(id, changes) {
     this.typedEdit = { id, changes };
-    this.callbacks.changed();
-    this.callbacks.listEdited();
+    this.callbacks.handleChange();
+    this.callbacks.saveList();
   }
 
   /**
@@ -292,7 +296,7 @@ export class BreakpointManager {
   }
 
   /**
-   * Changes some fields of a breakpoint.
+   * Changes some fields of a breakpoint. If the change would exceed the maximum number of enabled breakpoints, only shows a message.
    * @param {number} id
    * @param {Partial<SavedBreakpoint>} changes the changed fields
    */
@@ -303,7 +307,7 @@ export class BreakpointManager {
     else if (JSON.stringify({ ...breakpoint, ...changes }) === JSON.stringify(breakpoint)) return;
     if (changes.isOn && !breakpoint.isOn && this.list.enabledCount >= MAX_ENABLED_BREAKPOINTS) {
       this.callbacks.showMessage(TOO_MANY_ENABLED);
-      this.callbacks.changed();
+      this.callbacks.handleChange();
       return;
     }
     this.list.change(id, changes);
@@ -328,7 +332,7 @@ export class BreakpointManager {
     this.saveAndApply();
   }
 
-  /** Resets the hit counts. */
+  /** Resets the hit counts in the list, and sends the list again to reset the debugger's hit counts. */
   resetHits() {
     this.list.resetHits();
     this.lastRequest = "";
@@ -344,36 +348,36 @@ export class BreakpointManager {
 
   /** Saves and applies a change by the user. */
   saveAndApply() {
-    this.callbacks.listEdited();
+    this.callbacks.saveList();
     this.apply();
   }
 
   /** Sends the list to the bench, unless the bench already has this list. `allSent` resolves after the bench has set the breakpoints. */
   apply() {
-    this.callbacks.changed();
-    const { placed } = this.list;
+    this.callbacks.handleChange();
+    const { locatedBreakpoints } = this.list;
     // A name in a condition can have another meaning in another source text, so the comparison includes the texts.
-    const names = placed.some(isSoft) ? [this.map ? this.map.text : "", this.watchTexts] : [];
-    const request = JSON.stringify([names, placed.map((breakpoint) => ({ ...breakpoint, line: 0, hits: 0 }))]);
-    const isNothingSet = placed.length === 0 && this.benchAddresses !== null && this.benchAddresses.size === 0;
+    const names = locatedBreakpoints.some(isSoft) ? [this.map ? this.map.text : "", this.watchTexts] : [];
+    const request = JSON.stringify([names, locatedBreakpoints.map((breakpoint) => ({ ...breakpoint, line: 0, hits: 0 }))]);
+    const isNothingSet = locatedBreakpoints.length === 0 && this.benchAddresses !== null && this.benchAddresses.size === 0;
     if (request === this.lastRequest || (this.lastRequest === "" && isNothingSet)) return;
     this.lastRequest = request;
-    this.send(placed);
+    this.send(locatedBreakpoints);
   }
 
   /**
    * Sends breakpoints to the bench at once, before any later request. Handles the answers in the order of the requests.
-   * @param {LocatedBreakpoint[]} placed
+   * @param {LocatedBreakpoint[]} breakpoints
    */
-  send(placed) {
+  send(breakpoints) {
     const { list, hardAddresses } = this;
     this.pendingCount += 1;
-    this.allSent = Promise.all([this.callbacks.set(placed), this.allSent])
+    this.allSent = Promise.all([this.callbacks.setBreakpoints(breakpoints), this.allSent])
       .finally(() => {
         this.pendingCount -= 1;
       })
       .then(([errors]) => this.handleAnswer(list, hardAddresses, errors))
-      .catch((error) => this.callbacks.failed(error));
+      .catch((error) => this.callbacks.reportFailure(error));
   }
 
   /**
@@ -386,7 +390,7 @@ export class BreakpointManager {
     if (list !== this.list) return;
     this.errors = new Map(errors);
     this.benchAddresses = new Set(hardAddresses);
-    this.callbacks.changed();
+    this.callbacks.handleChange();
     this.applyPostponedAddresses();
   }
 

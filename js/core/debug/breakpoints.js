@@ -120,10 +120,10 @@ export class BreakpointList {
   }
 
   /**
-   * Updates the breakpoints after an edit of the text. Returns whether any breakpoint has changed.
+   * Updates the breakpoints after an edit of the text. Returns false only if no breakpoint has changed.
    * @param {Edit} edit
    */
-  edit(edit) {
+  applyEdit(edit) {
     return (edit.isWhole === true && this.replaceText(edit)) || this.move(edit);
   }
 
@@ -137,7 +137,8 @@ export class BreakpointList {
     const storedBreakpoints = this.breakpointsByText.get(text.join("\n"));
     if (!storedBreakpoints) return false;
     const ids = new Set(storedBreakpoints.map(({ id }) => id));
-    // Changes of a stored breakpoint since it was stored are kept. A breakpoint without a line belongs to ROM, not to the text.
+    // Keeps any changes made to a breakpoint since it was stored, except to its line and address. A breakpoint without a line belongs to
+    // ROM, not to the text. If such a breakpoint was deleted, it is not restored.
     const restoredBreakpoints = storedBreakpoints.filter(({ id, line }) => line > 0 || this.get(id))
       .map((breakpoint) => ({ ...(this.get(breakpoint.id) || breakpoint), line: breakpoint.line, address: breakpoint.address }));
     const romBreakpoints = this.all.filter(({ id, line, address }) => (
@@ -169,7 +170,7 @@ export class BreakpointList {
   }
 
   /**
-   * Moves breakpoints with their lines, and deletes breakpoints whose lines are deleted. Returns whether any breakpoint has changed.
+   * Moves breakpoints with their lines, and deletes breakpoints whose lines are deleted. Returns false only if no breakpoint has changed.
    * @param {Edit} edit
    */
   move(edit) {
@@ -211,7 +212,7 @@ export class BreakpointList {
   }
 
   /**
-   * Restores the breakpoints on lines that an undo brings back. Returns whether any breakpoint was restored.
+   * Restores the breakpoints on lines that an undo or redo brings back. Returns whether any breakpoint was restored.
    * @param {Edit} edit
    * @param {number} first the first restored line, from 1
    * @param {number} count the number of restored lines
@@ -230,8 +231,9 @@ export class BreakpointList {
   }
 
   /**
-   * Moves each breakpoint to an instruction of the program, and sets its address. Called after the source is assembled into ROM. Returns
-   * messages about breakpoints that moved or that no instruction follows.
+   * Moves each breakpoint to an instruction of the program, and sets its address. Removes all but one of the breakpoints with the same
+   * address. Callers call this method after the source is assembled into ROM. Returns messages about breakpoints that moved or that no
+   * instruction follows.
    * @param {SourceMap} map
    */
   locate(map) {
@@ -256,7 +258,7 @@ export class BreakpointList {
    * The breakpoints that are enabled and have an address.
    * @returns {LocatedBreakpoint[]}
    */
-  get placed() {
+  get locatedBreakpoints() {
     return this.all.filter(({ isOn, address }) => isOn && address >= 0);
   }
 
@@ -300,8 +302,8 @@ function countEqualLines(oldLines, newLines, max, isAtEnd) {
 /**
  * Returns the first and the last line that an edit replaces, counted from 1, and the number of new lines. Lines that stay equal at the
  * start and the end are excluded. Text that is inserted at the start of a line counts as new lines before this line. `isUnrelated` is true
- * if the edit replaces the whole text with an unrelated text: both have more than two lines, and no nonblank line at the start or end is
- * equal.
+ * if the edit replaces the whole text with an unrelated text. Texts are unrelated if both have more than two lines, and no nonblank line at
+ * the start or end is equal.
  * @param {Edit} edit
  */
 function replacedLines({ from, to, text, removed = Array(to.line - from.line + 1).fill("\n"), isWhole = false }) {
@@ -317,7 +319,7 @@ function replacedLines({ from, to, text, removed = Array(to.line - from.line + 1
 
 /**
  * Returns the line and the address of the instruction on a line. If the line has no instruction, returns the line and the address of the
- * next instruction, with a `message`. If no instruction follows, the address is -1.
+ * next instruction, with a `message`. If no instruction follows, returns the line and the address -1, with a `message`.
  * @param {number} line
  * @param {SourceMap} map
  */
@@ -335,13 +337,13 @@ export function instructionForLine(line, map) {
 }
 
 /**
- * Returns the line and the address of the instruction at an address. If the address is the second byte of an instruction, the result is the
- * next instruction, or this instruction if no other follows, with a `message`.
+ * Returns the line and the address of the instruction at an address; the line is 0 if the address is not in the source. If the address is
+ * the second byte of an instruction, the result is the next instruction, or this instruction if no other follows, with a `message`.
  * @param {number} address
  * @param {SourceMap} map
  */
 export function instructionAtAddress(address, map) {
-  if (address < 0 || !map.isInside(address)) return { line: address < 0 ? 0 : map.lineOf(address), address, message: "" };
+  if (address < 0 || !map.isInsideInstruction(address)) return { line: address < 0 ? 0 : map.lineOf(address), address, message: "" };
   const line = map.lineOf(address);
   const digits = address.toString(16).toUpperCase().padStart(3, "0");
   const nextInstruction = instructionForLine(line + 1, map);

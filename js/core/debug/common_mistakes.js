@@ -4,13 +4,14 @@
 // - a WRR at a port without outputs, or an RDR at a port without inputs;
 // - a write to a chip that is not on the board;
 // - an instruction at an address outside the program text;
-// - a WRR or RDR that uses another ROM than at its last execution, because the program sent the last SRC for another instruction.
+// - a WRR or RDR that uses a different ROM from the one at its last execution, because the program sent the last SRC for another
+//   instruction.
 //
 // Before each run, this module asks the bench what the run will do. It does not simulate instructions. src_selection.js tracks the chips
 // and registers that SRC selects.
 //
 //     const commonMistakes = new CommonMistakes(session);
-//     commonMistakes.begin();                            before the machine runs; each kind is then reported once
+//     commonMistakes.beginRun();                         before the machine runs; each kind is then reported once
 //     const { mistakes, stop } = commonMistakes.searchLines(lines);     before the lines run
 //     stop                                               the cycles up to a mistake that stops the machine, -1 for none
 
@@ -87,7 +88,7 @@ export class CommonMistakes {
   }
 
   /** Prepares for a run, so that each kind of mistake is reported again. */
-  begin() {
+  beginRun() {
     this.reportedKinds.clear();
     this.remainingCycles = FULLY_CHECKED_CYCLES;
     this.skippedAddress = this.stopAddress;
@@ -95,13 +96,14 @@ export class CommonMistakes {
   }
 
   /** Discards the cached contents of ROM and the selection by SRC. Called after any change of the session except a run. */
-  forget() {
+  forgetRom() {
     this.codes = null;
     this.selection = null;
   }
 
   /**
-   * Returns the mistakes in the next lines, up to the first mistake that stops the machine.
+   * Returns the mistakes in the next lines, up to the first mistake that stops the machine. Checks only the cycles that `cyclesToCheck`
+   * chooses.
    * @param {PlannedLine[]} plannedLines the next lines
    * @param {Uint8Array} [file] the session before the lines, if the lines have already run
    * @returns {FoundMistakes}
@@ -151,7 +153,7 @@ export class CommonMistakes {
     return maxCycles;
   }
 
-  /** Returns the contents of ROM and the selection by SRC. Reads both from the session if they are unknown. */
+  /** Returns the contents of ROM, and the object that tracks the selection by SRC. Creates them from the session if they are unknown. */
   readRom() {
     const { engine, file, statusQueries } = this.session;
     this.codes = this.codes || romCodes(engine, file);
@@ -160,7 +162,7 @@ export class CommonMistakes {
   }
 
   /**
-   * Returns all mistakes in the given lines.
+   * Returns all mistakes in the planned lines.
    * @param {PlannedLine[]} plannedLines
    * @param {Uint8Array} file the session before the lines
    */
@@ -172,19 +174,19 @@ export class CommonMistakes {
       return plannedLine.change ? `${plannedLine.line}\n` : `trace ${cycles} src dcl ret\ntrace ${cycles}\n${plannedLine.line}\n`;
     });
     const answers = new ForecastAnswers(engine.ask(file, `state\n${lines.join("")}`).answers);
-    selection.begin(answers.take());
+    selection.readLatchedBytes(answers.take());
     /** @type {CommonMistake[]} */
     const mistakes = [];
-    let done = 0;
+    let doneCycles = 0;
     for (const { change } of plannedLines) {
       if (change) {
         answers.take();
         continue;
       }
       const [changes, instructions] = [answers.takeTrace(), answers.takeTrace()];
-      this.checkRun({ codes, selection, done }, changes, instructions.lines, mistakes);
+      this.checkRun({ codes, selection, cyclesBefore: doneCycles }, changes, instructions.lines, mistakes);
       const { cycles, end } = answers.takeRun();
-      done += cycles;
+      doneCycles += cycles;
       if (end !== "end") break;
     }
     return mistakes;
@@ -192,13 +194,13 @@ export class CommonMistakes {
 
   /**
    * Checks the instructions of a run.
-   * @param {{ codes: Uint8Array, selection: SrcSelection, done: number }} context the bytes of ROM, the selection by SRC, and the number of
-   *   cycles before the run
+   * @param {{ codes: Uint8Array, selection: SrcSelection, cyclesBefore: number }} context the bytes of ROM, the selection by SRC, and the
+   *   number of cycles before the run
    * @param {Trace} changes the trace of the places `src`, `dcl` and `ret`
    * @param {string[]} instructions the trace lines of all instructions
    * @param {CommonMistake[]} mistakes receives the mistakes
    */
-  checkRun({ codes, selection, done }, changes, instructions, mistakes) {
+  checkRun({ codes, selection, cyclesBefore }, changes, instructions, mistakes) {
     let values = rowValues(changes.row);
     let changeIndex = 0;
     for (const line of instructions) {
@@ -207,7 +209,7 @@ export class CommonMistakes {
       const code = codes[address];
       const hasChanged = changeIndex < changes.lines.length && changes.lines[changeIndex].startsWith(line);
       if (hasChanged || usesSelection(code) || isCall(code) || isReturn(code) || this.isOutsideProgram(address)) {
-        const cycles = done + Number(line.slice(0, blank));
+        const cycles = cyclesBefore + Number(line.slice(0, blank));
         const mistake = this.findMistake(codes, address, values) || selection.findMistake(code, address, values);
         this.addMistake(mistakes, address, cycles, mistake);
         if (hasChanged) {
@@ -220,7 +222,8 @@ export class CommonMistakes {
   }
 
   /**
-   * Adds a mistake. Ignores a mistake whose kind was reported before, unless that kind has a condition.
+   * Adds a mistake. Ignores a mistake whose kind was reported before, unless that kind has a condition. Also ignores the mistake at
+   * `skippedAddress` if the run starts there.
    * @param {CommonMistake[]} mistakes receives the mistake
    * @param {number} address the address of the instruction
    * @param {number} cycles the cycles before the instruction
@@ -255,7 +258,7 @@ export class CommonMistakes {
   }
 
   /**
-   * Returns whether an address is outside the program text.
+   * Returns whether an address is outside the program text; false if the source is unknown.
    * @param {number} address
    */
   isOutsideProgram(address) {

@@ -32,7 +32,7 @@ export function compileSearchCondition(text, names) {
 
 /**
  * Parses the goal of a search. If the text is a place, the goal is the next change of the place. If the text is a condition, the goal is
- * the moment at which it becomes true.
+ * the moment at which the condition becomes true. `error` is an error message, "" for none.
  * @param {string} text
  * @param {Names} names
  * @returns {{ goal: { kind: "change", place: string } | { kind: "when", condition: string } | null, error: string }}

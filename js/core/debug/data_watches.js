@@ -95,7 +95,7 @@ export class DataWatches {
     const events = createEmptyResult();
     if (this.isEmpty) return events;
     const copy = file.slice();
-    let done = 0;
+    let doneCycles = 0;
     for (const { line, change, cycles } of plannedLines.flatMap(splitLine)) {
       const query = change ? "" : `trace ${cycles} ${this.places.join(" ")}\n`;
       const answers = new ForecastAnswers(engine.serve(copy, `${query}${line}\n`, copy).answers);
@@ -104,11 +104,11 @@ export class DataWatches {
       const run = answers.takeRun();
       const stop = this.findStop(trace.row, trace.lines, events);
       if (stop) {
-        events.cycles = done + Math.min(run.cycles, stop.cycles + instructionCycles(codes()[stop.address]));
+        events.cycles = doneCycles + Math.min(run.cycles, stop.cycles + instructionCycles(codes()[stop.address]));
         return events;
       }
       if (run.end !== "end") return events;
-      done += run.cycles;
+      doneCycles += run.cycles;
     }
     return events;
   }
@@ -151,7 +151,7 @@ export class DataWatches {
   }
 
   /**
-   * Returns whether a change of a watched place counts: the place differs, and the condition is true after the change.
+   * Returns whether a change of a watched place counts: the value of the place differs, and the condition is true after the change.
    * @param {DataWatch} watch
    * @param {string[]} before the values of all places before an instruction
    * @param {string[]} after the values of all places after the instruction
@@ -223,8 +223,8 @@ function splitLine(plannedLine) {
   const total = plannedCycles(plannedLine);
   /** @type {(PlannedLine & { cycles: number })[]} */
   const shortLines = plannedLine.change ? [{ ...plannedLine, cycles: 0 }] : [];
-  for (let done = 0; done < total; done += MAX_QUERY_CYCLES) {
-    const cycles = Math.min(MAX_QUERY_CYCLES, total - done);
+  for (let doneCycles = 0; doneCycles < total; doneCycles += MAX_QUERY_CYCLES) {
+    const cycles = Math.min(MAX_QUERY_CYCLES, total - doneCycles);
     shortLines.push({ line: `run ${cycles}`, change: null, cycles });
   }
   return shortLines;

@@ -38,7 +38,7 @@ import * as say from "../../words/debug.js";
  * program to the bench. With `file`, these texts only supply names and source lines.
  * @typedef {{ file?: Uint8Array, board?: string, program?: string }} SessionContents
  *
- * The end of a run. `message` is about the stop. Additional values of `reason`: "pause" if `shouldContinue` ended the run, "passed"
+ * The end of a run. `message` describes the stop. Additional values of `reason`: "pause" if `shouldContinue` ended the run, "passed"
  * if all requested cycles have run, and "lacks" or "outside" if the goal does not exist (`SearchResult`).
  * @typedef {Stop & { message: string, tally: Tally }} DescribedStop
  */
@@ -55,7 +55,7 @@ const continueAlways = async () => true;
 export class DebugSession {
   /**
    * @param {Engine} engine
-   * @param {SessionContents} opened
+   * @param {SessionContents} contents
    */
   constructor(engine, { file, board = "", program = "" }) {
     const bytes = file ? file.slice() : engine.begin();
@@ -113,8 +113,8 @@ export class DebugSession {
    * @returns {Promise<Refusal | null>}
    */
   async setProgram(program) {
-    const { first } = await this.debugger.session.serve(`asm\n${sentText(program, ";")}.\n`, continueAlways);
-    const refusal = parseRefusal(first);
+    const { firstAnswer } = await this.debugger.session.serve(`asm\n${sentText(program, ";")}.\n`, continueAlways);
+    const refusal = parseRefusal(firstAnswer);
     if (refusal) return refusal;
     this.program = program;
     this.map = this.readMap();
@@ -123,16 +123,16 @@ export class DebugSession {
   }
 
   /**
-   * Sends the breakpoint list to the debugger and the bench. In the result, `moved` contains messages about breakpoints that moved to
+   * Sends the breakpoint list to the debugger and the bench. In the result, `messages` are the messages about breakpoints that moved to
    * another instruction. `errors` contains the ids and error messages of breakpoints that cannot be compiled.
    */
   async applyBreakpoints() {
     const { session } = this.debugger;
-    const moved = this.breakpoints.locate(this.map);
-    const { lines, errors } = this.debugger.setBreakpoints(this.breakpoints.placed, this.names);
+    const messages = this.breakpoints.locate(this.map);
+    const { lines, errors } = this.debugger.setBreakpoints(this.breakpoints.locatedBreakpoints, this.names);
     if (lines) await session.serve(lines, continueAlways);
     this.errors = new Map(errors);
-    return { moved, errors };
+    return { messages, errors };
   }
 
   // --- Moves ---
@@ -146,7 +146,7 @@ export class DebugSession {
   async runToGoal(goal = null, shouldContinue = continueAlways) {
     const debug = this.debugger;
     if (!goal) {
-      debug.begin();
+      debug.beginMove();
       return this.runInPieces(null, shouldContinue);
     }
     debug.names = this.names;
@@ -164,7 +164,7 @@ export class DebugSession {
    * @returns {Promise<DescribedStop>}
    */
   runCycles(cycles, shouldContinue = continueAlways) {
-    this.debugger.begin();
+    this.debugger.beginMove();
     return this.runInPieces(null, shouldContinue, cycles);
   }
 
@@ -180,17 +180,17 @@ export class DebugSession {
     const piece = new PieceSize(Math.min(MAX_FIRST_PIECE_CYCLES, this.maxPieceCycles), 1, this.maxPieceCycles);
     /** @type {Tally} */
     let tally = NO_TALLY;
-    for (let done = 0; ;) {
-      const frame = piece.measure(() => debug.advance(Math.min(piece.size, maxCycles - done)));
-      done += frame.cycles;
+    for (let doneCycles = 0; ;) {
+      const frame = piece.measure(() => debug.advance(Math.min(piece.size, maxCycles - doneCycles)));
+      doneCycles += frame.cycles;
       this.breakpoints.count(frame.tally.hits);
       tally = joinTallies(tally, frame.tally);
       if (frame.stop) return this.describeStop(goal, frame.stop, tally);
-      const isOver = done >= maxCycles;
-      if (!isOver && await shouldContinue(done, frame.tally)) continue;
+      const isOver = doneCycles >= maxCycles;
+      if (!isOver && await shouldContinue(doneCycles, frame.tally)) continue;
       debug.endMove();
-      const message = describeUserPause(goal, done, this.counterText);
-      return { reason: isOver ? "passed" : "pause", id: 0, cycles: done, endsAtReturn: false, message, tally };
+      const message = describeUserPause(goal, doneCycles, this.counterText);
+      return { reason: isOver ? "passed" : "pause", id: 0, cycles: doneCycles, endsAtReturn: false, message, tally };
     }
   }
 
@@ -219,10 +219,10 @@ export class DebugSession {
    * @returns {Promise<DescribedStop>}
    */
   async stepInto() {
-    const { first } = await this.debugger.session.serve("step\n", continueAlways);
-    const run = readRun(first);
+    const { firstAnswer } = await this.debugger.session.serve("step\n", continueAlways);
+    const run = readRun(firstAnswer);
     const isDone = run !== null && run.end === "end";
-    const stop = { reason: isDone ? "goal" : run ? run.end : first, id: 0, cycles: run ? run.cycles : 0, endsAtReturn: false };
+    const stop = { reason: isDone ? "goal" : run ? run.end : firstAnswer, id: 0, cycles: run ? run.cycles : 0, endsAtReturn: false };
     return this.describeStop({ kind: "over" }, stop, NO_TALLY);
   }
 
@@ -244,11 +244,11 @@ export class DebugSession {
   }
 
   /**
-   * Executes typed bench lines. A `run` line ends at its first breakpoint. In the result, `message` is a text if a breakpoint ended the
-   * last line early, otherwise "".
+   * Executes typed bench lines. A `run` line ends at its first breakpoint. In the result, `message` describes the stop if a breakpoint
+   * ended the last line early; otherwise it is "".
    * @param {string} lines
-   * @param {(done: number) => Promise<boolean>} [shouldContinue] called with the number of processed characters. If it resolves to false,
-   *   `serve` throws CancelledError and no line takes effect
+   * @param {(done: number) => Promise<boolean>} [shouldContinue] called with the number of processed characters. If this callback resolves
+   *   to false, `serve` throws CancelledError and no line takes effect
    */
   async serve(lines, shouldContinue = continueAlways) {
     const { result, typedResult: { id, reason, change, cutLine, cycles, tally } } = await this.debugger.serveTyped(lines, shouldContinue);

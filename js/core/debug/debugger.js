@@ -10,7 +10,7 @@
 //     debug.values(["r4", "lamps"]); await debug.goBack({ kind: "instruction" }, shouldContinue); debug.goForward();
 //
 // A move has a goal (goals.js). The debugger runs to a near goal at once. For any other goal, `isMoving` is true until `advance` reports a
-// stop or the caller calls `begin` or `endMove`. The bench has the hard breakpoints, which stop the machine at every arrival. Soft
+// stop or the caller calls `beginMove` or `endMove`. The bench has the hard breakpoints, which stop the machine at every arrival. Soft
 // breakpoints have a condition, a hit count or a note. The debugger finds their stops in advance (arrivals.js), so the session file does
 // not contain soft breakpoints.
 
@@ -55,10 +55,15 @@ import { CommonMistakes } from "./common_mistakes.js";
  * the number of cycles searched or run so far. `tally` contains the breakpoint events of the last piece of a run.
  * @typedef {(done: number, tally?: Tally) => Promise<boolean>} ShouldContinue
  *
- * A stop. `reason` is "goal", the bench's reason for the end of a run ("break", "watch", "code"), an error answer of the bench,
- * "usual" for a common mistake, or "recorded" for the end of a recording. `id`: the id of the breakpoint or data watch, 0 for none.
- * `change`: a description of the watched change. `cycles`: the number of cycles since the start of the move or run. `endsAtReturn`: true if
- * the goal was reached by a return from a subroutine.
+ * A stop. The values of `reason` are:
+ * - "goal" for the goal of a move;
+ * - "break", "watch" or "code", the bench's reasons for the end of a run;
+ * - an error answer of the bench;
+ * - "usual" for a common mistake;
+ * - "recorded" for the end of a recording.
+ *
+ * `id`: the id of the breakpoint or data watch, 0 for none. `change`: a description of the watched change. `cycles`: the number of cycles
+ * since the start of the move or run. `endsAtReturn`: true if the goal was reached by a return from a subroutine.
  * @typedef {{ reason: string, id: number, cycles: number, endsAtReturn: boolean, change?: string }} Stop
  *
  * The breakpoint events since the last report. `hits`: pairs of a breakpoint id and its number of new hits. `notes`: the last logged notes.
@@ -92,7 +97,7 @@ const NEAR_COUNT_CYCLES = 100000000;
 export const NO_TALLY = { hits: [], notes: [], noteCount: 0, mistakes: [] };
 
 /**
- * Joins the events of two tallies.
+ * Joins the events of two tallies. Keeps at most the last MAX_NOTES notes.
  * @param {Tally} earlier
  * @param {Tally} later
  * @returns {Tally}
@@ -147,21 +152,21 @@ export class Debugger {
   /**
    * Sets the breakpoints, at most one per address. Returns the bench lines for the hard breakpoints, which the caller must send. Also
    * returns the ids and error messages of breakpoints that cannot be compiled. Such a breakpoint stops the machine at every arrival.
-   * @param {LocatedBreakpoint[]} placed the enabled breakpoints
+   * @param {LocatedBreakpoint[]} breakpoints the enabled breakpoints
    * @param {Names} names
    * @returns {{ lines: string, errors: [number, string][] }}
    */
-  setBreakpoints(placed, names) {
+  setBreakpoints(breakpoints, names) {
     /** @type {[number, string][]} */
     const errors = [];
-    const softBreakpoints = placed.filter(isSoft).flatMap((breakpoint) => {
+    const softBreakpoints = breakpoints.filter(isSoft).flatMap((breakpoint) => {
       const { softBreakpoint, error } = compileBreakpoint(breakpoint, names);
       if (error) errors.push([breakpoint.id, error]);
       return softBreakpoint;
     });
     this.names = names;
     this.arrivals = this.createStopFinder(softBreakpoints);
-    this.hardBreakpoints = new Map(placed.filter((breakpoint) => !isSoft(breakpoint)).map(({ id, address }) => [address, id]));
+    this.hardBreakpoints = new Map(breakpoints.filter((breakpoint) => !isSoft(breakpoint)).map(({ id, address }) => [address, id]));
     return { lines: this.breakLines(), errors };
   }
 
@@ -187,7 +192,7 @@ export class Debugger {
     return errors;
   }
 
-  /** Returns the bench lines that set the hard breakpoints and delete all others. */
+  /** Returns the bench lines that set the hard breakpoints and delete all others; "" before `setBreakpoints`. */
   breakLines() {
     const { hardBreakpoints } = this;
     if (!hardBreakpoints) return "";
@@ -201,12 +206,12 @@ export class Debugger {
 
   // --- Running ---
 
-  /** Starts a move or run: resets the cycle count of the move. */
-  begin() {
+  /** Starts a move or run: abandons an earlier goal, and resets the cycle count of the move. */
+  beginMove() {
     this.watcher = null;
     this.startTotal = this.session.count.total;
     this.lateMistakes = [];
-    this.commonMistakes.begin();
+    this.commonMistakes.beginRun();
   }
 
   /**
@@ -307,7 +312,7 @@ export class Debugger {
     return parseCounter(this.session.ask("regs\n")[0]).counter;
   }
 
-  /** Ends a move or run. */
+  /** Ends a move or run. First checks its last lines for mistakes, if that has not been done. */
   endMove() {
     this.checkLastLines();
     this.watcher = null;
@@ -315,7 +320,7 @@ export class Debugger {
   }
 
   /**
-   * Returns the tally of lines that have run.
+   * Returns the tally of lines that have run, without common mistakes.
    * @param {BreakpointEvents} events the breakpoint events that were found in advance
    * @param {{ reason: string, id: number } | null} stop
    * @param {number} before the cycle count before the lines
@@ -323,9 +328,9 @@ export class Debugger {
    */
   createTally({ hits, notes, noteCount, id }, stop, before) {
     /** @type {[number, number][]} */
-    const all = [...hits];
-    if (stop && stop.reason === "break" && stop.id !== 0 && stop.id !== id) all.push([stop.id, 1]);
-    return { hits: all, notes: notes.map((note) => ({ ...note, cycles: before + note.cycles })), noteCount, mistakes: [] };
+    const allHits = [...hits];
+    if (stop && stop.reason === "break" && stop.id !== 0 && stop.id !== id) allHits.push([stop.id, 1]);
+    return { hits: allHits, notes: notes.map((note) => ({ ...note, cycles: before + note.cycles })), noteCount, mistakes: [] };
   }
 
   // --- Moves ---
@@ -338,7 +343,7 @@ export class Debugger {
    * @returns {Promise<RunResult>}
    */
   async runToGoal(requestedGoal, maxDistance, shouldContinue) {
-    this.begin();
+    this.beginMove();
     const { session } = this;
     const goal = this.compileGoal(requestedGoal);
     const codes = () => session.romBytes;
@@ -366,26 +371,26 @@ export class Debugger {
    * @param {ShouldContinue} shouldContinue
    */
   async searchStops(cycles, shouldContinue) {
-    const all = createEmptyEvents();
-    if (this.arrivals.isEmpty) return all;
+    const allEvents = createEmptyEvents();
+    if (this.arrivals.isEmpty) return allEvents;
     const { engine, file } = this.session;
     const copy = file.slice();
-    for (let done = 0; done < cycles;) {
-      const piece = Math.min(SEARCH_PIECE_CYCLES, cycles - done);
+    for (let doneCycles = 0; doneCycles < cycles;) {
+      const piece = Math.min(SEARCH_PIECE_CYCLES, cycles - doneCycles);
       const plannedLines = runLines(piece).trimEnd().split("\n").map((line) => ({ line, change: null }));
       const events = this.arrivals.searchLines(engine, copy, plannedLines);
-      for (const [id, hits] of events.hits) all.hits.set(id, (all.hits.get(id) || 0) + hits);
-      all.notes = [...all.notes, ...events.notes.map((note) => ({ ...note, cycles: note.cycles + done }))];
-      all.noteCount += events.noteCount;
-      for (const [id, count] of events.changes) all.changes.set(id, (all.changes.get(id) || 0) + count);
+      for (const [id, hits] of events.hits) allEvents.hits.set(id, (allEvents.hits.get(id) || 0) + hits);
+      allEvents.notes = [...allEvents.notes, ...events.notes.map((note) => ({ ...note, cycles: note.cycles + doneCycles }))];
+      allEvents.noteCount += events.noteCount;
+      for (const [id, count] of events.changes) allEvents.changes.set(id, (allEvents.changes.get(id) || 0) + count);
       if (events.cycles >= 0) {
-        return { ...events, ...all, cycles: done + events.cycles, id: events.id, reason: events.reason, change: events.change };
+        return { ...events, ...allEvents, cycles: doneCycles + events.cycles, id: events.id, reason: events.reason, change: events.change };
       }
       engine.serve(copy, runLines(piece), copy);
-      done += piece;
-      if (done < cycles && !(await shouldContinue(done))) break;
+      doneCycles += piece;
+      if (doneCycles < cycles && !(await shouldContinue(doneCycles))) break;
     }
-    return all;
+    return allEvents;
   }
 
   /**
@@ -399,10 +404,10 @@ export class Debugger {
     const countBefore = session.count.total;
     const { counts } = arrivals;
     try {
-      const { lines: served, runs, ...stop } = await planTypedLines(session.engine, session.file, arrivals, lines, shouldContinue);
-      const result = await session.serve(served, shouldContinue);
-      this.commonMistakes.forget();
-      const tallies = runs.map(({ events, done }) => this.createTally(events, null, countBefore + done));
+      const { lines: plannedLines, runs, ...stop } = await planTypedLines(session.engine, session.file, arrivals, lines, shouldContinue);
+      const result = await session.serve(plannedLines, shouldContinue);
+      this.commonMistakes.forgetRom();
+      const tallies = runs.map(({ events, cyclesBefore }) => this.createTally(events, null, countBefore + cyclesBefore));
       return { result, typedResult: { ...stop, cycles: session.count.total - countBefore, tally: tallies.reduce(joinTallies, NO_TALLY) } };
     } catch (error) {
       arrivals.restoreCounts(counts);
@@ -412,9 +417,9 @@ export class Debugger {
 
   /**
    * Returns a goal with its compiled condition. Throws an error if the condition is invalid; callers check the condition first.
-   * @template {Goal | BackGoal} Wanted
-   * @param {Wanted} goal
-   * @returns {Wanted}
+   * @template {Goal | BackGoal} AnyGoal
+   * @param {AnyGoal} goal
+   * @returns {AnyGoal}
    */
   compileGoal(goal) {
     if (goal.kind !== "when" || !this.names) return goal;
@@ -432,7 +437,7 @@ export class Debugger {
    * @returns {Promise<BackResult>}
    */
   async goBack(goal, shouldContinue) {
-    this.begin();
+    this.beginMove();
     const { session } = this;
     const { moment, present: knownPresent, ...report } = await this.findBackTarget(goal, shouldContinue);
     if (!moment) return { ...report, isDone: false, wires: false, cycles: 0 };
@@ -442,7 +447,7 @@ export class Debugger {
   }
 
   /**
-   * Searches the past for a goal. Resolves to the moment at which the goal was reached.
+   * Searches the past for a goal. Resolves to the search result with the moment of the goal.
    * @param {BackGoal} goal
    * @param {(done?: number) => Promise<boolean>} shouldContinue
    * @returns {Promise<BackSearchResult>}
@@ -463,9 +468,9 @@ export class Debugger {
    */
   stoppingBreakpoints() {
     const hardBreakpoints = this.hardBreakpoints || new Map(this.session.breakpointAddresses.map((address) => [address, 0]));
-    const unconditional = { from: 1, hits: 0, places: [], holds: () => true, noteText: null };
+    const unconditionalFields = { from: 1, hits: 0, places: [], holds: () => true, noteText: null };
     const softBreakpoints = this.arrivals.arrivals.breakpoints.filter(({ noteText }) => !noteText);
-    return [...[...hardBreakpoints].map(([address, id]) => ({ ...unconditional, id, address })), ...softBreakpoints];
+    return [...[...hardBreakpoints].map(([address, id]) => ({ ...unconditionalFields, id, address })), ...softBreakpoints];
   }
 
   /**
@@ -484,11 +489,12 @@ export class Debugger {
   }
 
   /**
-   * Undoes the last move back: returns to the moment from which that move started.
+   * Undoes the last move back: returns to the moment from which that move started. In the result, `isDone` is false if there is no move to
+   * undo.
    * @returns {BackResult}
    */
   goForward() {
-    this.begin();
+    this.beginMove();
     const present = this.session.timeline.goForward();
     return present
       ? { ...EMPTY_SEARCH_RESULT, ...this.enterMoment(present) }
@@ -496,7 +502,8 @@ export class Debugger {
   }
 
   /**
-   * Replaces the state of the session with the state at another moment, but keeps the current breakpoints.
+   * Replaces the state of the session with the state at another moment, but keeps the current breakpoints. Returns a part of the result of
+   * a move.
    * @param {Present} present
    */
   enterMoment(present) {
@@ -505,7 +512,7 @@ export class Debugger {
     const wires = session.replaceState(present);
     const lines = this.breakLines();
     if (lines) session.changeBreaks(lines);
-    this.commonMistakes.forget();
+    this.commonMistakes.forgetRom();
     this.startTotal = session.count.total;
     return { isDone: true, wires, cycles: Math.abs(session.count.total - countBefore) };
   }

@@ -22,9 +22,9 @@ import { MAX_PIECE_CYCLES, missingGoalEnd, createWatcher } from "./goals.js";
  */
 function pieceLines(watcher, cycles) {
   let lines = "";
-  for (let left = cycles; left > 0; left -= MAX_RUN_CYCLES) {
-    const run = Math.min(left, MAX_RUN_CYCLES);
-    lines += `${watcher.before(run)}run ${run}\n${watcher.after}`;
+  for (let cyclesLeft = cycles; cyclesLeft > 0; cyclesLeft -= MAX_RUN_CYCLES) {
+    const runCycles = Math.min(cyclesLeft, MAX_RUN_CYCLES);
+    lines += `${watcher.before(runCycles)}run ${runCycles}\n${watcher.after}`;
   }
   return lines;
 }
@@ -36,11 +36,11 @@ function pieceLines(watcher, cycles) {
  * @returns {SearchResult | null} the result; `cycles` counts from the start of the first run
  */
 function searchAnswers(answers, watcher) {
-  let done = 0;
+  let doneCycles = 0;
   while (!answers.isEmpty) {
     const result = watcher.take(answers);
-    done += result.cycles;
-    if (result.isReached || result.end !== "end") return { ...result, cycles: done };
+    doneCycles += result.cycles;
+    if (result.isReached || result.end !== "end") return { ...result, cycles: doneCycles };
   }
   return null;
 }
@@ -62,13 +62,13 @@ export async function searchGoal(engine, file, goal, shouldContinue, maxCycles, 
   if (!watcher) return { cycles: 0, isReached: false, end: missingGoalEnd(goal) };
   if (watcher.setupLine) engine.serve(copy, watcher.setupLine, copy);
   const piece = new PieceSize(FIRST_PIECE_CYCLES, 1, MAX_PIECE_CYCLES);
-  for (let done = 0; done < maxCycles;) {
-    const cycles = Math.min(piece.size, watcher.maxRun(), maxCycles - done);
+  for (let doneCycles = 0; doneCycles < maxCycles;) {
+    const cycles = Math.min(piece.size, watcher.maxRun(), maxCycles - doneCycles);
     const result = piece.measure(() => (
       searchAnswers(new ForecastAnswers(engine.serve(copy, pieceLines(watcher, cycles), copy).answers), watcher)));
-    if (result) return { ...result, cycles: done + result.cycles };
-    done += cycles;
-    if (!(await shouldContinue(done))) throw new CancelledError();
+    if (result) return { ...result, cycles: doneCycles + result.cycles };
+    doneCycles += cycles;
+    if (!(await shouldContinue(doneCycles))) throw new CancelledError();
   }
   return { cycles: maxCycles, isReached: false, end: "bound" };
 }
@@ -93,22 +93,22 @@ export function cyclesToGoal(engine, file, plannedLines, watcher) {
     plannedLine.change ? `${plannedLine.line}\n` : `${watcher.before(plannedCycles(plannedLine))}${plannedLine.line}\n${watcher.after}`));
   const answers = new ForecastAnswers(engine.ask(file, watcher.setupLine + lines.join("")).answers);
   if (watcher.setupLine) answers.take();
-  let done = 0;
+  let doneCycles = 0;
   for (const { change } of plannedLines) {
     if (change) {
       answers.take();
       continue;
     }
     const result = watcher.take(answers);
-    done += result.cycles;
-    if (result.isReached) return done;
+    doneCycles += result.cycles;
+    if (result.isReached) return doneCycles;
     if (result.end !== "end") return -1;
   }
   return -1;
 }
 
 /**
- * Returns the given lines up to a number of cycles. Shortens the last run if necessary.
+ * Returns the planned lines up to a number of cycles. Shortens the last run if necessary.
  * @param {PlannedLine[]} plannedLines
  * @param {number} cycles
  * @returns {PlannedLine[]}

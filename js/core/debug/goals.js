@@ -22,8 +22,10 @@ import { becomesTrue } from "./condition_search.js";
  * place: string } | { kind: "when", condition: string, searchCondition?: SearchCondition }} Goal
  *
  * The result of a search for a goal. `cycles`: the number of cycles up to the goal or an earlier stop. `end`: the bench's reason for an
- * early end of the run; "bound" if the search reached its limit; "lacks" if the board lacks the place; "outside" if the program is in no
- * subroutine.
+ * early end of the run, or one of these words:
+ * - "bound": the search reached its limit;
+ * - "lacks": the board lacks the place;
+ * - "outside": the program is in no subroutine.
  * @typedef {{ cycles: number, isReached: boolean, end: string }} SearchResult
  *
  * The watcher of a goal. `setupLine`: a bench line to send once before all runs, "" for none. `maxRun`: returns the maximum length of the
@@ -115,7 +117,7 @@ function returnWatcher(codes, level) {
 }
 
 /**
- * Returns a watcher for a number of instructions. Each cycle completes at most one instruction.
+ * Returns a watcher for a number of instructions. A run of N cycles completes at most N instructions, so no run passes the goal.
  * @param {number} count the number of instructions
  * @param {boolean} isSecondCyclePending true if the second cycle of an instruction is pending
  * @returns {Watcher}

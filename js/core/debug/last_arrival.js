@@ -67,7 +67,7 @@ class LastArrivalFinder {
     let [lines, count] = ["", 0];
     for (const { line, cycles, moment } of units) {
       if (cycles === 0) {
-        // The replay skips lines that changed breakpoints in the past, and runs of no cycle.
+        // The replay skips lines that changed breakpoints or watches in the past, and `run` and `step` lines of 0 cycles.
         if (BREAKPOINT_OR_WATCH_LINE.test(line) || /^(run|step)\b/.test(line)) continue;
         [lines, count] = [`${lines}${line}\n`, count + 1];
         continue;
@@ -121,8 +121,9 @@ function combineFinders(finders) {
  */
 
 /**
- * Finds the last arrival at a breakpoint, or the last change of a watched place, before the present. Resolves to that moment, or to the
- * start of the recorded past if neither happened.
+ * Finds the last arrival at a breakpoint, or the last change of a watched place, before the present. Resolves to a search result with that
+ * moment, or with the start of the stored past if neither happened. The result has a `reason` instead if the board lacks the place, or if
+ * no past is stored.
  * @param {WorkerSession} session
  * @param {SoftBreakpoint[]} breakpoints the breakpoints that stop the machine
  * @param {ExtraWatches} extraWatches
@@ -132,19 +133,20 @@ function combineFinders(finders) {
 export async function findLastArrival(session, breakpoints, { place, watches }, shouldContinue) {
   const { engine, file, timeline } = session;
   const places = [...watchedPlaces(session.ask("watches\n")[0]), ...(place === "" ? [] : [place])];
-  const changes = places.map((placeName) => makeChangeFinder(engine, file, placeName));
-  if (changes.some((finder) => finder === null)) return searchResult({ reason: "lacks", place });
-  const finders = [...changes.flatMap((finder) => (finder ? [finder] : [])), ...(watches ? watches.createFinders(engine) : [])];
-  const all = combineFinders([...(breakpoints.length > 0 ? [new LastArrivalFinder(session, breakpoints)] : []), ...finders]);
-  const { lastMatch, start } = await searchPast(engine, timeline, all, shouldContinue);
+  const changeFinders = places.map((placeName) => makeChangeFinder(engine, file, placeName));
+  if (changeFinders.some((finder) => finder === null)) return searchResult({ reason: "lacks", place });
+  const finders = [...changeFinders.flatMap((finder) => (finder ? [finder] : [])), ...(watches ? watches.createFinders(engine) : [])];
+  const combinedFinder = combineFinders([...(breakpoints.length > 0 ? [new LastArrivalFinder(session, breakpoints)] : []), ...finders]);
+  const { lastMatch, start } = await searchPast(engine, timeline, combinedFinder, shouldContinue);
   if (lastMatch) return lastMatch;
-  const { end } = timeline;
-  const isHere = start.segment === end.segment && end.entry === 0;
-  return isHere ? searchResult({ reason: "short" }) : searchResult({ moment: start, end: "beginning" });
+  const { presentMoment } = timeline;
+  const isPastEmpty = start.segment === presentMoment.segment && presentMoment.entry === 0;
+  return isPastEmpty ? searchResult({ reason: "short" }) : searchResult({ moment: start, end: "beginning" });
 }
 
 /**
- * Finds the start of a subroutine that has not returned. Resolves to the moment after the JMS that called the subroutine.
+ * Finds the start of a subroutine that has not returned. Resolves to a search result with the moment after the JMS that called the
+ * subroutine. If the stored past does not reach back to the call, the result has a `reason` instead.
  * @param {WorkerSession} session
  * @param {number} call the address of the JMS
  * @param {string[]} returns the return addresses before the JMS, newest first
@@ -157,6 +159,6 @@ export async function findLastCall(session, call, returns, shouldContinue) {
   const { lastMatch } = await searchPast(session.engine, session.timeline, finder, shouldContinue);
   const cyclesBack = session.count.total - finder.lastArrivalTotal - JMS_CYCLES;
   if (!lastMatch || cyclesBack < 0) return searchResult({ reason: "short" });
-  const moment = cyclesBack === 0 ? session.timeline.end : session.timeline.before(cyclesBack);
+  const moment = cyclesBack === 0 ? session.timeline.presentMoment : session.timeline.before(cyclesBack);
   return moment ? searchResult({ moment }) : searchResult({ reason: "short" });
 }

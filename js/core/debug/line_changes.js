@@ -18,7 +18,8 @@ const MAX_LINES = 8;
 const MAX_CHANGES = 6;
 
 /**
- * Describes the values that changed between two pauses.
+ * Describes the values that changed between two pauses: their names and new values. Lists at most MAX_CHANGES values, then the number of
+ * the others.
  * @param {MachineState} before
  * @param {MachineState} after
  */
@@ -47,8 +48,8 @@ function findSteppedLine({ registers: before }, { registers: after }, cycles, ma
   const size = map.sizes[line];
   if (cycles === (name === "FIN" ? 2 : size)) return line;
   // Only the newest return address is compared, because nested calls can have overwritten older entries of the call stack.
-  const isBack = parseInt(after.counter, 16) === address + size && before.returns[0] === after.returns[0];
-  return name === "JMS" && isBack ? line : 0;
+  const hasReturned = parseInt(after.counter, 16) === address + size && before.returns[0] === after.returns[0];
+  return name === "JMS" && hasReturned ? line : 0;
 }
 
 /** The changes of the machine state that the last executed source lines made. */

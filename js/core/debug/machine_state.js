@@ -63,7 +63,7 @@ export class MachineState {
   }
 
   /**
-   * Returns the value of a register.
+   * Returns the value of a register, as a hexadecimal digit.
    * @param {number} number the register number
    */
   register(number) {
@@ -71,7 +71,7 @@ export class MachineState {
   }
 
   /**
-   * Returns the value of a register pair.
+   * Returns the value of a register pair, as two hexadecimal digits.
    * @param {number} number the number of the register pair
    */
   pair(number) {
@@ -136,22 +136,22 @@ export class MachineState {
   allValues() {
     const { registers, ports } = this;
     /** @type {Map<string, string>} */
-    const all = new Map([["acc", registers.accumulator], ["cy", registers.carry], ["dcl", registers.bank]]);
-    registers.registers.forEach((value, index) => all.set(`R${index}`, value));
+    const values = new Map([["acc", registers.accumulator], ["cy", registers.carry], ["dcl", registers.bank]]);
+    registers.registers.forEach((value, index) => values.set(`R${index}`, value));
     for (const item of ports.srcBytes) {
       const [bank, byte] = item.split(".");
-      all.set(byte === undefined ? "SRC" : say.sourceOfBank(bank), byte === undefined ? bank : byte);
+      values.set(byte === undefined ? "SRC" : say.sourceOfBank(bank), byte === undefined ? bank : byte);
     }
     for (const [bank, ram] of this.ram) {
       for (const [name, { characters, status }] of ram.registers) {
         const [, chip, register] = name.split(".").map(Number);
-        [...characters].forEach((value, index) => all.set(`ram.${bank}.0x${hex(chip * 64 + register * 16 + index, 2)}`, value));
-        [...status].forEach((value, index) => all.set(`st.${bank}.${chip * 4 + register}.${index}`, value));
+        [...characters].forEach((value, index) => values.set(`ram.${bank}.0x${hex(chip * 64 + register * 16 + index, 2)}`, value));
+        [...status].forEach((value, index) => values.set(`st.${bank}.${chip * 4 + register}.${index}`, value));
       }
-      for (const [name, value] of ram.ports) all.set(`ram${name} out`, value);
+      for (const [name, value] of ram.ports) values.set(`ram${name} out`, value);
     }
-    for (const { chip, out } of ports.roms) all.set(`rom${chip} out`, out);
-    ports.chains.forEach((bits, chain) => all.set(`chain${chain}`, bits));
-    return all;
+    for (const { chip, out } of ports.roms) values.set(`rom${chip} out`, out);
+    ports.chains.forEach((bits, chain) => values.set(`chain${chain}`, bits));
+    return values;
   }
 }

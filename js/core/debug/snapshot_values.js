@@ -70,8 +70,8 @@ export function readPlaceValue(place, machineState, board) {
     return numbers.length === 0 ? hex(levels, 1) : formatBit(levels, numbers[0]);
   }
   if (ram) {
-    const out = machineState.ramPort(Number(ram[1]), numbers[0]) || "0";
-    return numbers.length === 1 ? out : formatBit(parseInt(out, 16), numbers[1]);
+    const output = machineState.ramPort(Number(ram[1]), numbers[0]) || "0";
+    return numbers.length === 1 ? output : formatBit(parseInt(output, 16), numbers[1]);
   }
   if (chain) {
     const bits = machineState.ports.chains[Number(chain[1])] || "";

@@ -19,7 +19,7 @@ import * as say from "../../words/debug.js";
 /**
  * Returns whether a breakpoint has a condition or a note, or lets its first hits pass. Such a breakpoint need not stop the machine at
  * every arrival.
- * @param {LocatedBreakpoint} placed
+ * @param {LocatedBreakpoint} breakpoint
  */
 export function isSoft({ condition, from, note }) {
   return condition.trim() !== "" || note.trim() !== "" || from > 1;
@@ -74,15 +74,16 @@ export function compileNote(text, names) {
 
 /**
  * Compiles a breakpoint. A breakpoint with an error stops the machine at every arrival. `error` is the error message, "" for none.
- * @param {LocatedBreakpoint} placed
+ * @param {LocatedBreakpoint} breakpoint
  * @param {Names} names
  * @returns {{ softBreakpoint: SoftBreakpoint, error: string }}
  */
-export function compileBreakpoint(placed, names) {
-  const { id, address, from, hits } = placed;
-  const isAlways = placed.condition.trim() === "";
-  const { condition, error, column } = isAlways ? { condition: null, error: "", column: -1 } : compileCondition(placed.condition, names);
-  const compiledNote = placed.note.trim() === "" ? null : compileNote(placed.note, names);
+export function compileBreakpoint(breakpoint, names) {
+  const { id, address, from, hits } = breakpoint;
+  const isAlways = breakpoint.condition.trim() === "";
+  const { condition, error, column } = isAlways ? { condition: null, error: "", column: -1 }
+    : compileCondition(breakpoint.condition, names);
+  const compiledNote = breakpoint.note.trim() === "" ? null : compileNote(breakpoint.note, names);
   const errorMessage = error ? errorInColumn(error, column) : compiledNote ? compiledNote.error : "";
   if (errorMessage) {
     return { softBreakpoint: { id, address, from: 1, hits, places: [], holds: () => true, noteText: null }, error: errorMessage };

@@ -1,5 +1,5 @@
-// Tracks which chips and registers SRC has selected, and finds mistakes in instructions that use the selection: the selected port or chip
-// is missing, or the program sent the last SRC for another instruction.
+// Tracks which chips and registers SRC has selected, and finds mistakes in instructions that use the selection. It is a mistake if the
+// selected port or chip is missing, or if the program sent the last SRC for another instruction.
 
 import { hex, parseNumber } from "../bench/numbers.js";
 import { parseItems, stateValue } from "../bench/state_line.js";
@@ -44,7 +44,7 @@ export class SrcSelection {
     this.latchedBytes = new Map();
     /** The address of the last SRC, -1 before the first SRC. */
     this.srcAddress = -1;
-    /** @type {Set<string>} the kinds of instructions that used the last SRC: "WRR", "RDR", or "RAM" */
+    /** @type {Set<string>} the kinds of instructions that have run since the last SRC and used its selection: "WRR", "RDR", or "RAM" */
     this.instructionKinds = new Set();
     /** @type {Map<number, number>} the ROM chips that WRR and RDR last used, by address of the instruction */
     this.lastChips = new Map();
@@ -54,7 +54,7 @@ export class SrcSelection {
    * Reads the SRC bytes that the RAM banks have latched.
    * @param {string} state the answer to `state`
    */
-  begin(state) {
+  readLatchedBytes(state) {
     for (const item of parseItems(stateValue(state, "banks"))) {
       const [bank, byte] = item.split(".");
       this.latchedBytes.set(Number(bank), parseInt(byte, 16));

@@ -16,7 +16,7 @@ import { MAX_RUN_CYCLES } from "../engine/key_queue.js";
  * The plan. `lines`: the lines to execute. `runs`: the breakpoint events of each run, and the number of cycles before the run. If a
  * breakpoint ends the last line early, `id` is the id of the breakpoint, `cutLine` is the line as typed, and `reason` and `change` have the
  * same meaning as in `BreakpointEvents`. Otherwise `id` is 0, and `cutLine`, `reason` and `change` are "".
- * @typedef {{ lines: string, runs: { events: BreakpointEvents, done: number }[], id: number, cutLine: string, reason: string,
+ * @typedef {{ lines: string, runs: { events: BreakpointEvents, cyclesBefore: number }[], id: number, cutLine: string, reason: string,
  *   change: string }} TypedPlan
  */
 
@@ -43,7 +43,7 @@ export async function planTypedLines(engine, file, arrivals, lines, shouldContin
   const plan = { lines: "", runs: [], id: 0, cutLine: "", reason: "", change: "" };
   if (arrivals.isEmpty || !/\brun\b/.test(lines)) return { ...plan, lines };
   const copy = file.slice();
-  let [pendingLines, done] = ["", 0];
+  let [pendingLines, doneCycles] = ["", 0];
   for (let offset = 0; offset < lines.length;) {
     const end = findInputEnd(lines, offset, 1);
     const [input] = readInputs(lines.slice(offset, end));
@@ -59,9 +59,9 @@ export async function planTypedLines(engine, file, arrivals, lines, shouldContin
       if (events.cycles >= 0) [servedLines, plan.cutLine] = [`run ${events.cycles}\n`, input.line.trim()];
       if (events.cycles >= 0) Object.assign(plan, { id, reason, change });
       arrivals.count(events);
-      plan.runs.push({ events, done });
+      plan.runs.push({ events, cyclesBefore: doneCycles });
       const run = readRun(engine.serve(copy, servedLines, copy).answers[0]);
-      done += run ? run.cycles : 0;
+      doneCycles += run ? run.cycles : 0;
       pendingLines = "";
       if (!(await shouldContinue(offset))) throw new CancelledError();
     }

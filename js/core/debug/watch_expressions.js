@@ -95,8 +95,8 @@ function portReader(place) {
   const ram = /^ram(\d)\.(\d)$/.exec(place);
   if (!ram) return null;
   return (machineState) => {
-    const out = machineState.ramPort(Number(ram[1]), Number(ram[2]));
-    return [out === "" ? say.BOARD_LACKS_IT : `out ${out}`];
+    const output = machineState.ramPort(Number(ram[1]), Number(ram[2]));
+    return [output === "" ? say.BOARD_LACKS_IT : `out ${output}`];
   };
 }
 
@@ -129,7 +129,8 @@ function expressionReader(text) {
 }
 
 /**
- * Splits a watch expression into its name and its value. `count = R5` has the name `count`. `r5 = 10` is a comparison and has no name.
+ * Splits a watch expression into its name and its value. `column` is the index at which the value starts. `count = R5` has the name
+ * `count`. `r5 = 10` is a comparison and has no name.
  * @param {string} text
  */
 function splitWatchExpression(text) {
@@ -142,7 +143,7 @@ function splitWatchExpression(text) {
 }
 
 /**
- * Returns the error message for an expression, with a column; "" if there is no error. If `names` is null, only the syntax is checked.
+ * Returns the error message for an expression, with a column; "" if there is no error. If `names` is null, checks only the syntax.
  * @param {string} value
  * @param {number} startColumn the column at which the expression starts
  * @param {Names | null} names

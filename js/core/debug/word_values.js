@@ -126,8 +126,8 @@ function selectedPieces(name, machineState) {
   if (byte === undefined) return usesRam ? [say.bankWithoutRam(bank)] : [];
   if (CHARACTER_INSTRUCTIONS.has(name)) return characterPieces(bank, byte, machineState);
   if (name === "WMP") {
-    const out = machineState.ramPort(bank, byte >> 6);
-    return [say.portOfRam(bank, byte >> 6, out)];
+    const output = machineState.ramPort(bank, byte >> 6);
+    return [say.portOfRam(bank, byte >> 6, output)];
   }
   const status = STATUS_INSTRUCTION.exec(name);
   if (!status) return [];
@@ -175,7 +175,7 @@ function numberPieces(numberText, value, { head }, machineState) {
 /**
  * Describes the current value of the word at an index in a line. Returns no pieces if the word has no value.
  * @param {string} text the line
- * @param {number} index the index
+ * @param {number} index the index of a character of the word
  * @param {MachineState} machineState
  * @param {Program} program
  * @returns {Piece[]}

@@ -19,8 +19,8 @@ import * as say from "../../words/drawing.js";
  * @typedef {import("./text_edits.js").TextEdit} TextEdit
  *
  * The state that the view shows. `board` and `face`: the board that the text describes, and its front panel. `isWired`: true if the session
- * has the same board. `error`: the message if the board cannot be drawn, or "". `shelf`: the kinds of parts that the user can add, with the
- * reason why a part cannot be added now, or "". `selected`: the selected part or pin, "" for none. `fields`: the form for the selection.
+ * has the same board. `error`: the message if the board cannot be drawn, or "". `shelf`: for each kind of part on the shelf, the reason why
+ * the part cannot be added now, or "". `selected`: the selected part or pin, "" for none. `fields`: the form for the selection.
  * `wireStart`: the start pin of an unfinished wire, or "". `ends`: the possible end pins of that wire. `lastMessage`: the last message to
  * the user.
  * @typedef {{ board: Board, face: Face, isWired: boolean, error: string, shelf: Map<ShelfPart, string>, selected: string,
@@ -70,7 +70,7 @@ export class Drawing {
   }
 
   /**
-   * Sets the board of the session.
+   * Stores the answer that describes the board of the session.
    * @param {string[]} answers the answer to `board`
    */
   setSessionBoard(answers) {
@@ -175,7 +175,7 @@ export class Drawing {
   }
 
   /**
-   * Shows a message.
+   * Replaces the message of the drawing, and reports the change.
    * @param {string} message
    */
   showMessage(message) {
@@ -226,7 +226,7 @@ export class Drawing {
   }
 
   /**
-   * Performs an action if the bench accepts the result.
+   * Performs an action if the bench accepts the result; otherwise shows a message.
    * @param {DrawingAction} action
    * @returns {Promise<void>}
    */

@@ -96,7 +96,8 @@ export function canConnect({ chains, matrix }, { name, kind, isInput }, target) 
 }
 
 /**
- * Returns the inputs to which a line can be connected, without the inputs to which it is already connected.
+ * Returns the inputs to which a line can be connected, without the inputs to which it is already connected. Returns an empty list if the
+ * board does not have the line.
  * @param {Board} board
  * @param {string} name the name of the line
  * @returns {Target[]}
@@ -122,6 +123,6 @@ export function possibleSources(board, target) {
  * @param {Board} board
  */
 export function freeLines(board) {
-  const used = new Set(inputLines(board).values());
-  return boardLines(board).filter(({ name }) => !used.has(name));
+  const usedLines = new Set(inputLines(board).values());
+  return boardLines(board).filter(({ name }) => !usedLines.has(name));
 }

@@ -19,23 +19,26 @@ import * as say from "../../words/drawing.js";
  * @typedef {import("./text_edits.js").TextEdit} TextEdit
  *
  * The actions of the board editor:
- * - `add`: adds a part from the shelf; `line` is the signal line of a lamp or buzzer (by default, a free line); `digits` is the number of
- * digits of a display
- * - `wire`: connects a signal line to an input
- * - `port`: makes a ROM line an input (`as` is `i`), or an output that RDR reads as `0` or `1`
- * - `chips`, `rows`: sets the number of chips in a chain, or the number of key rows
- * - `column`: adds a key column
- * - `delete`, `copy`: deletes a part, or adds a copy of the part
- * - `name`: names a part, a key (`key ROW COLUMN`), the board (`title`) or the button or switch at the TEST pin (`test`); "" removes the
- * name
- * - `colour`: sets the lamp colour; "" for the default colour
+ * - `add`: adds a part from the shelf. `line` is the signal line of a lamp or buzzer (by default, a free line). `digits` is the number of
+ *   digits of a display.
+ * - `wire`: connects a signal line to an input.
+ * - `port`: makes a ROM line an input (`as` is `i`), or an output that RDR reads as `0` or `1`.
+ * - `chips`, `rows`: sets the number of chips in a chain, or the number of key rows.
+ * - `column`: adds a key column.
+ * - `delete`, `copy`: deletes a part, or adds a copy of the part.
+ * - `name`: names a part, a key (`key ROW COLUMN`), the board (`title`), or the button or switch at the TEST pin (`test`). "" removes the
+ *   name.
+ * - `colour`: sets the lamp colour; "" for the default colour.
+ *
  * @typedef {{ kind: "add", part: ShelfPart, line?: string, digits?: number } | { kind: "wire", line: string, target: string }
  *   | { kind: "port", line: string, as: string } | { kind: "chips", chain: number, chips: number } | { kind: "rows", rows: number }
  *   | { kind: "column" } | { kind: "delete", part: string } | { kind: "copy", part: string }
  *   | { kind: "name", part: string, name: string } | { kind: "colour", lamp: number, colour: string }} DrawingAction
+ *
+ * A kind of part on the shelf. `rom` is a ROM with outputs, and `inputs` is a ROM with inputs. `digit` is a display with BCD digits,
+ * `segments` is a display with seven-segment digits, and `scanned` is a multiplexed display.
  * @typedef {"rom" | "inputs" | "ram" | "chain" | "keys" | "lamp" | "digit" | "segments" | "scanned" | "button" | "switch"
- *   | "buzzer"} ShelfPart a kind of part on the shelf: `rom` is a ROM with outputs, `inputs` a ROM with inputs, `digit` a display with BCD
- *   digits, `segments` a display with seven-segment digits, and `scanned` a multiplexed display
+ *   | "buzzer"} ShelfPart
  *
  * The result of an action: the edits in order, the text after all edits, the affected part ("" for none), a message, and the
  * numbers of the deleted chains. If the action is impossible, `refusal` is a message and there are no edits; otherwise `refusal` is "".
@@ -69,7 +72,7 @@ function addFromShelf(editedBoard, { part, line, digits = 1 }) {
 }
 
 /**
- * Adds a button or switch at the TEST pin; returns the name of the part.
+ * Adds a button or switch at the TEST pin; returns the name of the part. Throws `ImpossibleAction` if the pin already has one.
  * @param {EditedBoard} editedBoard
  * @param {"button" | "switch"} kind
  */
@@ -140,7 +143,8 @@ function setLineMode(editedBoard, line, mode) {
 }
 
 /**
- * Adds a copy of a part; returns the name of the copy.
+ * Adds a copy of a part; returns the name of the copy. For the first lamp of a display, copies the display. Throws `ImpossibleAction` if
+ * the part cannot be copied.
  * @param {EditedBoard} editedBoard
  * @param {string} part
  */
@@ -288,19 +292,19 @@ function findNewPanelError(textBefore, textAfter) {
  * @returns {Result}
  */
 export function applyAction(text, action) {
-  const unchanged = { edits: [], text, part: "", message: "", deletedChains: [] };
+  const unchangedResult = { edits: [], text, part: "", message: "", deletedChains: [] };
   const editedBoard = new EditedBoard(text);
-  if (!editedBoard.draft.isToml || !editedBoard.draft.boardAnswers) return { ...unchanged, refusal: say.TEXT_HAS_ERRORS };
+  if (!editedBoard.draft.isToml || !editedBoard.draft.boardAnswers) return { ...unchangedResult, refusal: say.TEXT_HAS_ERRORS };
   try {
     const [part, message] = perform(editedBoard, action);
     const panelError = findNewPanelError(text, editedBoard.text);
-    if (panelError) return { ...unchanged, refusal: panelError };
+    if (panelError) return { ...unchangedResult, refusal: panelError };
     const alsoAdded = editedBoard.addedParts.length > 0 ? say.withAlso(say.listOf(editedBoard.addedParts)) : "";
     const { edits, deletedChains } = editedBoard;
     return { edits, text: editedBoard.text, part, message: `${message}${alsoAdded}.`, deletedChains, refusal: "" };
   } catch (error) {
     if (!(error instanceof ImpossibleAction)) throw error;
-    return { ...unchanged, refusal: error.message };
+    return { ...unchangedResult, refusal: error.message };
   }
 }
 

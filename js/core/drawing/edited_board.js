@@ -30,9 +30,9 @@ export class EditedBoard {
    * @param {TextEdit[]} edits
    */
   edit(edits) {
-    const successive = makeSuccessive(edits);
-    this.edits.push(...successive);
-    this.draft = new BoardDraft(applyEdits(this.draft.text, successive));
+    const successiveEdits = makeSuccessive(edits);
+    this.edits.push(...successiveEdits);
+    this.draft = new BoardDraft(applyEdits(this.draft.text, successiveEdits));
   }
 
   /** The text after the edits made so far. */

@@ -1,5 +1,5 @@
-// Edits the front panel in a board text: sets names and colours. When parts are deleted, removes their front-panel entries and renumbers
-// the remaining entries.
+// Creates text edits for the front panel in a board text: edits that set names and colours. When parts are deleted, the edits remove their
+// front-panel entries and renumber the remaining entries.
 
 import { COLOURS, LINE_KINDS } from "../board/face_words.js";
 import { addFaceLine, faceLines, headNumber, removeFaceLine, removeWords, setWord } from "./face_lines.js";
@@ -31,8 +31,8 @@ export function toWord(name) {
 }
 
 /**
- * Sets the name or colour of a lamp. Changes the list that contains the lamp, extends the list that ends just before the lamp, or adds a
- * line.
+ * Returns the edits that set the name or colour of a lamp. The edits change the list that contains the lamp, extend the list that ends
+ * directly before the lamp, or add a line. They remove a list that would contain no name or colour.
  * @param {BoardDraft} draft
  * @param {"lamp" | "colour"} kind
  * @param {number} lamp
@@ -43,8 +43,8 @@ function setListWord(draft, kind, lamp, text) {
   const lists = faceLines(draft).filter((line) => line.kind === kind && line.first && !line.last);
   const containingLine = lists.find((line) => headNumber(line) <= lamp && lamp < headNumber(line) + line.words.length);
   if (containingLine) {
-    const others = containingLine.words.filter((_, index) => headNumber(containingLine) + index !== lamp);
-    if (text === "" && others.every((word) => word.text === EMPTY_ENTRY)) return [removeFaceLine(draft, containingLine)];
+    const otherWords = containingLine.words.filter((_, index) => headNumber(containingLine) + index !== lamp);
+    if (text === "" && otherWords.every((word) => word.text === EMPTY_ENTRY)) return [removeFaceLine(draft, containingLine)];
     return setWord(containingLine.words[lamp - headNumber(containingLine)], text || EMPTY_ENTRY);
   }
   if (text === "") return [];
@@ -54,7 +54,7 @@ function setListWord(draft, kind, lamp, text) {
 }
 
 /**
- * Sets the name of a lamp, in its list of names and in the grid rows that contain the old name.
+ * Returns the edits that set the name of a lamp, in its list of names and in the grid rows that contain the old name.
  * @param {BoardDraft} draft
  * @param {number} lamp
  * @param {string} name "" for none
@@ -70,27 +70,29 @@ export function setLampName(draft, lamp, name) {
 }
 
 /**
- * Sets the colour of a lamp. A colour range that contains the lamp becomes a list of colours, unless all its colours are then equal.
+ * Returns the edits that set the colour of a lamp. A colour range that contains the lamp becomes a list of colours, unless all its colours
+ * are then equal.
  * @param {BoardDraft} draft
  * @param {number} lamp
  * @param {string} colour "" for the default colour
  * @returns {TextEdit[]}
  */
 export function setLampColour(draft, lamp, colour) {
-  const range = faceLines(draft).find((line) => line.kind === "colour" && line.last && headNumber(line) <= lamp
+  const rangeLine = faceLines(draft).find((line) => line.kind === "colour" && line.last && headNumber(line) <= lamp
     && lamp <= Number(line.last.text));
-  if (!range || !range.first || !range.last) return setListWord(draft, "colour", lamp, colour);
-  const first = headNumber(range);
-  const [oldColour = { text: EMPTY_ENTRY }] = range.words;
-  const count = Number(range.last.text) - first + 1;
+  if (!rangeLine || !rangeLine.first || !rangeLine.last) return setListWord(draft, "colour", lamp, colour);
+  const first = headNumber(rangeLine);
+  const [oldColour = { text: EMPTY_ENTRY }] = rangeLine.words;
+  const count = Number(rangeLine.last.text) - first + 1;
   const colours = Array.from({ length: count }, (_, index) => (first + index === lamp ? colour || EMPTY_ENTRY : oldColour.text));
   const isUniform = colours.every((word) => word === colours[0]);
-  if (isUniform) return colours[0] === EMPTY_ENTRY ? [removeFaceLine(draft, range)] : setWord(range.words[0], colours[0]);
-  return [{ from: range.first.to, to: range.end, insert: `: ${colours.join(" ")}` }];
+  if (isUniform) return colours[0] === EMPTY_ENTRY ? [removeFaceLine(draft, rangeLine)] : setWord(rangeLine.words[0], colours[0]);
+  return [{ from: rangeLine.first.to, to: rangeLine.end, insert: `: ${colours.join(" ")}` }];
 }
 
 /**
- * Sets the name of a key. If the list of names in its row is too short, the keys before this key get their default names, such as `0.1`.
+ * Returns the edits that set the name of a key. If the list of names in its row is too short, the keys before this key get their default
+ * names, such as `0.1`.
  * @param {BoardDraft} draft
  * @param {{ row: number, column: number }} key
  * @param {string} name "" for a position without a key
@@ -107,7 +109,8 @@ export function setKeyName(draft, { row, column }, name) {
 }
 
 /**
- * Sets the text after the colon in a line such as `# port rom0: keys` or `# title: Lock`. Adds, changes or removes the line.
+ * Returns the edits that set the text after the colon in a line such as `# port rom0: keys` or `# title: Lock`. The edits add, change or
+ * remove the line.
  * @param {BoardDraft} draft
  * @param {"title" | "test" | "port" | "buzzer"} kind
  * @param {string} head the port or port line before the colon, "" for none
@@ -125,7 +128,7 @@ export function setLineText(draft, kind, head, words) {
 }
 
 /**
- * Moves the buzzer to another signal line.
+ * Returns the edits that move the buzzer to another signal line; no edits if the text defines no buzzer.
  * @param {BoardDraft} draft
  * @param {string} line
  */
@@ -135,7 +138,7 @@ export function moveBuzzer(draft, line) {
 }
 
 /**
- * Adds the front-panel line of a group of lamps, such as a display or a bar.
+ * Returns the edits that add the front-panel line of a group of lamps, such as a display or a bar.
  * @param {BoardDraft} draft
  * @param {string} kind the first word of the line, such as `display`
  * @param {number} first the number of the first lamp
@@ -146,7 +149,7 @@ export function addGroup(draft, kind, first, text) {
 }
 
 /**
- * Removes deleted lamps from the front panel, and renumbers the other lamps.
+ * Returns the edits that remove deleted lamps from the front panel and renumber the other lamps.
  * @param {BoardDraft} draft
  * @param {Set<number>} deletedLamps
  * @returns {TextEdit[]}
@@ -163,7 +166,7 @@ export function renumberLamps(draft, deletedLamps) {
 }
 
 /**
- * Renumbers the lamps in the line of a list (names or colours) or of a group. Removes the line if no lamps remain.
+ * Returns the edits that renumber the lamps in the line of a list (names or colours) or of a group, or remove the line if no lamps remain.
  * @param {BoardDraft} draft
  * @param {FaceLine} line
  * @param {Set<number>} deletedLamps
@@ -185,7 +188,7 @@ function renumberList(draft, line, deletedLamps, newNumber) {
 }
 
 /**
- * Renumbers the lamps in the line of a colour range. Removes the line if no lamps remain.
+ * Returns the edits that renumber the lamps in the line of a colour range, or remove the line if no lamps remain.
  * @param {BoardDraft} draft
  * @param {FaceLine} line
  * @param {Set<number>} deletedLamps
@@ -203,7 +206,7 @@ function renumberRange(draft, line, deletedLamps, newNumber) {
 }
 
 /**
- * Renumbers the lamps in a grid row. Removes the row if no lamps remain.
+ * Returns the edits that renumber the lamps in a grid row, or remove the row if no lamps remain.
  * @param {BoardDraft} draft
  * @param {FaceLine} line
  * @param {Set<number>} deletedLamps
@@ -214,8 +217,8 @@ function renumberGrid(draft, line, deletedLamps, newNumber) {
   const names = new Map(faceLines(draft).filter(({ kind, first, last }) => kind === "lamp" && first && !last)
     .flatMap((list) => list.words.map(({ text }, index) => /** @type {[string, number]} */ ([text, headNumber(list) + index]))));
   const texts = line.words.map(({ text }) => {
-    const named = names.get(text);
-    if (named !== undefined) return deletedLamps.has(named) ? EMPTY_ENTRY : text;
+    const namedLamp = names.get(text);
+    if (namedLamp !== undefined) return deletedLamps.has(namedLamp) ? EMPTY_ENTRY : text;
     if (!/^\d+$/.test(text)) return text;
     return deletedLamps.has(Number(text)) ? EMPTY_ENTRY : String(newNumber(Number(text)));
   });
@@ -224,7 +227,7 @@ function renumberGrid(draft, line, deletedLamps, newNumber) {
 }
 
 /**
- * Renames ports and chains in the front panel after a deletion. Removes the lines of deleted ports and chains.
+ * Returns the edits that rename ports and chains in the front panel after a deletion, and remove the lines of deleted ports and chains.
  * @param {BoardDraft} draft
  * @param {(port: string) => string} newPortName returns the new name of a port or chain, "" if it was deleted
  * @returns {TextEdit[]}
@@ -234,9 +237,9 @@ export function renamePorts(draft, newPortName) {
     if (!line.first || !PORT_KINDS.includes(line.kind)) return [];
     // A printer line contains two ports: the port of the strobe line, and the port for the character code.
     const words = [line.first, ...(line.kind === "printer" ? line.words.slice(0, 1) : [])];
-    const renamed = words.map(({ text }, index) => renamePort(text, line.kind !== "port" && index === 0, newPortName));
-    if (renamed.includes("")) return [removeFaceLine(draft, line)];
-    return words.flatMap((word, index) => setWord(word, renamed[index]));
+    const newNames = words.map(({ text }, index) => renamePort(text, line.kind !== "port" && index === 0, newPortName));
+    if (newNames.includes("")) return [removeFaceLine(draft, line)];
+    return words.flatMap((word, index) => setWord(word, newNames[index]));
   });
 }
 
@@ -253,7 +256,7 @@ function renamePort(text, isLine, newPortName) {
 }
 
 /**
- * Removes the lines with the key names of deleted rows.
+ * Returns the edits that remove the lines with the key names of deleted rows.
  * @param {BoardDraft} draft
  * @param {number} rowCount the number of remaining rows
  */
@@ -262,7 +265,7 @@ export function removeRows(draft, rowCount) {
 }
 
 /**
- * Removes the key names of deleted columns.
+ * Returns the edits that remove the key names of deleted columns.
  * @param {BoardDraft} draft
  * @param {Set<number>} deletedColumns
  */

@@ -1,4 +1,4 @@
-// Finds front-panel lines and the offsets of their words in a board text, and edits such lines.
+// Finds front-panel lines and the offsets of their words in a board text, and creates text edits of such lines.
 
 import { parseFaceLine } from "../board/face_words.js";
 import { removeLines } from "./part_edits.js";
@@ -37,14 +37,14 @@ function splitWithOffsets(text, from) {
  */
 export function faceLines(draft) {
   return draft.lines.flatMap((text, index) => {
-    const head = parseFaceLine(text.replace(/\r$/, ""));
-    if (!head) return [];
+    const parsedLine = parseFaceLine(text.replace(/\r$/, ""));
+    if (!parsedLine) return [];
     const lineStart = draft.lineOffsets[index];
     const [prefix] = LINE_HEAD.exec(text) || [""];
     const colon = text.indexOf(":", prefix.length);
     const [first = null, , last = null] = splitWithOffsets(text.slice(prefix.length, colon), lineStart + prefix.length);
     const words = splitWithOffsets(text.slice(colon + 1), lineStart + colon + 1);
-    return [{ line: index + 1, kind: head.name, first, last, words, end: lineStart + text.trimEnd().length }];
+    return [{ line: index + 1, kind: parsedLine.name, first, last, words, end: lineStart + text.trimEnd().length }];
   });
 }
 
@@ -57,8 +57,8 @@ export function headNumber({ first }) {
 }
 
 /**
- * Adds a front-panel line after the last line of its kind. If there is no such line, adds it after the last front-panel line. If there is
- * no front-panel line, adds it after the comment at the top of the text.
+ * Returns the edits that add a front-panel line after the last line of its kind. If there is no such line, the new line follows the last
+ * front-panel line. If there is no front-panel line, the new line follows the comment at the top of the text.
  * @param {BoardDraft} draft
  * @param {string} kind the first word of the line
  * @param {string} text the complete line
@@ -66,16 +66,16 @@ export function headNumber({ first }) {
  */
 export function addFaceLine(draft, kind, text) {
   const lines = faceLines(draft);
-  const last = lines.filter((line) => line.kind === kind).pop() || lines.pop();
-  if (last) return [{ from: last.end, to: last.end, insert: `\n${text}` }];
-  const first = draft.lines.findIndex((line) => !line.startsWith("#"));
-  const insertionOffset = first < 0 ? draft.text.length : draft.lineOffsets[first];
-  const gap = first === 0 && draft.text.trim() !== "" && draft.lines[0].trim() !== "" ? "\n" : "";
-  return [{ from: insertionOffset, to: insertionOffset, insert: `${first < 0 ? "\n" : ""}${text}\n${gap}` }];
+  const precedingLine = lines.filter((line) => line.kind === kind).pop() || lines.pop();
+  if (precedingLine) return [{ from: precedingLine.end, to: precedingLine.end, insert: `\n${text}` }];
+  const nonCommentIndex = draft.lines.findIndex((line) => !line.startsWith("#"));
+  const insertionOffset = nonCommentIndex < 0 ? draft.text.length : draft.lineOffsets[nonCommentIndex];
+  const gap = nonCommentIndex === 0 && draft.text.trim() !== "" && draft.lines[0].trim() !== "" ? "\n" : "";
+  return [{ from: insertionOffset, to: insertionOffset, insert: `${nonCommentIndex < 0 ? "\n" : ""}${text}\n${gap}` }];
 }
 
 /**
- * Deletes a front-panel line.
+ * Returns the edit that deletes a front-panel line.
  * @param {BoardDraft} draft
  * @param {FaceLine} line
  */
@@ -84,7 +84,7 @@ export function removeFaceLine(draft, { line }) {
 }
 
 /**
- * Replaces a word of a front-panel line.
+ * Returns the edits that replace a word of a front-panel line; no edits if the word is unchanged.
  * @param {FaceWord} word
  * @param {string} text the new word
  * @returns {TextEdit[]}
@@ -94,7 +94,7 @@ export function setWord(word, text) {
 }
 
 /**
- * Deletes words after the colon of a line, and the blanks before them.
+ * Returns the edits that delete words after the colon of a line, and the blanks before them.
  * @param {FaceLine} line
  * @param {(index: number) => boolean} isDeleted returns whether to delete the word at an index
  * @returns {TextEdit[]}

@@ -5,8 +5,8 @@
  * @typedef {import("../board/wiring.js").Positions} Positions
  * @typedef {import("../board/wiring.js").Point} Point
  *
- * A text edit that deletes chains: the text before and after the edit, the numbers of the deleted chains, and the positions of the deleted
- * chains that the user had dragged.
+ * A text edit that deletes chains: the text before and after the edit, and the numbers of the deleted chains. `points` are the positions of
+ * deleted chains that the user had dragged.
  * @typedef {{ before: string, after: string, chains: number[], points: Positions }} Deletion
  */
 
@@ -51,10 +51,10 @@ export class MovedParts {
    * @param {string} textAfter
    */
   updateForTextChange(textBefore, textAfter) {
-    const done = this.deletions.find(({ before, after }) => before === textBefore && after === textAfter);
-    const undone = this.deletions.find(({ before, after }) => before === textAfter && after === textBefore);
-    if (done) this.removeChains(done);
-    else if (undone) this.restoreChains(undone);
+    const performedDeletion = this.deletions.find(({ before, after }) => before === textBefore && after === textAfter);
+    const undoneDeletion = this.deletions.find(({ before, after }) => before === textAfter && after === textBefore);
+    if (performedDeletion) this.removeChains(performedDeletion);
+    else if (undoneDeletion) this.restoreChains(undoneDeletion);
   }
 
   /** Returns whether positions have changed since the previous call. */

@@ -1,4 +1,5 @@
-// Adds parts to a board text and connects them to free signal lines. If there are too few free lines, adds chips with more lines.
+// Adds parts to a board text and connects them to free signal lines. If there are too few free lines, adds chips with more lines. Throws
+// `ImpossibleAction` if a part cannot be added.
 
 import { formatQuantity, indices } from "../bench/numbers.js";
 import { Face } from "../board/face.js";
@@ -32,7 +33,7 @@ function freeNumber(usedNumbers, count) {
 }
 
 /**
- * Adds a ROM; returns its name.
+ * Adds a ROM; returns its name. Throws `ImpossibleAction` if the board has the maximum number of ROMs.
  * @param {EditedBoard} editedBoard
  * @param {string} port the port mask
  */
@@ -130,7 +131,7 @@ function freeLampLines(board) {
 }
 
 /**
- * Adds a chain; returns its name.
+ * Adds a chain; returns its name. Throws `ImpossibleAction` if the board has the maximum number of chains.
  * @param {EditedBoard} editedBoard
  * @param {number} chips the number of chips
  */
@@ -182,7 +183,8 @@ export function addKeys(editedBoard) {
 }
 
 /**
- * Sets the number of key rows; returns the name of the part.
+ * Sets the number of key rows; returns the name of the part. Throws `ImpossibleAction` if there is no key matrix, if the number is out of
+ * range, or if the chain has too few bits.
  * @param {EditedBoard} editedBoard
  * @param {number} rows
  */
@@ -200,7 +202,8 @@ export function setRows(editedBoard, rows) {
 }
 
 /**
- * Adds a key column; returns the name of the part.
+ * Adds a key column; returns the name of the part. Throws `ImpossibleAction` if there is no key matrix, or if it has the maximum number of
+ * columns.
  * @param {EditedBoard} editedBoard
  */
 export function addColumn(editedBoard) {
@@ -250,7 +253,7 @@ export function addLamp(editedBoard, line = "", colour = "") {
 }
 
 /**
- * Adds a buzzer; returns its name.
+ * Adds a buzzer; returns its name. Throws `ImpossibleAction` if the board already has one.
  * @param {EditedBoard} editedBoard
  * @param {string} [line] "" for the next free port line
  */
@@ -276,7 +279,7 @@ export function addDisplay(editedBoard, kind, digits) {
   const firstLamp = editedBoard.board.lamps.length;
   if (kind === "digit") for (let digit = 0; digit < digits; digit++) addLamps(editedBoard, ensureDigitPort(editedBoard));
   else addLamps(editedBoard, ensureSegmentBits(editedBoard, digits * LINES_PER_DIGIT.segments));
-  // (The next literal is a comment in the board text, in the syntax of tools/lib/face.txt.)
+  // (The next literal is a comment in the board text, in the syntax of `tools/lib/face.txt`.)
   // eslint-disable-next-line no-restricted-syntax
   const display = `${formatQuantity(digits, "digit")}${kind === "segments" ? " of 7 segments" : ""}`;
   editedBoard.edit(addGroup(editedBoard.draft, "display", firstLamp, display));
@@ -298,7 +301,7 @@ export function addMultiplexedDisplay(editedBoard, digits) {
   /** @type {(board: Board) => string[]} */
   const findRamLines = (board) => freeLampLines(board).filter((line) => line.startsWith("ram"));
   addLamps(editedBoard, ensureLines(editedBoard, count, findRamLines, () => addRam(editedBoard)));
-  // (The next literal is a comment in the board text, in the syntax of tools/lib/face.txt.)
+  // (The next literal is a comment in the board text, in the syntax of `tools/lib/face.txt`.)
   // eslint-disable-next-line no-restricted-syntax
   const display = `${formatQuantity(digits, "digit")} of 7 segments scanned by ${firstLamp + LINES_PER_DIGIT.segments}`;
   editedBoard.edit(addGroup(editedBoard.draft, "display", firstLamp, display));
@@ -317,8 +320,8 @@ function ensureDigitPort(editedBoard) {
       if (lines.every((line) => freeNames.has(line))) return lines;
     }
   }
-  const added = addRequired(editedBoard, () => addRam(editedBoard)).replace(" ", "");
-  return [3, 2, 1, 0].map((line) => `${added}.${line}`);
+  const addedChip = addRequired(editedBoard, () => addRam(editedBoard)).replace(" ", "");
+  return [3, 2, 1, 0].map((line) => `${addedChip}.${line}`);
 }
 
 /**
@@ -344,7 +347,8 @@ export function checkFrontPanelOutputs({ text }, isLost) {
 }
 
 /**
- * Sets the number of chips in a chain; returns the chain name.
+ * Sets the number of chips in a chain; returns the chain name. Throws `ImpossibleAction` if the number is out of range, or if a removed bit
+ * is in use.
  * @param {EditedBoard} editedBoard
  * @param {number} chain
  * @param {number} chips

@@ -74,7 +74,7 @@ function addDependents(board, face, deletedParts) {
     deletedParts.keys = deletedParts.keys || deletedParts.chains.has(matrix.chain) || deletedParts.columns.size === matrix.columns.length;
   }
   board.lamps.forEach((line, lamp) => isLineDeleted(deletedParts, line) && deletedParts.lamps.add(lamp));
-  // With a lamp, all lamps of its group are deleted. The loop also visits the lamps that it adds to the set.
+  // If one lamp of a group is deleted, all lamps of the group are deleted. The loop also visits the lamps that it adds to the set.
   for (const deletedLamp of deletedParts.lamps) {
     const groups = face.groups.map(groupLamps).filter((lamps) => lamps.includes(deletedLamp));
     for (const lamp of groups.flat()) if (lamp < board.lamps.length) deletedParts.lamps.add(lamp);
@@ -225,8 +225,9 @@ function markRamDeleted({ banks }, deletedParts, ram) {
 }
 
 /**
- * Deletes a part: `rom 1`, `ram 0.1`, `chain 0`, `keys`, `row 1` (the last row), `column 2`, `lamp 3`, `lamps`, `test` or `buzzer`. Returns
- * a list of the dependent parts that it has also deleted, as text; "" if there are none.
+ * Deletes a part: `rom 1`, `ram 0.1`, `chain 0`, `keys`, `row 1` (the last row), `column 2`, `lamp 3`, `lamps`, `test` or `buzzer`. Also
+ * deletes the parts that depend on this part, and returns a text that lists them; "" if there are none. Throws `ImpossibleAction` if the
+ * part cannot be deleted.
  * @param {EditedBoard} editedBoard
  * @param {string} part
  */
@@ -272,11 +273,13 @@ function deleteRow(editedBoard, row) {
  */
 function describeDependents({ buzzer }, deletedParts, part) {
   const { chains, keys, columns, lamps } = deletedParts;
-  const others = [...chains].map((chain) => `chain ${chain}`).filter((name) => name !== part);
+  const dependents = [...chains].map((chain) => `chain ${chain}`).filter((name) => name !== part);
   const otherLampCount = part === "lamps" || (part.startsWith("lamp ") && lamps.size === 1) ? 0 : lamps.size;
-  if (keys && part !== "keys") others.push(displayedPartName("keys"));
-  else if (!keys && columns.size > 0 && !part.startsWith("column")) others.push(say.ofKeys(formatQuantity(columns.size, "column")));
-  if (otherLampCount > 0) others.push(part.startsWith("lamp ") ? say.allLampsOf(otherLampCount) : formatQuantity(otherLampCount, "lamp"));
-  if (buzzer && isLineDeleted(deletedParts, buzzer)) others.push(say.THE_BUZZER);
-  return say.listOf(others);
+  if (keys && part !== "keys") dependents.push(displayedPartName("keys"));
+  else if (!keys && columns.size > 0 && !part.startsWith("column")) dependents.push(say.ofKeys(formatQuantity(columns.size, "column")));
+  if (otherLampCount > 0) {
+    dependents.push(part.startsWith("lamp ") ? say.allLampsOf(otherLampCount) : formatQuantity(otherLampCount, "lamp"));
+  }
+  if (buzzer && isLineDeleted(deletedParts, buzzer)) dependents.push(say.THE_BUZZER);
+  return say.listOf(dependents);
 }

@@ -1,4 +1,5 @@
-// Adds parts to a board text, removes them, and changes their values. Keeps the comments. New parts have the style of the existing parts.
+// Creates text edits that add parts to a board text, remove parts, or change their values. The edits keep the comments. New parts have the
+// style of the existing parts.
 
 import { tomlWords } from "../text/toml_words.js";
 import { PART_KEYS } from "../bench/board_form.js";
@@ -13,7 +14,7 @@ import { PART_KEYS } from "../bench/board_form.js";
  * @typedef {Record<string, string | number | string[]>} PartValues the values of a part, by key
  */
 
-/** The maximum length of a line to which an array element is added, in characters. An element that does not fit goes on a new line. */
+/** The maximum length of a line to which an array element is added, in characters. An element that does not fit starts a new line. */
 const MAX_LINE_LENGTH = 100;
 const INDENT = "    ";
 
@@ -53,7 +54,7 @@ function isCompact({ entries, lines }) {
 }
 
 /**
- * Adds a part after the last part of its kind. If there is no such part, adds it at the end of the text.
+ * Returns the edits that add a part after the last part of its kind. If there is no such part, the new part is at the end of the text.
  * @param {BoardDraft} draft
  * @param {Kind} kind
  * @param {PartValues} values
@@ -64,15 +65,15 @@ export function addPart(draft, kind, values) {
   if (array) return appendElement(draft, array.value, `{ ${formatValueLines(kind, values).join(", ")} }`);
   const block = [kind === "keys" ? "[keys]" : `[[${kind}]]`, ...formatValueLines(kind, values)].join("\n");
   const gap = isCompact(draft) ? "\n" : "\n\n";
-  const last = draft.partsOfKind(kind).pop();
-  if (!last) return [appendTable(draft, gap, block)];
-  const line = draft.lastLine(last);
+  const lastPart = draft.partsOfKind(kind).pop();
+  if (!lastPart) return [appendTable(draft, gap, block)];
+  const line = draft.lastLine(lastPart);
   const insertionOffset = draft.offsetAt(line, draft.lines[line - 1].length);
   return [{ from: insertionOffset, to: insertionOffset, insert: gap + block }];
 }
 
 /**
- * Adds a table at the end of the text.
+ * Returns the edit that adds a table at the end of the text.
  * @param {BoardDraft} draft
  * @param {string} gap the line feeds between the last line of the text and the table
  * @param {string} block the lines of the table
@@ -104,34 +105,35 @@ function tokensAround(draft, from, to) {
 }
 
 /**
- * Adds an element at the end of an array. The element gets a new line if the earlier elements are on separate lines, or if the last line
- * would become longer than MAX_LINE_LENGTH.
+ * Returns the edits that add an element at the end of an array. The element gets a new line if the earlier elements are on separate lines,
+ * or if the last line would become longer than MAX_LINE_LENGTH.
  * @param {BoardDraft} draft
  * @param {Value} array
  * @param {string} element the element as TOML
  * @returns {TextEdit[]}
  */
 export function appendElement(draft, array, element) {
-  const inner = /** @type {Value[]} */ (array.inner);
-  const last = inner[inner.length - 1];
-  if (!last) return [{ from: draft.startOffset(array) + 1, to: draft.startOffset(array) + 1, insert: element }];
-  const elementEnd = draft.endOffset(last);
-  const line = draft.lines[last.end.line - 1];
-  const previousElement = inner[inner.length - 2];
-  const hasOwnLine = previousElement ? previousElement.end.line < last.line : last.line > array.line;
+  const elements = /** @type {Value[]} */ (array.inner);
+  const lastElement = elements[elements.length - 1];
+  if (!lastElement) return [{ from: draft.startOffset(array) + 1, to: draft.startOffset(array) + 1, insert: element }];
+  const elementEnd = draft.endOffset(lastElement);
+  const line = draft.lines[lastElement.end.line - 1];
+  const previousElement = elements[elements.length - 2];
+  const hasOwnLine = previousElement ? previousElement.end.line < lastElement.line : lastElement.line > array.line;
   const isShort = line.length + element.length + 2 <= MAX_LINE_LENGTH;
   if (!hasOwnLine && isShort) return [{ from: elementEnd, to: elementEnd, insert: `, ${element}` }];
   const { next } = tokensAround(draft, elementEnd, elementEnd);
   const hasComma = next !== null && next.text === ",";
-  const indent = last.line > array.line ? (/^[ \t]*/.exec(line) || [""])[0] : INDENT;
+  const indent = lastElement.line > array.line ? (/^[ \t]*/.exec(line) || [""])[0] : INDENT;
   // The new line goes before the closing bracket if the bracket is on the line of the last element; otherwise after that line.
-  const end = next && next.text === "]" && array.end.line === last.end.line ? elementEnd : draft.offsetAt(last.end.line, line.length);
+  const isBeforeBracket = next && next.text === "]" && array.end.line === lastElement.end.line;
+  const end = isBeforeBracket ? elementEnd : draft.offsetAt(lastElement.end.line, line.length);
   const comma = { from: elementEnd, to: elementEnd, insert: "," };
   return [{ from: end, to: end, insert: `\n${indent}${element}${hasComma ? "," : ""}` }, ...(hasComma ? [] : [comma])];
 }
 
 /**
- * Deletes complete lines. If two blank lines would then be adjacent, also deletes one of them.
+ * Returns the edit that deletes complete lines. If two blank lines would then be adjacent, the edit also deletes one of them.
  * @param {BoardDraft} draft
  * @param {number} first the number of the first line, from 1
  * @param {number} last the number of the last line, from 1
@@ -148,7 +150,8 @@ export function removeLines({ lines, lineOffsets, text }, first, last) {
 }
 
 /**
- * Deletes a range within a line, and adjacent blanks. Deletes the complete line if it contains nothing else.
+ * Returns the edit that deletes a range within a line, and adjacent blanks. The edit deletes the complete line if the line contains nothing
+ * else.
  * @param {BoardDraft} draft
  * @param {number} from the offset of the start of the range
  * @param {number} to the offset of its end
@@ -164,7 +167,7 @@ function removeRange({ text }, from, to) {
 }
 
 /**
- * Deletes an array element and its comma.
+ * Returns the edits that delete an array element and its comma.
  * @param {BoardDraft} draft
  * @param {Value} array
  * @param {number} index
@@ -181,7 +184,7 @@ export function removeElement(draft, array, index) {
 }
 
 /**
- * Deletes a part.
+ * Returns the edits that delete a part.
  * @param {BoardDraft} draft
  * @param {Kind} kind
  * @param {number} index the index among the parts of its kind
@@ -197,7 +200,7 @@ export function removePart(draft, kind, index) {
 }
 
 /**
- * Sets a value in a part.
+ * Returns the edit that sets a value in a part. Throws if the part lacks the key.
  * @param {BoardDraft} draft
  * @param {Entry} entry
  * @param {string} name the key of the value
@@ -209,7 +212,7 @@ export function setValue(draft, entry, name, value) {
 }
 
 /**
- * Replaces a value in the text.
+ * Returns the edit that replaces a value in the text.
  * @param {BoardDraft} draft
  * @param {Value} oldValue
  * @param {string | number} value the new value

@@ -65,7 +65,7 @@ function rangeNumbers({ from, to }) {
  */
 function lineField(board, target, label = targetName(target)) {
   const currentLine = inputLines(board).get(target) || "";
-  return choiceField(say.lineOf(label), currentLine, possibleSources(board, target), (line) => ({ kind: "wire", line, target }));
+  return choiceField(say.lineFieldLabel(label), currentLine, possibleSources(board, target), (line) => ({ kind: "wire", line, target }));
 }
 
 /**
@@ -165,8 +165,9 @@ function lampForm(board, face, lamp) {
     choiceField("colour", colour ? colour.text : "red", [...COLOURS], (value) => ({ kind: "colour", lamp: groupLamps[0], colour: value })),
     lineField(board, part, "lamp"),
   ];
-  const copies = displayAt(face, groupLamps[0]) ? [{ ...copyButton(`lamp ${groupLamps[0]}`), label: say.COPY_DISPLAY }] : [];
-  const buttons = isSingle ? [copyButton(part), deleteButton(part)] : [...copies, deleteButton(part, say.deleteLamps(groupLamps.length))];
+  const copyButtons = displayAt(face, groupLamps[0]) ? [{ ...copyButton(`lamp ${groupLamps[0]}`), label: say.COPY_DISPLAY }] : [];
+  const groupButtons = [...copyButtons, deleteButton(part, say.deleteLamps(groupLamps.length))];
+  const buttons = isSingle ? [copyButton(part), deleteButton(part)] : groupButtons;
   return { title: say.lampTitle(lamp), part, fields, buttons };
 }
 
@@ -227,7 +228,7 @@ function targetForm(board, target) {
 }
 
 /**
- * Returns the form for the selection. If nothing is selected, returns the form for the whole board.
+ * Returns the form for the selection. If nothing or a part without a form is selected, returns the form for the whole board.
  * @param {Board} board
  * @param {Face} face
  * @param {string} selection the selected part or pin

@@ -7,7 +7,7 @@
  */
 
 /**
- * Applies edits to a text.
+ * Returns a text after edits, which are applied in their order.
  * @param {string} text
  * @param {TextEdit[]} edits
  */

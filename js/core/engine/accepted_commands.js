@@ -1,5 +1,5 @@
-// Finds the commands that the bench has accepted, and the number of cycles that each of them ran. A session needs this to count its cycles
-// and to replay its past.
+// Finds the commands that the bench has accepted, and the number of cycles that each of them ran. With these commands, a session counts its
+// cycles and replays its past.
 
 import { readRun } from "../bench/answers.js";
 
@@ -22,7 +22,7 @@ function repeatedLines({ line, text, kind }) {
 }
 
 /**
- * Returns the inputs that are commands and that the bench accepted.
+ * Returns the accepted commands among the inputs.
  * @param {Input[]} inputs
  * @param {string[][]} answers the answer lines of each input
  * @returns {AcceptedCommand[]}
@@ -39,7 +39,7 @@ export function findAcceptedCommands(inputs, answers) {
   return commands;
 }
 
-/** The number of cycles that a session has run: in total, and up to its last reset. */
+/** The number of cycles that a session has run: in total (`total`), and up to its last reset (`reset`). */
 export class CycleCount {
   /**
    * @param {number} totalCycles

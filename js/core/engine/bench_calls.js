@@ -23,7 +23,7 @@ import { OpenBench } from "./open_bench.js";
  *   & TravelRequests
  *   & RecordingRequests
  *   & TimeRequests
- *   & OutputRequests, "bench" | "exploring" | "proving">} Requests
+ *   & OutputRequests, "bench" | "currentSearch" | "currentJudge">} Requests
  */
 
 export class BenchCalls {
@@ -48,7 +48,7 @@ export class BenchCalls {
 }
 
 /**
- * Returns the methods of a group of requests as functions that are bound to the group.
+ * Returns the methods of a group of requests by name, as functions that are bound to the group.
  * @param {object} group
  */
 function boundMethods(group) {

@@ -19,7 +19,8 @@ export class BreakpointRequests {
   }
 
   /**
-   * Sets the breakpoints. Also sets each unconditional breakpoint in the bench, so that the bench itself stops there.
+   * Sets the breakpoints. Also sets each breakpoint without a condition, a hit count and a note in the bench, so that the bench itself
+   * stops there. Resolves to the reply for the page, with the errors of breakpoints that cannot be compiled.
    * @param {LocatedBreakpoint[]} breakpoints
    * @param {{ board: string, program: string, watched?: string[] }} texts the texts that define the names in conditions; `watched` are the
    *   watch expressions

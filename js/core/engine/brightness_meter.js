@@ -25,13 +25,13 @@ import { ForecastAnswers, parseTraceLine } from "./forecast_answers.js";
  */
 
 /**
- * The maximum number of cycles that a measured run can have. At full speed, runs are longer; `forecastMeters` then forecasts the next 30 ms
- * instead.
+ * The maximum number of cycles for which planned lines are measured. At full speed, they run longer; `forecastMeters` then forecasts the
+ * next 30 ms instead.
  */
 export const MAX_MEASURED_CYCLES = 20000;
 
 /**
- * Returns whether any of `count` consecutive lamps has changed.
+ * Returns whether any of `count` consecutive lamps has changed between on and off.
  * @param {string} marks
  * @param {string} marksBefore the marks before the change
  * @param {number} first the number of the first lamp
@@ -58,7 +58,7 @@ class ChangeTimes {
   }
 
   /**
-   * Returns the times between the changes in the current interval, and starts a new interval.
+   * Returns the times between the changes in the current interval, null if nothing changed, and starts a new interval.
    * @param {number} cycles the length of the interval
    * @returns {ChangeSummary}
    */
@@ -90,7 +90,7 @@ class PatternTimes {
   }
 
   /**
-   * Records a change in the lamps' states if it changes this display.
+   * Records a change in the lamps' states if the change affects this display.
    * @param {string} marks
    * @param {string} marksBefore the marks before the change
    * @param {number} cycles the cycles before the change
@@ -208,7 +208,7 @@ export class BrightnessMeter {
   }
 
   /**
-   * Returns the query lines before a run.
+   * Returns the query to send before a run: a `trace` of the lamps for the length of the run.
    * @param {number} cycles the length of the run
    */
   queries(cycles) {

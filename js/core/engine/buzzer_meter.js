@@ -4,8 +4,8 @@
 import { ForecastAnswers, parseTraceLine } from "./forecast_answers.js";
 
 /**
- * The levels of a signal line during an interval: the length of the interval in cycles, the level at its start, and the time of each edge
- * in cycles since the start.
+ * The levels of a signal line during an interval. `cycles` is the length of the interval. `level` is the level at its start. `edges` are
+ * the times of the edges, in cycles since the start.
  * @typedef {{ cycles: number, level: number, edges: number[] }} BuzzerLevels
  */
 
@@ -28,7 +28,7 @@ export class BuzzerMeter {
   }
 
   /**
-   * Returns the query lines before a run.
+   * Returns the query to send before a run: a `trace` of the signal line for the length of the run.
    * @param {number} cycles the length of the run
    */
   queries(cycles) {
@@ -36,20 +36,20 @@ export class BuzzerMeter {
   }
 
   /**
-   * Returns the levels of the line since the previous call, from the answers to the queries before the runs. A line changes after the first
-   * cycle of an instruction.
+   * Returns the levels of the line during the runs, from the answers to the queries before the runs. A line changes after the first cycle
+   * of an instruction.
    * @param {string[][]} answerLists one list of answers for each planned line; empty for a line that is not a run
    * @returns {BuzzerLevels}
    */
   take(answerLists) {
-    const heard = { cycles: 0, level: 0, edges: /** @type {number[]} */ ([]) };
+    const levels = { cycles: 0, level: 0, edges: /** @type {number[]} */ ([]) };
     for (const answers of answerLists) {
       if (answers.length === 0) continue;
       const { row, lines, cycles } = new ForecastAnswers(answers).takeTrace();
-      if (heard.cycles === 0) heard.level = Number(row.slice(1));
-      for (const line of lines) heard.edges.push(heard.cycles + parseTraceLine(line).cycles + 1);
-      heard.cycles += cycles;
+      if (levels.cycles === 0) levels.level = Number(row.slice(1));
+      for (const line of lines) levels.edges.push(levels.cycles + parseTraceLine(line).cycles + 1);
+      levels.cycles += cycles;
     }
-    return heard;
+    return levels;
   }
 }

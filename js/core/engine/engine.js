@@ -55,15 +55,15 @@ class Instance {
   }
 
   /**
-   * Returns a buffer of at least `capacity` bytes: the given buffer, or a larger replacement.
+   * Returns a buffer of at least `capacity` bytes: `buffer` itself, or a larger replacement.
    * @param {ModuleBuffer} buffer
    * @param {number} capacity
    */
   ensureCapacity(buffer, capacity) {
     if (capacity <= buffer.capacity) return buffer;
-    const larger = this.allocate(capacity);
+    const largerBuffer = this.allocate(capacity);
     this.exports.bench_buffer_back(buffer.offset);
-    return larger;
+    return largerBuffer;
   }
 
   /**
@@ -103,7 +103,10 @@ class Instance {
     this.view(this.file, file.length).set(file);
   }
 
-  /** Returns the report of the last call: a number and a count. */
+  /**
+   * Returns the report of the last call. `number` is the exit status or an error number. `count` is the size of the answers in bytes, even
+   * if the answers do not fit into the buffer.
+   */
   readReport() {
     const report = new DataView(this.exports.memory.buffer, Number(this.report.offset), REPORT_SIZE);
     return { number: report.getUint32(0, true), count: Number(report.getBigUint64(COUNT_OFFSET, true)) };
@@ -147,7 +150,7 @@ export class Engine {
 
   /**
    * Calls the module; returns whether the call succeeded. After a trap, the memory of the instance is unreliable, so a new instance
-   * replaces it.
+   * replaces it, and this method throws BenchTrap.
    * @param {(calls: ModuleExports) => number} callModule
    */
   call(callModule) {
@@ -161,7 +164,7 @@ export class Engine {
   }
 
   /**
-   * Returns the file of a new session.
+   * Returns the file of a new session. Throws BenchRefusal if the bench has too little memory.
    * @param {Uint8Array} [target] the array to write the file to
    */
   begin(target = new Uint8Array(this.size)) {
@@ -172,16 +175,17 @@ export class Engine {
   }
 
   /**
-   * Executes lines in the session of a file. The new file contains a snapshot of the state instead of the log of commands.
+   * Executes lines in the session of a file, and returns the answers. The new file contains a snapshot of the state instead of the log of
+   * commands. Throws BenchRefusal if the file is not a session.
    * @param {Uint8Array} file
    * @param {string} lines
    * @param {Uint8Array} target the array for the new file; can be `file`
    * @returns {ServedAnswers}
    */
   serve(file, lines, target) {
-    const served = this.callForAnswers("bench_serve_and_settle", file, lines);
+    const servedAnswers = this.callForAnswers("bench_serve_and_settle", file, lines);
     target.set(this.instance.view(this.instance.file, file.length));
-    return served;
+    return servedAnswers;
   }
 
   /**
@@ -195,7 +199,7 @@ export class Engine {
   }
 
   /**
-   * Asks the prover; returns the line that the program mcs4-prove would print. The call can take hours.
+   * Asks the prover; returns the line that the program mcs4-prove would print, or `no NN` for an error. The call can take hours.
    * @param {string} question
    */
   prove(question) {
@@ -221,8 +225,8 @@ export class Engine {
     return { isDone, ...instance.readReport() };
   }
 
-  /** Does nothing. `keep` is part of the interface EngineHost, but this host has nothing to prepare for later runs. */
-  keep() {
+  /** Does nothing. `prepareForRuns` is part of the interface EngineHost, but this host has nothing to prepare for later runs. */
+  prepareForRuns() {
     // This host uses only the bytes of a state.
   }
 
@@ -243,7 +247,7 @@ export class Engine {
   }
 
   /**
-   * Calls the module to execute lines. Repeats the call with a larger buffer if the answers do not fit.
+   * Calls the module to execute lines; returns the answers. Repeats the call with a larger buffer if the answers do not fit.
    * @param {ServingCall} name
    * @param {Uint8Array} file
    * @param {string} lines
@@ -265,7 +269,7 @@ export class Engine {
 
   /**
    * Calls the module once. If the answers do not fit into the buffer, the call has no effect and `requiredSize` is the size that the buffer
-   * needs, in bytes; otherwise it is 0.
+   * needs, in bytes; otherwise it is 0. Throws BenchRefusal if the bench rejects the call.
    * @param {ServingCall} name
    * @param {Uint8Array} file
    * @param {number} inputSize the length of the lines in bytes

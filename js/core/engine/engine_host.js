@@ -15,7 +15,7 @@
  * @property {(state: State, lines: string, into: State) => ServedAnswers} serve executes lines on a state, and writes the next state into
  *   `into`, which can be the same array
  * @property {(state: State, lines: string) => ServedAnswers} ask returns the result that `serve` would return; the state does not change
- * @property {(state: State) => void} keep prepares the host for many runs from this state, so that these runs are faster
+ * @property {(state: State) => void} prepareForRuns prepares the host for many runs from this state, so that these runs are faster
  * @property {(state: State) => Uint8Array} bytesOf returns the bytes of the session file
  * @property {(bytes: Uint8Array) => State} stateOf returns the state in a session file; if the bytes are not a valid session, the next
  *   `serve` or `ask` with this state rejects them

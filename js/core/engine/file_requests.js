@@ -32,7 +32,7 @@ export class FileRequests {
    * Returns a session file that contains a snapshot of the state instead of the log of commands. Throws if the bytes are not a session.
    * @param {Uint8Array} file
    */
-  settled(file) {
+  settleFile(file) {
     const settledFile = new Uint8Array(file.length);
     this.bench.engine.serve(file, "", settledFile);
     return settledFile;
@@ -42,7 +42,7 @@ export class FileRequests {
    * Returns a new session file with the board and program of an example.
    * @param {Example} example
    */
-  make(example) {
+  createFile(example) {
     const file = this.bench.engine.begin();
     this.bench.engine.serve(file, exampleLines(example), file);
     return file;
@@ -52,7 +52,7 @@ export class FileRequests {
    * Returns source texts for a session file. The file itself contains no source texts.
    * @param {Uint8Array} file
    */
-  texts(file) {
+  recoverTexts(file) {
     return recoverTexts(this.bench.engine, file, this.bench.examples);
   }
 
@@ -68,7 +68,7 @@ export class FileRequests {
    * Returns the error in a board text, or null if there is none.
    * @param {string} boardText
    */
-  wiring(boardText) {
+  findBoardError(boardText) {
     const { engine } = this.bench;
     return readWiring(engine.ask(engine.begin(), `wiring\n${boardText}.\n`).answers[0]);
   }
@@ -77,7 +77,7 @@ export class FileRequests {
    * Returns the errors in the lines of a program.
    * @param {string} programText
    */
-  errors(programText) {
+  findLineErrors(programText) {
     const { engine } = this.bench;
     return readErrors(engine.ask(engine.begin(), `errors\n${programText}.\n`).answers);
   }

@@ -1,5 +1,5 @@
-// Adds queries before each planned run, to send them in the same call. In the answers to these queries, the bench forecasts what happens
-// during the run.
+// Adds queries before each planned run, which are sent in the same call as the run. In the answers to these queries, the bench forecasts
+// what happens during the run.
 
 import { plannedCycles } from "../debug/goal_search.js";
 import { ForecastAnswers } from "./forecast_answers.js";
@@ -53,7 +53,7 @@ export function splitAnswers(plannedLines, querySources, allAnswers) {
     }
     querySources.forEach(({ count }, index) => {
       const from = answers.nextIndex;
-      for (let question = 0; question < count; question++) answers.takeTrace();
+      for (let query = 0; query < count; query++) answers.takeTrace();
       sourceAnswers[index].push(allAnswers.slice(from, answers.nextIndex));
     });
     lineAnswers.push(answers.take());

@@ -18,12 +18,14 @@ const HIDDEN_REPORT_INTERVAL = 1000;
 
 /**
  * Returns an empty report. `end` is the answer that ended the run early ("" for none), `stop` is the reason why the machine stopped, and
- * `tally` contains the breakpoint events. At full speed, the lamps (`litShares`), the buzzer (`heard`) and RAM changes (`warmed`) are not
- * measured.
+ * `tally` contains the breakpoint events. The batches do not measure the lamps (`litShares`), the buzzer (`buzzerLevels`) and RAM changes
+ * (`chipHeat`).
  * @returns {Omit<DebugFrame, "runEntries">}
  */
 function emptyFrame() {
-  return { cycles: 0, end: "", stop: null, tally: NO_TALLY, changesKeys: false, snapshot: [], litShares: null, heard: null, warmed: null };
+  return {
+    cycles: 0, end: "", stop: null, tally: NO_TALLY, changesKeys: false, snapshot: [], litShares: null, buzzerLevels: null, chipHeat: null,
+  };
 }
 
 export class FullSpeed {
@@ -37,7 +39,7 @@ export class FullSpeed {
   }
 
   /**
-   * Starts full speed.
+   * Starts to run the machine at full speed.
    * @param {boolean} isHidden true if the page is hidden; it then gets fewer reports
    */
   start(isHidden) {
@@ -65,8 +67,8 @@ export class FullSpeed {
       cycles: cycles + frame.cycles, end, stop, snapshot, tally: joinTallies(tally, frame.tally),
       changesKeys: changesKeys || frame.changesKeys,
       litShares: null,
-      heard: null,
-      warmed: null,
+      buzzerLevels: null,
+      chipHeat: null,
     };
     if (stop) this.isOn = false;
     const targetCycles = this.batchCycles * Math.min(2, Math.max(0.5, BATCH_MILLISECONDS / Math.max(1, time)));
@@ -74,7 +76,7 @@ export class FullSpeed {
   }
 
   /**
-   * Returns whether to send a report to the page now.
+   * Returns whether to send a report to the page now. At the end of full speed, the last report is always due.
    * @param {boolean} isPageReady true if the page is ready for another report
    */
   isReportDue(isPageReady) {

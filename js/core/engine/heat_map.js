@@ -59,31 +59,32 @@ export function nibbleGroups({ banks }) {
 function findStart(timeline, cycles) {
   const moment = timeline.before(cycles);
   if (moment) return moment;
-  let { segment } = timeline.end;
+  let { segment } = timeline.presentMoment;
   while (timeline.segments[segment].follows) segment -= 1;
   return { segment, entry: 0, cycles: 0 };
 }
 
 /** Counts the changes of each RAM nibble. */
 export class ChangeCounter {
-  /** @param {string[][]} groups */
+  /** @param {string[][]} groups the names of the RAM nibbles, in groups; one `trace` query reports a group */
   constructor(groups) {
     this.groups = groups;
     /** The number of cycles in which changes were counted so far. */
     this.cycles = 0;
-    /** @type {Map<string, HeatCell & { changeTime: number }>} */
+    /** @type {Map<string, HeatCell & { changeTime: number }>} the changed nibbles by name; `changeTime` is the cycle of the last change */
     this.cells = new Map();
   }
 
   /**
+   * Counts a change for each nibble of the group whose value has changed.
    * @param {Omit<PastChange, "unit">} change
-   * @param {number} unitStart the number of cycles before the unit that contains the change
+   * @param {number} unitStart the number of counted cycles before the unit that contains the change
    */
   add({ group, before, after, cycles, address, line }, unitStart) {
     const oldValues = rowValues(before);
-    rowValues(after).forEach((value, number) => {
-      if (value === oldValues[number]) return;
-      const place = this.groups[group][number];
+    rowValues(after).forEach((value, index) => {
+      if (value === oldValues[index]) return;
+      const place = this.groups[group][index];
       const { count } = this.cells.get(place) || { count: 0 };
       this.cells.set(place, { place, count: count + 1, cyclesAgo: 0, changeTime: unitStart + cycles, address, line });
     });
@@ -105,7 +106,7 @@ export class ChangeCounter {
     reportChanges(engine, file, units, this.groups, (change) => this.add(change, unitStarts.get(change.unit) || 0));
   }
 
-  /** @returns {Heat} */
+  /** @returns {Heat} the changes counted so far */
   get heat() {
     const cells = [...this.cells.values()].map(({ changeTime, ...cell }) => ({ ...cell, cyclesAgo: this.cycles - changeTime }));
     return { cycles: this.cycles, cells };
@@ -113,7 +114,7 @@ export class ChangeCounter {
 }
 
 /**
- * Resolves to the heat map for the last `cycles` cycles.
+ * Resolves to the heat map for the last `cycles` cycles. Throws CancelledError if `shouldContinue` resolves to false.
  * @param {Engine} engine
  * @param {Timeline} timeline
  * @param {Board} board
@@ -126,11 +127,11 @@ export async function measureHeat(engine, timeline, board, cycles, shouldContinu
   const counter = new ChangeCounter(groups);
   if (groups.length === 0) return counter.heat;
   const maxCycles = Math.max(FIRST_PIECE_CYCLES, Math.floor(SEARCH_PIECE_CYCLES / groups.length));
-  const { end } = timeline;
+  const { presentMoment } = timeline;
   let from = findStart(timeline, cycles);
-  for (; from.segment <= end.segment; from = { segment: from.segment + 1, entry: 0, cycles: 0 }) {
+  for (; from.segment <= presentMoment.segment; from = { segment: from.segment + 1, entry: 0, cycles: 0 }) {
     const { entries } = timeline.segments[from.segment];
-    const to = from.segment === end.segment ? end : { segment: from.segment, entry: entries.length, cycles: 0 };
+    const to = from.segment === presentMoment.segment ? presentMoment : { segment: from.segment, entry: entries.length, cycles: 0 };
     const { file } = await timeline.sessionAt(engine, from, shouldContinue);
     for (const units of splitIntoPieces(splitUnits(unitsBetween(timeline, from, to), maxCycles), maxCycles, SEARCH_PIECE_UNITS)) {
       counter.countChanges(engine, file, units);

@@ -1,5 +1,5 @@
-// Reports the RAM nibbles that change while the machine runs, from the answers to `trace` queries before each run. Watches one RAM chip per
-// frame, so that the work per frame does not grow with the number of chips.
+// Counts the changes of RAM nibbles while the machine runs, from the answers to `trace` queries before each run. Each frame watches one RAM
+// chip, so that the work per frame does not grow with the number of chips.
 
 import { ChangeCounter, GROUPS_PER_CHIP, nibbleGroups } from "./heat_map.js";
 import { ForecastAnswers, parseTraceLine } from "./forecast_answers.js";
@@ -8,20 +8,21 @@ import { ForecastAnswers, parseTraceLine } from "./forecast_answers.js";
  * @typedef {import("../bench/answers.js").Board} Board
  * @typedef {import("./heat_map.js").Heat} Heat
  *
- * The changes in one RAM chip. `chips` is the number of all RAM chips on the board.
- * @typedef {Heat & { chips: number }} ChipHeat
+ * The changes in one RAM chip. `chipCount` is the number of all RAM chips on the board.
+ * @typedef {Heat & { chipCount: number }} ChipHeat
  */
 
 export class HeatMeter {
   /** @param {Board} board */
   constructor(board) {
     const groups = nibbleGroups(board);
-    this.chips = groups.length / GROUPS_PER_CHIP;
+    this.chipCount = groups.length / GROUPS_PER_CHIP;
     this.allGroups = groups;
     /** The index of the chip that is currently watched. */
     this.chip = 0;
   }
 
+  /** The groups of nibbles in the watched chip. */
   get groups() {
     return this.allGroups.slice(this.chip * GROUPS_PER_CHIP, (this.chip + 1) * GROUPS_PER_CHIP);
   }
@@ -39,7 +40,7 @@ export class HeatMeter {
   }
 
   /**
-   * Returns the query lines before a run.
+   * Returns the queries to send before a run: a `trace` of each group of nibbles in the watched chip.
    * @param {number} cycles the length of the run
    */
   queries(cycles) {
@@ -54,8 +55,8 @@ export class HeatMeter {
   take(answerLists) {
     const counter = new ChangeCounter(this.groups);
     for (const answers of answerLists) if (answers.length > 0) this.add(counter, new ForecastAnswers(answers));
-    this.chip = (this.chip + 1) % this.chips;
-    return { ...counter.heat, chips: this.chips };
+    this.chip = (this.chip + 1) % this.chipCount;
+    return { ...counter.heat, chipCount: this.chipCount };
   }
 
   /**

@@ -13,7 +13,7 @@ export const MAX_RUN_CYCLES = 100000;
  */
 export function runLines(cycles) {
   let lines = "";
-  for (let left = cycles; left > 0; left -= MAX_RUN_CYCLES) lines += `run ${Math.min(left, MAX_RUN_CYCLES)}\n`;
+  for (let cyclesLeft = cycles; cyclesLeft > 0; cyclesLeft -= MAX_RUN_CYCLES) lines += `run ${Math.min(cyclesLeft, MAX_RUN_CYCLES)}\n`;
   return lines;
 }
 
@@ -73,9 +73,9 @@ export class KeyQueue {
     /** @type {PlannedLine[]} */
     const plannedLines = [];
     let { remainingWait } = this;
-    let remaining = cycles;
+    let cyclesLeft = cycles;
     let nextChange = 0;
-    while (remaining > 0) {
+    while (cyclesLeft > 0) {
       const change = this.changes[nextChange];
       if (change && remainingWait === 0) {
         plannedLines.push({ line: keyLine(change.word, change.key), change });
@@ -83,9 +83,9 @@ export class KeyQueue {
         nextChange += 1;
       }
       const maxRun = this.changes[nextChange] ? Math.min(remainingWait, MAX_RUN_CYCLES) : MAX_RUN_CYCLES;
-      const run = Math.min(remaining, maxRun);
+      const run = Math.min(cyclesLeft, maxRun);
       plannedLines.push({ line: `run ${run}`, change: null });
-      remaining -= run;
+      cyclesLeft -= run;
       remainingWait = Math.max(0, remainingWait - run);
     }
     return plannedLines;

@@ -1,5 +1,6 @@
 // Records the signal lines of a board while the machine runs. The recorder adds queries before each run, and the bench forecasts the run.
-// The recorder can stop the machine only at the end of a triggered recording. The page receives the recording in parts.
+// The recorder can stop the machine only at the end of a triggered recording. The page receives the recording in parts. A moment is a
+// number of cycles since the start of the recording.
 
 import { readBoard, readRun } from "../bench/answers.js";
 import { ADDRESS_COUNT } from "../bench/rom_bytes.js";
@@ -24,8 +25,13 @@ import { RECORDING_PIECE_CYCLES, RECORDING_PIECE_UNITS } from "./piece_size.js";
  * @typedef {{ cyclesAfterTrigger: number, stopsMachine: boolean }} LiveSetup
  *
  * A part of a recording. `triggerMoment`: the moment of the trigger, -1 before the trigger. `endReason`: the reason why the recording
- * ended, or "" while it continues. The reasons are: the user ended it ("hand"), it is complete ("trigger"), the board or the program
- * changed ("board", "program"), the session moved in time ("back"), too many lines were entered ("lines"), or it is too long ("long").
+ * ended, or "" while it continues. The reasons are:
+ * - "hand": the user ended the recording;
+ * - "trigger": the recording is complete;
+ * - "board", "program": the board or the program changed;
+ * - "back": the session moved in time;
+ * - "lines": too many lines were entered, or the lines ran too many cycles;
+ * - "long": the recording is too long.
  * @typedef {RecordedPart & { triggerMoment: number, endReason: string }} LivePart
  */
 
@@ -50,7 +56,7 @@ export class LiveRecorder {
     this.options = { cyclesAfterTrigger: 0, stopsMachine: false };
     this.triggerMoment = -1;
     this.endReason = "";
-    /** True if the trigger condition was true at the last check. At first true, because only a change to true triggers. */
+    /** True if the trigger condition was true at the last check. The initial value is true, because only a change to true triggers. */
     this.wasTrue = true;
     /** True if the machine must stop because the recording is complete. */
     this.mustStopMachine = false;
@@ -71,12 +77,13 @@ export class LiveRecorder {
     this.tracedPlaces = trigger && trigger.places.length > 0 && trigger.address < 0 ? trigger.places.join(" ") : "";
   }
 
+  /** True until the recording ends. */
   get isOn() {
     return this.endReason === "";
   }
 
   /** The moment at which the recording ends; Infinity before the trigger. */
-  get end() {
+  get endMoment() {
     return this.triggerMoment < 0 ? Infinity : this.triggerMoment + this.options.cyclesAfterTrigger;
   }
 
@@ -85,8 +92,8 @@ export class LiveRecorder {
    * @param {Uint8Array} file
    * @returns {Recording}
    */
-  recorded(file) {
-    return { ...this.part(file), lines: this.lines, program: this.texts.program };
+  takeRecording(file) {
+    return { ...this.takePart(file), lines: this.lines, program: this.texts.program };
   }
 
   /**
@@ -94,7 +101,7 @@ export class LiveRecorder {
    * @param {Uint8Array} file
    * @returns {LivePart}
    */
-  part(file) {
+  takePart(file) {
     const part = this.builder.take();
     const newAddresses = [...new Set(part.counters)].filter((address) => this.listedAddresses[address] === 0);
     for (const address of newAddresses) this.listedAddresses[address] = 1;
@@ -103,7 +110,7 @@ export class LiveRecorder {
   }
 
   /**
-   * Ends the recording.
+   * Ends the recording, unless it has already ended.
    * @param {string} reason the reason, as in `endReason` of LivePart
    */
   stop(reason) {
@@ -113,7 +120,7 @@ export class LiveRecorder {
   // --- While the machine runs ---
 
   /**
-   * Returns the queries before a run.
+   * Returns the queries to send before a run.
    * @param {number} cycles the length of the run
    */
   queries(cycles) {
@@ -174,8 +181,8 @@ export class LiveRecorder {
   }
 
   /**
-   * Checks the trigger condition at a moment.
-   * @param {string[]} values
+   * Checks the trigger condition at a moment. If the condition became true, sets the trigger moment.
+   * @param {string[]} values the values of the traced places
    * @param {number} moment
    */
   checkCondition(values, moment) {
@@ -214,27 +221,28 @@ export class LiveRecorder {
   }
 
   /**
-   * Ends the recording if it is complete. Returns the number of cycles after `startMoment` at which the machine must stop, which is the
+   * Ends the recording if it is complete or too long. Returns the number of cycles after `startMoment` at which the machine must stop: the
    * start of the next instruction. Returns -1 if the machine continues.
    * @param {number} startMoment
    * @param {number} earlierCount the number of instructions before `startMoment`
    */
   endIfComplete(startMoment, earlierCount) {
-    const { builder, end, options } = this;
+    const { builder, endMoment, options } = this;
     if (builder.elapsed >= MAX_MOMENT) this.stop("long");
     if (this.triggerMoment >= 0) this.tracedPlaces = "";
-    if (builder.elapsed < end) return -1;
+    if (builder.elapsed < endMoment) return -1;
     this.stop("trigger");
     if (!options.stopsMachine) return -1;
     this.mustStopMachine = true;
-    const next = builder.moments.all.subarray(earlierCount).find((moment) => moment >= end);
+    const next = builder.moments.all.subarray(earlierCount).find((moment) => moment >= endMoment);
     return (next === undefined ? builder.elapsed : next) - startMoment;
   }
 
   // --- While the machine is paused ---
 
   /**
-   * Records the effect of lines that were executed while the machine was paused, by executing them again on a copy of the session.
+   * Records the effect of lines that were executed while the machine was paused, by executing the lines again on a copy of the session.
+   * Ends the recording if a line changed the board or the program.
    * @param {Uint8Array} file a copy of the session file before the lines; changed
    * @param {AcceptedCommand[]} commands
    */
@@ -247,8 +255,8 @@ export class LiveRecorder {
       const end = Math.min(commands.length, startIndex + RECORDING_PIECE_UNITS);
       for (let cycles = 0; index < end && cycles < RECORDING_PIECE_CYCLES; index++) cycles += commands[index].cycles;
       const plannedLines = commands.slice(startIndex, index).map(replayLine);
-      const served = engine.serve(file, `${linesWithQueries(plannedLines, [this])}state\n`, file);
-      const { sourceAnswers: [tracedAnswers], answers } = splitAnswers(plannedLines, [this], served.answers);
+      const { answers: allAnswers } = engine.serve(file, `${linesWithQueries(plannedLines, [this])}state\n`, file);
+      const { sourceAnswers: [tracedAnswers], answers } = splitAnswers(plannedLines, [this], allAnswers);
       this.take(plannedLines, tracedAnswers, answers);
       this.mustStopMachine = false;
     }

@@ -6,7 +6,7 @@ import { NO_TALLY, joinTallies } from "../debug/debugger.js";
 import { collectWatchNames } from "../debug/watch_expressions.js";
 import { SourceMap } from "../machine/source_map.js";
 import { sentText } from "../text/sendable_text.js";
-import { recordedProgram } from "../waves/wave_program.js";
+import { createProgramFromCheck } from "../waves/wave_program.js";
 import { FullSpeed } from "./full_speed.js";
 import { findDifference, readProgram } from "./program_check.js";
 
@@ -33,7 +33,7 @@ export class OpenBench {
   /** @param {ShouldContinue} shouldContinue */
   constructor(shouldContinue) {
     this.shouldContinue = shouldContinue;
-    /** @type {ArrayBuffer[]} the buffers in which files are sent to the page; the page returns them */
+    /** @type {ArrayBuffer[]} unused buffers for the files that are sent to the page; the page returns the buffers */
     this.spareBuffers = [];
     this.fullSpeed = new FullSpeed();
     /** @type {Engine | null} */
@@ -63,21 +63,23 @@ export class OpenBench {
   }
 
   /**
-   * Returns the current state of the session for the page, with the session file in a transferable buffer.
+   * Returns the current state of the session for the page, with the session file in a transferable buffer. Also returns the changes since
+   * the previous call.
    * @param {string[]} snapshot
    * @param {boolean} showsBoard true to include the answer to `board`
    * @returns {PageState}
    */
   snapshotReport(snapshot, showsBoard) {
-    const { file, statusQueries, count, timeline, printing, queue } = this.session;
+    const { file, statusQueries, count, timeline, printerCodes, queue } = this.session;
     const buffer = this.spareBuffers.pop() || new ArrayBuffer(file.length);
     new Uint8Array(buffer).set(file);
     const board = showsBoard ? statusQueries.board : null;
     const waves = this.recordedPart();
     const past = timeline.takeChanges();
-    const printed = printing && printing.takeChanges(count.total);
+    const printed = printerCodes && printerCodes.takeChanges(count.total);
     const { total, reset } = count;
-    return { snapshot, file: buffer, board, total, reset, future: timeline.future.length, past, waves, printed, waiting: queue.changes };
+    const futureCount = timeline.future.length;
+    return { snapshot, file: buffer, board, total, reset, futureCount, past, waves, printed, waitingChanges: queue.changes };
   }
 
   /** Returns the part of the recording since the last report; null without a recording. */
@@ -86,11 +88,11 @@ export class OpenBench {
     const { recorder, file } = session;
     if (!recorder) return null;
     if (!recorder.isOn) session.recorder = null;
-    return recorder.part(file);
+    return recorder.takePart(file);
   }
 
   /**
-   * Executes lines in the session, either all or none.
+   * Executes lines in the session, either all or none. Resolves to their result, with the new state for the page.
    * @param {string} lines
    * @returns {Promise<LinesReply>}
    */
@@ -106,9 +108,9 @@ export class OpenBench {
   async executeAndReport(serve) {
     const { reset } = this.session.count;
     const { snapshot, ...result } = await serve();
-    this.debugger.commonMistakes.forget();
+    this.debugger.commonMistakes.forgetRom();
     // A reset clears the return addresses.
-    if (this.session.count.reset !== reset) this.debugger.begin();
+    if (this.session.count.reset !== reset) this.debugger.beginMove();
     return { ...result, ...this.snapshotReport(snapshot, result.wires) };
   }
 
@@ -118,7 +120,7 @@ export class OpenBench {
    */
   replyWithoutServing() {
     const report = this.snapshotReport(this.session.takeSnapshot(), false);
-    return { entries: [], first: "", status: 0, hasChangedRom: false, wires: false, ...report };
+    return { entries: [], firstAnswer: "", status: 0, hasChangedRom: false, wires: false, ...report };
   }
 
   /**
@@ -141,9 +143,9 @@ export class OpenBench {
    * @param {{ board: string, program: string, watched?: string[] }} texts
    */
   collectNames({ board, program, watched }) {
-    const sent = sentText(program, ";");
-    const { map } = this.checkProgram(sent);
-    return { face: new Face(board), board: readBoard(this.session.statusQueries.board), map: new SourceMap(map, sent),
+    const sentProgram = sentText(program, ";");
+    const { map } = this.checkProgram(sentProgram);
+    return { face: new Face(board), board: readBoard(this.session.statusQueries.board), map: new SourceMap(map, sentProgram),
       watched: collectWatchNames(watched) };
   }
 
@@ -152,7 +154,7 @@ export class OpenBench {
    * @param {WaveTexts} texts
    */
   recordingTexts({ board, program, values = [] }) {
-    return { board, program: recordedProgram(this.checkProgram(sentText(program, ";")), program), values };
+    return { board, program: createProgramFromCheck(this.checkProgram(sentText(program, ";")), program), values };
   }
 
   /**
@@ -175,7 +177,7 @@ export class OpenBench {
    * limits the number of unprocessed reports.
    * @returns {Frame | null}
    */
-  batch() {
+  runBatch() {
     this.fullSpeed.runBatch(this.debugger);
     if (!this.fullSpeed.isReportDue(this.spareBuffers.length > 0)) return null;
     const { snapshot, ...result } = this.fullSpeed.takeReport();

@@ -21,7 +21,7 @@ export class OutputRequests {
   /**
    * Starts reports on lamp brightness while the machine runs, if the board has lamps.
    * @param {string} boardText the board text with the front panel
-   * @param {number} number the number by which the page identifies the front panel; the reports repeat this number
+   * @param {number} number the page's number for the front panel; the reports repeat this number
    */
   watchLamps(boardText, number) {
     if (!this.bench.currentDebugger) return;
@@ -53,13 +53,15 @@ export class OutputRequests {
    */
   printOn(printer) {
     if (!this.bench.currentDebugger) return;
-    const { printing } = this.bench.session;
-    if (!printer) this.bench.session.printing = null;
-    else if (!printing || !printing.isSamePrinter(printer)) this.bench.session.printing = new PrinterCodes({ ...printer, codes: [] });
+    const { printerCodes } = this.bench.session;
+    if (!printer) this.bench.session.printerCodes = null;
+    else if (!printerCodes || !printerCodes.isSamePrinter(printer)) {
+      this.bench.session.printerCodes = new PrinterCodes({ ...printer, codes: [] });
+    }
   }
 
   /** Clears the printout. */
   clearPrintout() {
-    if (this.bench.session.printing) this.bench.session.printing.clear();
+    if (this.bench.session.printerCodes) this.bench.session.printerCodes.clear();
   }
 }

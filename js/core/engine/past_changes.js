@@ -8,9 +8,9 @@ import { ForecastAnswers, parseTraceLine } from "./forecast_answers.js";
  * @typedef {import("./forecast_answers.js").Trace} Trace
  * @typedef {import("./replay_units.js").Unit} Unit
  *
- * A change in a group of values: the trace rows before and after the change, the unit with the change, and the number of cycles from the
- * start of the unit to the change. `address` is the address of the instruction that made the change, or -1 if the command `line` made the
- * change.
+ * A change in a group of values. `before` and `after` are the trace rows before and after the change. `unit` is the unit with the change,
+ * and `cycles` is the number of cycles from the start of the unit to the start of the instruction that made the change. `address` is the
+ * address of this instruction, or -1 if the command `line` made the change.
  * @typedef {{ group: number, before: string, after: string, unit: Unit, cycles: number, address: number, line: string }} PastChange
  */
 
@@ -37,11 +37,11 @@ function traceUnits(engine, file, units, groups) {
 /**
  * Replays units of the past on a session file, and reports each change of the watched values.
  * @param {Engine} engine
- * @param {Uint8Array} file
+ * @param {Uint8Array} file the session file; changed to the state after the units
  * @param {Unit[]} units
  * @param {string[][]} groups the places to watch, in groups that fit into one `trace`
- * @param {(change: PastChange) => void} report called for each change; the changes of the first group come first, in order, then those of
- *   the next group
+ * @param {(change: PastChange) => void} report called for each change: for the changes of the first group in order, then for those of the
+ *   next group
  */
 export function reportChanges(engine, file, units, groups, report) {
   const traces = traceUnits(engine, file, units, groups);

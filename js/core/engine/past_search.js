@@ -1,5 +1,5 @@
-// Finds the target of a move back: the last stop, the start of the last instruction, the moment before the last change of a place, or the
-// moment before a condition became true. (For the last arrival at a breakpoint, see last_arrival.js.)
+// Finds the target of a move back. The target is the last stop, the start of the last instruction, the moment before the last change of a
+// place, or the moment before a condition became true. (For the last arrival at a breakpoint, see last_arrival.js.)
 
 import { readBoard, readCounter } from "../bench/answers.js";
 import { CancelledError } from "../bench/bench_errors.js";
@@ -19,17 +19,18 @@ import { sumCycles, splitIntoPieces, unitsBetween } from "./replay_units.js";
  * @typedef {import("./replay_units.js").Unit} Unit
  *
  * The target of a move back. "stop": the last moment at which the machine was paused. "instruction": the start of the last instruction.
- * "change": the moment before the last change of `place`. "arrival": the last breakpoint, or the moment before a change of a watched value
- * or of `place` ("" for none). "when": the moment before a condition became true; `searchCondition` is the compiled condition. "call": the
- * call of a subroutine that has not returned, given by the address of its JMS and the return addresses before the call.
+ * "change": the moment before the last change of `place`. "arrival": the last arrival at a breakpoint, or the moment before a change of a
+ * watched value or of `place` ("" for none). "when": the moment before a condition became true; `searchCondition` is the compiled
+ * condition. "call": the call of a subroutine that has not returned, given by the address of its JMS and the return addresses before the
+ * call.
  * @typedef {{ kind: "stop" } | { kind: "instruction" } | { kind: "change", place: string } | { kind: "arrival", place: string }
  *   | { kind: "when", condition: string, searchCondition?: import("../debug/condition_search.js").SearchCondition }
  *   | { kind: "call", call: number, returns: string[] }} BackGoal
  *
- * The result of a search of the past. If nothing was found, `moment` is null and `reason` is: the past is too short ("short"), or
- * the board does not have the place ("lacks"). For a change, the result has the changed place, the old value (`from`), the new value
- * (`to`), and the command that made the change (`line`, "" for an instruction). For an arrival, `end` is its kind: a breakpoint (with its
- * `id`), a change, or the start of the stored past. `present` is the session at `moment`, null if not known.
+ * The result of a search of the past. If nothing was found, `moment` is null and `reason` is: the past is too short ("short"), or the board
+ * does not have the place ("lacks"). For a change, the result has the changed place, the old value (`from`), the new value (`to`), and the
+ * command that made the change (`line`, "" for an instruction). For an arrival, `end` is its kind: a breakpoint (with its `id`), a change,
+ * or the start of the stored past. `present` is the session at `moment`, null if not known.
  * @typedef {{ moment: Moment | null, reason: "" | "short" | "lacks", place: string, from: string, to: string, line: string,
  *   end: "" | "break" | "change" | "beginning", id: number, present: import("./timeline.js").SessionAtMoment | null }} BackSearchResult
  *
@@ -51,7 +52,7 @@ const MAX_BLOCK_CYCLES = 4000000;
 export const EMPTY_SEARCH_RESULT = { reason: "", place: "", from: "", to: "", line: "", end: "", id: 0 };
 
 /**
- * Returns a search result with the given fields; the other fields are null or empty.
+ * Returns a search result with these fields; the other fields are null or empty.
  * @param {Partial<BackSearchResult>} fields
  * @returns {BackSearchResult}
  */
@@ -60,8 +61,8 @@ export function searchResult(fields) {
 }
 
 /**
- * Resolves to the start of the last instruction. This instruction started one cycle ago, or two cycles ago if the last cycle was its second
- * cycle.
+ * Resolves to a search result with the start of the last instruction. This instruction started one cycle ago, or two cycles ago if the last
+ * cycle was its second cycle.
  * @param {Engine} engine
  * @param {Timeline} timeline
  * @param {ShouldContinue} shouldContinue
@@ -76,12 +77,12 @@ async function findLastInstruction(engine, timeline, shouldContinue) {
   return searchResult({ reason: "short" });
 }
 
-/** Finds the last change of a place. */
+/** Finds the last change of a place. A result has the moment before the instruction or command that made the change. */
 export class LastChangeFinder {
   /**
    * @param {Engine} engine
-   * @param {Place | null} place
-   * @param {string[]} probes
+   * @param {Place | null} place null in a subclass that searches for something else
+   * @param {string[]} probes the places to trace
    */
   constructor(engine, place, probes) {
     this.engine = engine;
@@ -111,7 +112,7 @@ export class LastChangeFinder {
   /**
    * Returns the result fields that describe a change; null if the change is not one that this finder looks for.
    * @param {string} rowBefore the trace row before the change
-   * @param {string} rowAfter
+   * @param {string} rowAfter the trace row after the change
    * @returns {Partial<BackSearchResult> | null}
    */
   changeBetween(rowBefore, rowAfter) {
@@ -122,7 +123,7 @@ export class LastChangeFinder {
   }
 }
 
-/** Finds the last moment at which a condition became true. */
+/** Finds the last moment before a condition became true. */
 class LastTrueFinder extends LastChangeFinder {
   /**
    * @param {Engine} engine
@@ -143,7 +144,8 @@ class LastTrueFinder extends LastChangeFinder {
 }
 
 /**
- * Resolves to the last match in the past. The search goes back from the present, block by block.
+ * Resolves to the last match in the past. The search goes back from the present, block by block. Throws CancelledError if `shouldContinue`
+ * resolves to false.
  * @param {Engine} engine
  * @param {Timeline} timeline
  * @param {Finder} finder
@@ -151,7 +153,7 @@ class LastTrueFinder extends LastChangeFinder {
  * @returns {Promise<{ lastMatch: BackSearchResult | null, start: Moment }>} `start` is the start of the stored past
  */
 export async function searchPast(engine, timeline, finder, shouldContinue) {
-  let to = timeline.end;
+  let to = timeline.presentMoment;
   for (let size = FIRST_BLOCK_CYCLES; ; size = Math.min(MAX_BLOCK_CYCLES, size * BLOCK_GROWTH)) {
     // At the start of a segment, the search continues at the end of the previous segment.
     if (to.entry === 0 && to.cycles === 0) {
@@ -186,7 +188,7 @@ export function makeChangeFinder(engine, file, name) {
 }
 
 /**
- * Resolves to the target moment of a move back.
+ * Resolves to a search result with the target moment of a move back, or with the `reason` why there is none.
  * @param {Engine} engine
  * @param {{ timeline: Timeline, file: Uint8Array }} session
  * @param {Exclude<BackGoal, { kind: "arrival" | "call" }>} goal

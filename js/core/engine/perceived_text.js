@@ -15,7 +15,7 @@ import { BrightnessMeter } from "./brightness_meter.js";
 export const LAMPS_FORECAST_QUERY = `trace ${EYE_CYCLES} lamps\n`;
 
 /**
- * Returns whether a front panel has a multiplexed display. The digits of such a display are never all lit at the same instant.
+ * Returns whether a front panel has a multiplexed display. The digits of such a display are not all on at the same instant.
  * @param {Face} face
  */
 export function hasScannedDisplay(face) {
@@ -55,7 +55,7 @@ export class PerceivedText {
   }
 
   /**
-   * Returns the text that a person reads from displays and lamps with a given brightness.
+   * Returns the text that a person reads from displays and lamps with this brightness.
    * @param {Brightness} brightness
    */
   readBrightness(brightness) {

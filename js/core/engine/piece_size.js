@@ -26,7 +26,7 @@ export class PieceSize {
   }
 
   /**
-   * Runs a piece, and computes the size of the next piece from the duration of this one.
+   * Runs a piece and returns its result. Computes the size of the next piece from the duration of this one.
    * @template Result
    * @param {() => Result} runPiece
    * @returns {Result}

@@ -24,7 +24,7 @@ export class PrinterCodes {
     this.strobe = strobe;
     this.port = port;
     this.codes = [...codes];
-    /** The number of codes and the cycle count of the last code in the last report, as text. */
+    /** The number of codes in the last report, and the cycle count of the last code, as text. */
     this.lastReportKey = "";
   }
 
@@ -43,7 +43,7 @@ export class PrinterCodes {
   }
 
   /**
-   * Returns the printout if it has changed since the previous report, otherwise null.
+   * Returns the printout if it has changed since the previous call, otherwise null. The printout has the codes up to the current cycle.
    * @param {number} total the current cycle count
    * @returns {PrintoutData | null}
    */
@@ -78,7 +78,7 @@ export class PrinterCodes {
   }
 
   /**
-   * Returns the query lines before a run.
+   * Returns the query to send before a run: a `trace` of the strobe line and the code port.
    * @param {number} cycles the length of the run
    */
   queries(cycles) {
@@ -86,7 +86,8 @@ export class PrinterCodes {
   }
 
   /**
-   * Reads the codes from the answers to the queries before the runs. An instruction takes effect after its first cycle.
+   * Reads the codes from the answers to the queries before the runs. An instruction takes effect after its first cycle. Removes stored
+   * codes that were sent after `total`, and the oldest codes above MAX_CODES.
    * @param {string[][]} answerLists one list of answers for each planned line; empty for a line that is not a run
    * @param {number} total the cycle count before the first line
    */

@@ -1,4 +1,4 @@
-// Compares a program text with ROM: a separate session with all ROMs assembles the text, and this module compares the bytes.
+// Compares a program text with ROM. A separate session with all 16 ROMs assembles the text, and this module compares the bytes.
 
 import { readBoard, readMap, parseRefusal } from "../bench/answers.js";
 import { matchAnswers, readInputs } from "../bench/inputs.js";
@@ -15,6 +15,8 @@ import { MAX_SENT_LENGTH, TEXT_TOO_LONG } from "../text/sendable_text.js";
  *
  * The first address at which ROM differs from the program; `hasRom` is false if the board has no ROM at that address.
  * @typedef {{ address: number, hasRom: boolean }} Difference
+ *
+ * The `map` answer for a program text, the error in the text (null for none), and its first difference from ROM (null for none).
  * @typedef {{ map: string[], refusal: Refusal | null, difference: Difference | null }} ProgramCheck
  */
 
@@ -44,8 +46,8 @@ export function readProgram(engine, text) {
   if (sendingError) return { text, map: [], refusal: sendingError, bytes: parseRomBytes([]) };
   const textWithLineEnd = text === "" || text.endsWith("\n") ? text : `${text}\n`;
   const lines = `${ALL_ROMS}asm\n${textWithLineEnd}.\nmap\n${textWithLineEnd}.\n${listQueries(PAGE_NUMBERS)}`;
-  const [, loaded, map, ...lists] = matchAnswers(readInputs(lines), engine.ask(engine.begin(), lines).answers);
-  const refusal = parseRefusal(loaded[0]) || parseRefusal(map[0]);
+  const [, asmAnswer, map, ...lists] = matchAnswers(readInputs(lines), engine.ask(engine.begin(), lines).answers);
+  const refusal = parseRefusal(asmAnswer[0]) || parseRefusal(map[0]);
   const bytes = parseRomBytes(refusal ? [] : lists.flat());
   const isFilled = filledAddresses(map);
   return { text, map: refusal ? [] : map, refusal, bytes: bytes.map((byte, address) => (isFilled[address] ? byte : NO_BYTE)) };
@@ -53,7 +55,7 @@ export function readProgram(engine, text) {
 
 /**
  * Returns an array with 1 for each address at which a program has a byte, otherwise 0.
- * @param {string[]} map
+ * @param {string[]} map the answer to `map`
  */
 function filledAddresses(map) {
   const isFilled = new Uint8Array(ADDRESS_COUNT);
@@ -70,8 +72,8 @@ function filledAddresses(map) {
  */
 export function findLeftovers(engine, file, program) {
   const bytes = parseRomBytes(engine.ask(file, listQueries(PAGE_NUMBERS)).answers);
-  const left = indices(ADDRESS_COUNT).filter((address) => program.bytes[address] === NO_BYTE && bytes[address] > 0);
-  return { size: program.bytes.filter((byte) => byte !== NO_BYTE).length, remainingAddresses: left };
+  const remainingAddresses = indices(ADDRESS_COUNT).filter((address) => program.bytes[address] === NO_BYTE && bytes[address] > 0);
+  return { size: program.bytes.filter((byte) => byte !== NO_BYTE).length, remainingAddresses };
 }
 
 /**

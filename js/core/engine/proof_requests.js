@@ -11,7 +11,7 @@ export class ProofRequests {
   constructor(bench) {
     this.bench = bench;
     /** @type {import("../prove/property_judge.js").PropertyJudge | null} the proof in progress; null if none has started */
-    this.proving = null;
+    this.currentJudge = null;
   }
 
   /**
@@ -22,22 +22,24 @@ export class ProofRequests {
    */
   prove(texts, maxStates) {
     const { bench } = this;
-    const { proving, errors } = beginProving(bench.engine, texts, maxStates, {
-      seen: async (states) => {
+    const { proving: judge, errors } = beginProving(bench.engine, texts, maxStates, {
+      reportStates: async (states) => {
         await bench.shouldContinue(states, maxStates);
       },
       yieldToMessages: async () => {
         await bench.shouldContinue(0, maxStates);
       },
     });
-    this.proving = proving;
-    return { errors, count: proving ? proving.total : 0 };
+    this.currentJudge = judge;
+    return { errors, count: judge ? judge.total : 0 };
   }
 
-  /** Decides the next property. Resolves to the property with its verdict, or to null if no property is left. */
+  /**
+   * Decides the next property. Resolves to the property with its verdict, or to null if no property is left. Rejects if no proof has begun.
+   */
   async proveNext() {
-    if (!this.proving) throw new Error("nothing is proved");
-    const judged = await this.proving.judgeNext();
-    return judged && createPropertyVerdict(judged);
+    if (!this.currentJudge) throw new Error("nothing is proved");
+    const judgedProperty = await this.currentJudge.judgeNext();
+    return judgedProperty && createPropertyVerdict(judgedProperty);
   }
 }

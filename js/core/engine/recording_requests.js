@@ -18,7 +18,7 @@ export class RecordingRequests {
   }
 
   /**
-   * Records the signal lines of the board for the next or the last cycles. The session does not change.
+   * Resolves to a recording of the board's signal lines for the next or the last cycles. The session does not change.
    * @param {number} cycles
    * @param {boolean} isBefore true for the last cycles, false for the next cycles
    * @param {WaveTexts} texts
@@ -33,25 +33,25 @@ export class RecordingRequests {
   }
 
   /**
-   * Starts a recording that continues while the machine runs. It ends at a call of `endRecording`, or earlier for one of the reasons in
-   * LivePart. Returns the start of the recording. Each later report to the page contains the next part as `waves`. If the trigger has an
-   * error, nothing is recorded and `error` is the error message.
+   * Starts a recording that continues while the machine runs. The recording ends at a call of `endRecording`, or earlier for one of the
+   * reasons in LivePart. Returns the start of the recording. Each later report to the page contains the next part as `waves`. If the
+   * trigger has an error, nothing is recorded and `error` is the error message.
    * @param {WaveTexts} texts
    * @param {{ trigger: string } & LiveSetup} options
-   * @returns {{ recorded: Recording | null, error: string }}
+   * @returns {{ recording: Recording | null, error: string }}
    */
   recordLive(texts, options) {
     const { engine, session } = this.bench;
     const recorder = new LiveRecorder(engine, session.file, this.bench.recordingTexts(texts));
     const names = this.bench.collectNames(texts);
     const { trigger, error } = readTrigger(options.trigger, recorder.lines, names);
-    if (error) return { recorded: null, error };
+    if (error) return { recording: null, error };
     recorder.waitFor(trigger, options);
     session.recorder = recorder;
-    return { recorded: recorder.recorded(session.file), error: "" };
+    return { recording: recorder.takeRecording(session.file), error: "" };
   }
 
-  /** Ends the recording; returns its last part. */
+  /** Ends the recording; returns its last part, or null if there is no recording. */
   endRecording() {
     if (this.bench.session.recorder) this.bench.session.recorder.stop("hand");
     return this.bench.recordedPart();

@@ -1,4 +1,4 @@
-// Divides the past into units, which a caller can replay. A unit is a command, or a part of a run.
+// Divides the past of a session into units, which a caller can replay. A unit is a command, or a part of a `run` command.
 
 /**
  * @typedef {import("./timeline.js").Moment} Moment
@@ -9,7 +9,7 @@
  */
 
 /**
- * Returns the units between two moments in the same segment.
+ * Returns the units between two moments in the same segment of the timeline.
  * @param {Timeline} timeline
  * @param {Moment} from
  * @param {Moment} to
@@ -39,9 +39,9 @@ export function splitUnits(units, maxCycles) {
     if (unit.cycles <= maxCycles) return [unit];
     /** @type {Unit[]} */
     const parts = [];
-    for (let done = 0; done < unit.cycles; done += maxCycles) {
-      const cycles = Math.min(maxCycles, unit.cycles - done);
-      parts.push({ line: `run ${cycles}`, cycles, moment: { ...unit.moment, cycles: unit.moment.cycles + done } });
+    for (let doneCycles = 0; doneCycles < unit.cycles; doneCycles += maxCycles) {
+      const cycles = Math.min(maxCycles, unit.cycles - doneCycles);
+      parts.push({ line: `run ${cycles}`, cycles, moment: { ...unit.moment, cycles: unit.moment.cycles + doneCycles } });
     }
     return parts;
   });

@@ -40,12 +40,12 @@ function firstDifference(codes, bytes, map) {
  * @returns {{ errors: ProjectTextError[], map: SourceMap, bytes: Int16Array }}
  */
 export function readSource(engine, text) {
-  const rejected = (/** @type {ProjectTextError[]} */ errors) => ({ errors, map: new SourceMap([], ""), bytes: new Int16Array() });
+  const createErrorResult = (/** @type {ProjectTextError[]} */ errors) => ({ errors, map: new SourceMap([], ""), bytes: new Int16Array() });
   const textErrors = findTextErrors("program", text);
-  if (textErrors.length > 0) return rejected(textErrors);
+  if (textErrors.length > 0) return createErrorResult(textErrors);
   const sentSource = sentText(text, ";");
   const { map, refusal, bytes } = readProgram(engine, sentSource);
-  if (refusal) return rejected([{ text: "program", ...refusal, words: "" }]);
+  if (refusal) return createErrorResult([{ text: "program", ...refusal, words: "" }]);
   return { errors: [], map: new SourceMap(map, sentSource), bytes };
 }
 

@@ -27,7 +27,7 @@ export class SessionRequests {
    */
   open(file, totalCycles = 0, resetCycles = 0, printout = null) {
     const session = new WorkerSession(this.bench.engine, file, new CycleCount(totalCycles, resetCycles));
-    session.printing = printout && new PrinterCodes(printout);
+    session.printerCodes = printout && new PrinterCodes(printout);
     const snapshot = session.takeSnapshot();
     this.bench.currentDebugger = new Debugger(session);
     this.bench.currentDebugger.commonMistakes.stoppingKinds = new Set(this.bench.stopKinds);
@@ -51,7 +51,7 @@ export class SessionRequests {
   }
 
   /**
-   * Executes lines in the session, either all or none.
+   * Executes lines in the session, either all or none. Resolves to their result.
    * @param {string} lines
    * @returns {Promise<LinesReply>}
    */

@@ -33,8 +33,8 @@ export function recoverTexts(engine, file, examples) {
   for (const example of examples.filter((candidate) => candidate.board)) {
     engine.serve(engine.begin(exampleFile), exampleLines(example), exampleFile);
     if (engine.ask(exampleFile, "board\n").answers.join("\n") !== board) continue;
-    const isSame = engine.ask(exampleFile, LIST_ALL_ROMS).answers.join("\n") === rom;
-    if (isSame) return textsOfExample(example);
+    const hasSameRom = engine.ask(exampleFile, LIST_ALL_ROMS).answers.join("\n") === rom;
+    if (hasSameRom) return textsOfExample(example);
     return { boardText: example.board, programText: disassembleRom(engine, file), ...NO_TEST_TEXTS };
   }
   const lines = board.split("\n").slice(1);
@@ -55,7 +55,7 @@ function hasTwoBytes(line) {
 }
 
 /**
- * Returns the listing of all ROMs, from address 000 to FFF.
+ * Returns the listing lines of addresses 000 to FFF. Throws BenchRefusal if the bench returns no lines.
  * @param {Engine} engine
  * @param {Uint8Array} file
  */
@@ -76,7 +76,7 @@ function listAll(engine, file) {
 const MIN_EMPTY_NOPS = 4;
 
 /**
- * Returns a source text that assembles to the bytes in ROM. Empty parts of ROM are left out.
+ * Returns a source text that assembles to the bytes in ROM. Leaves out empty parts of ROM, and the NOPs at the end.
  * @param {Engine} engine
  * @param {Uint8Array} file
  */

@@ -13,7 +13,7 @@ export class TimeRequests {
   }
 
   /**
-   * Runs the next `cycles` cycles.
+   * Runs the next `cycles` cycles, or up to an earlier stop. Returns the result with the new state for the page.
    * @param {number} cycles
    * @param {Key | null} [key] a key to press; earlier key changes are made first
    * @returns {Frame}
@@ -25,7 +25,7 @@ export class TimeRequests {
   }
 
   /**
-   * Presses a key while the machine runs. Returns the waiting key changes.
+   * Queues the press of a key while the machine runs. Returns the waiting key changes.
    * @param {Key} key
    */
   press(key) {
@@ -34,7 +34,7 @@ export class TimeRequests {
   }
 
   /**
-   * Releases a key while the machine runs. Returns the waiting key changes.
+   * Queues the release of a key while the machine runs. Returns the waiting key changes.
    * @param {Key} key
    */
   release(key) {
@@ -52,7 +52,7 @@ export class TimeRequests {
   }
 
   /**
-   * Starts full speed.
+   * Starts to run the machine at full speed.
    * @param {boolean} isHidden true if the page is hidden
    */
   run(isHidden) {
@@ -64,7 +64,7 @@ export class TimeRequests {
    * Sets whether the page is hidden. At full speed, a hidden page gets fewer reports.
    * @param {boolean} isHidden
    */
-  pace(isHidden) {
+  setHidden(isHidden) {
     this.bench.fullSpeed.isHidden = isHidden;
   }
 

@@ -15,7 +15,7 @@ import { CycleCount } from "./accepted_commands.js";
  * was paused before the command.
  * @typedef {{ line: string, cycles: number, resets: boolean, isStop: boolean }} Entry
  *
- * A part of the past: the session file and the cycle count at its start, and the commands since then, which ran `cycles` cycles.
+ * A part of the past: the session file and the cycle count at its start, and the commands from there on, which ran `cycles` cycles.
  * `characters` is the total length of the command lines. `follows` is true if the segment starts where the previous segment ends.
  * @typedef {{ file: Uint8Array, count: CycleCount, entries: Entry[], cycles: number, characters: number, follows: boolean, marks: Mark[] }}
  * Segment
@@ -119,13 +119,13 @@ export class Timeline {
    */
   prepend(stored, count) {
     const [first, ...more] = this.segments;
-    const momentBefore = stored.map((segment, index) => restoreSegment(
+    const restoredSegments = stored.map((segment, index) => restoreSegment(
       index === stored.length - 1 ? { ...segment, entries: segment.entries.slice(0, count) } : segment, index));
-    this.segments = [...momentBefore, { ...first, follows: true }, ...more];
+    this.segments = [...restoredSegments, { ...first, follows: true }, ...more];
     return count;
   }
 
-  get last() {
+  get lastSegment() {
     return this.segments[this.segments.length - 1];
   }
 
@@ -140,28 +140,29 @@ export class Timeline {
   }
 
   /**
-   * Appends commands to the past. A stored entry never changes.
+   * Appends commands to the past. Earlier moves back can then no longer be undone. A stored entry never changes. If the commands are too
+   * long to replay, the past starts again after them.
    * @param {AcceptedCommand[]} commands
    * @param {SessionAtMoment} present the session after the commands
    */
   record(commands, present) {
     if (commands.length === 0) return;
     this.future = [];
-    const { last } = this;
+    const { lastSegment } = this;
     const isTooLong = commands.length > MAX_SEGMENT_ENTRIES || commands.some(({ line }) => line.length > MAX_LINE_LENGTH);
     if (isTooLong) this.unreportedChanges = { isNewPast: true, entries: [] };
     else {
       for (const { line, cycles, resets } of commands) {
         const entry = { line, cycles, resets, isStop: this.isStopped };
-        last.entries.push(entry);
+        lastSegment.entries.push(entry);
         this.unreportedChanges.entries.push(entry);
-        last.cycles += cycles;
-        last.characters += line.length;
+        lastSegment.cycles += cycles;
+        lastSegment.characters += line.length;
         this.isStopped = false;
       }
     }
     this.addMarkIfDue(present);
-    const { cycles: segmentCycles, entries, characters } = last;
+    const { cycles: segmentCycles, entries, characters } = lastSegment;
     const isFull = segmentCycles >= MAX_SEGMENT_CYCLES || entries.length >= MAX_SEGMENT_ENTRIES || characters >= MAX_SEGMENT_CHARACTERS;
     if (isTooLong || isFull) {
       this.segments.push(segmentAt(present, !isTooLong));
@@ -175,12 +176,12 @@ export class Timeline {
    * @param {SessionAtMoment} present
    */
   addMarkIfDue({ file, count }) {
-    const { entries, cycles, marks } = this.last;
+    const { entries, cycles, marks } = this.lastSegment;
     const before = marks.length > 0 ? marks[marks.length - 1].cycles : 0;
     if (cycles - before >= MARK_INTERVAL) marks.push({ entry: entries.length, file: file.slice(), count: count.copy(), cycles });
   }
 
-  /** Removes the oldest segment without a stop; if all segments have stops, removes the oldest segment. */
+  /** Removes the oldest segment without a stop, but not the last segment. If all older segments have stops, removes the oldest segment. */
   dropSegment() {
     const olderSegments = this.segments.slice(0, -1);
     const stoplessIndex = olderSegments.findIndex(({ entries }) => !entries.some(({ isStop }) => isStop));
@@ -190,8 +191,8 @@ export class Timeline {
   }
 
   /** @returns {Moment} the present */
-  get end() {
-    return { segment: this.segments.length - 1, entry: this.last.entries.length, cycles: 0 };
+  get presentMoment() {
+    return { segment: this.segments.length - 1, entry: this.lastSegment.entries.length, cycles: 0 };
   }
 
   /**
@@ -215,9 +216,9 @@ export class Timeline {
    * @param {Moment} [from]
    * @returns {Moment | null}
    */
-  before(cycles, from = this.end) {
-    let remaining = cycles - from.cycles;
-    if (remaining <= 0) return { ...from, cycles: -remaining };
+  before(cycles, from = this.presentMoment) {
+    let remainingCycles = cycles - from.cycles;
+    if (remainingCycles <= 0) return { ...from, cycles: -remainingCycles };
     let { segment, entry } = from;
     for (;;) {
       if (entry === 0) {
@@ -227,13 +228,14 @@ export class Timeline {
         continue;
       }
       entry -= 1;
-      remaining -= this.segments[segment].entries[entry].cycles;
-      if (remaining <= 0 && this.segments[segment].entries[entry].cycles > 0) return { segment, entry, cycles: -remaining };
+      remainingCycles -= this.segments[segment].entries[entry].cycles;
+      if (remainingCycles <= 0 && this.segments[segment].entries[entry].cycles > 0) return { segment, entry, cycles: -remainingCycles };
     }
   }
 
   /**
-   * Resolves to the session at a moment, by running the commands again on a copy.
+   * Resolves to the session at a moment, by running the commands again on a copy. Throws CancelledError if `shouldContinue` resolves to
+   * false.
    * @param {Engine} engine
    * @param {Moment} moment
    * @param {ShouldContinue} shouldContinue
@@ -242,22 +244,22 @@ export class Timeline {
   async sessionAt(engine, moment, shouldContinue) {
     const { file, count, entries, marks } = this.segments[moment.segment];
     const mark = [...marks].reverse().find(({ entry }) => entry <= moment.entry) || { entry: 0, file, count };
-    const replayed = [...entries.slice(mark.entry, moment.entry), ...firstCycles(entries[moment.entry], moment.cycles)];
+    const replayedEntries = [...entries.slice(mark.entry, moment.entry), ...firstCycles(entries[moment.entry], moment.cycles)];
     const present = { file: mark.file.slice(), count: mark.count.copy() };
-    for (let from = 0; from < replayed.length;) {
+    for (let from = 0; from < replayedEntries.length;) {
       if (from > 0 && !(await shouldContinue())) throw new CancelledError();
-      const piece = nextPiece(replayed, from);
+      const piece = nextPiece(replayedEntries, from);
       from += piece.length;
       engine.serve(present.file, piece.map(({ line }) => `${line}\n`).join(""), present.file);
     }
-    present.count.add(replayed);
+    present.count.add(replayedEntries);
     return present;
   }
 
   /**
    * Makes a past moment the present. `goForward` returns to the former present.
    * @param {Moment} moment
-   * @param {SessionAtMoment} present the session at that moment
+   * @param {SessionAtMoment} present the session at the former present
    */
   goBack(moment, present) {
     const { segments } = this;
@@ -327,7 +329,7 @@ function nextPiece(entries, from) {
 }
 
 /**
- * Creates an empty segment that starts at the given session.
+ * Creates an empty segment that starts at the moment of a session.
  * @param {SessionAtMoment} present
  * @param {boolean} follows true if the segment starts where the previous one ends
  * @returns {Segment}
@@ -337,7 +339,7 @@ function segmentAt({ file, count }, follows) {
 }
 
 /**
- * Returns a list with one entry, which runs the first `cycles` cycles of the given entry; an empty list for 0 cycles.
+ * Returns a list with one new entry, which runs the first `cycles` cycles of an entry; an empty list for 0 cycles.
  * @param {Entry | undefined} entry
  * @param {number} cycles
  * @returns {Entry[]}

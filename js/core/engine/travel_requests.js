@@ -28,13 +28,13 @@ export class TravelRequests {
   }
 
   /**
-   * Runs to a goal, or to a breakpoint if the session reaches it first. If neither is within `maxCycles` cycles, the session does not
-   * change. The debugger then keeps the goal, and the following frames run towards it.
+   * Runs to a goal, or to a breakpoint if the session reaches the breakpoint first. If neither is within `maxCycles` cycles, the session
+   * does not change. The debugger then keeps the goal, and the following frames run towards it.
    * @param {Goal} goal
    * @param {number} [maxCycles]
    * @returns {Promise<GoalReply>}
    */
-  async goOn(goal, maxCycles = nearDistance(goal)) {
+  async runToGoal(goal, maxCycles = nearDistance(goal)) {
     const shouldContinue = (/** @type {number} */ done) => this.bench.shouldContinue(done, maxCycles);
     const { searchResult, result, tally } = await this.bench.debugger.runToGoal(goal, maxCycles, shouldContinue);
     if (!result) return { ...this.bench.replyWithoutServing(), searchResult, tally };
@@ -43,8 +43,8 @@ export class TravelRequests {
   }
 
   /** Abandons the goal, because the user starts or pauses the machine. */
-  drop() {
-    this.bench.debugger.begin();
+  dropGoal() {
+    this.bench.debugger.beginMove();
   }
 
   /**
@@ -54,8 +54,9 @@ export class TravelRequests {
    */
   async goBack(goal) {
     const totalCycles = this.bench.session.timeline.cycles;
-    let done = 0;
-    const outcome = await this.bench.debugger.goBack(goal, (more = 0) => this.bench.shouldContinue(done += more, totalCycles));
+    let doneCycles = 0;
+    const shouldContinue = (newCycles = 0) => this.bench.shouldContinue(doneCycles += newCycles, totalCycles);
+    const outcome = await this.bench.debugger.goBack(goal, shouldContinue);
     return travelResult(this.bench, "back", outcome);
   }
 
@@ -73,8 +74,9 @@ export class TravelRequests {
    */
   async lastChange(place) {
     const totalCycles = this.bench.session.timeline.cycles;
-    let done = 0;
-    return this.bench.debugger.lastChange(place, (more = 0) => this.bench.shouldContinue(done += more, totalCycles));
+    let doneCycles = 0;
+    const shouldContinue = (newCycles = 0) => this.bench.shouldContinue(doneCycles += newCycles, totalCycles);
+    return this.bench.debugger.lastChange(place, shouldContinue);
   }
 
   /**
@@ -84,8 +86,9 @@ export class TravelRequests {
   heat(cycles) {
     const { engine, session } = this.bench;
     const board = readBoard(session.statusQueries.board);
-    let done = 0;
-    return measureHeat(engine, session.timeline, board, cycles, (more = 0) => this.bench.shouldContinue(done += more, cycles));
+    let doneCycles = 0;
+    const shouldContinue = (newCycles = 0) => this.bench.shouldContinue(doneCycles += newCycles, cycles);
+    return measureHeat(engine, session.timeline, board, cycles, shouldContinue);
   }
 }
 
@@ -98,7 +101,7 @@ export class TravelRequests {
  */
 function travelResult(bench, word, outcome) {
   const { session } = bench;
-  const { isDone, wires: wires } = outcome;
+  const { isDone, wires } = outcome;
   const entries = isDone ? [{ line: `(${word})`, textLines: 0, answers: [bench.engine.ask(session.file, "").opened] }] : [];
-  return { entries, first: "", status: 0, hasChangedRom: isDone, ...outcome, ...bench.snapshotReport(session.takeSnapshot(), wires) };
+  return { entries, firstAnswer: "", status: 0, hasChangedRom: isDone, ...outcome, ...bench.snapshotReport(session.takeSnapshot(), wires) };
 }

@@ -13,7 +13,7 @@ export class TrialRequests {
   constructor(bench) {
     this.bench = bench;
     /** @type {SlicedSearch | null} the search in progress */
-    this.exploring = null;
+    this.currentSearch = null;
   }
 
   /**
@@ -33,7 +33,7 @@ export class TrialRequests {
   }
 
   /**
-   * Runs tests in separate sessions.
+   * Runs tests in separate sessions. Resolves to their results.
    * @param {import("../testing/test_suite.js").TestedTexts} texts
    */
   runTests(texts) {
@@ -55,18 +55,19 @@ export class TrialRequests {
    */
   async explore(texts, options) {
     const { searchSetup, errors } = await prepareSearch(this.bench.engine, texts);
-    this.exploring = searchSetup && new SlicedSearch(this.bench.engine, texts, searchSetup, options, async () => {
+    this.currentSearch = searchSetup && new SlicedSearch(this.bench.engine, texts, searchSetup, options, async () => {
       await this.bench.shouldContinue(0, 1);
     });
     return errors;
   }
 
   /**
-   * Continues the search for a number of milliseconds, or until it finds a counterexample.
+   * Continues the search for a number of milliseconds, or until it finds a counterexample. Resolves to the progress of the search. Throws
+   * an error if no search has begun.
    * @param {number} milliseconds
    */
   exploreOn(milliseconds) {
-    if (!this.exploring) throw new Error("nothing is looked for");
-    return this.exploring.runFor(milliseconds);
+    if (!this.currentSearch) throw new Error("nothing is looked for");
+    return this.currentSearch.runFor(milliseconds);
   }
 }

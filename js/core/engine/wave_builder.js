@@ -26,7 +26,7 @@ import { parseTraceLine, rowValues } from "./forecast_answers.js";
  *   counters: Uint16Array }} WavePart
  */
 
-/** The codes of the characters blank, 0 and 9. */
+/** The character codes of a blank, 0 and 9. */
 const BLANK_CODE = 32;
 const ZERO_CODE = 48;
 const NINE_CODE = 57;
@@ -172,7 +172,8 @@ export class WaveBuilder {
   }
 
   /**
-   * Records a run from the answers to the queries before it and to the run itself.
+   * Records a run from the answers to the queries before it and to the run itself. Throws an error if no cycle ran, unless the code at the
+   * program counter is not an instruction.
    * @param {ForecastAnswers} answers
    */
   takeRun(answers) {
@@ -225,7 +226,7 @@ export class WaveBuilder {
   }
 
   /**
-   * Records the keys, the TEST pin and the program counter. Called after a command, and at the end of the recording.
+   * Records the keys, the TEST pin and the program counter. Callers call this method after a command, and at the end of the recording.
    * @param {string} state the answer to `state`
    */
   takeState(state) {

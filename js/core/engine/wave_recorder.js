@@ -36,8 +36,8 @@ import { copyWithoutStops } from "./free_running_copy.js";
  * A recording from its start, with the list of its signal lines. `program` is null if the program text does not match ROM.
  * @typedef {RecordedPart & { lines: WaveLine[], program: RecordedProgram | null }} Recording
  *
- * The texts for a recording: the board text, which defines names; the program in ROM; and the names of registers and RAM nibbles to record
- * in addition to the board lines.
+ * The texts for a recording. `board` is the board text, which defines names. `program` is the program in ROM, null if its text does not
+ * match ROM. `values` are the names of registers and RAM nibbles to record in addition to the board lines.
  * @typedef {{ board: string, program: RecordedProgram | null, values: string[] }} Texts
  *
  * A callback that receives the number of completed cycles, and resolves to true to continue.
@@ -77,8 +77,11 @@ class WaveRecorder {
     }
   }
 
-  /** @returns {Recording} */
-  recorded() {
+  /**
+   * Reads the final state, and returns the complete recording.
+   * @returns {Recording}
+   */
+  finish() {
     const { engine, file, builder, program } = this;
     builder.takeState(engine.ask(file, "state\n").answers[0]);
     const part = builder.take();
@@ -101,7 +104,8 @@ export function listingLinesAt(engine, file, addresses) {
 }
 
 /**
- * Records the next cycles without stopping at breakpoints or watches. The file does not change.
+ * Records the next cycles without stopping at breakpoints or watches; resolves to the recording. The file does not change. Throws
+ * CancelledError if `shouldContinue` resolves to false.
  * @param {Engine} engine
  * @param {Uint8Array} file
  * @param {number} cycles
@@ -113,11 +117,11 @@ export async function recordNextCycles(engine, file, cycles, texts, shouldContin
   const { builder } = recorder;
   const piece = new PieceSize(FIRST_PIECE_CYCLES, FIRST_PIECE_CYCLES, MAX_RUN_CYCLES);
   while (builder.elapsed < cycles && !builder.isStuck) {
-    const next = Math.min(piece.size, cycles - builder.elapsed);
-    piece.measure(() => recorder.record([{ line: `run ${next}`, cycles: next }]));
+    const nextCycles = Math.min(piece.size, cycles - builder.elapsed);
+    piece.measure(() => recorder.record([{ line: `run ${nextCycles}`, cycles: nextCycles }]));
     if (builder.elapsed < cycles && !(await shouldContinue(builder.elapsed))) throw new CancelledError();
   }
-  return recorder.recorded();
+  return recorder.finish();
 }
 
 /**
@@ -155,8 +159,9 @@ function unitsFrom(timeline, from) {
 }
 
 /**
- * Records the last cycles before the present, or fewer if the stored past is shorter. Replays these cycles, with all commands between them,
- * on a copy of the session.
+ * Records the last cycles before the present; resolves to the recording. Records fewer cycles if the stored past is shorter, or if the
+ * board has changed. Replays these cycles, with all commands between them, on a copy of the session. Throws CancelledError if
+ * `shouldContinue` resolves to false.
  * @param {Engine} engine
  * @param {Timeline} timeline
  * @param {number} cycles
@@ -171,5 +176,5 @@ export async function recordLastCycles(engine, timeline, cycles, texts, shouldCo
     recorder.record(units);
     if (!(await shouldContinue(recorder.builder.elapsed))) throw new CancelledError();
   }
-  return { ...recorder.recorded(), isStuck: false };
+  return { ...recorder.finish(), isStuck: false };
 }

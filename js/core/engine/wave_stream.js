@@ -1,5 +1,5 @@
-// Records the signal lines of a board piece by piece, while the caller writes the recording to a file. Only one piece is in memory at a
-// time, even for a long recording.
+// Records the signal lines of a board piece by piece, while the caller writes the recording to a file. Therefore only one piece of a long
+// recording is in memory at a time.
 
 import { Waves } from "../waves/wave_recording.js";
 import { ForecastAnswers } from "./forecast_answers.js";
@@ -25,7 +25,7 @@ const dependsOnCounter = ({ kind }) => kind === "pc" || kind === "label";
  * Returns the chosen signal lines of a board together with the lines of each chosen port.
  * @param {WaveLine[]} lines the signal lines of the board
  * @param {number[]} chosenLines the indices of the chosen lines
- * @returns {{ lines: WaveLine[], chosen: number[] }} `chosen` are the new indices of the chosen lines
+ * @returns {{ lines: WaveLine[], chosenIndexes: number[] }} `chosenIndexes` are the new indices of the chosen lines
  */
 export function linesWithMembers(lines, chosenLines) {
   const neededIndices = [...new Set(chosenLines.flatMap((line) => [line, ...lines[line].members]))];
@@ -33,7 +33,7 @@ export function linesWithMembers(lines, chosenLines) {
   const newIndex = (/** @type {number} */ line) => positions.get(line) ?? -1;
   return {
     lines: neededIndices.map((line) => ({ ...lines[line], members: lines[line].members.map(newIndex) })),
-    chosen: chosenLines.map(newIndex),
+    chosenIndexes: chosenLines.map(newIndex),
   };
 }
 
@@ -51,8 +51,8 @@ export async function* recordPieces(engine, state, { lines, program, cycles }, y
   const waves = new Waves({ ...builder.take(), lines, listing: [], program });
   yield waves;
   while (builder.elapsed < cycles && !builder.isStuck) {
-    const next = Math.min(PIECE_CYCLES, cycles - builder.elapsed);
-    const answers = new ForecastAnswers(engine.serve(state, `${builder.queries(next)}run ${next}\nstate\n`, state).answers);
+    const nextCycles = Math.min(PIECE_CYCLES, cycles - builder.elapsed);
+    const answers = new ForecastAnswers(engine.serve(state, `${builder.queries(nextCycles)}run ${nextCycles}\nstate\n`, state).answers);
     builder.takeRun(answers);
     builder.takeState(answers.take());
     waves.beginAt(waves.cycles);

@@ -34,15 +34,16 @@ import { MAX_SEGMENT_ENTRIES, Timeline } from "./timeline.js";
  * An input, the number of lines in its text, and its answer lines.
  * @typedef {{ line: string, textLines: number, answers: string[] }} ServedInput
  *
- * The result of executing lines: the last inputs with their answers (`entries`), the first answer (`first`), the shell's exit status, and
- * whether the lines can have changed ROM (`hasChangedRom`) or the board (`wires`).
- * @typedef {{ entries: ServedInput[], first: string, status: number, hasChangedRom: boolean, wires: boolean }} LinesResult
+ * The result of executing lines: the last inputs with their answers (`entries`), the first line of all answers (`firstAnswer`), and the
+ * shell's exit status.
+ * `hasChangedRom` and `wires` are true if the lines can have changed ROM or the board.
+ * @typedef {{ entries: ServedInput[], firstAnswer: string, status: number, hasChangedRom: boolean, wires: boolean }} LinesResult
  * @typedef {LinesResult & { snapshot: string[] }} ResultAndSnapshot
  *
  * The result of running cycles. `runEntries` lists the executed lines. `end` is the answer that ended the run early, or "". `litShares`,
- * `heard` and `warmed` are the lamp brightness, the buzzer levels and the RAM changes; each is null if not requested.
+ * `buzzerLevels` and `chipHeat` are the lamp brightness, the buzzer levels and the RAM changes; each is null if it was not measured.
  * @typedef {{ runEntries: RunEntry[], cycles: number, end: string, changesKeys: boolean, snapshot: string[], litShares: LitShares | null,
- *   heard: BuzzerLevels | null, warmed: ChipHeat | null }} Frame
+ *   buzzerLevels: BuzzerLevels | null, chipHeat: ChipHeat | null }} Frame
  */
 
 /** The maximum number of executed inputs in a result. */
@@ -73,14 +74,14 @@ export class WorkerSession {
     this.queue = new KeyQueue();
     this.statusQueries = makeStatusQueries(engine, file);
     this.timeline = new Timeline(this);
-    /** @type {AcceptedCommand[]} the breakpoint changes since the last move in time; the next command records them in the past first */
+    /** @type {AcceptedCommand[]} the breakpoint changes since the last move in time; the next command first adds them to the past */
     this.unrecordedCommands = [];
     /** @type {Uint8Array | null} the bytes in ROM; null until they are read */
     this.cachedRomBytes = null;
     /** @type {LiveRecorder | null} the recorder of the board's signal lines */
     this.recorder = null;
     /** @type {PrinterCodes | null} the printout of the board's printer */
-    this.printing = null;
+    this.printerCodes = null;
     /** @type {BuzzerMeter | null} reports the edges of a signal line while the machine runs; null if not requested */
     this.buzzerMeter = null;
     /** @type {BrightnessMeter | null} measures lamp brightness while the machine runs; null if not requested */
@@ -89,7 +90,7 @@ export class WorkerSession {
     this.heatMeter = null;
   }
 
-  /** Ends the reports on lamps, buzzer and RAM, because the board has changed. */
+  /** Ends the measurements of lamps, buzzer and RAM, because the board has changed. */
   forgetMeters() {
     this.brightnessMeter = null;
     this.buzzerMeter = null;
@@ -101,7 +102,7 @@ export class WorkerSession {
     return this.recorder && this.recorder.isOn ? this.recorder : null;
   }
 
-  /** The bytes in ROM. */
+  /** The bytes of ROM, by address; cached until ROM changes. */
   get romBytes() {
     if (!this.cachedRomBytes) this.cachedRomBytes = romCodes(this.engine, this.file);
     return this.cachedRomBytes;
@@ -115,11 +116,12 @@ export class WorkerSession {
     return this.engine.ask(this.file, lines).answers;
   }
 
+  /** Returns a snapshot of the session. */
   takeSnapshot() {
     return takeSnapshotOf(this.engine, this.file, this.statusQueries);
   }
 
-  /** Replaces the session file by the file in `nextFile`, which the last call has written. */
+  /** Replaces the session file with the file in `nextFile`, which the last call has written. */
   adoptResult() {
     [this.file, this.nextFile] = [this.nextFile, this.file];
   }
@@ -139,22 +141,22 @@ export class WorkerSession {
    * @returns {Frame}
    */
   advanceBy(plannedLines) {
-    const { done: servedLines, answers, snapshot, measurements } = this.servePlannedLines(plannedLines);
+    const { servedLines, answers, snapshot, measurements } = this.servePlannedLines(plannedLines);
     this.adoptResult();
     const runs = answers.map(readRun);
     /** @type {(index: number) => number} */
     const cyclesOf = (index) => (runs[index] || { cycles: 0 }).cycles;
     this.queue.markExecuted(servedLines, cyclesOf);
-    const accepted = servedLines.map(({ line }, index) => ({ line, cycles: cyclesOf(index), resets: false }));
-    this.record(accepted.filter((_, index) => parseRefusal(answers[index]) === null));
-    const ranEntries = servedLines.map(({ line, change }, index) => (
+    const executedCommands = servedLines.map(({ line }, index) => ({ line, cycles: cyclesOf(index), resets: false }));
+    this.record(executedCommands.filter((_, index) => parseRefusal(answers[index]) === null));
+    const runEntries = servedLines.map(({ line, change }, index) => (
       { line, answer: answers[index], runs: change ? 0 : 1, cycles: cyclesOf(index) }));
-    const last = answers[answers.length - 1] || "";
-    if (isStop(last)) this.timeline.stop();
+    const lastAnswer = answers[answers.length - 1] || "";
+    if (isStop(lastAnswer)) this.timeline.stop();
     return {
-      runEntries: ranEntries,
+      runEntries,
       cycles: runs.reduce((sum, run) => sum + (run ? run.cycles : 0), 0),
-      end: isStop(last) ? last : "",
+      end: isStop(lastAnswer) ? lastAnswer : "",
       changesKeys: servedLines.some((servedLine) => servedLine.change !== null),
       snapshot,
       ...measurements,
@@ -207,27 +209,28 @@ export class WorkerSession {
   }
 
   /**
-   * Executes planned lines up to the first run that stops early, or up to the first rejected line. Tries all lines in one call. If a line
-   * before the last one stops early or is rejected, discards the result and executes only the lines up to that line.
+   * Executes planned lines up to the first run that stops early, up to the first rejected line, or until a recording stops the machine.
+   * Tries all lines in one call. If the machine must stop before the end of the last line, discards the result and executes only the lines
+   * up to that point. Writes the new session file to `nextFile`.
    * @param {PlannedLine[]} plannedLines
    */
   servePlannedLines(plannedLines) {
-    let served = this.tryPlannedLines(plannedLines);
-    const stopIndex = served.answers.findIndex((answer, index) => index < plannedLines.length && isStop(answer));
+    let result = this.tryPlannedLines(plannedLines);
+    const stopIndex = result.answers.findIndex((answer, index) => index < plannedLines.length && isStop(answer));
     let servedLines = plannedLines;
     if (stopIndex >= 0 && stopIndex < plannedLines.length - 1) {
       servedLines = plannedLines.slice(0, stopIndex + 1);
-      served = this.tryPlannedLines(servedLines);
+      result = this.tryPlannedLines(servedLines);
     }
     const { recording } = this;
-    const stopCycle = recording ? recording.take(servedLines, served.traced, served.answers) : -1;
+    const stopCycle = recording ? recording.take(servedLines, result.tracedAnswers, result.answers) : -1;
     if (stopCycle >= 0) {
       servedLines = truncateLines(servedLines, stopCycle);
-      served = this.tryPlannedLines(servedLines);
+      result = this.tryPlannedLines(servedLines);
     }
-    const answers = served.answers.slice(0, servedLines.length);
-    const snapshot = buildSnapshot(this.statusQueries.inputs, served.answers.slice(servedLines.length));
-    return { done: servedLines, answers, snapshot, measurements: served.readMeters() };
+    const answers = result.answers.slice(0, servedLines.length);
+    const snapshot = buildSnapshot(this.statusQueries.inputs, result.answers.slice(servedLines.length));
+    return { servedLines, answers, snapshot, measurements: result.readMeters() };
   }
 
   /**
@@ -246,33 +249,33 @@ export class WorkerSession {
     const { brightnessMeter, heatMeter } = this;
     return {
       litShares: brightnessMeter && brightnessMeter.take([this.ask(brightnessMeter.queries(EYE_CYCLES))]),
-      warmed: heatMeter && heatMeter.take([this.ask(heatMeter.queries(EYE_CYCLES))]),
+      chipHeat: heatMeter && heatMeter.take([this.ask(heatMeter.queries(EYE_CYCLES))]),
     };
   }
 
   /**
    * Executes planned lines together with all queries, in one call of the engine. Writes the new session file to `nextFile`; `file` does not
-   * change.
+   * change. Returns the answers to the lines and to the snapshot queries, the recorder's answers, and a function that reads the meters.
    * @param {PlannedLine[]} plannedLines
    */
   tryPlannedLines(plannedLines) {
-    const { recording, printing } = this;
+    const { recording, printerCodes } = this;
     const { brightnessMeter, buzzerMeter, heatMeter } = this.metersFor(plannedLines);
     /** @type {import("./forecast_queries.js").QuerySource[]} */
-    const querySources = [printing, brightnessMeter, buzzerMeter, heatMeter, recording].flatMap((querySource) => querySource || []);
+    const querySources = [printerCodes, brightnessMeter, buzzerMeter, heatMeter, recording].flatMap((querySource) => querySource || []);
     const lines = linesWithQueries(plannedLines, querySources) + this.statusQueries.lines;
     const { answers, sourceAnswers } = splitAnswers(plannedLines, querySources, this.engine.serve(this.file, lines, this.nextFile).answers);
     /** @type {(querySource: import("./forecast_queries.js").QuerySource) => string[][]} */
     const answersTo = (querySource) => sourceAnswers[querySources.indexOf(querySource)];
     const readMeters = () => {
-      if (printing) printing.take(answersTo(printing), this.count.total);
+      if (printerCodes) printerCodes.take(answersTo(printerCodes), this.count.total);
       return {
         litShares: brightnessMeter && brightnessMeter.take(answersTo(brightnessMeter)),
-        heard: buzzerMeter && buzzerMeter.take(answersTo(buzzerMeter)),
-        warmed: heatMeter && heatMeter.take(answersTo(heatMeter)),
+        buzzerLevels: buzzerMeter && buzzerMeter.take(answersTo(buzzerMeter)),
+        chipHeat: heatMeter && heatMeter.take(answersTo(heatMeter)),
       };
     };
-    return { answers, readMeters, traced: recording ? sourceAnswers[querySources.length - 1] : [] };
+    return { answers, readMeters, tracedAnswers: recording ? sourceAnswers[querySources.length - 1] : [] };
   }
 
   /**
@@ -289,7 +292,8 @@ export class WorkerSession {
   }
 
   /**
-   * Executes lines piece by piece, either all or none: nothing changes if a piece fails or the work is cancelled.
+   * Executes lines piece by piece, either all or none: nothing changes if a piece throws or the work is cancelled. A piece with an exit
+   * status other than 0 is the last one.
    * @param {string} lines
    * @param {(done: number) => Promise<boolean>} shouldContinue called after each piece with the number of processed characters; resolves to
    *   true to continue
@@ -298,23 +302,23 @@ export class WorkerSession {
   async serve(lines, shouldContinue) {
     const report = new LinesReport(this.count.copy());
     const fileBefore = this.recording ? this.file.slice() : null;
-    const printing = this.printing && this.printing.copy();
+    const printerCodes = this.printerCodes && this.printerCodes.copy();
     // Each piece runs on `from` and writes to `to`. The session file does not change until all pieces are done.
     let [from, to] = [this.file, this.nextFile];
     const size = new PieceSize(FIRST_PIECE_LENGTH, MIN_PIECE_LENGTH, MAX_PIECE_LENGTH);
     for (let offset = 0; offset < lines.length;) {
       const end = findInputEnd(lines, offset, size.size);
       const piece = lines.slice(offset, end);
-      const served = size.measure(() => {
+      const servedAnswers = size.measure(() => {
         const result = this.engine.serve(from, piece, to);
         const { total } = report.count;
-        const accepted = report.add(piece, result);
-        if (printing) printing.collectCodes(this.engine, from.slice(), accepted, total);
+        const acceptedCommands = report.add(piece, result);
+        if (printerCodes) printerCodes.collectCodes(this.engine, from.slice(), acceptedCommands, total);
         return result;
       });
       [from, to] = [to, from === this.file ? new Uint8Array(from.length) : from];
       offset = end;
-      if (served.status !== 0) break;
+      if (servedAnswers.status !== 0) break;
       if (offset < lines.length && !(await shouldContinue(offset))) throw new CancelledError();
     }
     const statusQueries = report.wires ? makeStatusQueries(this.engine, from) : this.statusQueries;
@@ -325,7 +329,7 @@ export class WorkerSession {
     if (report.hasChangedRom) this.cachedRomBytes = null;
     this.timeline.stop();
     this.count = report.count;
-    this.printing = printing;
+    this.printerCodes = printerCodes;
     if (report.acceptedCommands.length > 0) this.timeline.record([...this.unrecordedCommands.splice(0), ...report.acceptedCommands], this);
     this.timeline.stop();
     // The waiting key changes belong to the old board.
@@ -372,7 +376,7 @@ class LinesReport {
     this.acceptedCommands = [];
     /** @type {ServedInput[]} */
     this.entries = [];
-    this.first = "";
+    this.firstAnswer = "";
     this.status = 0;
     this.hasChangedRom = false;
     this.wires = false;
@@ -389,7 +393,7 @@ class LinesReport {
     const acceptedCommands = findAcceptedCommands(inputs, answerLists);
     this.count.add(acceptedCommands);
     if (this.acceptedCommands.length <= MAX_SEGMENT_ENTRIES) this.acceptedCommands = this.acceptedCommands.concat(acceptedCommands);
-    if (this.first === "" && answers.length > 0) this.first = answers[0];
+    if (this.firstAnswer === "" && answers.length > 0) this.firstAnswer = answers[0];
     this.status = status;
     this.hasChangedRom = this.hasChangedRom || inputs.some((input) => ROM_COMMANDS[input.kind]);
     // If the bench rejects a board, the current board stays.
@@ -403,7 +407,7 @@ class LinesReport {
 
   /** @returns {LinesResult} */
   result() {
-    const { entries, first, status, hasChangedRom, wires } = this;
-    return { entries, first, status, hasChangedRom, wires };
+    const { entries, firstAnswer, status, hasChangedRom, wires } = this;
+    return { entries, firstAnswer, status, hasChangedRom, wires };
   }
 }

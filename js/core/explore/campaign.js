@@ -34,8 +34,8 @@ import { noKeyMessage } from "../../words/testing.js";
  * - `command`: the external command of the model ("" for none); `downTime`, `upTime`: the times for which each key in a sequence for the
  *   model is pressed and then released;
  * - `notedPlaces`: the `trace` places whose values distinguish states;
- * - `from`: the start state, null for power-on; `leadingLines`: the test lines that lead to the start state; `calls`: the minimum and the
- *   maximum number of calls that have not returned in the start state.
+ * - `from`: the start state, null for power-on; `leadingLines`: the test lines that lead to the start state;
+ * - `calls`: the minimum and the maximum number of calls that have not returned in the start state.
  * @typedef {{ inputs: Input[], inputWords: string[], maxKeysDown: number, canReset: boolean, minWait: number, maxWait: number,
  *   maxHoldTime: number, minReleaseTime: number, checkStart: number, downTime: number, upTime: number, notedPlaces: string[],
  *   properties: Property[], command: string, from: StartState | null, leadingLines: string[],
@@ -69,6 +69,7 @@ const DEFAULT_WAITS = { minWait: cyclesFromMilliseconds(1), maxWait: cyclesFromM
 /** The default times for which each key in a sequence for a model is pressed and then released, in cycles. */
 const DEFAULT_PACE = { downTime: TOOL_KEY_DOWN_CYCLES, upTime: TOOL_KEY_UP_CYCLES };
 
+/** A reader of one properties text, with the settings that it has read so far. */
 class PropertiesReader {
   /** @param {Subject} subject */
   constructor({ names, instructions }) {
@@ -101,7 +102,10 @@ class PropertiesReader {
     this.searchStart = 0;
   }
 
-  /** @param {string} text */
+  /**
+   * Parses a condition; throws `ConditionError`, with the column in the current line, if the condition has an error.
+   * @param {string} text
+   */
   parseCondition(text) {
     const { condition, error, column } = compileTracedCondition(text, this.names);
     return condition || fail(error, Math.max(0, this.line.indexOf(text, this.searchStart)) + column);
@@ -151,13 +155,16 @@ class PropertiesReader {
     return fail(noKeyMessage(name, inputNames.join(" ")));
   }
 
-  /** @param {Input} input */
+  /**
+   * Adds an input, unless the campaign already has it.
+   * @param {Input} input
+   */
   addInput(input) {
     if (!this.inputs.some(({ name }) => name === input.name)) this.inputs.push(input);
   }
 
   /**
-   * Returns the number of cycles of a time, such as `5 ms`.
+   * Returns the number of cycles of a time, such as `5 ms`; throws `ConditionError` for any other text.
    * @param {string} text
    * @param {string} syntax the error message if the text is not a time
    */
@@ -168,7 +175,7 @@ class PropertiesReader {
 }
 
 /**
- * Parses two times, with or without `to` between them. Returns their cycles.
+ * Parses two times, with or without `to` between them. Returns their cycles. Throws `ConditionError` for other words.
  * @param {string[]} words
  * @param {string} syntax the error message if the words are not two times
  */
@@ -267,25 +274,25 @@ function findNotePlaces({ names }, word) {
 const FOR_DURATION = /^(.*) for (\S+(?: \S+)?)$/;
 
 /**
- * The parsers of property lines, by first word.
- * @type {Record<string, (reader: PropertiesReader, rest: string, text: string) => Property>}
+ * The parsers of property lines, by first word. `remainingText` is the text after the first word, and `text` is the complete line.
+ * @type {Record<string, (reader: PropertiesReader, remainingText: string, text: string) => Property>}
  */
 const PROPERTY_PARSERS = {
-  never: (reader, rest, text) => {
-    const [, condition, time] = FOR_DURATION.exec(rest) || ["", rest, ""];
+  never: (reader, remainingText, text) => {
+    const [, condition, time] = FOR_DURATION.exec(remainingText) || ["", remainingText, ""];
     if (condition === "") fail(say.NEVER_SYNTAX);
     return time ? neverForProperty(text, reader.parseViolation(condition), reader.parseTime(time, say.FOR_SYNTAX))
       : neverProperty(text, reader.parseViolation(condition));
   },
-  always: (reader, rest, text) => alwaysProperty(text, reader.parseRequirement(rest)),
-  at: (reader, rest, text) => {
-    const [word, ...words] = rest.split(" ");
+  always: (reader, remainingText, text) => alwaysProperty(text, reader.parseRequirement(remainingText)),
+  at: (reader, remainingText, text) => {
+    const [word, ...words] = remainingText.split(" ");
     if (words.length === 0) fail(say.AT_SYNTAX);
     return atProperty(text, reader.parseRequirement(words.join(" ")), reader.parseLabel(word));
   },
-  after: (reader, rest, text) => {
+  after: (reader, remainingText, text) => {
     const syntax = say.AFTER_SYNTAX;
-    const match = /^press (\S+) within (.*)$/.exec(rest);
+    const match = /^press (\S+) within (.*)$/.exec(remainingText);
     if (!match) fail(syntax);
     const [, key, requirement] = /** @type {RegExpExecArray} */ (match);
     const words = requirement.split(" ");
@@ -293,31 +300,31 @@ const PROPERTY_PARSERS = {
     if (cycles === 0 || words.length === count) fail(syntax);
     return afterPressProperty(text, reader.findInput(key).name, reader.parseCondition(words.slice(count).join(" ")), cycles);
   },
-  every: (reader, rest, text) => {
+  every: (reader, remainingText, text) => {
     const syntax = say.EVERY_SYNTAX;
-    const words = rest.split(" ");
+    const words = remainingText.split(" ");
     if (words.length < 2) fail(syntax);
     return everyProperty(text, reader.parseLabel(words[words.length - 1]), reader.parseTime(words.slice(0, -1).join(" "), syntax));
   },
-  reach: (reader, rest, text) => {
-    const line = /^line (\d+)$/.exec(rest);
-    if (!line && !/^@\S+$/.test(rest)) return reachProperty(text, reader.parseViolation(rest));
+  reach: (reader, remainingText, text) => {
+    const line = /^line (\d+)$/.exec(remainingText);
+    if (!line && !/^@\S+$/.test(remainingText)) return reachProperty(text, reader.parseViolation(remainingText));
     const instruction = line && reader.instructions.find((candidate) => candidate.line === Number(line[1]));
     if (line && !instruction) fail(say.noInstructionInMessage(line[1]));
-    const address = instruction ? instruction.address : reader.parseLabel(rest);
+    const address = instruction ? instruction.address : reader.parseLabel(remainingText);
     return reader.whileCondition === "" ? reachAddressProperty(text, address)
       : reachProperty(text, reader.parseViolation(`pc = ${address}`));
   },
-  model: (reader, rest, text) => {
+  model: (reader, remainingText, text) => {
     if (reader.command) fail(say.MODEL_TWICE);
-    if (rest === "") fail(say.MODEL_SYNTAX);
+    if (remainingText === "") fail(say.MODEL_SYNTAX);
     if (!reader.names.face.groups.some(({ kind }) => kind === "display")) {
       fail(NO_DISPLAY);
     }
     if (hasScannedDisplay(reader.names.face)) {
       fail(say.DISPLAY_IS_MULTIPLEXED);
     }
-    reader.command = rest;
+    reader.command = remainingText;
     return modelProperty(text);
   },
 };
@@ -327,18 +334,18 @@ const GUARD_START = /^(while|once|after press)\b/;
 
 /**
  * Splits a line into its first guard and the text after the comma; a comma in a quoted text does not count. Returns null if the line has no
- * guard.
+ * guard. Throws `ConditionError` if the comma is missing.
  * @param {string} text
  */
 function splitGuard(text) {
   if (!GUARD_START.test(text)) return null;
-  const [, guard, rest] = /^((?:"[^"]*"|[^"])*?),(?: (.*))?$/.exec(text) || [];
+  const [, guard, remainingText] = /^((?:"[^"]*"|[^"])*?),(?: (.*))?$/.exec(text) || [];
   if (text.startsWith("after") && !/^after press \S+( within \S+( \S+)?)?$/.test(guard || "")) return null;
-  return guard === undefined ? fail(say.GUARD_SYNTAX) : { guard, rest: rest || "" };
+  return guard === undefined ? fail(say.GUARD_SYNTAX) : { guard, remainingText: remainingText || "" };
 }
 
 /**
- * Parses a guard other than `while`.
+ * Parses a guard other than `while`. Throws `ConditionError` if the guard has an error.
  * @param {PropertiesReader} reader
  * @param {string} text the guard: `once C`, `after press K`, `after press K within TIME`
  * @returns {Guard}
@@ -353,10 +360,10 @@ function parseGuard(reader, text) {
 }
 
 /**
- * Returns the property of a guarded line.
+ * Returns the property of a guarded line. Throws `ConditionError` if the line has an error.
  * @param {PropertiesReader} reader
  * @param {string} text
- * @param {{ guard: string, rest: string } | null} firstGuard the first guard and the text after it; null for a line without guards
+ * @param {{ guard: string, remainingText: string } | null} firstGuard the first guard and the text after it; null for a line without guards
  * @returns {Property | null} null for a line without guards
  */
 function parseGuardedLine(reader, text, firstGuard) {
@@ -366,7 +373,7 @@ function parseGuardedLine(reader, text, firstGuard) {
   let count = 0;
   for (let currentGuard = firstGuard; currentGuard; currentGuard = splitGuard(unguardedText)) {
     reader.searchStart = text.length - (unguardedText || text).length;
-    ({ rest: unguardedText } = currentGuard);
+    ({ remainingText: unguardedText } = currentGuard);
     count += 1;
     if (count > MAX_GUARDS) fail(say.tooManyGuardsMessage(MAX_GUARDS));
     const [, condition] = /^while (.+)$/.exec(currentGuard.guard) || [];
@@ -394,7 +401,7 @@ const ONCE_PER_PRESS_LINE = /^(@\S+) at most once for each press$/;
 const WITHIN_LINE = /^(@\S+) to (@\S+) within (.+)$/;
 
 /**
- * Parses a line. Stores a setting in the reader; returns a property.
+ * Parses a line. Stores a setting in the reader; returns a property. Throws `ConditionError` if the line has an error.
  * @param {PropertiesReader} reader
  * @param {string} text the text of the line
  * @returns {Property | null} null for a setting
@@ -407,7 +414,7 @@ function parseLine(reader, text) {
 }
 
 /**
- * Parses a line, or the part of a line after its guards.
+ * Parses a line without guards, or the part of a line after its guards. Stores a setting in the reader; returns a property.
  * @param {PropertiesReader} reader
  * @param {string} text
  * @returns {Property | null} null for a setting
@@ -455,7 +462,8 @@ function addDefaults(reader) {
 
 
 /**
- * Parses a properties text.
+ * Parses a properties text. Returns the campaign, which includes the standard properties, and the errors. The campaign lacks the lines with
+ * errors.
  * @param {string} text
  * @param {Subject} subject
  * @param {boolean} [needsInputs] true if missing inputs are an error

@@ -24,8 +24,8 @@ import { createRandom } from "./walks.js";
  * @typedef {{ property: number, counterexample: Counterexample, violation: Violation | null }} ConfirmedViolation
  */
 
-/** The initial proof gets at most 1 / PROOF_SHARE of the search time. */
-const PROOF_SHARE = 10;
+/** The initial proof gets at most 1 / PROOF_TIME_DIVISOR of the search time. */
+const PROOF_TIME_DIVISOR = 10;
 /** The number of counterexamples with failed confirmation after which the search no longer checks a property. */
 const MAX_UNCONFIRMED = 3;
 /**
@@ -47,7 +47,7 @@ export function minimisingCycleLimit(seconds) {
  * @param {number} seconds the search time
  */
 export function initialProofTime(seconds) {
-  return 1000 * seconds / PROOF_SHARE;
+  return 1000 * seconds / PROOF_TIME_DIVISOR;
 }
 
 async function doNotYield() {
@@ -87,7 +87,7 @@ export class CampaignRun {
     this.unconfirmedTests = [];
   }
 
-  /** True if nothing is left to search for. */
+  /** True if no property is left to check. */
   get isDone() {
     return this.search.openProperties.length === 0 && !this.isModelOpen;
   }
@@ -119,10 +119,10 @@ export class CampaignRun {
   }
 
   /**
-   * Searches for a number of milliseconds. The call takes longer if it finds a counterexample, because it also minimises the
-   * counterexample.
-   * @param {number} milliseconds
-   * @returns {Promise<ConfirmedViolation | null>} the counterexample; null if none was found
+   * Continues the campaign: compares key sequences with the model, asks the prover one question, or searches for a number of milliseconds.
+   * Minimising a counterexample takes additional time.
+   * @param {number} milliseconds the time limit for the search; it does not limit the model and the prover
+   * @returns {Promise<ConfirmedViolation | null>} a confirmed counterexample; null if none was found
    */
   async runFor(milliseconds) {
     const startTime = performance.now();
@@ -142,7 +142,7 @@ export class CampaignRun {
   }
 
   /**
-   * Minimises and confirms a violation. Resolves to null if the confirmation fails.
+   * Minimises and confirms a violation. Resolves to the confirmed violation, or to null if the confirmation fails.
    * @param {Violation} violation
    * @returns {Promise<ConfirmedViolation | null>}
    */

@@ -67,7 +67,7 @@ class TestWriter {
   }
 
   /**
-   * Writes a `run` line that ends at a given time.
+   * Writes a `run` line that ends at `time`.
    * @param {number} time
    */
   writeRunUntil(time) {
@@ -157,7 +157,7 @@ const FORM_NOTES = {
 /**
  * Returns the text of the test for a counterexample.
  * @param {Subject} subject
- * @param {Uint8Array} file
+ * @param {Uint8Array} file the session file of the start state
  * @param {Campaign} campaign
  * @param {Violation} violation
  */

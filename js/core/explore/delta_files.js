@@ -12,19 +12,21 @@ export class DeltaFiles {
   /** @param {Uint8Array} first the session file with which all other files are compared */
   constructor(first) {
     this.first = viewWords(first);
+    /** The words of the last decoded file. */
     this.scratch = new Uint32Array(first.length / WORD_BYTES);
+    /** The bytes of the last decoded file, in the same memory as `scratch`. */
     this.bytes = new Uint8Array(this.scratch.buffer);
-    /** @type {number[]} */
+    /** @type {number[]} a list that `encode` reuses */
     this.indexes = [];
   }
 
   /**
    * Returns the words of a file that differ from the first file.
-   * @param {Uint8Array} restore
+   * @param {Uint8Array} file
    * @returns {FileDelta}
    */
-  encode(restore) {
-    const words = viewWords(restore);
+  encode(file) {
+    const words = viewWords(file);
     const { first, indexes } = this;
     indexes.length = 0;
     for (let at = 0; at < first.length; at++) if (words[at] !== first[at]) indexes.push(at);

@@ -1,6 +1,6 @@
-// Asks the prover before the search starts, because a property that is proved needs no search: for all inputs or, if this fails, for the
-// inputs of the search. The prover gets a part of the search time. Each round asks about all properties that are not proved yet, with twice
-// the previous bound on the number of states.
+// Asks the prover about the properties before the search starts, because a proved property needs no search. First asks about all inputs
+// and, if the answer is negative, about the inputs of the search only. The prover gets a part of the search time. Each round asks about all
+// properties that are not proved yet, with twice the previous bound on the number of states.
 
 import { findInputLimits } from "../prove/input_limits.js";
 import { listMistakes } from "../prove/mistakes.js";
@@ -35,7 +35,7 @@ export class InitialProof {
     this.timeLeft = subject.engine.prove ? milliseconds : 0;
     /** The number of states in the proof of each property; 0 for unproved properties. */
     this.states = campaign.properties.map(() => 0);
-    /** @type {string[][]} the lines of the text whose limits on the inputs the proof of each property needs */
+    /** @type {string[][]} for each property, the lines of the text with the limits on the inputs that its proof needs */
     this.limits = campaign.properties.map(() => []);
     /** The limits that the text sets on the inputs; null if a proof cannot use its limits. */
     this.inputLimits = findInputLimits(campaign, subject.names.board);
@@ -62,22 +62,22 @@ export class InitialProof {
 
   /** Asks the next question. Returns the indices of the properties that the answer proves. */
   askNextQuestion() {
-    const asked = this.questions[this.askedCount];
-    const { properties, question } = asked;
+    const askedQuestion = this.questions[this.askedCount];
+    const { properties, question } = askedQuestion;
     const startTime = performance.now();
     const answer = this.askProver(question);
     this.lastDuration = performance.now() - startTime;
     this.timeLeft -= this.lastDuration;
     if (answer.kind === "more") this.askedCount += 1;
-    else this.questions.splice(this.askedCount, 1, ...(answer.kind === "fails" ? this.createLimitedQuestions(asked) : []));
-    if (answer.kind === "holds") this.closeProved(properties, answer.states, question.inputLimits);
+    else this.questions.splice(this.askedCount, 1, ...(answer.kind === "fails" ? this.createLimitedQuestions(askedQuestion) : []));
+    if (answer.kind === "holds") this.recordProof(properties, answer.states, question.inputLimits);
     if (answer.kind === "full" || answer.kind === "lost") this.questions = [];
     if (this.askedCount >= this.questions.length) this.raiseBound();
     return answer.kind === "holds" ? properties : [];
   }
 
   /**
-   * Returns the prover's answer to a question.
+   * Returns the prover's answer to a question; the answer `lost` if the prover reports an error.
    * @param {import("../prove/question.js").Question} question
    */
   askProver(question) {
@@ -88,9 +88,9 @@ export class InitialProof {
   }
 
   /**
-   * Returns the question about the same property with limits on the inputs; [] if there are no limits, if the question already has them, or
-   * if it combines several others.
-   * @param {PropertyQuestion} asked
+   * Returns a list with one new question: the same question with limits on the inputs. The list is empty if there are no limits, or if the
+   * question already has limits or is about several properties.
+   * @param {PropertyQuestion} propertyQuestion
    */
   createLimitedQuestions({ properties, question }) {
     const { inputLimits } = this;
@@ -99,11 +99,11 @@ export class InitialProof {
 
   /**
    * Stores a proof and removes the questions about the proved properties.
-   * @param {number[]} properties
-   * @param {number} states
+   * @param {number[]} properties the indices of the proved properties
+   * @param {number} states the number of states in the proof
    * @param {import("../prove/input_limits.js").InputLimits | null} inputLimits
    */
-  closeProved(properties, states, inputLimits) {
+  recordProof(properties, states, inputLimits) {
     for (const at of properties) {
       this.states[at] = states;
       this.limits[at] = inputLimits ? inputLimits.words : [];

@@ -54,7 +54,8 @@ export class Minimiser {
   }
 
   /**
-   * Replaces the current steps if the new steps also violate the property. Returns whether the steps were replaced.
+   * Replaces the current steps if the new steps also violate the property. Returns whether the steps were replaced. Does not try steps that
+   * the campaign forbids, and tries no steps after the cycle limit.
    * @param {WalkStep[]} steps
    */
   async tryWalk(steps) {
@@ -101,17 +102,17 @@ export class Minimiser {
   listStepsWithout(isRemoved) {
     const { campaign } = this;
     let downInputs = initialDownInputs(campaign);
-    let waited = 0;
+    let cyclesSinceStep = 0;
     /** @type {WalkStep[]} */
     const remainingSteps = [];
     for (const [at, step] of this.steps.entries()) {
-      waited += step.wait;
+      cyclesSinceStep += step.wait;
       if (isRemoved(at)) continue;
       // While no input is down, a wait can exceed the maximum of the campaign, but must fit into one run.
-      if (waited > (downInputs.length > 0 ? campaign.maxWait : MAX_RUN_CYCLES)) return null;
-      remainingSteps.push({ ...step, wait: waited });
+      if (cyclesSinceStep > (downInputs.length > 0 ? campaign.maxWait : MAX_RUN_CYCLES)) return null;
+      remainingSteps.push({ ...step, wait: cyclesSinceStep });
       downInputs = updateDownInputs(downInputs, step);
-      waited = 0;
+      cyclesSinceStep = 0;
     }
     return remainingSteps;
   }
@@ -154,9 +155,9 @@ export class Minimiser {
     for (let at = 0; at < this.steps.length; at++) {
       const { wait } = this.steps[at];
       for (const fraction of WAIT_FRACTIONS) {
-        const shorter = Math.max(this.campaign.minWait, Math.floor(wait * fraction));
-        if (shorter >= wait) continue;
-        if (await this.tryWalk(this.steps.map((step, index) => (index === at ? { ...step, wait: shorter } : step)))) {
+        const shorterWait = Math.max(this.campaign.minWait, Math.floor(wait * fraction));
+        if (shorterWait >= wait) continue;
+        if (await this.tryWalk(this.steps.map((step, index) => (index === at ? { ...step, wait: shorterWait } : step)))) {
           isShorter = true;
           break;
         }

@@ -81,9 +81,9 @@ export class Model {
   }
 
   /**
-   * Returns the state of the display and lamps after a key sequence: the number on the display, the number followed by lamp names as `mcs4
-   * display` prints them (`fullText`), and the names of all lamps that are on except the minus lamp.
-   * @param {number[]} keys
+   * Returns the state of the display and lamps after a key sequence. `number` is the number on the display. `fullText` is the number
+   * followed by lamp names, as `mcs4 display` prints them. `lampsOn` are the names of all lamps that are on, except the minus lamp.
+   * @param {number[]} keys the indices of the inputs to press
    */
   readDisplayAfter(keys) {
     const { downTime, upTime } = this.campaign;
@@ -100,7 +100,8 @@ export class Model {
   }
 
   /**
-   * Removes one key after another as long as the display still differs from the model's output.
+   * Removes one key after another as long as the display still differs from the model's output. Resolves to the difference after the
+   * remaining keys.
    * @param {Difference} difference
    */
   async shorten(difference) {
@@ -108,15 +109,15 @@ export class Model {
     for (;;) {
       const { keys } = minimised;
       const shorterSequences = keys.map((_, at) => keys.filter((_key, index) => index !== at)).filter(({ length }) => length > 0);
-      const shorter = await this.findDifference(shorterSequences);
-      if (!shorter) return minimised;
-      minimised = shorter;
+      const shorterDifference = await this.findDifference(shorterSequences);
+      if (!shorterDifference) return minimised;
+      minimised = shorterDifference;
     }
   }
 
   /**
    * Returns the text of the test for a difference.
-   * @param {string} name
+   * @param {string} name the name of the test
    * @param {Difference} difference
    */
   formatTest(name, { keys, expectedText, lampsOn }) {

@@ -33,7 +33,8 @@ export class PlaceQueries {
 }
 
 /**
- * Returns all conditions of a property: its own condition and those of its guards.
+ * Returns all conditions of a property: the condition in its line, followed by the conditions of its guards. An element is null if the
+ * property or the guard has no condition.
  * @param {Property} property
  */
 export function listConditions({ condition, guards }) {
@@ -57,7 +58,7 @@ export class Conditions {
   }
 
   /**
-   * Returns whether the property's own condition is true.
+   * Returns whether the property's condition is true, regardless of its guards; false if the property has no condition.
    * @param {string[]} values the values of all places
    */
   holds(values) {

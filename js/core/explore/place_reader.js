@@ -40,8 +40,8 @@ function countChips({ banks }, bank) {
  * @returns {AnswerPosition | null}
  */
 function findRegister(name) {
-  const found = REGISTER_POSITIONS.get(name);
-  if (found) return { query: "regs", line: 0, precedingWord: "", start: found[0], length: found[1] };
+  const position = REGISTER_POSITIONS.get(name);
+  if (position) return { query: "regs", line: 0, precedingWord: "", start: position[0], length: position[1] };
   const register = /^r(\d+)$/.exec(name);
   return register && { query: "regs", line: 0, precedingWord: "", start: R0_POSITION + Number(register[1]), length: 1 };
 }

@@ -247,8 +247,8 @@ export function afterPressProperty(text, key, condition, limit) {
 }
 
 /**
- * Creates the property that the program counter reaches a label at most once per press. Memory: the number of presses, including the inputs
- * that were down at the start, minus the number of times that the label was reached; and 1 if the label was ever reached.
+ * Creates the property that the program counter reaches a label at most once per press. Memory: the number of presses minus the number of
+ * times that the label was reached; and 1 if the label was ever reached. The inputs that are down at the start count as presses.
  * @param {string} text
  * @param {number} address
  * @returns {Property}
@@ -298,9 +298,10 @@ export const GUARDABLE_FORMS = new Set(["never", "never for", "always", "at", "a
 
 /**
  * Returns the memory of a guard after an event. For a `press` or `once` guard, this is the time at which the guard opened. For a `while`
- * guard, it is the last time at which the guard was open. If the guard is closed, its memory is UNSET.
+ * guard, it is the time of the last event at which the guard was open. The memory is UNSET before a `press` or `once` guard first opens,
+ * and while a `while` guard is closed.
  * @param {Guard} guard
- * @param {number} since
+ * @param {number} since the memory of the guard before the event
  * @param {Event} event
  * @param {Moment} moment
  * @param {boolean} holds true if the condition of the guard is true
@@ -314,7 +315,7 @@ function updateGuard({ kind, key }, since, event, { time, input }, holds) {
 }
 
 /**
- * Returns the last cycle at which a guard is open; Infinity without a limit.
+ * Returns the last cycle at which a guard is open; Infinity without a limit; UNSET if the guard has not opened.
  * @param {Guard} guard
  * @param {number} since the memory of the guard
  */
@@ -347,27 +348,27 @@ function notifyGuarded({ form, update, keys }, memory, event, moment, isOpen) {
  * @returns {Property}
  */
 export function guardedProperty(text, property, guards) {
-  const ownStart = guards.length + 1;
+  const originalStart = guards.length + 1;
   return {
     ...property, text, guards,
     createMemory: (time, downCount) => [...guards.map(() => UNSET), 0, ...property.createMemory(time, downCount)],
     newStateKey: (memory) => (
-      guards.map((_, index) => (memory[index] === UNSET ? "-" : "+")).join("") + property.newStateKey(memory.slice(ownStart))),
-    hasApplied: (memory) => memory[ownStart - 1] > 0 && property.hasApplied(memory.slice(ownStart)),
+      guards.map((_, index) => (memory[index] === UNSET ? "-" : "+")).join("") + property.newStateKey(memory.slice(originalStart))),
+    hasApplied: (memory) => memory[originalStart - 1] > 0 && property.hasApplied(memory.slice(originalStart)),
     update: (memory, event, moment) => {
-      const ownMemory = memory.slice(ownStart);
+      const originalMemory = memory.slice(originalStart);
       const lastOpen = Math.min(...guards.map((guard, index) => findLastOpenCycle(guard, memory[index])));
       // When a guard closes, the condition no longer counts as true.
       const hasClosed = property.form === "never for" && lastOpen < moment.time && lastOpen !== UNSET;
       const closingMoment = { ...moment, time: lastOpen + 1, changeTime: lastOpen + 1, holds: false };
-      let violationTime = hasClosed ? property.update(ownMemory, "values", closingMoment) : UNSET;
+      let violationTime = hasClosed ? property.update(originalMemory, "values", closingMoment) : UNSET;
       guards.forEach((guard, index) => {
         memory[index] = updateGuard(guard, memory[index], event, moment, moment.areOpen[index] === true);
       });
       const isOpen = guards.every((guard, index) => memory[index] !== UNSET && moment.time <= findLastOpenCycle(guard, memory[index]));
-      if (isOpen) memory[ownStart - 1] = 1;
-      if (violationTime === UNSET) violationTime = notifyGuarded(property, ownMemory, event, moment, isOpen);
-      memory.splice(ownStart, ownMemory.length, ...ownMemory);
+      if (isOpen) memory[originalStart - 1] = 1;
+      if (violationTime === UNSET) violationTime = notifyGuarded(property, originalMemory, event, moment, isOpen);
+      memory.splice(originalStart, originalMemory.length, ...originalMemory);
       return violationTime;
     },
   };

@@ -17,8 +17,9 @@ import { neverReached, proved } from "../../words/prove.js";
  *
  * The result for a property. `isSkipped`: true if the property is a model whose command was not run. `applied`: true if an event in the
  * search was relevant to the property; always true for a goal. `states`: the number of states in the proof, 0 without a proof. `limits`:
- * the lines of the text whose limits on the inputs the proof needs, [] for a proof for all inputs. `leftOut`: the guards that the proof
- * does not consider. `chains`: for a model, the number of key sequences that were compared. `found`: the counterexample, null for none.
+ * the lines of the text with the limits on the inputs that the proof needs, [] for a proof for all inputs. `leftOut`: the guards that the
+ * proof does not consider. `chains`: for a model, the number of key sequences that were compared. `found`: the counterexample, null for
+ * none.
  * @typedef {{ text: string, line: number, isGoal: boolean, isSkipped: boolean, applied: boolean, states: number, limits: string[],
  *   leftOut: string, chains: number, found: Counterexample | null }} PropertyResult
  *
@@ -30,7 +31,10 @@ import { neverReached, proved } from "../../words/prove.js";
  *   isStopped: boolean }} Report
  */
 
-/** @param {number} number */
+/**
+ * Formats a number as a rounded integer with commas: `1,204`.
+ * @param {number} number
+ */
 export const formatNumber = (number) => Math.round(number).toLocaleString("en");
 
 /**
@@ -110,7 +114,7 @@ export function formatRemark(property, report) {
 }
 
 /**
- * Returns the source location of a property: the file and the line.
+ * Returns the source location of a property: the file and the line; only the file for a standard property.
  * @param {Pick<PropertyResult, "line">} property
  * @param {Pick<Report, "names">} report
  */
@@ -138,7 +142,10 @@ function formatTapLines(property, index, report) {
 /** The maximum number of line numbers in a list of lines. */
 const MAX_LISTED_LINES = 40;
 
-/** @param {number[]} lines */
+/**
+ * Returns a text with the number of lines, and with at most MAX_LISTED_LINES line numbers.
+ * @param {number[]} lines the line numbers
+ */
 function formatLineNumbers(lines) {
   const hiddenCount = lines.length - MAX_LISTED_LINES;
   return `${say.lineList(lines.length, lines.slice(0, MAX_LISTED_LINES).join(" "))}${hiddenCount > 0 ? moreItems(hiddenCount) : ""}`;

@@ -1,7 +1,7 @@
 // Searches for violations by random walks that start at stored states. For most walks, the search only reads a snapshot after each change.
 // If a walk reaches a new state, the search repeats the walk to count its instructions (walk_counter.js). The search watches a walk
-// instruction by instruction (walk_watcher.js) if the walk executes code for the first time, if a property needs more data, or if a
-// property seems violated. It also watches a sample of the other walks.
+// instruction by instruction (walk_watcher.js) if the walk executes code for the first time. The search also watches a walk if a property
+// needs more data or seems violated, and a sample of all other walks.
 
 import { countWalk, isCountingSufficient } from "./walk_counter.js";
 import { Coverage } from "./search_coverage.js";
@@ -31,8 +31,8 @@ import { MAX_RUN_CYCLES, runLines } from "../engine/key_queue.js";
  * The violation of a property, or the arrival at a goal: the index of the property, the steps from the start state, and the time in cycles.
  * @typedef {{ property: number, steps: WalkStep[], time: number }} Violation
  *
- * A snapshot of the state after a step: the values of the noted places and, for each property, whether its condition is true (`holds`), and
- * which of its guard conditions are true (`areOpen`).
+ * A snapshot of the state after a step. `notedValues` are the values of the noted places. For each property, `holds` says whether its
+ * condition is true, and `areOpen` says which of its guard conditions are true.
  * @typedef {{ notedValues: string, holds: boolean[], areOpen: boolean[][] }} Snapshot
  */
 
@@ -77,7 +77,7 @@ export class Search {
     this.snapshots = new Map();
     /** @type {Set<string>} the keys of all states so far; see `recordIfNew` */
     this.seenKeys = new Set();
-    /** The start state. */
+    /** The start state of the search, at which the check of the properties begins. */
     this.start = this.createStart();
     this.files = new DeltaFiles(this.start.file);
     const { file, time, downInputs, memories } = this.start;
@@ -97,8 +97,8 @@ export class Search {
     const file = subject.file.slice();
     const downInputs = initialDownInputs(this.campaign);
     const { min, max } = this.campaign.calls;
-    const memories = properties.map(({ createMemory: from, form }) => (
-      form === "calls" ? [min] : form === "returns" ? [max] : from(checkStart, downInputs.length)));
+    const memories = properties.map(({ createMemory, form }) => (
+      form === "calls" ? [min] : form === "returns" ? [max] : createMemory(checkStart, downInputs.length)));
     if (checkStart > 0) {
       subject.engine.serve(file, runLines(checkStart), file);
       this.countCalls(memories);
@@ -125,7 +125,7 @@ export class Search {
   }
 
   /**
-   * Makes random walks for a number of milliseconds, or until a walk finds a violation.
+   * Makes random walks for a number of milliseconds, or until a walk finds a violation. Returns this violation; null if there is none.
    * @param {number} milliseconds
    * @returns {Violation | null}
    */
@@ -140,7 +140,7 @@ export class Search {
 
   /**
    * Makes a random walk from a stored state, and stores the new states that it reaches.
-   * @returns {Violation | null} the first violation in the walk
+   * @returns {Violation | null} the first violation in the walk; null if there is none
    */
   walk() {
     const state = this.pickState();
@@ -165,7 +165,8 @@ export class Search {
 
   /**
    * Repeats a walk up to its last new state to determine the memories of the properties. Uses instruction counts if they are sufficient and
-   * the walk executes no code for the first time. Otherwise, watches the walk.
+   * the walk executes no code for the first time. Otherwise, watches the walk. Returns the first violation, if any, and the state after
+   * each complete step.
    * @param {import("./walk_watcher.js").WalkStart} start
    * @param {WalkStep[]} steps
    * @param {number[]} newSteps the indices of the steps after which the state is new; this method adds the steps that execute code for the
@@ -194,7 +195,7 @@ export class Search {
 
   /**
    * Records the properties to which an event in a walk was relevant.
-   * @param {number[][]} memories
+   * @param {number[][]} memories the memories of the properties at the end of the walk
    */
   recordAppliedProperties(memories) {
     memories.forEach((memory, at) => {
@@ -205,11 +206,11 @@ export class Search {
   /** Returns one of the stored states at random. Prefers recent states, and states at which few walks have started. */
   pickState() {
     const { states, random } = this;
-    const isLast = random() < 0.5;
+    const picksRecent = random() < 0.5;
     let chosenState = null;
     for (let tries = 0; tries < CANDIDATE_COUNT; tries++) {
       const stepsBack = Math.floor(-Math.log(1 - random()) * MEAN_STATES_BACK);
-      const state = states[isLast ? Math.max(0, states.length - 1 - stepsBack) : randomBelow(random, states.length)];
+      const state = states[picksRecent ? Math.max(0, states.length - 1 - stepsBack) : randomBelow(random, states.length)];
       if (!chosenState || state.resumeCount < chosenState.resumeCount) chosenState = state;
     }
     const state = /** @type {State} */ (chosenState);
@@ -246,13 +247,13 @@ export class Search {
    */
   get stopAddresses() {
     const { properties } = this.campaign;
-    const stopping = this.labelProperties.map((at) => properties[at]).filter(stopsAtLabel);
-    return [...new Set(stopping.map(({ address }) => address))].slice(0, MAX_ENABLED_BREAKPOINTS);
+    const stoppingProperties = this.labelProperties.map((at) => properties[at]).filter(stopsAtLabel);
+    return [...new Set(stoppingProperties.map(({ address }) => address))].slice(0, MAX_ENABLED_BREAKPOINTS);
   }
 
   /**
-   * Runs a walk and reads a snapshot after each change. Returns the snapshots; the indices of the steps that reach a new state or execute
-   * code for the first time; and whether a property seems violated.
+   * Runs a walk and reads a snapshot after each change. Ends early if a property seems violated (`isSuspect`). Returns the snapshots; the
+   * indices of the steps that reach a new state or execute code for the first time; and `isSuspect`.
    * @param {Uint8Array} file
    * @param {State} state
    * @param {WalkStep[]} steps
@@ -316,9 +317,9 @@ export class Search {
   }
 
   /**
-   * Stores the states after some steps of a walk.
+   * Stores the states after some steps of a walk, up to MAX_STATES states and MAX_DEPTH steps from the start state.
    * @param {State} state the state at which the walk started
-   * @param {Uint8Array} file the session file of that state; changed
+   * @param {Uint8Array} file the session file of that state; this method changes it
    * @param {WalkStep[]} steps
    * @param {import("./walk_watcher.js").StepState[]} stepStates the state after each step
    * @param {number[]} newSteps the indices of the steps after which to store the state
@@ -425,7 +426,7 @@ class EstimatedState {
    * @param {number[]} memory
    * @param {import("./properties.js").Moment} moment the moment at the end of the wait
    * @param {WalkStep} step
-   * @param {number} count the number of times the counter reached the label
+   * @param {number} count the number of times that the program counter reached the label
    */
   canViolateAtLabel(property, memory, moment, step, count) {
     const { form, update, limit, guards } = property;
@@ -455,7 +456,7 @@ class EstimatedState {
    * @param {number[]} memory
    * @param {import("./properties.js").Moment} moment the moment at the end of the wait
    * @param {WalkStep} step
-   * @param {(address: number) => number} countAt returns the number of times the counter reached an address
+   * @param {(address: number) => number} countAt returns the number of times that the program counter reached an address
    */
   canBeLate({ start, address, limit, update }, memory, moment, step, countAt) {
     const isLate = () => memory[0] >= 0 && moment.time - memory[0] > limit;

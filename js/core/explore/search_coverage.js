@@ -11,7 +11,7 @@ const JUMPED = 2;
 const CONTINUED = 4;
 
 export class Coverage {
-  /** @param {string} [text] the coverage as text, as returned by `text` */
+  /** @param {string} [text] the coverage in the format of the getter `text` */
   constructor(text = "") {
     this.flags = new Uint8Array(ADDRESS_COUNT);
     [...text].forEach((digit, address) => {

@@ -5,8 +5,8 @@ import { keyLine, pinKey } from "../board/key_place.js";
 /**
  * @typedef {import("../board/key_place.js").Key} Key
  *
- * An input, which is either down or up. `downLine` and `upLine` are the bench lines that change its position; `downTestLine`
- * and `upTestLine` are the test lines for the same changes. `isDown` is its position at power-on.
+ * An input, which is either down or up. `downLine` and `upLine` are the bench lines that change its position; `downTestLine` and
+ * `upTestLine` are the test lines for the same changes. `isDown` is true if it is down in the start state.
  * @typedef {{ name: string, key: Key, isKey: boolean, downLine: string, upLine: string, downTestLine: string, upTestLine: string,
  *   isDown: boolean }} Input
  *

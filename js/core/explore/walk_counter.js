@@ -44,7 +44,7 @@ function updateMemory({ form }, memory, { kind }, openedCalls) {
 }
 
 /**
- * Returns the state after each step of a walk.
+ * Returns the state after each step of a walk. Adds the executed code to the coverage.
  * @param {Pick<import("./walk_watcher.js").Watcher, "subject" | "campaign"> & { coverage: import("./search_coverage.js").Coverage }} search
  * @param {WalkStart} start
  * @param {WalkStep[]} steps
@@ -58,9 +58,9 @@ export function countWalk({ subject: { engine, codes }, campaign, coverage }, st
     const counts = values.takeCountsIfAny();
     values.skip(step.kind === "none" ? 1 : 2);
     let openedCalls = 0;
-    for (const { address, startCount: begun } of counts) {
-      if (isCall(codes[address])) openedCalls += begun;
-      else if (isReturn(codes[address])) openedCalls -= begun;
+    for (const { address, startCount } of counts) {
+      if (isCall(codes[address])) openedCalls += startCount;
+      else if (isReturn(codes[address])) openedCalls -= startCount;
     }
     time += step.wait;
     downInputs = updateDownInputs(downInputs, step);

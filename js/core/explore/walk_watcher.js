@@ -144,7 +144,7 @@ export class Watcher {
    * is also necessary if a call or return does not change the return addresses, because the recorded changes then do not show this call or
    * return.
    * @param {StepReport} report
-   * @param {boolean} asksCalls
+   * @param {boolean} asksCalls true if an open property needs all calls and returns
    */
   needsInstructionList({ changes, counts }, asksCalls) {
     if (counts.some(({ address }) => this.openLabels.has(address))) return true;
@@ -152,8 +152,8 @@ export class Watcher {
     const { codes } = this.subject;
     /** @type {(address: number) => boolean} */
     const changesCalls = (address) => isCall(codes[address]) || isReturn(codes[address]);
-    const calls = new Set(changes.filter(({ address }) => changesCalls(address)).map(({ cycles }) => cycles)).size;
-    return calls !== counts.reduce((sum, { address, startCount: begun }) => sum + (changesCalls(address) ? begun : 0), 0);
+    const recordedCount = new Set(changes.filter(({ address }) => changesCalls(address)).map(({ cycles }) => cycles)).size;
+    return recordedCount !== counts.reduce((sum, { address, startCount }) => sum + (changesCalls(address) ? startCount : 0), 0);
   }
 }
 

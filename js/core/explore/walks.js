@@ -37,7 +37,7 @@ export function randomBelow(random, limit) {
 }
 
 /**
- * Returns the indices of the inputs that are down at power-on.
+ * Returns the indices of the inputs that are down in the start state.
  * @param {Campaign} campaign
  */
 export function initialDownInputs({ inputs }) {
@@ -80,7 +80,7 @@ export function chooseStep(campaign, downInputs, ages, random) {
 }
 
 /**
- * Returns a step with a random change after a given wait.
+ * Returns a step with a random change after a wait of `wait` cycles.
  * @param {Campaign} campaign
  * @param {number[]} downInputs the indices of the inputs that are down
  * @param {number[]} ages the cycles since the last change of each input
@@ -103,7 +103,8 @@ function chooseChange(campaign, downInputs, ages, wait, random) {
 }
 
 /**
- * Returns the age of each input at power-on, which is the number of cycles since its last change: 0 if the input is down, else Infinity.
+ * Returns the age of each input in the start state, which is the number of cycles since its last change: 0 if the input is down, otherwise
+ * Infinity.
  * @param {Campaign} campaign
  */
 export function createInitialAges({ inputs }) {
@@ -120,7 +121,7 @@ export function updateAges(ages, { wait, input }) {
 }
 
 /**
- * Returns the inputs that are down after a step.
+ * Returns the indices of the inputs that are down after a step.
  * @param {number[]} downInputs
  * @param {WalkStep} step
  */
@@ -130,8 +131,8 @@ export function updateDownInputs(downInputs, { kind, input }) {
 }
 
 /**
- * Returns whether a campaign allows steps from power-on. An input can go down only if it is up, and up only if it is down. The steps must
- * respect the limits on the number of keys that are down, on hold times and on release times.
+ * Returns whether a campaign allows steps from the start state. An input can go down only if it is up, and up only if it is down. The steps
+ * must respect the limits on the number of keys that are down, on hold times and on release times.
  * @param {Campaign} campaign
  * @param {WalkStep[]} steps
  */
@@ -160,7 +161,7 @@ function findLongestWait({ maxHoldTime }, downInputs, ages) {
 }
 
 /**
- * Returns the longest allowed wait after steps from power-on.
+ * Returns the longest allowed wait after steps from the start state.
  * @param {Campaign} campaign
  * @param {WalkStep[]} steps
  */

@@ -105,7 +105,7 @@ export function readLineForms(manual) {
 
 /**
  * Returns the bench lines that match a typed text. If a blank follows the first word, returns the lines with this first word. Otherwise,
- * returns the lines that start with the typed text.
+ * returns the lines that start with the typed text. Returns no lines for a blank text.
  * @param {{ form: string, effect: string }[]} lines
  * @param {string} typedText
  */

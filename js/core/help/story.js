@@ -50,10 +50,10 @@ function splitParagraph(text) {
   const parts = [];
   let end = 0;
   for (const match of text.matchAll(LINK_PATTERN)) {
-    const [whole, linkText, actionText] = match;
+    const [linkMarkup, linkText, actionText] = match;
     const storyAction = parseAction(actionText);
     parts.push(text.slice(end, match.index), storyAction ? { linkText, action: storyAction } : linkText);
-    end = (match.index || 0) + whole.length;
+    end = (match.index || 0) + linkMarkup.length;
   }
   return [...parts, text.slice(end)].filter((part) => part !== "");
 }

@@ -1,4 +1,4 @@
-// Runs the actions of the links in a story, the guided text of an example. Each action callbacks a function of the page.
+// Runs the actions of the links in a story, the guided text of an example. Each action calls a function of the page.
 
 import { TEXTS } from "./story.js";
 import * as say from "../../words/help.js";
@@ -18,8 +18,8 @@ import * as say from "../../words/help.js";
  * @property {() => BoardKey[]} keys Returns the keys of the displayed board.
  * @property {() => void} run Runs the machine to the next stop.
  * @property {() => Promise<void>} pause Pauses the machine. Resolves when the machine is paused.
- * @property {(goal: Goal) => Promise<void>} goOn Runs the machine to a goal. Resolves when a near goal is reached. If the goal is far away,
- *   resolves as soon as the machine runs.
+ * @property {(goal: Goal) => Promise<void>} runToGoal Runs the machine to a goal. Resolves when a near goal is reached. If the goal is far
+ *   away, resolves when the machine has started.
  * @property {(goal: BackGoal) => Promise<void>} goBack Goes back in time to a goal. Resolves when the session is at the goal.
  * @property {() => Promise<void>} goForward Undoes the last move back: returns to the moment from which that move started.
  * @property {(address: number) => void} goTo Shows an address in the source and in the listing.
@@ -66,7 +66,7 @@ const ACTIONS = {
   back: (_, callbacks) => perform(() => callbacks.goBack({ kind: "stop" })),
   forward: (_, callbacks) => perform(() => callbacks.goForward()),
   "go to": (argument, callbacks) => callWithAddress(argument, callbacks, (address) => callbacks.goTo(address)),
-  "run to": (argument, callbacks) => callWithAddress(argument, callbacks, (address) => callbacks.goOn({ kind: "here", address })),
+  "run to": (argument, callbacks) => callWithAddress(argument, callbacks, (address) => callbacks.runToGoal({ kind: "here", address })),
   "back to": (argument, callbacks) => perform(() => callbacks.goBack({ kind: "change", place: argument })),
   press: async (argument, callbacks) => callWithKey(argument, callbacks, (key) => (
     (callbacks.isRunning() || !callbacks.isDown(key)) && callbacks.press(key))),

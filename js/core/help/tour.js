@@ -88,7 +88,7 @@ export class TourProgress {
   }
 
   /**
-   * Starts a step.
+   * Starts a step of the tour, and forgets the state of the previous step.
    * @param {number} at the index of the step
    */
   begin(at) {

@@ -15,7 +15,7 @@ import * as say from "../../words/import.js";
 /** The maximum nesting depth of an expression. */
 const MAX_DEPTH = 50;
 /** The number of values of a byte. */
-const BYTE = 256;
+const BYTE_VALUES = 256;
 /** The value of the highest bit that the operator & evaluates. */
 const HIGHEST_BIT = 4096;
 const NAME = /[A-Za-z_.?@][A-Za-z0-9_.?@$]*/y;
@@ -80,7 +80,7 @@ class Evaluation {
     if (this.error === "") this.error = message;
   }
 
-  /** Skips blanks. */
+  /** Skips blanks and tabs. */
   skipBlanks() {
     while (/[ \t]/.test(this.text[this.at] || "")) this.at += 1;
   }
@@ -148,7 +148,7 @@ class Evaluation {
     if (byteFunction) {
       this.at += byteFunction[0].length - 1;
       const value = this.parseBracketed();
-      return /^l/i.test(byteFunction[0]) ? value % BYTE : Math.trunc(value / BYTE);
+      return /^l/i.test(byteFunction[0]) ? value % BYTE_VALUES : Math.trunc(value / BYTE_VALUES);
     }
     const character = this.match(CHARACTER);
     if (character) return this.parseCharacter(character[0]);
@@ -176,7 +176,7 @@ class Evaluation {
     if (sign === "-") return -this.parseFactor();
     if (sign === "+") return this.parseFactor();
     const value = this.parseSum();
-    return sign === "<" ? ((value % BYTE) + BYTE) % BYTE : Math.trunc(value / BYTE);
+    return sign === "<" ? ((value % BYTE_VALUES) + BYTE_VALUES) % BYTE_VALUES : Math.trunc(value / BYTE_VALUES);
   }
 
   /** Parses an expression in parentheses, and returns its value. */

@@ -17,16 +17,17 @@ import * as say from "../../words/import.js";
  * An error in a line; `line` counts from 1.
  * @typedef {{ line: number, words: string }} ImportError
  *
- * The rules for the value of an operand. `from` and `to` are its lowest and highest value. `modulus` is added to negative numbers; 0 means
- * that negative numbers are not allowed. `isNumber` is true if the output must contain the value of a name instead of the name.
+ * The rules for the value of an operand. `from` and `to` are its lowest and highest value. `modulus` is added to negative numbers from
+ * -`modulus` / 2 on; 0 means that negative numbers are not allowed. `isNumber` is true if the output must contain the value of a name
+ * instead of the name.
  * @typedef {{ from?: number, to: number, modulus?: number, isNumber?: boolean }} OperandRules
  */
 
 /** The maximum number of passes that compute the values of names. */
 const MAX_PASSES = 20;
 /** The number of values of a nibble, and of a byte. */
-const NIBBLE = 16;
-const BYTE = 256;
+const NIBBLE_VALUES = 16;
+const BYTE_VALUES = 256;
 /** The columns at which statements and comments start in the output, counted from 0. */
 const COLUMNS = { statement: 8, comment: 24 };
 /** Matches names that are reserved words in the bench's syntax. */
@@ -45,7 +46,7 @@ const CONDITION_BITS = { Z: 4, C: 2, T: 1 };
 class LineError extends Error {}
 
 /**
- * Pads a text with blanks to a column. Adds one blank to a longer text.
+ * Returns a text, padded with blanks to a column. A text that already reaches the column gets one blank.
  * @param {string} text
  * @param {number} column
  */
@@ -53,7 +54,7 @@ function padToColumn(text, column) {
   return text.length < column ? text.padEnd(column) : `${text} `;
 }
 
-/** The conversion of one program. */
+/** The conversion of one program. The methods for parts of a line throw LineError if a part cannot be converted. */
 class ProgramImport {
   /** @param {string[]} texts the lines of the source */
   constructor(texts) {
@@ -243,7 +244,7 @@ class ProgramImport {
   }
 
   /**
-   * Converts a directive that reserves or aligns bytes to an ORG statement.
+   * Converts a directive that reserves bytes or aligns the address into an ORG statement.
    * @param {string} word
    * @param {string} operand
    */
@@ -264,14 +265,14 @@ class ProgramImport {
     if (parts.length === 0) throw new LineError(say.NO_VALUES);
     return parts.flatMap((part) => {
       const characters = quotedCharacters(part);
-      if (characters === null) return [this.convertExpression(part, { to: BYTE - 1, modulus: BYTE })];
+      if (characters === null) return [this.convertExpression(part, { to: BYTE_VALUES - 1, modulus: BYTE_VALUES })];
       if (!isAscii(characters)) throw new LineError(say.noCharacterMessage(part));
       return [...characters].map((character) => `0x${hex(character.charCodeAt(0), 2)}`);
     }).join(", ");
   }
 
   /**
-   * Converts an instruction.
+   * Returns an instruction with its operands in the bench's syntax.
    * @param {string} word the mnemonic
    * @param {string} operand the text of all operands
    * @param {OperandKind[]} kinds
@@ -296,8 +297,8 @@ class ProgramImport {
       case "register": return this.convertRegister(text);
       case "pair": return this.convertPair(text);
       case "condition": return this.convertCondition(text);
-      case "digit": return this.convertExpression(text, { to: NIBBLE - 1, modulus: NIBBLE });
-      case "byte": return this.convertExpression(text, { to: BYTE - 1, modulus: BYTE });
+      case "digit": return this.convertExpression(text, { to: NIBBLE_VALUES - 1, modulus: NIBBLE_VALUES });
+      case "byte": return this.convertExpression(text, { to: BYTE_VALUES - 1, modulus: BYTE_VALUES });
       default: return this.convertExpression(text, { to: LAST_ADDRESS });
     }
   }
@@ -317,8 +318,8 @@ class ProgramImport {
     if (!(number >= from && number <= to)) throw new LineError(say.outOfRange(text, number, from, to));
     if (NAME.test(text) && !isNumber) return this.names.get(upperCase(text)) || "";
     if (!PLAIN_NUMBER.test(text)) this.originalTexts.push(text);
-    if (/^[0-9]+$/.test(text) || to < NIBBLE || (isNumber && number < 10)) return String(number);
-    return `0x${hex(number, number > BYTE - 1 || (to > BYTE - 1 && !isNumber) ? 3 : 2)}`;
+    if (/^[0-9]+$/.test(text) || to < NIBBLE_VALUES || (isNumber && number < 10)) return String(number);
+    return `0x${hex(number, number > BYTE_VALUES - 1 || (to > BYTE_VALUES - 1 && !isNumber) ? 3 : 2)}`;
   }
 
   /**
@@ -329,7 +330,7 @@ class ProgramImport {
     const word = upperCase(text);
     if (/^R([0-9]|1[0-5])$/.test(word) && !this.definingLines.has(word)) return word;
     // A name can be defined as a register, as in `COUNT EQU R5`.
-    return `R${this.convertExpression(text, { to: NIBBLE - 1, isNumber: true })}`;
+    return `R${this.convertExpression(text, { to: NIBBLE_VALUES - 1, isNumber: true })}`;
   }
 
   /**
@@ -342,7 +343,7 @@ class ProgramImport {
     if (number !== undefined) return `P${number}`;
     const [, first = "", mark = ""] = /^R([0-9]+)(?:R[0-9]+|P)$/.exec(word) || /^([0-9]+)(<)$/.exec(word) || [];
     const register = Number(first);
-    if (first !== "" && register % 2 === 0 && register < NIBBLE) return `P${register / 2}`;
+    if (first !== "" && register % 2 === 0 && register < NIBBLE_VALUES) return `P${register / 2}`;
     if (mark === "<") throw new LineError(say.oddPair(text, register));
     const { value, isKnown, error } = this.evaluateText(text, this.address);
     if (error === "" && isKnown && value === 0) return "P0";
@@ -355,11 +356,11 @@ class ProgramImport {
    */
   convertCondition(text) {
     const word = upperCase(text);
-    if (this.definingLines.has(word)) return this.convertExpression(text, { to: NIBBLE - 1 });
+    if (this.definingLines.has(word)) return this.convertExpression(text, { to: NIBBLE_VALUES - 1 });
     const knownNumber = CONDITIONS.get(word);
     if (knownNumber !== undefined) return String(knownNumber);
     if (word === "NC" && !this.isForAsAssembler) throw new LineError(say.NC_IS_AMBIGUOUS);
-    if (!/^N?[ZCT]+$/.test(word)) return this.convertExpression(text, { to: NIBBLE - 1 });
+    if (!/^N?[ZCT]+$/.test(word)) return this.convertExpression(text, { to: NIBBLE_VALUES - 1 });
     const letters = new Set(word.replace(/^N/, ""));
     return String([...letters].reduce((sum, letter) => sum + CONDITION_BITS[letter], word.startsWith("N") ? INVERTING_BIT : 0));
   }

@@ -64,7 +64,7 @@ export function upperCase(text) {
 }
 
 /**
- * Removes blanks and tabs from both ends of a text.
+ * Returns a text without the blanks and tabs at both ends.
  * @param {string} text
  */
 export function trimBlanks(text) {

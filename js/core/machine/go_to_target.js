@@ -1,5 +1,5 @@
-// Parses the address that a user types for the command "go to": a program name, a name plus an offset, three hexadecimal digits as in
-// listings, or a number as in commands.
+// Parses the address that a user types for the command "go to". The address can be a program name, a name plus an offset, three hexadecimal
+// digits as in listings, or a number as in commands.
 
 import { LAST_ADDRESS, parseNumber } from "../bench/numbers.js";
 import * as say from "../../words/machine.js";
@@ -31,7 +31,7 @@ function createTargetError(message) {
  * @param {SourceMap | null} map the source map of the program in ROM; null if unknown
  * @returns {GoToTarget}
  */
-export function parseGoal(text, map) {
+export function parseGoToTarget(text, map) {
   const word = text.trim();
   const [, name = word, offset = "0"] = NAME_PLUS_OFFSET.exec(word) || [];
   const value = map ? map.findValueIgnoringCase(name) : undefined;

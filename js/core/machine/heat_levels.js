@@ -1,4 +1,5 @@
-// Computes the levels of the heat map, and describes the map. The heat of a RAM nibble depends on how often or how recently it has changed.
+// Computes the levels of the heat map, and describes the map. The level of a RAM nibble depends on how often or how recently it has
+// changed.
 
 import { hex } from "../bench/numbers.js";
 import { addressWithName } from "../../words/stops.js";
@@ -15,7 +16,7 @@ import * as say from "../../words/machine.js";
  * @typedef {"often" | "lately"} HeatKind
  */
 
-/** The highest heat level. */
+/** The highest level of a heat map. */
 export const MAX_HEAT_LEVEL = 5;
 /** The maximum number of intervals for which RecentHeat stores changes separately. */
 const MAX_INTERVALS = 50;
@@ -30,8 +31,8 @@ function scaleLevel(number, max) {
 }
 
 /**
- * Returns the heat levels of all nibbles that have changed, from 1 to MAX_HEAT_LEVEL, by nibble. The nibble that has changed most often, or
- * most recently, has the highest level.
+ * Returns the levels of all nibbles that have changed, from 1 to MAX_HEAT_LEVEL, by nibble. The nibble that has changed most often, or most
+ * recently, has the highest level.
  * @param {Heat} heat
  * @param {HeatKind} kind
  * @returns {Map<string, number>}
@@ -150,8 +151,8 @@ export function describeChangesWhileRunning(cell, map) {
  * @param {ChipHeat} heat
  * @param {boolean} isAll true if the worker counts the changes in all cycles, false if it counts samples
  */
-export function describeHeatStatus({ chips }, isAll) {
-  return say.heatCounted(chips, isAll);
+export function describeHeatStatus({ chipCount }, isAll) {
+  return say.heatCounted(chipCount, isAll);
 }
 
 /**
@@ -168,6 +169,6 @@ export function describeHeat({ cycles, cells }, requestedCycles, nameOf, map) {
   const mostChanged = cells.reduce((one, other) => (other.count > one.count ? other : one));
   if (cells.length === 1) return say.oneChanged(period, nameOf(mostChanged.place), describeChanges(mostChanged, map));
   const lastChanged = cells.reduce((one, other) => (other.cyclesAgo < one.cyclesAgo ? other : one));
-  const often = say.mostFrequentChange(nameOf(mostChanged.place), formatTimes(mostChanged.count));
-  return say.manyChanged(period, cells.length, often, nameOf(lastChanged.place), describeLastChange(lastChanged, map));
+  const mostFrequentText = say.mostFrequentChange(nameOf(mostChanged.place), formatTimes(mostChanged.count));
+  return say.manyChanged(period, cells.length, mostFrequentText, nameOf(lastChanged.place), describeLastChange(lastChanged, map));
 }

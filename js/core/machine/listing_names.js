@@ -34,16 +34,17 @@ export function addLineNames({ address, line }, map) {
   const fields = { address, firstAddress: hex(address, 3), secondAddress, bytes, labels: "", instruction, source: "" };
   if (!map) return fields;
   fields.labels = map.labelsAt(address).map((label) => `${label}:`).join(" ");
-  const number = map.lineOf(address);
-  if (number === 0) return fields;
-  const source = map.sources[number - 1];
+  const lineNumber = map.lineOf(address);
+  if (lineNumber === 0) return fields;
+  const source = map.sources[lineNumber - 1];
   fields.instruction = replaceTarget(fields.instruction, source, map);
-  fields.source = `${lineReference(number)}: ${source.trim().replace(/\s+/g, " ")}`;
+  fields.source = `${lineReference(lineNumber)}: ${source.trim().replace(/\s+/g, " ")}`;
   return fields;
 }
 
 /**
- * Replaces the target address in an instruction by a label. If the target has several labels, uses the label in the source line.
+ * Returns an instruction in which a label replaces the target address, if the target has a label. If the target has several labels, uses
+ * the label in the source line.
  * @param {string} instruction
  * @param {string} source
  * @param {SourceMap} map
@@ -59,7 +60,7 @@ function replaceTarget(instruction, source, map) {
 }
 
 /**
- * Returns the length of the longest label including its colon; 0 if there are no labels.
+ * Returns the length of the longest text of the labels at one address, including colons and blanks; 0 if there are no labels.
  * @param {SourceMap | null} map
  */
 export function labelsWidth(map) {

@@ -35,7 +35,7 @@ export function listingStarts({ from, anchor }, rows) {
 }
 
 /**
- * Returns the number of lines that a listing from `start` needs.
+ * Returns the number of lines that a listing from `start` needs, at most MAX_LISTING_LINES.
  * @param {number} start
  * @param {Goal} goal
  * @param {number} rows
@@ -54,7 +54,8 @@ export function hasLineAt(lines, address) {
 }
 
 /**
- * Returns the visible lines.
+ * Returns the lines that are visible: `rows` lines from the first line at or after address `from`. Starts earlier if fewer lines would
+ * follow.
  * @param {ListingLine[]} lines
  * @param {number} from
  * @param {number} rows

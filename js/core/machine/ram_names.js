@@ -31,20 +31,20 @@ export function namedSrcBytes(map) {
 /**
  * Returns the names of RAM nibbles, by their place name in `poke`, such as `ram.0.0x12`. An SRC byte selects one nibble in each bank.
  * @param {Board} board
- * @param {Pick<WatchExpression, "name" | "place">[]} watched
+ * @param {Pick<WatchExpression, "name" | "place">[]} watchExpressions
  * @param {SourceMap | null} map null if the source is not the program in ROM
  * @returns {Map<string, string[]>}
  */
-export function nibbleNames({ banks }, watched, map) {
+export function nibbleNames({ banks }, watchExpressions, map) {
   /** @type {Map<string, string[]>} */
   const names = new Map();
   /** @type {(place: string, name: string) => void} */
   const add = (place, name) => {
-    const present = names.get(place) || [];
-    if (!present.includes(name)) names.set(place, [...present, name]);
+    const currentNames = names.get(place) || [];
+    if (!currentNames.includes(name)) names.set(place, [...currentNames, name]);
   };
   // If a watch expression has no name, its `name` has the form `ram.0.0x12`, which is not a word.
-  for (const { name, place } of watched) if (place !== "" && /^\w+$/.test(name)) add(place, name);
+  for (const { name, place } of watchExpressions) if (place !== "" && /^\w+$/.test(name)) add(place, name);
   for (const { name, byte } of map ? namedSrcBytes(map) : []) {
     for (const { bank, chips } of banks) if (byte < chips * 64) add(`ram.${bank}.0x${hex(byte, 2)}`, name);
   }

@@ -53,7 +53,7 @@ export function describeCounter(address, map) {
 }
 
 /**
- * Describes a return address.
+ * Describes a return address: its name and the line of its call. If no call will use the address, the description says that it is stale.
  * @param {number} address
  * @param {boolean} isLive
  * @param {SourceMap | null} map

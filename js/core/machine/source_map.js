@@ -47,14 +47,20 @@ export class SourceMap {
     for (const { name, value } of names) this.addName({ name, value, isLabel: labels.has(name) });
   }
 
-  /** @param {import("../bench/answers.js").MappedLine} mappedLine */
+  /**
+   * Adds the address and the size of a source line.
+   * @param {import("../bench/answers.js").MappedLine} mappedLine
+   */
   addLine({ line, address, size }) {
     this.addresses[line] = address;
     this.sizes[line] = size;
     this.lines.fill(line, address, address + size);
   }
 
-  /** @param {Name} name */
+  /**
+   * Adds a name with its value.
+   * @param {Name} name
+   */
   addName(name) {
     this.names.set(name.name, name);
     if (name.isLabel) this.labels.set(name.value, [...this.labelsAt(name.value), name.name]);
@@ -115,7 +121,7 @@ export class SourceMap {
    * Returns whether an address is inside a program instruction, after its first byte.
    * @param {number} address
    */
-  isInside(address) {
+  isInsideInstruction(address) {
     const line = this.lineOf(address);
     return line > 0 && this.addresses[line] !== address && !DATA_LINE.test(this.sources[line - 1]);
   }

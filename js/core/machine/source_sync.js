@@ -28,7 +28,10 @@ import * as say from "../../words/machine.js";
 /** @type {SourceEditor} an editor that shows nothing, for use before the page has created its editor */
 const NO_EDITOR = { showNext: () => {}, showAddresses: () => {}, reveal: () => {} };
 
-/** @param {number} address */
+/**
+ * Returns an address as text, such as `0x014`.
+ * @param {number} address
+ */
 function formatAddress(address) {
   return `0x${hex(address, 3)}`;
 }
@@ -63,7 +66,7 @@ export class SourceSync {
     this.callbacks.changed(null, "");
   }
 
-  /** Checks whether the source is the program in ROM. */
+  /** Checks whether the source is the program in ROM. Ignores the result if a later check has started meanwhile. */
   async check() {
     this.lastCheck += 1;
     const { lastCheck: check } = this;
@@ -73,7 +76,8 @@ export class SourceSync {
   }
 
   /**
-   * Handles the result of a check.
+   * Stores the result of a check, shows the addresses in the editor, and reports the new map. Ignores a result that equals the last one for
+   * the same text.
    * @param {string} text the source that was checked
    * @param {ProgramCheck} result
    */

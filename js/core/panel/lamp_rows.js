@@ -29,20 +29,20 @@ const LEVEL_CHARACTERS = [" ", ":", "+", "*"];
 class LampRows {
   /**
    * @param {Face} face
-   * @param {number} count the number of lamps on the board
+   * @param {number} lampCount the number of lamps on the board
    */
-  constructor(face, count) {
+  constructor(face, lampCount) {
     this.face = face;
-    this.names = lampNames(face, count);
+    this.names = lampNames(face, lampCount);
     /** @type {LampCell[][]} the rows; an empty row separates groups */
     this.rows = [];
     let multiplexedCount = 0;
-    for (const group of fittingGroups(face, count)) {
+    for (const group of fittingGroups(face, lampCount)) {
       if (group.kind === "display") continue;
       this.addGroup(group, isMultiplexed(group) ? multiplexedCount++ : -1);
     }
-    this.addGrid(face.grid.filter(({ lamp }) => lamp < count));
-    for (const lamp of lampsOutsideGroups(face, count)) {
+    this.addGrid(face.grid.filter(({ lamp }) => lamp < lampCount));
+    for (const lamp of lampsOutsideGroups(face, lampCount)) {
       if (this.names[lamp] !== "") this.rows.push([this.makeNamedCell(lamp, this.findCellWidth(lamp))]);
     }
   }
@@ -80,14 +80,14 @@ class LampRows {
   /**
    * Adds the rows of a group.
    * @param {Group} group
-   * @param {number} number the index among the multiplexed groups that are not displays; -1 for a group without multiplexing
+   * @param {number} multiplexedIndex the index among the multiplexed groups that are not displays; -1 for a group without multiplexing
    */
-  addGroup(group, number) {
+  addGroup(group, multiplexedIndex) {
     const { kind, first, rows, columns } = group;
     const width = kind === "die" ? DIE_WIDTH : columns < MIN_NARROW_COLUMNS ? 2 : 1;
     const cells = indices(rows * columns).map((at) => {
-      if (number < 0) return this.makeCell(lampAt(first + at), first + at, width, "");
-      const lamp = scannedLampAt(group, number, at);
+      if (multiplexedIndex < 0) return this.makeCell(lampAt(first + at), first + at, width, "");
+      const lamp = scannedLampAt(group, multiplexedIndex, at);
       return this.makeCell(lamp, lamp.column, width, "");
     });
     if (kind === "die") this.addDie(cells);
@@ -126,7 +126,7 @@ class LampRows {
 }
 
 /**
- * Returns an empty cell.
+ * Returns a cell that shows no lamp, as a gap.
  * @param {number} width
  * @returns {LampCell}
  */
@@ -137,14 +137,14 @@ function makeGapCell(width) {
 /**
  * Returns the lamp rows of a board.
  * @param {Face} face
- * @param {number} count the number of lamps on the board
+ * @param {number} lampCount the number of lamps on the board
  */
-export function buildLampRows(face, count) {
-  return new LampRows(face, count).rows;
+export function buildLampRows(face, lampCount) {
+  return new LampRows(face, lampCount).rows;
 }
 
 /**
- * Returns the text of a cell: `(*) red`, or one character if the lamp has no name. Blanks fill the cell.
+ * Returns the text of a cell: `(*) red`, or one character if the lamp has no name. Blanks fill the cell. A gap consists only of blanks.
  * @param {LampCell} cell
  * @param {number} level the brightness level
  */

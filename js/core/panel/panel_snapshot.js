@@ -40,7 +40,7 @@ export class PanelSnapshot {
     this.text = new PerceivedText(face, board.lamps.length);
     this.reader = new ListingReader(panel.ask);
     /** The number of commands in the session, as text. */
-    this.commands = "0";
+    this.commandCount = "0";
     /** @type {Registers | null} */
     this.registers = null;
     this.keysDown = new PressedKeys();
@@ -62,7 +62,7 @@ export class PanelSnapshot {
     return this.registers ? this.registers.test : "";
   }
 
-  /** The program counter. */
+  /** The program counter; 0 before the first snapshot. */
   get counter() {
     return this.registers ? parseInt(this.registers.counter, 16) : 0;
   }
@@ -111,7 +111,7 @@ export class PanelSnapshot {
    */
   storeState(answer) {
     const { registers, keys, lamps, breaks } = parseState(answer);
-    this.commands = stateValue(answer, "seq");
+    this.commandCount = stateValue(answer, "seq");
     this.registers = parseRegisters(registers);
     this.keysDown = new PressedKeys(parseItems(keys));
     this.marks = parseItems(lamps).join("");
@@ -131,7 +131,8 @@ export class PanelSnapshot {
   }
 
   /**
-   * Reads a new listing near the program counter, unless the current listing still contains enough lines after it.
+   * Reads a new listing near the program counter. Keeps the current listing if it contains the program counter, and at least LINES_LEFT
+   * lines after it.
    * @param {number} rows the number of listing lines
    */
   async refreshListing(rows) {

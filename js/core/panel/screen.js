@@ -22,7 +22,7 @@ import * as say from "../../words/panel.js";
  * @typedef {{ pieces: Piece[], isInverse: boolean }} ScreenRow
  */
 
-/** The minimum terminal size. */
+/** The minimum size of the terminal, in characters. */
 export const MIN_SIZE = { rows: 24, columns: 80 };
 /** The number of rows above RAM, the front panel and the listing. */
 const TOP_ROWS = 10;
@@ -44,7 +44,7 @@ const LARGE_WIDTH = 58;
 const makePlainPiece = (text) => ({ text, colour: "", level: 0 });
 
 /**
- * Cuts or pads a row of pieces to a width in characters.
+ * Returns a row of pieces, cut or padded to a width in characters.
  * @param {Piece[]} pieces
  * @param {number} width
  */
@@ -84,8 +84,8 @@ export class Screen {
     this.name = escapeControls(panel.subject.name);
     this.test = face.test;
     this.lampRows = buildLampRows(face, board.lamps.length);
-    this.labels = panel.keys.map(formatKeyLabel);
-    this.keyWidth = Math.max(MIN_KEY_WIDTH, ...this.labels.map((label) => [...label].length + 2));
+    this.keyLabels = panel.keys.map(formatKeyLabel);
+    this.keyWidth = Math.max(MIN_KEY_WIDTH, ...this.keyLabels.map((label) => [...label].length + 2));
   }
 
   /**
@@ -98,9 +98,9 @@ export class Screen {
     const hasMore = panel.snapshot.chips.length > panel.snapshot.listVisibleChips(countMiddleRows(size)).length;
     const [titleRow, ...otherTopRows] = this.buildTopRows();
     const helpRow = say.keyLine(this.test ? testName(this.test) : say.TEST_PIN, hasMore);
-    const front = this.buildFrontRows(countMiddleRows(size));
+    const frontRows = this.buildFrontRows(countMiddleRows(size));
     const middle = indices(countMiddleRows(size)).map((at) => [
-      ...fitToWidth([makePlainPiece(this.formatRam(at))], RAM_WIDTH), makePlainPiece(" "), ...front[at], makePlainPiece(" "),
+      ...fitToWidth([makePlainPiece(this.formatRam(at))], RAM_WIDTH), makePlainPiece(" "), ...frontRows[at], makePlainPiece(" "),
       makePlainPiece(this.formatListing(at)),
     ]);
     return [
@@ -118,7 +118,7 @@ export class Screen {
   buildTopRows() {
     const { panel, title, name } = this;
     const state = panel.isPaused ? say.paused(panel.pauseReason) : say.RUNNING;
-    const titleRow = say.headLine(title, name, panel.snapshot.commands, state);
+    const titleRow = say.headLine(title, name, panel.snapshot.commandCount, state);
     return [titleRow, ...this.buildDisplayRows(), ...this.buildRegisterRows(), this.formatSourceLine()];
   }
 
@@ -186,8 +186,8 @@ export class Screen {
   }
 
   /**
-   * Returns the listing text in a row, with marks for the program counter and for a breakpoint. If an instruction of the source starts at
-   * the address, the text is the source line without its comment.
+   * Returns the listing text in a row, with marks for the program counter and for a breakpoint; "" for a row after the last listing line.
+   * If an instruction of the source starts at the address, the text is the source line without its comment.
    * @param {number} row the index of the row below the top rows
    */
   formatListing(row) {
@@ -223,7 +223,7 @@ export class Screen {
     const { panel: { subject: { board }, keys, snapshot }, test } = this;
     const rows = indices(board.rows).map((row) => [makePlainPiece(indices(board.columns).map((column) => {
       const keyIndex = row * board.columns + column;
-      const label = this.labels[keyIndex];
+      const label = this.keyLabels[keyIndex];
       return (snapshot.isDown(keys[keyIndex].key) ? `[${label || "_"}]` : ` ${label} `).padEnd(this.keyWidth);
     }).join(""))]);
     if (!test) return rows;
@@ -232,7 +232,8 @@ export class Screen {
   }
 
   /**
-   * Returns the rows with the last lines of the printout, at least MIN_PRINTOUT_ROWS rows. Returns no rows if the board has no printer.
+   * Returns the rows with the last lines of the printout, at least MIN_PRINTOUT_ROWS rows. If there are more rows, the first one is a
+   * title. Returns no rows if the board has no printer.
    * @param {number} freeRows the number of rows that the keys and lamps leave free
    */
   buildPrintoutRows(freeRows) {

@@ -1,6 +1,6 @@
-// Controls a session from a panel in a terminal. Time runs as fast as on a real 4004, or is paused. When the user types a character, the
-// panel presses a key of the board. To run cycles and to press keys, the panel sends lines to the session. screen.js converts the state of
-// the panel to rows of characters.
+// Controls a session from a panel in a terminal. The session runs as fast as a real 4004, or is paused. When the user types a character,
+// the panel presses a key of the board. To run cycles and to press keys, the panel sends lines to the session. screen.js converts the state
+// of the panel to rows of characters.
 
 import { parseRefusal, readRun } from "../bench/answers.js";
 import { joinLines } from "../bench/inputs.js";
@@ -141,7 +141,7 @@ export class Panel {
 
   /**
    * Executes the next event of the key queue: presses or releases a key, or runs up to the next press or release. Resolves to the number of
-   * cycles run.
+   * cycles run. If the bench rejects the run, this is the number of planned cycles.
    * @param {number} cycles the maximum number of cycles
    */
   async runNextEvent(cycles) {
@@ -266,7 +266,7 @@ const step = (panel) => panel.step();
 const end = (panel) => panel.end();
 
 /**
- * The actions of the panel's own keys: Space, Enter, Tab, Ctrl-T, Ctrl-R, Ctrl-C and Ctrl-D.
+ * The actions of the keys that control the panel: Space, Enter, Tab, Ctrl-T, Ctrl-R, Ctrl-C and Ctrl-D.
  * @type {Record<string, (panel: Panel, now: number) => Promise<unknown> | void>}
  */
 const KEY_ACTIONS = {

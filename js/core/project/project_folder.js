@@ -40,7 +40,7 @@ function findBytesError(bytes) {
 }
 
 /**
- * Returns the file paths of a project.
+ * Returns the file paths and the speed of a project.
  * @param {ProjectNames} names
  * @returns {ProjectFolder}
  */
@@ -50,7 +50,7 @@ function listPaths({ board, program, tests, properties, speed }) {
 }
 
 /**
- * Reads a project file; throws ProjectError for the first error.
+ * Returns the file paths and the speed in a project file. Throws ProjectError for the first error.
  * @param {Uint8Array} bytes
  * @param {CheckFile} checkFile
  * @param {string} file the file name for error messages

@@ -78,7 +78,7 @@ function findKeyErrors({ name, line, from, to, value }) {
 }
 
 /**
- * Returns an error for each repeated key.
+ * Returns an error for each repetition of a known key.
  * @param {Key[]} keys
  * @returns {TextError[]}
  */

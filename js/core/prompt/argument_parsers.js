@@ -1,4 +1,4 @@
-// Parsers for the arguments of prompt commands: program locations, counts, times, conditions.
+// Parsers for the arguments of prompt commands: program locations, counts, times, conditions. A parser that fails throws RejectedCommand.
 
 import { LAST_ADDRESS, parseNumber } from "../bench/numbers.js";
 import { parseExactDuration } from "../conditions/durations.js";
@@ -38,8 +38,9 @@ export function parseAddress(text, { map }) {
 }
 
 /**
- * Returns the instruction at a program location; fails if there is none. For a line without an instruction, returns the next instruction.
- * @param {string} text a line, a label or an address; "" for the next instruction
+ * Parses the location of an instruction. For a line without an instruction, returns the first instruction after the line, and fails if
+ * there is none. Also fails if the text is not a location.
+ * @param {string} text a line, a label or an address, optionally after a file name such as `demo.asm:`; "" for the next instruction to run
  * @param {DebugSession} session
  * @returns {ProgramLocation}
  */
@@ -78,8 +79,8 @@ export function parseCycles(text) {
 }
 
 /**
- * Returns the text unchanged if it is a condition, or "" if it is a program location (a line, an address or a label). Fails if the
- * condition has an error.
+ * Returns the text unchanged if it is a condition. Returns "" for a program location (a line, an address or a label), and for any other
+ * text without blanks and comparison signs. Fails if the condition has an error.
  * @param {string} text
  * @param {DebugSession} session
  */

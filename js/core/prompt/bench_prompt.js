@@ -19,6 +19,7 @@ import * as say from "../../words/session_prompt.js";
  * @typedef {import("../bench/answers.js").Refusal} Refusal
  * @typedef {import("../help/manual.js").ManualSection} ManualSection
  * @typedef {import("./line_completion.js").Completion} Completion
+ * A command that is followed by the lines of a text.
  * @typedef {"wire" | "asm" | "map" | "wiring" | "errors"} TextWord
  *
  * An error in a text: the line number from 1 (0 for none), and the message.
@@ -81,7 +82,7 @@ export class SessionPrompt {
   }
 
   /** Discards the unfinished text. Returns a message about the text; "" if there is none. */
-  drop() {
+  discardUnfinished() {
     const { openText } = this;
     this.openText = null;
     return openText ? say.textDropped(openText.word) : "";
@@ -108,7 +109,7 @@ export class SessionPrompt {
   }
 
   /**
-   * Adds a line to the unfinished text. If the line is a dot, sends the text to the bench.
+   * Adds a line to the unfinished text. If the line is a dot, sends the text to the bench. Resolves to false if the bench rejects the text.
    * @param {string} line
    * @param {UnfinishedText} openText
    */
@@ -126,7 +127,8 @@ export class SessionPrompt {
   }
 
   /**
-   * Executes a line that is not part of a text.
+   * Executes a line that is not part of a text. Resolves to false if the bench rejects the line. Throws RejectedLine if the prompt itself
+   * rejects the line.
    * @param {string} line
    * @returns {Promise<boolean>}
    */
@@ -183,10 +185,10 @@ export class SessionPrompt {
    */
   async serveText(word, sentLines, text, place) {
     const board = word === "asm" ? await this.readBoardText() : "";
-    const first = await this.callbacks.serve(`${word}\n${sentLines}.\n`);
-    const refusal = parseRefusal(first);
+    const firstAnswer = await this.callbacks.serve(`${word}\n${sentLines}.\n`);
+    const refusal = parseRefusal(firstAnswer);
     if (refusal) return this.reportTextErrors(await this.findTextErrors(word, text, board, refusal), text, place);
-    if (/^errors [1-9]/.test(first)) this.reportTextErrors(await this.callbacks.errorsOf(word, text, board), text, place);
+    if (/^errors [1-9]/.test(firstAnswer)) this.reportTextErrors(await this.callbacks.errorsOf(word, text, board), text, place);
     return true;
   }
 
@@ -194,7 +196,7 @@ export class SessionPrompt {
    * Resolves to the errors in a rejected text.
    * @param {TextWord} word the command for the text
    * @param {string} text
-   * @param {string} board the board text if `text` is a program for ROM
+   * @param {string} board the board text if `text` is a program for ROM, otherwise ""
    * @param {Refusal} refusal
    * @returns {Promise<TextError[]>}
    */
@@ -242,7 +244,7 @@ export class SessionPrompt {
   }
 
   /**
-   * Executes the lines of a file. Throws RejectedLine if the file cannot be executed.
+   * Executes the lines of a file. Resolves to false if a line is rejected. Throws RejectedLine if the file cannot be executed.
    * @param {string} name
    */
   async serveSourceFile(name) {
@@ -276,7 +278,7 @@ export class SessionPrompt {
   // --- help ---
 
   /**
-   * Prints the description of a topic, or the list of all lines. Throws RejectedLine if the topic is unknown.
+   * Prints the description of a topic, or the list of all lines. Returns true. Throws RejectedLine if the topic is unknown.
    * @param {string} topic the first word of a line, `places` for the names in `poke` lines, or an error number; "" for all lines
    */
   printHelp(topic) {
@@ -305,7 +307,7 @@ export class SessionPrompt {
   // --- completion ---
 
   /**
-   * Returns the completions of a line.
+   * Resolves to the completions of a line.
    * @param {string} line the line up to the cursor
    * @returns {Promise<Completion>}
    */

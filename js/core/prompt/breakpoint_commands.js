@@ -10,7 +10,7 @@ import * as say from "../../words/prompt.js";
  * @typedef {import("./debugger_prompt.js").Prompt} Prompt
  */
 
-/** Matches the arguments of `break`: the location, and optionally the number of the first hit that stops, the condition and the note. */
+/** Matches the arguments of `break`: the location, and optionally the number of the first hit that stops, a condition and a log text. */
 const BREAKPOINT_ARGUMENTS = /^(.*?)(?:\s*\bfrom\s+(\d{1,9}))?(?:\s*\bif\s+(.+?))?(?:\s*\blog\s+"([^"]*)")?$/;
 /** The word that means the number of the breakpoint that was set last, as in gdb. */
 export const LAST_BREAKPOINT = "$bpnum";
@@ -54,20 +54,23 @@ export class BreakpointCommands {
     };
   }
 
-  /** Adds the breakpoints of the bench to the list, and removes the breakpoints that the bench no longer has. */
+  /**
+   * Adds the breakpoints of the bench to the list, and removes the breakpoints that the bench no longer has. Keeps breakpoints with a
+   * condition, a hit count or a log text, which the bench never has.
+   */
   syncWithBench() {
     const { map, debugger: { session } } = this.prompt.session;
     for (const address of session.breakpointAddresses) {
       if (!this.list.findByAddress(address)) this.list.add({ line: map.lineOf(address), address });
     }
-    const benchBreakpoints = this.list.placed.filter(({ condition, note, from }) => !condition && !note && from === 1);
+    const benchBreakpoints = this.list.locatedBreakpoints.filter(({ condition, note, from }) => !condition && !note && from === 1);
     for (const { id, address } of benchBreakpoints) if (!session.breakpointAddresses.includes(address)) this.list.remove(id);
   }
 
   /**
    * Sets a breakpoint, replacing any breakpoint at the same address. Resolves to the number of the new breakpoint. Fails if the location,
-   * the condition or the note has an error.
-   * @param {string} argumentText the arguments: location, number of the first hit that stops, condition and note
+   * the condition or the log text has an error.
+   * @param {string} argumentText the arguments: location, number of the first hit that stops, condition and log text
    */
   async add(argumentText) {
     const { session, machine, callbacks } = this.prompt;
@@ -138,7 +141,7 @@ export class BreakpointCommands {
   }
 
   /**
-   * Sets a watch.
+   * Sets a watch. Fails if `continue` already watches another place.
    * @param {string} argumentText the place to watch
    */
   async watch(argumentText) {

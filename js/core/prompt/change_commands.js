@@ -49,7 +49,7 @@ export class ChangeCommands {
   }
 
   /**
-   * Sets a place.
+   * Sets a place, such as a register, to a value.
    * @param {string} argumentText the place and the value: `r4 = r5 + 1`
    */
   async setPlace(argumentText) {
@@ -60,7 +60,7 @@ export class ChangeCommands {
     if (lines.startsWith("poke pc ")) this.prompt.showStop("");
   }
 
-  /** Assembles the current text of the program file into ROM; fails if the text has an error. */
+  /** Assembles the current text of the program file into ROM; fails if the program has no file or the text has an error. */
   async loadProgram() {
     const { callbacks, session, console: debugConsole, machine } = this.prompt;
     const text = callbacks.source();

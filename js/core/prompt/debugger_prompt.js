@@ -254,7 +254,8 @@ export class Prompt {
   }
 
   /**
-   * Shows a stop: its reason, the next instruction, and the expressions of `display`.
+   * Shows a stop: its reason, the next instruction, and the expressions of `display`. Shows nothing if the commands of the breakpoint hide
+   * the stop message.
    * @param {string} reason the stop reason
    */
   showStop(reason) {
@@ -293,8 +294,8 @@ export class Prompt {
   }
 
   /** Discards the unfinished breakpoint commands. Returns a message about the commands; "" if there are none. */
-  drop() {
-    return this.stops.drop();
+  discardUnfinished() {
+    return this.stops.discardUnfinished();
   }
 
   // --- completion ---

@@ -40,11 +40,11 @@ function evaluateNumber(text, session) {
 }
 
 /**
- * Returns the current value of an expression as text.
+ * Returns the current value of an expression as text. Fails if the expression has an error or the format is unknown.
  * @param {string} text the expression, with an optional format before it: `/x r4`
  * @param {ExpressionContext} context
  */
-export function formattedValue(text, context) {
+export function formatExpressionValue(text, context) {
   const [, format, expression = ""] = /^\/(\w*)\s*(.*)$/.exec(text) || [];
   if (format === undefined) return evaluateExpression(text, context);
   const formatNames = Object.keys(FORMATS);

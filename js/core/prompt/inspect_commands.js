@@ -3,7 +3,7 @@
 import { LAST_ADDRESS } from "../bench/numbers.js";
 import { parsePlace } from "../conditions/places.js";
 import { findCommand, commandHelp } from "./prompt_commands.js";
-import { formattedValue } from "./formats.js";
+import { formatExpressionValue } from "./formats.js";
 import * as stateText from "./state_text.js";
 import { parseCountArgument, findInstruction, parseAddress, rejectCommand } from "./argument_parsers.js";
 import { DISASSEMBLED_FROM_ROM } from "../../words/adapter.js";
@@ -86,7 +86,7 @@ export class InspectCommands {
    * @param {string} expression the expression, with an optional format before it: `/x r4`
    */
   evaluate(expression) {
-    return formattedValue(expression, this.prompt.expressionContext);
+    return formatExpressionValue(expression, this.prompt.expressionContext);
   }
 
   /**

@@ -17,7 +17,7 @@ import { indices } from "../bench/numbers.js";
  * @property {(line: string) => Promise<string[]>} ask Resolves to the bench's answers to a line. Does not print them.
  */
 
-/** The first words of the lines that the prompt executes itself, without the bench. */
+/** The first words of the lines that the prompt executes itself, without the bench. (`exit`, another word for `quit`, is not proposed.) */
 export const PROMPT_WORDS = ["help", "source", "quit"];
 /** The first words of the lines that can end with a file name. */
 export const FILE_WORDS = ["wire", "asm", "map", "wiring", "errors", "source"];
@@ -60,7 +60,7 @@ const ARGUMENT_COMPLETIONS = {
 };
 
 /**
- * Returns the completions of a line.
+ * Resolves to the completions of a line.
  * @param {string} line the line up to the cursor
  * @param {CompletionCallbacks} callbacks
  * @returns {Promise<Completion>}

@@ -33,18 +33,18 @@ export class MoveCommands {
     /** @type {(goal: BackGoal) => CommandHandler} */
     const createBackCommand = (goal) => (argumentText) => this.repeatMove(argumentText, () => machine.goBack(goal));
     return {
-      "next": (argumentText) => this.repeatMove(argumentText, () => machine.go({ kind: "over" })),
+      "next": (argumentText) => this.repeatMove(argumentText, () => machine.runToGoal({ kind: "over" })),
       "step": (argumentText) => {
         const count = parseCountArgument(argumentText, MAX_STEPS);
-        return this.moveAndShow(() => (count === 1 ? machine.stepInto() : machine.go({ kind: "count", count })));
+        return this.moveAndShow(() => (count === 1 ? machine.stepInto() : machine.runToGoal({ kind: "count", count })));
       },
       "finish": (argumentText) => this.finishSubroutine(argumentText),
       "until": (argumentText) => {
         if (argumentText === "") rejectCommand(say.UNTIL_SYNTAX);
         const condition = parseConditionText(argumentText, this.prompt.session);
-        if (condition !== "") return this.moveAndShow(() => machine.go({ kind: "when", condition }));
+        if (condition !== "") return this.moveAndShow(() => machine.runToGoal({ kind: "when", condition }));
         const { address } = findInstruction(argumentText, this.prompt.session);
-        return this.moveAndShow(() => machine.go({ kind: "here", address }));
+        return this.moveAndShow(() => machine.runToGoal({ kind: "here", address }));
       },
       "continue": (argumentText) => this.continueRun(argumentText),
       "run": (argumentText) => {
@@ -78,7 +78,7 @@ export class MoveCommands {
   }
 
   /**
-   * Repeats a move up to a number of times, or until a move stops for another reason than the end of its step. Shows where the last move
+   * Repeats a move up to a number of times, or until a move stops for a reason other than the end of its step. Shows where the last move
    * stopped.
    * @param {string} argumentText the number of moves; "" means 1
    * @param {() => void} startMove starts the move
@@ -100,7 +100,7 @@ export class MoveCommands {
   finishSubroutine(argumentText) {
     if (argumentText !== "") rejectCommand(say.FINISH_SYNTAX);
     if (countOpenCalls(this.prompt.session) === 0) rejectCommand(NO_CALL_WAITS);
-    return this.moveAndShow(() => this.prompt.machine.go({ kind: "out" }));
+    return this.moveAndShow(() => this.prompt.machine.runToGoal({ kind: "out" }));
   }
 
   /**
@@ -113,7 +113,7 @@ export class MoveCommands {
     const hasWatches = watchedPlace !== "" || session.debugger.session.ask("watches\n")[0] !== "watches -";
     const canStop = session.breakpoints.enabledCount > 0 || hasWatches;
     if (!canStop && !callbacks.isInteractive) rejectCommand(say.NOTHING_STOPS);
-    return this.moveAndShow(() => machine.go(watchedPlace === "" ? null : { kind: "change", place: watchedPlace }));
+    return this.moveAndShow(() => machine.runToGoal(watchedPlace === "" ? null : { kind: "change", place: watchedPlace }));
   }
 
   /**

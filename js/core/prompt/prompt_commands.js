@@ -15,17 +15,18 @@ export const COMMANDS = COMMAND_WORDS.map(({ names, usage, effect, details }) =>
 });
 
 /**
- * Finds a command by its name, an abbreviation or a unique prefix. If none matches, returns an error message.
+ * Finds a command by its name, an abbreviation or a unique prefix. If no command matches, or more than one, `command` is null and `message`
+ * is the error message.
  * @param {string} word
  * @returns {{ command: CommandText | null, message: string }}
  */
 export function findCommand(word) {
   const exactMatch = COMMANDS.find(({ name, abbreviations }) => name === word || abbreviations.includes(word));
   if (exactMatch) return { command: exactMatch, message: "" };
-  const matching = COMMANDS.filter(({ name }) => name.startsWith(word));
-  if (matching.length === 1) return { command: matching[0], message: "" };
-  if (matching.length === 0) return { command: null, message: say.noCommandMessage(word) };
-  return { command: null, message: say.ambiguousCommand(word, matching.map(({ name }) => name).join(", ")) };
+  const matchingCommands = COMMANDS.filter(({ name }) => name.startsWith(word));
+  if (matchingCommands.length === 1) return { command: matchingCommands[0], message: "" };
+  if (matchingCommands.length === 0) return { command: null, message: say.noCommandMessage(word) };
+  return { command: null, message: say.ambiguousCommand(word, matchingCommands.map(({ name }) => name).join(", ")) };
 }
 
 /**

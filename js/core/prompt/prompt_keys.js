@@ -26,12 +26,12 @@ export class BoardKeyNames {
   get names() {
     const { rows, columns } = readBoard(this.session.debugger.session.statusQueries.board);
     const namedPositions = new Set([...this.namedKeys.values()].map(({ key }) => formatKey(key)));
-    const unnamed = [];
+    const unnamedKeys = [];
     for (let at = 0; at < rows * columns; at++) {
       const [row, column] = [Math.floor(at / columns), at % columns];
-      if (!namedPositions.has(formatKey(matrixKey(row, column)))) unnamed.push(`${row}.${column}`);
+      if (!namedPositions.has(formatKey(matrixKey(row, column)))) unnamedKeys.push(`${row}.${column}`);
     }
-    return [...this.namedKeys.keys(), ...unnamed];
+    return [...this.namedKeys.keys(), ...unnamedKeys];
   }
 
   /** Returns the text of `info keys`. */
@@ -57,7 +57,8 @@ export class BoardKeyNames {
   }
 
   /**
-   * Parses key names. A word that is not a key name is split into letters. Fails if a word or letter is not a key name.
+   * Parses key names, and returns the keys. A word that is not a key name is split into letters. Fails if a word or letter is not a key
+   * name.
    * @param {string} text
    * @param {string} command the prompt command, for messages
    */

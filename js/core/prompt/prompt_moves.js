@@ -19,7 +19,8 @@ function readNextOpcode(session) {
 
 /**
  * Steps back over an instruction. If the instruction returns from a subroutine, goes back to the call of this subroutine. To find the call,
- * goes back from change to change of the return addresses, and counts the calls and returns.
+ * goes back from change to change of the return addresses, and counts the calls and returns. If the stored past begins inside the
+ * subroutine, stops there.
  * @param {DebugSession} session
  * @param {ShouldContinue} shouldContinue
  */
@@ -29,7 +30,7 @@ export async function stepBackOver(session, shouldContinue) {
   while (depth > 0) {
     result = await session.goBack({ kind: "change", place: "ret" }, shouldContinue);
     const message = say.backInSubroutine(session.counterText);
-    if (!result.isDone) return { ...result, words: message, isDone: true };
+    if (!result.isDone) return { ...result, message, isDone: true };
     const code = readNextOpcode(session);
     depth += Number(isReturn(code)) - Number(isCall(code));
   }

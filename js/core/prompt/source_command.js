@@ -4,9 +4,9 @@
 import * as say from "../../words/session_prompt.js";
 
 /**
- * The prompt that executes the lines. `isEnded` is true after `quit`. `enterLine` executes a line, and resolves to false if the line
- * is rejected. `drop` discards an unfinished text or command list, and returns a message about it; "" if there is none.
- * @typedef {{ isEnded: boolean, enterLine: (line: string) => Promise<boolean>, drop: () => string }} LineServer
+ * The prompt that executes the lines. `isEnded` is true after `quit`. `enterLine` executes a line, and resolves to false if the line is
+ * rejected. `discardUnfinished` discards an unfinished text or command list, and returns a message about it; "" if there is none.
+ * @typedef {{ isEnded: boolean, enterLine: (line: string) => Promise<boolean>, discardUnfinished: () => string }} LineServer
  */
 
 /** The maximum nesting depth of `source` lines. */
@@ -55,7 +55,7 @@ export class SourceCommand {
       isDone = await this.server.enterLine(line);
       if (!isDone || this.server.isEnded) break;
     }
-    const dropMessage = this.server.drop();
+    const dropMessage = this.server.discardUnfinished();
     this.files.pop();
     if (isDone && dropMessage !== "" && !this.server.isEnded) throw new Error(say.endsTooSoon(name, dropMessage));
     return isDone;

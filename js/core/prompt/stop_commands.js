@@ -23,11 +23,11 @@ const MAX_IGNORED_HITS = 999999999;
 const MAX_COMMANDS = 100;
 /** The line that ends a list of commands. */
 export const COMMANDS_END = "end";
-/** The first command of a list that hides the message about the stop. */
+/** If this is the first command of a list, the message about the stop is hidden. */
 const SILENT_COMMAND = "silent";
 
 /** @type {(command: string) => string} returns the line that applies a command to the breakpoint that was set last */
-const addLastBreakpoint = (command) => `${command} ${LAST_BREAKPOINT}`;
+const formatForLastBreakpoint = (command) => `${command} ${LAST_BREAKPOINT}`;
 
 export class StopCommands {
   /** @param {Prompt} prompt */
@@ -80,12 +80,12 @@ export class StopCommands {
   /**
    * Returns the breakpoint whose number is the first word, and the text after the number; fails if the breakpoint does not exist.
    * @param {string} argumentText
-   * @param {string} form the usage of the command, for messages
+   * @param {string} usage the usage of the command, for messages
    * @returns {{ breakpoint: Breakpoint, remainingText: string }}
    */
-  parseBreakpoint(argumentText, form) {
+  parseBreakpoint(argumentText, usage) {
     const [, word = "", remainingText = ""] = /^(\S*)\s*(.*)$/.exec(argumentText) || [];
-    const [id] = this.prompt.breakpoints.parseNumbers(word || rejectCommand(form));
+    const [id] = this.prompt.breakpoints.parseNumbers(word || rejectCommand(usage));
     return { breakpoint: /** @type {Breakpoint} */ (this.list.get(id)), remainingText };
   }
 
@@ -139,7 +139,7 @@ export class StopCommands {
   }
 
   /** Discards the unfinished commands. Returns a message about the commands; "" if there are none. */
-  drop() {
+  discardUnfinished() {
     const { unfinishedCommands } = this;
     this.unfinishedCommands = null;
     return unfinishedCommands ? say.commandsDropped(unfinishedCommands.id) : "";
@@ -194,8 +194,8 @@ export class StopCommands {
     const place = line > 0 ? String(line) : `0x${hex(address, 3)}`;
     const words = [isTemporary ? "tbreak" : "break", place, ...(remainingHits > 1 ? [`from ${remainingHits}`] : [])];
     return [
-      `${words.join(" ")}${say.ifCondition(condition)}${say.logNote(note)}`, ...(isOn ? [] : [addLastBreakpoint("disable")]),
-      ...(commands.length > 0 ? [addLastBreakpoint("commands"), ...commands.map((command) => `  ${command}`), COMMANDS_END] : []),
+      `${words.join(" ")}${say.ifCondition(condition)}${say.logNote(note)}`, ...(isOn ? [] : [formatForLastBreakpoint("disable")]),
+      ...(commands.length > 0 ? [formatForLastBreakpoint("commands"), ...commands.map((command) => `  ${command}`), COMMANDS_END] : []),
     ];
   }
 }

@@ -48,13 +48,13 @@ export function viewSize(rows, columns) {
 }
 
 /**
- * Shortens a text to a maximum number of columns. Escapes control characters.
+ * Returns a text with escaped control characters, shortened to a maximum number of columns.
  * @param {string} text
- * @param {number} length
+ * @param {number} maxColumns
  */
-function cutText(text, length) {
+function cutText(text, maxColumns) {
   const characters = [...escapeControls(text).replace(/[\t\n]/g, " ")];
-  return characters.length > length ? `${characters.slice(0, length - 2).join("")}..` : characters.join("");
+  return characters.length > maxColumns ? `${characters.slice(0, maxColumns - 2).join("")}..` : characters.join("");
 }
 
 export class View {

@@ -1,7 +1,8 @@
 // Proves properties on the page. Asks the prover in the WebAssembly module repeatedly, each time with twice the previous limit on the
 // number of states, so that the page can show progress. Confirms a counterexample by running its test. The page's worker uses this module.
 //
-//     const { proving, errors } = beginProving(engine, texts, 1000000, { seen: async (states) => {}, yieldToMessages: async () => {} });
+//     const calls = { reportStates: async (states) => {}, yieldToMessages: async () => {} };
+//     const { proving, errors } = beginProving(engine, texts, 1000000, calls);
 //     for (let judged = await proving.judgeNext(); judged; judged = await proving.judgeNext()) ..
 
 import { parseSearchTexts } from "../explore/sliced_search.js";
@@ -25,8 +26,8 @@ import * as say from "../../words/prove.js";
  * @typedef {{ text: string, line: number, isGoal: boolean, verdict: Verdict }} PropertyVerdict
  *
  * @typedef {object} ProvingCalls
- * @property {(states: number) => Promise<void>} seen reports the number of states that were searched so far for the current question
- *   without a result
+ * @property {(states: number) => Promise<void>} reportStates reports the number of states that the prover has searched so far for the
+ *   current question without a result
  * @property {() => Promise<void>} yieldToMessages yields to other tasks
  */
 
@@ -43,7 +44,7 @@ class ProverQueries {
     this.texts = { board: texts.boardText, program: texts.programText };
     this.maxStates = maxStates;
     this.calls = calls;
-    /** The number of states that were searched so far for the current question without a result. */
+    /** The number of states that the prover has searched so far for the current question without a result. */
     this.searchedStates = 0;
   }
 
@@ -58,7 +59,7 @@ class ProverQueries {
     /** @type {Answer} */
     let answer = { kind: "more" };
     for (const bound of listBounds(this.maxStates)) {
-      await this.calls.seen(this.searchedStates);
+      await this.calls.reportStates(this.searchedStates);
       answer = this.askWithin(question, { maxStates: bound });
       if (answer.kind !== "more") break;
       this.searchedStates = bound;
@@ -67,16 +68,16 @@ class ProverQueries {
   }
 
   /**
-   * Asks the prover for a proof by sets of states.
+   * Asks the prover for a proof by sets of states. Resolves to its answer.
    * @param {Question} question
    */
   async askBySets(question) {
-    await this.calls.seen(0);
+    await this.calls.reportStates(0);
     return this.askWithin(question, { maxStates: 0, sets: MAX_SETS });
   }
 
   /**
-   * Asks the prover once. Throws an error if the answer is an error or unknown.
+   * Asks the prover once, and returns its answer. Throws an error if the answer is an error or unknown.
    * @param {Question} question
    * @param {import("./question.js").QuestionLimits} limits
    */
@@ -99,7 +100,8 @@ class ProverQueries {
 }
 
 /**
- * Parses the texts. Returns the object that decides the properties one after the other; null if a text has an error.
+ * Parses the texts. Returns the object that decides the properties one after the other; null if a text has an error, in which case `errors`
+ * has the errors.
  * @param {Engine} engine
  * @param {ExploredTexts} texts
  * @param {number} maxStates the maximum number of states per question

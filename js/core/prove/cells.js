@@ -149,8 +149,8 @@ export function outputLineField(line, { roms }) {
  * @returns {Field | null}
  */
 export function findField(place, board) {
-  const simple = findRegisterField(place) || findMemoryField(place) || outputLineField(place, board);
-  if (simple) return simple;
+  const simpleField = findRegisterField(place) || findMemoryField(place) || outputLineField(place, board);
+  if (simpleField) return simpleField;
   const [, chip] = /^rom(\d+)$/.exec(place) || [];
   const rom = chip && board.roms.find((candidate) => Number(candidate.chip) === Number(chip));
   if (rom) return createRomField(place, rom);

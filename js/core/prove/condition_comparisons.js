@@ -12,8 +12,8 @@ import * as say from "../../words/prove.js";
  * @typedef {import("../bench/answers.js").Board} Board
  * @typedef {import("../conditions/condition_language.js").Condition} Condition
  *
- * The result of a condition: a boolean if the result is the same for all values of all fields; otherwise a field, and the result for each
- * range of its values. A range combines consecutive values with the same result.
+ * The result of a condition. It is a boolean if the result is the same for all values of all fields. Otherwise, it is a field, with the
+ * result for each range of the field's values. A range combines consecutive values with the same result.
  * @typedef {boolean | { field: Field, ranges: { low: number, high: number, result: Result }[] }} Result
  */
 
@@ -142,7 +142,7 @@ class Evaluation {
   }
 
   /**
-   * Evaluates the condition for each value of a field.
+   * Evaluates the condition for each value of a field. Throws UnsupportedQuestion if the result also depends on an input.
    * @param {Field} field
    * @returns {Result}
    */

@@ -27,7 +27,8 @@ import { listInputs, replayValues } from "./input_replay.js";
 /** The maximum number of cycles that the bench may run to minimise a counterexample. */
 const MINIMISING_CYCLES = 10e6;
 /**
- * The maximum length, in cycles, of a counterexample to a property with labels that is minimised. Minimising a longer one would be slow.
+ * The maximum length, in cycles, of a counterexample to a property with labels that is minimised. Minimising a longer counterexample would
+ * be slow.
  */
 const MAX_MINIMISED_CYCLES = 1e6;
 /** The property forms that depend on all events since power-on. To find a violation, a walk must be watched from its start. */
@@ -86,7 +87,7 @@ function splitCycles(cycles) {
 }
 
 /**
- * Returns the steps in which an input changes before a given time.
+ * Returns the steps that end before `time`, when their inputs change.
  * @param {WalkStep[]} steps
  * @param {number} time the time, in cycles from the start of the walk
  */
@@ -129,7 +130,7 @@ class Replay {
   }
 
   /**
-   * Returns the violation that happens if the program reads the given input values; null if the bench does not confirm the violation.
+   * Returns the violation that happens if the program reads these input values; null if the bench does not confirm the violation.
    * @param {number[]} values
    * @returns {Violation | null}
    */
@@ -237,7 +238,7 @@ class Replay {
 }
 
 /**
- * Resolves to the minimised counterexample that results if the program reads the given input values; null if the bench does not confirm the
+ * Resolves to the minimised counterexample that results if the program reads these input values; null if the bench does not confirm the
  * violation.
  * @param {Subject} subject
  * @param {Campaign} campaign

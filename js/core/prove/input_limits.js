@@ -11,8 +11,8 @@ import { togetherLine } from "../../words/prove.js";
  * @typedef {import("../board/key_place.js").MatrixKey} MatrixKey
  * @typedef {import("../explore/campaign.js").Campaign} Campaign
  *
- * The limits on the inputs in a proof. `keys`: the keys that may be pressed, null for all keys; `maxKeysDown`: the maximum number of keys
- * that are down at the same time, null for any number; `words`: the lines of the text that set these limits, such as `together 2`.
+ * The limits on the inputs in a proof. `keys` are the keys that may be pressed, null for all keys. `maxKeysDown` is the maximum number of
+ * keys that are down at the same time, null for any number. `words` are the lines of the text that set these limits, such as `together 2`.
  * @typedef {{ keys: MatrixKey[] | null, maxKeysDown: number | null, words: string[] }} InputLimits
  */
 
@@ -66,8 +66,8 @@ export function findInputLimits(campaign, board) {
 }
 
 /**
- * Returns the lines of a question that set limits on the inputs. TEST can always change: a proof could only keep it at 0, but without a
- * `test` line, it stays at 1, its level at power-on.
+ * Returns the lines of a question that set limits on the inputs; none if `limits` is null. TEST can always change: a proof could only keep
+ * it at 0, but without a `test` line, it stays at 1, its level at power-on.
  * @param {InputLimits | null} limits
  */
 export function formatInputLimits(limits) {

@@ -41,7 +41,10 @@ export function listInputs({ names: { face, board } }) {
   return [...keys, createTestInput(face)];
 }
 
-/** A session whose inputs are set so that the program reads given values. If possible, it presses only keys that a campaign allows. */
+/**
+ * A session whose inputs are set so that the program reads the values of a counterexample. If possible, presses only keys that a campaign
+ * allows.
+ */
 class ValueReplay {
   /**
    * @param {Subject} subject
@@ -144,8 +147,8 @@ class ValueReplay {
   releaseSurplusKeys(wantedKeys) {
     const otherKeys = indices(this.inputs.length).filter((index) => (
       this.inputs[index].isKey && this.downInputs[index] && !wantedKeys.includes(index)));
-    const surplus = otherKeys.length + wantedKeys.length - this.maxKeysDown;
-    for (const key of otherKeys.slice(0, Math.max(0, surplus))) this.moveInput(key, false);
+    const surplusCount = otherKeys.length + wantedKeys.length - this.maxKeysDown;
+    for (const key of otherKeys.slice(0, Math.max(0, surplusCount))) this.moveInput(key, false);
   }
 
   /**
@@ -181,13 +184,14 @@ class ValueReplay {
 }
 
 /**
- * Returns the steps that make the program read given input values, one after the other.
+ * Returns the steps that make the program read the input values `values`, one after the other. `time` is the number of cycles up to the
+ * last step, and `file` is the session file after it. `remainingCycles` is the number of cycles after the last step, in which the violation
+ * must happen.
  * @param {Subject} subject
  * @param {Input[]} inputs all inputs of the board
  * @param {number[]} values
  * @param {Campaign} campaign the campaign whose inputs the steps use, if possible
- * @returns {{ steps: WalkStep[], time: number, file: Uint8Array, remainingCycles: number }} the steps; the cycles up to the last step; the
- *   session file after the last step; and the number of cycles after the last step, in which the violation must happen
+ * @returns {{ steps: WalkStep[], time: number, file: Uint8Array, remainingCycles: number }}
  */
 export function replayValues(subject, inputs, values, campaign) {
   const replay = new ValueReplay(subject, inputs, campaign);

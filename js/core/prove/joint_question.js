@@ -1,5 +1,5 @@
-// A question that combines several questions, so that one search can answer all of them. It is asked once for all inputs and, if necessary,
-// once with limits on the inputs.
+// A question that combines several questions, so that one search can answer all of them. The question is asked once for all inputs and, if
+// necessary, once with limits on the inputs.
 
 import { combineQuestions } from "./question.js";
 
@@ -34,9 +34,9 @@ export class JointQuestion {
   }
 
   /**
-   * Asks the prover one of the questions. First asks the combined question, unless its answer is known. If this answer does not apply to
-   * the single question, asks the single question. With limits on the inputs, the combined question is asked only if its answer for all
-   * inputs applied to each single question, because only then all of them are asked again.
+   * Asks the prover one of the questions. Asks the combined question first, unless its answer is known, and asks the single question only
+   * if that answer does not apply to it. With limits on the inputs, skips the combined question unless its answer without limits applied to
+   * every single question. Resolves to the answer.
    * @param {Question} question
    */
   async askAbout(question) {

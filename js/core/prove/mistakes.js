@@ -16,11 +16,11 @@ import * as say from "../../words/prove.js";
  * A common mistake: the word for it in a question, and the property that excludes it.
  * @typedef {{ word: keyof typeof say.MISTAKES, property: Property }} Mistake
  *
- * The state that decides whether the next instruction makes a mistake. `address` and `code`: the address and the opcode of the instruction;
- * `dcl`: the selected RAM bank; `pair`: the value of register pair P0; `source`: the byte of the last SRC, which selects the ROM port;
- * `banks`: the byte of the last SRC to each RAM bank, by bank number.
- * @typedef {{ board: Board, address: number, code: number, dcl: number, pair: number, source: number,
- *   banks: Map<number, number> }} MachineState
+ * The state that decides whether the next instruction makes a mistake. `address` and `code` are the address and the opcode of the
+ * instruction. `dcl` is the selected RAM bank, and `pair` is the value of register pair P0. `lastSrcByte` is the byte of the last SRC,
+ * which selects the ROM port. `bankSrcBytes` has the byte of the last SRC to each RAM bank, by bank number.
+ * @typedef {{ board: Board, address: number, code: number, dcl: number, pair: number, lastSrcByte: number,
+ *   bankSrcBytes: Map<number, number> }} MachineState
  */
 
 /** The instructions that access RAM: WRM, WMP, WR0 to WR3, SBM, RDM, ADM, RD0 to RD3. */
@@ -31,7 +31,7 @@ const isFin = (/** @type {number} */ code) => (code & 0xF1) === 0x30;
 const hasTwoWords = (/** @type {number} */ code) => [1, 4, 5, 7].includes(code >> 4) || (code & 0xF1) === 0x20;
 /** The maximum number of cycles of a session that are checked for a mistake. */
 const MAX_CHECKED_CYCLES = 200000;
-/** The number of cycles that one call of the bench runs. */
+/** The maximum number of cycles that one call of the bench runs. */
 const CHUNK_CYCLES = 500;
 
 /** @type {(board: Board, chip: number) => string} returns the port of a ROM as in the board text; "" if the board lacks it */
@@ -45,17 +45,17 @@ const lacksRom = (board, address) => findPortMarks(board, address >> 8) === "";
  * @type {Partial<Record<keyof typeof say.MISTAKES, (state: MachineState) => boolean>>}
  */
 const MISTAKE_CHECKS = {
-  ram: ({ board, code, dcl, banks }) => {
+  ram: ({ board, code, dcl, bankSrcBytes }) => {
     const bank = board.banks.find((candidate) => Number(candidate.bank) === dcl);
-    return RAM_OPCODES.has(code) && (banks.get(dcl) || 0) >> 6 >= (bank ? Number(bank.chips) : 0);
+    return RAM_OPCODES.has(code) && (bankSrcBytes.get(dcl) || 0) >> 6 >= (bank ? Number(bank.chips) : 0);
   },
   rom: ({ board, address, code, pair }) => {
     const nextAddress = (address + 1) % ADDRESS_COUNT;
     return lacksRom(board, address) || (hasTwoWords(code) && lacksRom(board, nextAddress))
       || (isFin(code) && lacksRom(board, nextAddress - nextAddress % PAGE_BYTES + pair));
   },
-  rdr: ({ board, code, source }) => code === RDR && !findPortMarks(board, source >> 4).includes("i"),
-  wrr: ({ board, code, source }) => code === WRR && /^i*$/.test(findPortMarks(board, source >> 4)),
+  rdr: ({ board, code, lastSrcByte }) => code === RDR && !findPortMarks(board, lastSrcByte >> 4).includes("i"),
+  wrr: ({ board, code, lastSrcByte }) => code === WRR && /^i*$/.test(findPortMarks(board, lastSrcByte >> 4)),
 };
 
 /**
@@ -67,12 +67,12 @@ const MISTAKE_CHECKS = {
 function parseMachineState({ codes, names: { board } }, answer) {
   const { registers, ports } = parseState(answer);
   const { counter, owed, bank, registers: [highDigit, lowDigit] } = parseRegisters(registers);
-  const { srcBytes: [source, ...banks] } = parsePorts(ports);
+  const { srcBytes: [lastSrcByte, ...banks] } = parsePorts(ports);
   const address = parseInt(counter, 16);
   return {
-    board, address, code: codes[address], dcl: Number(bank), pair: parseInt(highDigit + lowDigit, 16), source: parseInt(source, 16),
-    isSecondCyclePending: owed === "1",
-    banks: new Map(banks.map((bankText) => {
+    board, address, code: codes[address], dcl: Number(bank), pair: parseInt(highDigit + lowDigit, 16),
+    lastSrcByte: parseInt(lastSrcByte, 16), isSecondCyclePending: owed === "1",
+    bankSrcBytes: new Map(banks.map((bankText) => {
       const [number, byte] = bankText.split(".");
       return [Number(number), parseInt(byte, 16)];
     })),
@@ -80,7 +80,8 @@ function parseMachineState({ codes, names: { board } }, answer) {
 }
 
 /**
- * Returns the number of cycles up to the first instruction that makes a mistake; -1 if there is none within the given number of cycles.
+ * Returns the number of cycles up to the first instruction that makes a mistake; -1 if there is none within `cycles` cycles, or within
+ * MAX_CHECKED_CYCLES. Also returns -1 for a mistake that MISTAKE_CHECKS does not list.
  * @param {Subject} subject
  * @param {Uint8Array} file the session file at the start
  * @param {string} word the word for the mistake, such as `ram`

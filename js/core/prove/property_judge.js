@@ -1,6 +1,7 @@
 // Decides properties one after the other: asks the prover, and derives a verdict from its answers. The properties of the text come first.
-// After them come the common mistakes, for which every program is checked. The prover is asked for all inputs first. If this decides
-// nothing, it is asked with the limits that the text sets on the inputs. Callbacks ask the prover and confirm counterexamples.
+// After them come the common mistakes, for which every program is checked. The first question about a property is for all inputs. If its
+// answer does not decide the property, the next question is only for the inputs that the text allows. Callbacks ask the prover and confirm
+// counterexamples.
 
 import { formatSteps } from "../explore/report.js";
 import { replayCounterexample } from "./counterexample.js";
@@ -26,8 +27,8 @@ import * as say from "../../words/prove.js";
  * @property {(question: Question) => Promise<Answer>} ask asks the prover
  * @property {(question: Question) => Promise<Answer>} askBySets asks the prover for a proof by sets of states, which is fast but never
  *   finds a counterexample
- * @property {(found: Counterexample, isGoal: boolean) => Promise<boolean>} confirms resolves to true if the test of a counterexample fails;
- *   for a goal, if the test passes
+ * @property {(counterexample: Counterexample, isGoal: boolean) => Promise<boolean>} confirms resolves to true if the test of a
+ *   counterexample fails; for a goal, if the test passes
  * @property {(answer: NoAnswer) => string} reason returns, as text, why an answer leaves the property undecided
  * @property {() => Promise<void>} yieldToMessages yields to other tasks while a counterexample is minimised
  */
@@ -47,9 +48,9 @@ const FINAL_MISTAKE_ANSWERS = new Set(["holds", "more", "full", "lost"]);
 /**
  * Returns the verdict that a property is proved.
  * @param {Property} property
- * @param {number} states
- * @param {boolean} bySets
- * @param {string[]} limits the lines of the text whose limits on the inputs the proof needs
+ * @param {number} states the number of states in the proof, or of sets of states
+ * @param {boolean} bySets true if the proof uses sets of states
+ * @param {string[]} limits the lines of the text with the limits on the inputs that the proof needs
  * @returns {Verdict}
  */
 const createProvedVerdict = (property, states, bySets, limits) => (
@@ -120,7 +121,7 @@ export class PropertyJudge {
 
   /**
    * Decides a property of the text. The verdict is `open` if the prover does not support the property.
-   * @param {{ property: Property, propertyQuestion: PropertyQuestion }} each
+   * @param {{ property: Property, propertyQuestion: PropertyQuestion }} textProperty
    * @returns {Promise<JudgedProperty>}
    */
   async judgeProperty({ property, propertyQuestion }) {
@@ -217,8 +218,8 @@ export class PropertyJudge {
   }
 
   /**
-   * Asks the prover about a property. First asks the combined question about several properties, if possible. If the answer does not decide
-   * this property, asks about it separately.
+   * Asks the prover about a property, and resolves to its answer. First asks the combined question about several properties, if possible.
+   * If the answer does not decide this property, asks about it separately.
    * @param {Property} property
    * @param {Question} question
    */

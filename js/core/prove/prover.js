@@ -8,8 +8,8 @@ import { TaskWorker } from "../bench/task_worker.js";
  * @typedef {import("../explore/sliced_search.js").ExploredTexts} ExploredTexts
  * @typedef {import("./bounded_proof.js").PropertyVerdict} PropertyVerdict
  *
- * The progress of a proof. `verdicts`: the verdicts so far; `count`: the number of properties and common mistakes to check; `states`: the
- * number of states that the prover has searched for the current question without a result.
+ * The progress of a proof. `verdicts` are the verdicts so far. `count` is the number of properties and common mistakes to check. `states`
+ * is the number of states that the prover has searched for the current question without a result.
  * @typedef {{ verdicts: PropertyVerdict[], count: number, states: number }} Progress
  */
 

@@ -32,9 +32,9 @@ import * as say from "../../words/prove.js";
  * key up and then down, one key after the other.
  * @typedef {{ opens: Comparisons[], keys: MatrixKey[] }} Presses
  *
- * A question. `forbidden`: the condition that must never be true; `mistakes`: the words for the common mistakes that the program must never
- * make; `stopwatch` and `presses`: the time limit and the required presses, null for none; `inputLimits`: the limits on the inputs, null
- * for all inputs.
+ * A question. `forbidden` is the condition that must never be true. `mistakes` are the words for the common mistakes that the program must
+ * never make. `stopwatch` and `presses` are the time limit and the required presses, null for none. `inputLimits` are the limits on the
+ * inputs, null for all inputs.
  * @typedef {{ forbidden: Comparisons[], mistakes: string[], stopwatch: Stopwatch | null, presses: Presses | null,
  *   inputLimits: InputLimits | null }} Question
  *
@@ -89,10 +89,10 @@ export function listBounds(maxBound, firstBound = FIRST_BOUND) {
 
 /**
  * Creates the question whether a condition can ever become true.
- * @param {Comparisons[]} nevers
+ * @param {Comparisons[]} forbidden the condition
  * @returns {Question}
  */
-export const neverQuestion = (nevers) => ({ ...EMPTY_QUESTION, forbidden: nevers });
+export const neverQuestion = (forbidden) => ({ ...EMPTY_QUESTION, forbidden });
 
 /**
  * Creates the question whether the program can make certain common mistakes.
@@ -127,7 +127,7 @@ export function combineQuestions(questions) {
 }
 
 /**
- * Returns the given list of conjunctions, or a list with one conjunction that is never true if the given list is empty.
+ * Returns `lists`, or a list with one conjunction that is never true if `lists` is empty.
  * @param {Comparisons[]} lists
  */
 const orImpossibleCondition = (lists) => (lists.length > 0 ? lists : [IMPOSSIBLE_COMPARISONS]);
@@ -244,7 +244,7 @@ const formatKeyPress = (key) => ["up", "down"].map((level) => [level, formatKey(
  * @param {Question} question
  * @param {QuestionLimits} limits
  */
-export function questionText({ board, program }, { forbidden: nevers, mistakes, stopwatch, presses, inputLimits }, limits) {
+export function questionText({ board, program }, { forbidden, mistakes, stopwatch, presses, inputLimits }, limits) {
   const { maxStates, memory = 0, sets = 0, pause = DEFAULT_PAUSE } = limits;
   const optionalLimits = Object.entries({ memory, sets }).filter(([, number]) => number > 0);
   const limitLines = [["most", maxStates], ...optionalLimits, ["pause", pause]].map((words) => words.join(" "));
@@ -253,7 +253,7 @@ export function questionText({ board, program }, { forbidden: nevers, mistakes, 
   const stopwatchLines = stopwatch
     ? [`within ${stopwatch.within}`, ...formatCondition("begin", stopwatch.begins), ...formatCondition("end", stopwatch.ends)] : [];
   const pressLines = presses ? [...formatCondition("open", presses.opens), ...presses.keys.flatMap(formatKeyPress)] : [];
-  const neverLines = formatCondition("never", nevers);
+  const neverLines = formatCondition("never", forbidden);
   const lines = [...limitLines, ...formatInputLimits(inputLimits), ...texts, ...neverLines, ...mistakeLines, ...stopwatchLines,
     ...pressLines, "prove"];
   return `${lines.join("\n")}\n`;

@@ -10,9 +10,9 @@ import * as say from "../../words/prove.js";
  * @typedef {import("./counterexample.js").Counterexample} Counterexample
  *
  * The verdict on a property:
- * - `proved`: `states` is the number of states in the proof, or of sets of states if `bySets` is true; `limits` are the lines of the text
- *   whose limits on the inputs the proof needs, [] for a proof for all inputs; `leftOut` names the guards that the proof omits;
- * - `found`: the prover found a counterexample or, for a goal, a sequence of steps that reaches the goal;
+ * - `proved`: `states` is the number of states in the proof, or of sets of states if `bySets` is true. `limits` are the lines of the text
+ *   with the limits on the inputs that the proof needs, [] for a proof for all inputs. `leftOut` names the guards that the proof omits.
+ * - `found`: the prover found a counterexample or, for a goal, a sequence of steps that reaches the goal.
  * - `open`: the property is not decided; `reason` says why.
  * @typedef {{ kind: "proved", states: number, bySets: boolean, limits: string[], leftOut: string }} ProvedVerdict
  * @typedef {ProvedVerdict | { kind: "found", counterexample: Counterexample } | { kind: "open", reason: string }} Verdict
@@ -62,7 +62,7 @@ function formatTapLines(judgedProperty, index, file) {
 }
 
 /**
- * Returns the TAP header.
+ * Returns the first lines of TAP output: the header, and the plan with the number of tests.
  * @param {number} count the number of properties
  */
 export const tapHead = (count) => `${TAP_HEAD}\n1..${count}\n`;

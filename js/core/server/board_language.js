@@ -102,16 +102,17 @@ export class BoardLanguage {
   }
 
   /**
+   * Returns the completions of a key or a value at a position.
    * @param {OpenText} openText
    * @param {Position} position
-   * @param {string} trigger
+   * @param {string} trigger the typed character that triggered the request, "" for none
    */
   completion({ lines }, { line, character }, trigger) {
     // The editor also sends a request when the user types a blank. Then the answer is empty, unless a value starts after the blank.
     const lineStart = lines[line].slice(Math.max(0, character - 9), character);
     if (trigger === " " && !/=[ \t]*$/.test(lineStart)) return { from: character, to: character, list: [] };
-    const found = completeBoard(lines, line, character, this.tables);
-    return { ...found, list: found.list.map((item) => ({ ...item, kind: PROPERTY_COMPLETION })) };
+    const boardCompletion = completeBoard(lines, line, character, this.tables);
+    return { ...boardCompletion, list: boardCompletion.list.map((item) => ({ ...item, kind: PROPERTY_COMPLETION })) };
   }
 
   /**
@@ -131,6 +132,7 @@ export class BoardLanguage {
   }
 
   /**
+   * Returns the words to colour: comments, table names, keys and values.
    * @param {OpenText} openText
    * @returns {ColouredWord[]}
    */

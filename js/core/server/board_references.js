@@ -41,7 +41,7 @@ export class BoardReferences {
     this.tableIndexes = new Map();
     /** @type {Map<string, Entry>} the first table of each chip, by chip name (`rom 3`, `ram 0`) */
     this.chips = new Map();
-    /** @type {Map<string, number>} */
+    /** @type {Map<string, number>} the number of tables so far, by table name */
     const counts = new Map();
     for (const entry of entries) {
       const { table } = entry;
@@ -99,8 +99,8 @@ export class BoardReferences {
   }
 
   /**
-   * Returns the hover text for a value that names a port line or a chain bit: a description, the lamp that uses it, and the text line that
-   * defines the chip or chain. Returns "" for any other value.
+   * Returns the hover text for a value that names a port line or a chain bit; "" for any other value. The text describes the line or the
+   * bit. It names the lamp that uses the line or the bit, and the text line that defines the chip or chain.
    * @param {KeyedValue} value
    * @param {import("../board/face.js").Face} face
    */

@@ -56,12 +56,18 @@ export class Connection extends MessageStream {
     this.sentRequests = 0;
   }
 
-  /** @param {string} message */
+  /**
+   * Sends an error response without a request id.
+   * @param {string} message
+   */
   reportStreamError(message) {
     this.rejectRequest(null, new ProtocolError(INVALID_REQUEST, message));
   }
 
-  /** @param {string} text */
+  /**
+   * Handles a request or notification. Sends an error response if the message is invalid.
+   * @param {string} text
+   */
   serveMessage(text) {
     let message;
     try {
@@ -92,6 +98,7 @@ export class Connection extends MessageStream {
   }
 
   /**
+   * Calls the handler of a request, and sends its result or its error as the response.
    * @param {Id} id
    * @param {string} method
    * @param {any} params
@@ -141,12 +148,13 @@ export class Connection extends MessageStream {
   }
 
   /**
+   * Handles `exit`, `$/cancelRequest`, or a notification that has a handler. Ignores any other notification.
    * @param {string} method
    * @param {any} params
    */
   async serveNotification(method, params) {
     if (method === "exit") {
-      // If a `shutdown` request arrived just before, its response must be written before the process ends.
+      // If the previous message is a `shutdown` request, its response must be written before the process ends.
       if (this.pendingRequests.size > 0) await null;
       this.end(this.state === "shut" ? 0 : 1);
       return;
@@ -191,6 +199,7 @@ export class Connection extends MessageStream {
   }
 
   /**
+   * Sends a notification to the client.
    * @param {string} method
    * @param {object} params
    */
@@ -208,7 +217,10 @@ export class Connection extends MessageStream {
     this.send({ id, error: { code, message: error instanceof Error ? error.message : String(error) } });
   }
 
-  /** @param {object} message */
+  /**
+   * Sends a message to the client.
+   * @param {object} message
+   */
   send(message) {
     this.writeMessage({ jsonrpc: "2.0", ...message });
   }

@@ -113,7 +113,7 @@ export class DependentLanguage {
   }
 
   /**
-   * Adds the protocol's completion kinds to completions.
+   * Returns completions with the completion kinds of the protocol.
    * @param {import("../text/completion.js").Completion} completion
    */
   addKinds({ from, to, list }) {

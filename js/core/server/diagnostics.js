@@ -32,7 +32,8 @@ export function toDiagnostic({ number, line, from, to, words, isError = number >
 }
 
 /**
- * Returns the diagnostics of a text. If the text has, or can have, more errors, adds a diagnostic with a message about that.
+ * Returns the diagnostics of a text, one for each of the first MAX_ERRORS errors. If the text has, or can have, more errors, adds a
+ * diagnostic that says so.
  * @param {ShownError[]} errors
  * @param {boolean} isComplete false if the text can contain errors that `errors` lacks
  * @returns {Diagnostic[]}

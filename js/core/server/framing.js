@@ -44,7 +44,7 @@ export class MessageReader {
   }
 
   /** An error message if the received bytes end within a message; "" if they end after a message. */
-  get incomplete() {
+  get incompleteMessage() {
     if (this.missingBytes > 0) return say.messageIncomplete(this.size - this.missingBytes, this.size);
     return this.header === "" ? "" : say.HEAD_INCOMPLETE;
   }
@@ -67,7 +67,8 @@ export class MessageReader {
   }
 
   /**
-   * Reads header bytes. Returns the index after the header, or after the last byte.
+   * Reads header bytes. Returns the index after the header, or after the last byte. Throws StreamError if the header is invalid or too
+   * long.
    * @param {Uint8Array} bytes
    * @param {number} start the index of the first byte
    */

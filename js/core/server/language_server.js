@@ -33,9 +33,10 @@ import * as say from "../../words/server.js";
  * The functions that the process provides: `readFile` returns the text of a file, and `pause` yields to other tasks.
  * @typedef {{ readFile: import("./text_kinds.js").ReadText, pause: () => Promise<void> }} Host
  *
- * An open text with its errors and diagnostics. `checkedEdits` is the value of `open.edits` at the last completed check, -1 before the
- * first check. `check` resolves when the current check ends.
- * @typedef {{ open: OpenText, errors: ShownError[], diagnostics: Diagnostic[], checkedEdits: number, check: Promise<void> }} CheckedText
+ * An open text with its errors and diagnostics. `checkedEditCount` is the value of `openText.editCount` at the last completed check, -1
+ * before the first check. `check` resolves when the current check ends.
+ * @typedef {{ openText: OpenText, errors: ShownError[], diagnostics: Diagnostic[], checkedEditCount: number,
+ *   check: Promise<void> }} CheckedText
  */
 
 export class LanguageServer {
@@ -101,7 +102,7 @@ export class LanguageServer {
    */
   readText(uri, folder) {
     const text = this.texts.get(uri);
-    return text ? text.open.text : this.host.readFile(uri, folder);
+    return text ? text.openText.text : this.host.readFile(uri, folder);
   }
 
   /**
@@ -135,7 +136,7 @@ export class LanguageServer {
    */
   listTexts() {
     const readText = (/** @type {string} */ uri, /** @type {string} */ folder) => this.readText(uri, folder);
-    const textsByUri = new Map([...this.texts].map(([uri, { open }]) => [uri, open]));
+    const textsByUri = new Map([...this.texts].map(([uri, { openText }]) => [uri, openText]));
     const projects = [
       ...this.client.folders.map((uri) => findProjectInFolder(`${uri.replace(/\/$/, "")}/`, readText)),
       ...[...this.texts.keys()].map((uri) => findProject(uri, readText)),
@@ -150,17 +151,24 @@ export class LanguageServer {
     return [...textsByUri.values()];
   }
 
-  /** @param {any} document the `textDocument` of the notification */
+  /**
+   * Stores an opened text and checks it.
+   * @param {any} document the `textDocument` of the notification
+   */
   didOpen(document) {
     const uri = needText(getField(document, "uri"), "textDocument.uri");
     const text = needText(getField(document, "text"), "textDocument.text");
     const openText = new OpenText(uri, String(getField(document, "languageId")), text, getField(document, "version"));
-    const checkedText = { open: openText, errors: [], diagnostics: [], checkedEdits: -1, check: Promise.resolve() };
+    const checkedText = { openText, errors: [], diagnostics: [], checkedEditCount: -1, check: Promise.resolve() };
     this.texts.set(uri, checkedText);
     this.checkWithDependents(checkedText);
   }
 
-  /** @param {any} params */
+  /**
+   * Applies the changes of a notification to an open text, and checks the text. Throws ProtocolError, without any change, if the parameters
+   * are invalid.
+   * @param {any} params
+   */
   didChange(params) {
     const text = this.getRequestedText(params);
     const changes = getField(params, "contentChanges");
@@ -170,14 +178,17 @@ export class LanguageServer {
       const range = getField(change, "range");
       return { range: range ? needRange(range) : null, text: needText(getField(change, "text"), say.TEXT_OF_CHANGE) };
     });
-    for (const edit of edits) text.open.edit(edit.range, edit.text);
-    text.open.version = getField(getField(params, "textDocument"), "version");
+    for (const edit of edits) text.openText.edit(edit.range, edit.text);
+    text.openText.version = getField(getField(params, "textDocument"), "version");
     this.checkWithDependents(text);
   }
 
-  /** @param {any} params */
+  /**
+   * Removes a closed text and its diagnostics. Checks the texts that depend on it.
+   * @param {any} params
+   */
   didClose(params) {
-    const { open: openText } = this.getRequestedText(params);
+    const { openText } = this.getRequestedText(params);
     this.texts.delete(openText.uri);
     if (!this.client.pullsDiagnostics) this.connection.notify("textDocument/publishDiagnostics", { uri: openText.uri, diagnostics: [] });
     this.checkDependents((uri) => this.affectsErrorsIn(openText.uri, uri));
@@ -206,16 +217,16 @@ export class LanguageServer {
    * Returns whether a changed text affects the errors in another text. The errors in a program depend on its board. The errors in tests and
    * properties depend on the board, the program and other tests.
    * @param {string} uri the URI of the changed text
-   * @param {string} other the URI of the other text
+   * @param {string} otherUri the URI of the other text
    */
-  affectsErrorsIn(uri, other) {
+  affectsErrorsIn(uri, otherUri) {
     if (isProjectFile(uri)) return true;
-    const text = this.texts.get(other);
-    if (!text || uri === other) return false;
+    const text = this.texts.get(otherUri);
+    if (!text || uri === otherUri) return false;
     // A program depends only on its board. If the changed text cannot be a board, the search for the program's board is unnecessary.
-    const dependsOnProgram = isTestFile(text.open) || isPropertyFile(text.open);
-    if (!dependsOnProgram) return !NON_BOARD_FILES.test(uri) && this.findBoard(other).uri === uri;
-    const { board, program, tests } = findDependencies(other, (fileUri, folder) => this.readText(fileUri, folder));
+    const dependsOnProgram = isTestFile(text.openText) || isPropertyFile(text.openText);
+    if (!dependsOnProgram) return !NON_BOARD_FILES.test(uri) && this.findBoard(otherUri).uri === uri;
+    const { board, program, tests } = findDependencies(otherUri, (fileUri, folder) => this.readText(fileUri, folder));
     return [board, program, ...tests].includes(uri);
   }
 
@@ -225,8 +236,8 @@ export class LanguageServer {
    */
   checkWithDependents(text) {
     text.check = this.checkText(text);
-    const { uri } = text.open;
-    this.checkDependents((other) => this.affectsErrorsIn(uri, other));
+    const { uri } = text.openText;
+    this.checkDependents((otherUri) => this.affectsErrorsIn(uri, otherUri));
   }
 
   /**
@@ -234,9 +245,9 @@ export class LanguageServer {
    * @param {(uri: string) => boolean} isDependent returns whether the text at a URI depends on the changed text
    */
   checkDependents(isDependent) {
-    const dependents = [...this.texts.values()].filter(({ open }) => !isBoard(open) && isDependent(open.uri));
+    const dependents = [...this.texts.values()].filter(({ openText }) => !isBoard(openText) && isDependent(openText.uri));
     for (const text of dependents) {
-      text.open.edits += 1;
+      text.openText.editCount += 1;
       text.check = this.checkText(text);
     }
     if (dependents.length > 0 && this.client.refreshesDiagnostics) this.connection.ask("workspace/diagnostic/refresh");
@@ -247,7 +258,7 @@ export class LanguageServer {
    * @param {CheckedText} text
    */
   async waitForCheck(text) {
-    while (text.checkedEdits !== text.open.edits && this.texts.get(text.open.uri) === text) await text.check;
+    while (text.checkedEditCount !== text.openText.editCount && this.texts.get(text.openText.uri) === text) await text.check;
   }
 
   /**
@@ -255,21 +266,22 @@ export class LanguageServer {
    * @param {CheckedText} text
    */
   async checkText(text) {
-    const { open: openText } = text;
-    const { edits, uri } = openText;
-    const isWanted = () => openText.edits === edits && this.texts.get(uri) === text;
+    const { openText } = text;
+    const { editCount, uri } = openText;
+    const isWanted = () => openText.editCount === editCount && this.texts.get(uri) === text;
     // During the pause, more edits can arrive. Then only the check after the last edit continues.
     await this.host.pause();
     if (!isWanted()) return;
     try {
       const result = await this.findErrors(openText, isWanted);
       if (!result || !isWanted()) return;
-      Object.assign(text, { errors: result.errors, diagnostics: toDiagnostics(result.errors, result.isComplete), checkedEdits: edits });
+      const { errors, isComplete } = result;
+      Object.assign(text, { errors, diagnostics: toDiagnostics(errors, isComplete), checkedEditCount: editCount });
       this.publish(text);
       // The program is assembled now, so that the first hover is fast.
-      if (result.errors.length === 0 && this.findLanguage(openText) === this.program) this.program.assembleProgram(openText);
+      if (errors.length === 0 && this.findLanguage(openText) === this.program) this.program.assembleProgram(openText);
     } catch (error) {
-      Object.assign(text, { errors: [], diagnostics: [], checkedEdits: edits });
+      Object.assign(text, { errors: [], diagnostics: [], checkedEditCount: editCount });
       this.connection.logMessage(say.cannotCheckMessage(uri, error instanceof Error ? error.message : String(error)));
     }
   }
@@ -278,7 +290,7 @@ export class LanguageServer {
    * Sends the diagnostics of a text, unless the client requests diagnostics itself.
    * @param {CheckedText} text
    */
-  publish({ open: { uri, version }, diagnostics }) {
+  publish({ openText: { uri, version }, diagnostics }) {
     if (!this.client.pullsDiagnostics) this.connection.notify("textDocument/publishDiagnostics", { uri, version, diagnostics });
   }
 
@@ -299,16 +311,17 @@ export class LanguageServer {
 
   /**
    * Runs a test and shows the result. If the test fails, adds a diagnostic to the text. The diagnostic remains until the next check.
+   * Resolves to null, the result of the request.
    * @param {string} uri
    * @param {string} name
    * @param {import("./connection.js").PendingRequest} pending
    */
   async runTest(uri, name, pending) {
     const text = this.getRequestedText({ textDocument: { uri } });
-    const { edits } = text.open;
-    const { message, hasPassed, failure } = await this.runs.run(text.open, name, pending);
+    const { editCount } = text.openText;
+    const { message, hasPassed, failure } = await this.runs.run(text.openText, name, pending);
     this.connection.show(message, !hasPassed);
-    if (failure && text.open.edits === edits && failure.uri === uri) {
+    if (failure && text.openText.editCount === editCount && failure.uri === uri) {
       text.diagnostics = [...text.diagnostics, ...toDiagnostics([failure.error], true)];
       this.publish(text);
       if (this.client.refreshesDiagnostics) this.connection.ask("workspace/diagnostic/refresh");

@@ -45,7 +45,7 @@ export function rangeInLine(line, from, to) {
 }
 
 /**
- * Checks that a value is a string; throws ProtocolError for any other value.
+ * Returns a value if it is a string; throws ProtocolError for any other value.
  * @param {any} value
  * @param {string} parameterName the name of the parameter
  * @returns {string}
@@ -56,7 +56,7 @@ export function needText(value, parameterName) {
 }
 
 /**
- * Checks that a value is a position; throws ProtocolError for any other value.
+ * Returns a value as a position; throws ProtocolError if it is not a position.
  * @param {any} value
  * @returns {Position}
  */
@@ -69,7 +69,7 @@ export function needPosition(value) {
 }
 
 /**
- * Checks that a value is a range; throws ProtocolError for any other value.
+ * Returns a value as a range; throws ProtocolError if it is not a range.
  * @param {any} value
  * @returns {Range}
  */

@@ -34,12 +34,15 @@ export class MessageStream {
    * @returns {string}
    */
   reportIncomplete() {
-    const { incomplete } = this.reader;
-    if (incomplete !== "") this.reportStreamError(incomplete);
-    return incomplete;
+    const { incompleteMessage } = this.reader;
+    if (incompleteMessage !== "") this.reportStreamError(incompleteMessage);
+    return incompleteMessage;
   }
 
-  /** @param {object} message */
+  /**
+   * Writes a message with its header.
+   * @param {object} message
+   */
   writeMessage(message) {
     this.write(frameMessage(message));
   }

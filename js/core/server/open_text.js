@@ -21,8 +21,8 @@ export class OpenText {
     this.version = version;
     this.lines = text.split(LINE_END);
     /** The number of edits so far. The server also adds 1 when the text must be checked again. */
-    this.edits = 0;
-    /** @type {{ text: string, edits: number } | null} the last result of the getter `text`, and the number of edits before it */
+    this.editCount = 0;
+    /** @type {{ text: string, editCount: number } | null} the last result of the getter `text`, and the number of edits before it */
     this.cachedText = null;
   }
 
@@ -33,7 +33,8 @@ export class OpenText {
 
   /** The text, with line feeds between its lines. */
   get text() {
-    if (!this.cachedText || this.cachedText.edits !== this.edits) this.cachedText = { text: this.lines.join("\n"), edits: this.edits };
+    const { editCount } = this;
+    if (!this.cachedText || this.cachedText.editCount !== editCount) this.cachedText = { text: this.lines.join("\n"), editCount };
     return this.cachedText.text;
   }
 
@@ -55,7 +56,7 @@ export class OpenText {
    */
   edit(range, text) {
     const addedLines = text.split(LINE_END);
-    this.edits += 1;
+    this.editCount += 1;
     if (!range) {
       this.lines = addedLines;
       return;

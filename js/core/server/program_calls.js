@@ -62,8 +62,8 @@ export class ProgramCalls {
    * @param {number} line the line number from 0
    */
   routine(name, line) {
-    const found = this.findRoutine(name, line);
-    return found && this.toRoutine(found);
+    const foundRoutine = this.findRoutine(name, line);
+    return foundRoutine && this.toRoutine(foundRoutine);
   }
 
   /**

@@ -14,17 +14,19 @@ import * as say from "../../words/server.js";
  * @typedef {import("./language.js").Hover} Hover
  * @typedef {import("./lsp_protocol.js").Position} Position
  *
- * The data for a hover: the manual's instructions and JCN conditions, functions that return the meaning and the value of a name, and a
- * function that describes the address, bytes and cycles of a line ("" if the address is unknown).
+ * The data for a hover. `instructions` and `conditions` are the manual's instructions and JCN conditions. `meaningOf` and `valueOf` return
+ * the meaning and the value of a name. `describeLine` returns the address, bytes and cycles of a line as text, "" if the line has no
+ * address.
  * @typedef {{ instructions: Map<string, Instruction>, conditions: Map<number, string>, meaningOf: (name: string) => string,
  *   valueOf: (name: string) => number | undefined, describeLine: (line: number) => string }} HoverContext
  */
 
 /** The maximum number of comment lines that a hover shows for a name. */
-const MAX_LINES = 12;
+const MAX_COMMENT_LINES = 12;
 
 /**
- * Returns the comment that describes a name: the comment lines above a label, and the comment on the line of the definition.
+ * Returns the comment that describes a name: the comment lines above a label, and the comment on the line of the definition. Returns an
+ * empty list if the name is not defined.
  * @param {string[]} lines
  * @param {string} name
  * @returns {string[]}
@@ -35,7 +37,9 @@ export function findNameComment(lines, name) {
   const { comment, defines } = splitStatement(lines[line - 1]);
   let commentStart = line - 1;
   const isCommentLine = (/** @type {string} */ text) => text.trimStart().startsWith(";");
-  while (!defines && commentStart > 0 && line - commentStart <= MAX_LINES && isCommentLine(lines[commentStart - 1])) commentStart -= 1;
+  while (!defines && commentStart > 0 && line - commentStart <= MAX_COMMENT_LINES && isCommentLine(lines[commentStart - 1])) {
+    commentStart -= 1;
+  }
   const commentLines = [...lines.slice(commentStart, line - 1), lines[line - 1].slice(comment)]
     .map((commentLine) => commentLine.trim().replace(/^;+ ?/, ""));
   return commentLines[commentLines.length - 1] === "" ? commentLines.slice(0, -1) : commentLines;

@@ -30,8 +30,8 @@ import * as say from "../../words/server.js";
  */
 
 /** The protocol's symbol kinds for labels and for constants. */
-const FUNCTION = 12;
-const CONSTANT = 14;
+const FUNCTION_SYMBOL = 12;
+const CONSTANT_SYMBOL = 14;
 /** @type {Record<string, string>} the protocol's token types, by kind of word */
 const TOKEN_TYPES = { comment: "comment", instruction: "keyword", directive: "macro", register: "variable", number: "number" };
 
@@ -93,7 +93,7 @@ export class ProgramLanguage {
       findBoardError: async () => null,
       findLineErrors: (sentProgram) => queryBench(() => this.bench.findLineErrors(sentProgram)),
       findRefusal: (sentProgram) => queryBench(() => this.bench.findProgramRefusal(sentProgram)),
-      readMap: (sentProgram) => queryBench(() => this.bench.read(sentProgram).map),
+      readMap: (sentProgram) => queryBench(() => this.bench.assemble(sentProgram).map),
       readRomNumbers: () => queryBench(() => this.bench.boardSession.roms),
     }, { instructions: this.instructions, tables: new Map() }, this.refusalMessage);
     return errorFinder.findInProgram(text, isWanted);
@@ -107,12 +107,13 @@ export class ProgramLanguage {
     if (this.lastAssembled && this.lastAssembled.text === text) return this.lastAssembled.program;
     const sentProgram = sentText(text, ";");
     const answers = this.bench.readMap(sentProgram);
-    const program = answers ? { map: new SourceMap(answers, sentProgram), bytes: () => this.bench.read(sentProgram).bytes } : null;
+    const program = answers ? { map: new SourceMap(answers, sentProgram), bytes: () => this.bench.assemble(sentProgram).bytes } : null;
     this.lastAssembled = { text, program };
     return program;
   }
 
   /**
+   * Returns the help for the word at a position; null if there is none.
    * @param {OpenText} openText
    * @param {Position} position
    */
@@ -145,6 +146,7 @@ export class ProgramLanguage {
   }
 
   /**
+   * Returns the range in which the name at a position is defined; null if there is no such name.
    * @param {OpenText} openText
    * @param {Position} position
    */
@@ -155,6 +157,7 @@ export class ProgramLanguage {
   }
 
   /**
+   * Returns the ranges of all references to the name at a position.
    * @param {OpenText} openText
    * @param {Position} position
    * @param {boolean} withDefinition true to include the definition of the name
@@ -178,6 +181,7 @@ export class ProgramLanguage {
   }
 
   /**
+   * Returns the edits that rename the name at a position. Throws ProtocolError if there is no name, or if the new name is invalid.
    * @param {OpenText} openText
    * @param {Position} position
    * @param {string} newName
@@ -191,6 +195,7 @@ export class ProgramLanguage {
   }
 
   /**
+   * Returns the completions at a position.
    * @param {OpenText} openText
    * @param {Position} position
    * @param {string} trigger
@@ -217,7 +222,7 @@ export class ProgramLanguage {
       const { from, to } = label || { from: 0, to: 0 };
       return {
         name,
-        kind: defines ? CONSTANT : FUNCTION,
+        kind: defines ? CONSTANT_SYMBOL : FUNCTION_SYMBOL,
         detail: program ? program.map.meaningOf(name) : "",
         range: { start: rangeInLine(line, 0, 0).start, end: rangeInLine(lastLine, 0, lines[lastLine - 1].length).end },
         selectionRange: rangeInLine(line, from, to),
@@ -226,20 +231,22 @@ export class ProgramLanguage {
   }
 
   /**
+   * Returns the words to colour, with their token types.
    * @param {OpenText} openText
    * @returns {ColouredWord[]}
    */
   colours({ lines }) {
     const names = findDefinedNames(lines);
-    const isNumber = (/** @type {string} */ name) => splitStatement(lines[(names.get(name) || 1) - 1]).defines;
+    const isConstant = (/** @type {string} */ name) => splitStatement(lines[(names.get(name) || 1) - 1]).defines;
     return lines.flatMap((text, line) => tokenizeLine(text, this.isInstruction).flatMap(({ kind, text: word, from, to }) => {
       const isName = (kind === "label" || kind === "name") && names.has(word);
-      const type = isName ? (isNumber(word) ? "enumMember" : "function") : TOKEN_TYPES[kind];
+      const type = isName ? (isConstant(word) ? "enumMember" : "function") : TOKEN_TYPES[kind];
       return type ? [{ line, from, to, type, isDeclaration: kind === "label", isReadonly: type === "enumMember" }] : [];
     }));
   }
 
   /**
+   * Returns the edits that format the lines in a range. Throws ProtocolError if the formatted text is too long.
    * @param {OpenText} openText
    * @param {Range} range
    * @param {Layout} layout
@@ -253,6 +260,7 @@ export class ProgramLanguage {
   }
 
   /**
+   * Returns the inlay hints in a range; an empty list if the program has errors.
    * @param {OpenText} openText
    * @param {Range} range
    */
@@ -263,6 +271,7 @@ export class ProgramLanguage {
   }
 
   /**
+   * Returns the form of the statement at a position; null if there is none.
    * @param {OpenText} openText
    * @param {Position} position
    */
@@ -295,6 +304,7 @@ export class ProgramLanguage {
   }
 
   /**
+   * Returns the routine with the name at a position, or else the routine that contains the line; null if there is none.
    * @param {OpenText} openText
    * @param {Position} position
    */
@@ -303,6 +313,7 @@ export class ProgramLanguage {
   }
 
   /**
+   * Returns the routines that call the routine at a position.
    * @param {OpenText} openText
    * @param {Position} position
    */
@@ -311,6 +322,7 @@ export class ProgramLanguage {
   }
 
   /**
+   * Returns the routines that the routine at a position calls.
    * @param {OpenText} openText
    * @param {Position} position
    */

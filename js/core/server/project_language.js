@@ -12,7 +12,7 @@ import { rangeInLine } from "./lsp_protocol.js";
  */
 
 /** The protocol's symbol kind for a file. */
-const FILE = 1;
+const FILE_SYMBOL = 1;
 
 export class ProjectLanguage {
   /** @param {ReadText} readText */
@@ -38,11 +38,14 @@ export class ProjectLanguage {
     return names ? listNamedFiles(names) : [];
   }
 
-  /** @param {OpenText} openText */
+  /**
+   * Returns the named files as symbols.
+   * @param {OpenText} openText
+   */
   symbols(openText) {
     return this.namedFiles(openText).map(({ path, key, line, from, to }) => {
       const range = rangeInLine(line, from, to);
-      return { name: path, kind: FILE, detail: key, range, selectionRange: range };
+      return { name: path, kind: FILE_SYMBOL, detail: key, range, selectionRange: range };
     });
   }
 

@@ -17,7 +17,7 @@ import { colouredWords } from "./token_codes.js";
  */
 
 /** The protocol's symbol kind for a property. */
-const PROPERTY = 7;
+const PROPERTY_SYMBOL = 7;
 /** Matches a line that is shown as a symbol: a property, a goal (`reach`), or a model. */
 const PROPERTY_LINE = /^(never|always|at|after|every|reach|model|while|once|@\S+|.*\bonly after)\b/;
 /** Matches a line `from STATE of FILE`, with which the search starts at a state that a test saves. Captures the file. */
@@ -64,6 +64,7 @@ export class PropertyLanguage extends DependentLanguage {
   }
 
   /**
+   * Returns the help for the word at a position; null if there is none.
    * @param {OpenText} openText
    * @param {Position} position
    */
@@ -72,6 +73,7 @@ export class PropertyLanguage extends DependentLanguage {
   }
 
   /**
+   * Returns the completions at a position.
    * @param {OpenText} openText
    * @param {Position} position
    * @param {string} trigger
@@ -90,16 +92,22 @@ export class PropertyLanguage extends DependentLanguage {
     return this.labelAt(openText, position);
   }
 
-  /** @param {OpenText} openText */
+  /**
+   * Returns the lines with properties, goals and models as symbols.
+   * @param {OpenText} openText
+   */
   symbols({ lines }) {
     return lines.flatMap((text, line) => {
       if (!PROPERTY_LINE.test(text.trim())) return [];
       const range = rangeInLine(line + 1, text.length - text.trimStart().length, text.trimEnd().length);
-      return [{ name: text.trim(), kind: PROPERTY, detail: "", range, selectionRange: range }];
+      return [{ name: text.trim(), kind: PROPERTY_SYMBOL, detail: "", range, selectionRange: range }];
     });
   }
 
-  /** @param {OpenText} openText */
+  /**
+   * Returns the words to colour.
+   * @param {OpenText} openText
+   */
   colours({ lines }) {
     return colouredWords(lines, COLOURS.properties);
   }

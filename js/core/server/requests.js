@@ -22,7 +22,7 @@ import * as say from "../../words/server.js";
  */
 
 /** The protocol's symbol kind for a routine. */
-const FUNCTION = 12;
+const FUNCTION_SYMBOL = 12;
 /** A range that contains any text. */
 const WHOLE_TEXT_RANGE = { start: { line: 0, character: 0 }, end: { line: Number.MAX_SAFE_INTEGER, character: 0 } };
 const MAX_TAB_SIZE = 16;
@@ -38,7 +38,7 @@ function readFormattingOptions(options) {
 }
 
 /**
- * Checks that a value is a list; throws ProtocolError for any other value.
+ * Returns a value if it is a list; throws ProtocolError for any other value.
  * @param {any} value
  * @param {string} parameterName the name of the parameter
  * @returns {any[]}
@@ -75,13 +75,17 @@ export class Requests {
     };
   }
 
-  /** @param {any} params */
+  /**
+   * Stores the capabilities of the client. Returns the capabilities of the server.
+   * @param {any} params
+   */
   initialize(params) {
     this.server.client = readClient(params);
     return { capabilities: listCapabilities(this.server.client), serverInfo: { name: "mcs4 lsp" } };
   }
 
   /**
+   * Runs the test that a command names. Throws ProtocolError for an unknown command.
    * @param {any} params
    * @param {import("./connection.js").PendingRequest} pending
    */
@@ -102,7 +106,7 @@ export class Requests {
    * @returns {Result | null} null for a text in an unknown language
    */
   callWithLanguage(params, callback) {
-    const { open: openText } = this.server.getRequestedText(params);
+    const { openText } = this.server.getRequestedText(params);
     const language = this.server.findLanguage(openText);
     return language && callback(language, openText);
   }
@@ -143,6 +147,7 @@ export class Requests {
   }
 
   /**
+   * Returns the edits that format the text in a range; null if the language has no formatter.
    * @param {any} params
    * @param {import("./lsp_protocol.js").Range} range
    */
@@ -151,21 +156,30 @@ export class Requests {
     return this.callWithLanguage(params, (language, openText) => (language.format ? language.format(openText, range, layout) : null));
   }
 
-  /** @param {any} params */
+  /**
+   * Returns the inlay hints in the requested range.
+   * @param {any} params
+   */
   hints(params) {
     const range = needRange(getField(params, "range"));
     return this.callWithLanguage(params, (language, openText) => (language.hints ? language.hints(openText, range) : []));
   }
 
-  /** @param {any} params */
+  /**
+   * Resolves to the quick fixes for the errors in the requested range.
+   * @param {any} params
+   */
   async codeAction(params) {
     const text = this.server.getRequestedText(params);
     const range = needRange(getField(params, "range"));
     await this.server.waitForCheck(text);
-    return createQuickFixes(text.open.uri, text.errors, range);
+    return createQuickFixes(text.openText.uri, text.errors, range);
   }
 
-  /** @param {any} params */
+  /**
+   * Resolves to the diagnostics of a text, or to a report that they have not changed.
+   * @param {any} params
+   */
   async diagnostic(params) {
     const text = this.server.getRequestedText(params);
     await this.server.waitForCheck(text);
@@ -177,7 +191,8 @@ export class Requests {
   // --- requests about a position in a text
 
   /**
-   * Calls a function with the position that a request names, and with the text and its language.
+   * Calls a function with the position that a request names, with the text and its language. Returns the function's result; null for a text
+   * in an unknown language.
    * @template Result
    * @param {any} params
    * @param {(language: Language, openText: OpenText, position: Position) => Result} callback
@@ -208,7 +223,10 @@ export class Requests {
     };
   }
 
-  /** @param {any} params */
+  /**
+   * Returns the help at a position, in the format that the client supports; null if there is none.
+   * @param {any} params
+   */
   hover(params) {
     const hoverHelp = this.callAtPosition(params, (language, openText, position) => (
       language.hover ? language.hover(openText, position) : null));
@@ -218,21 +236,30 @@ export class Requests {
     return { contents, ...range };
   }
 
-  /** @param {any} params */
+  /**
+   * Returns the locations of the references to the name at a position.
+   * @param {any} params
+   */
   references(params) {
     const withDefinition = getField(getField(params, "context"), "includeDeclaration") !== false;
     return this.callAtPosition(params, (language, openText, position) => (
       (language.references ? language.references(openText, position, withDefinition) : []).map((range) => ({ uri: openText.uri, range }))));
   }
 
-  /** @param {any} params */
+  /**
+   * Returns the edits that rename the name at a position; null if the language has no names.
+   * @param {any} params
+   */
   rename(params) {
     const newName = needText(getField(params, "newName"), "newName");
     return this.callAtPosition(params, (language, openText, position) => (
       language.rename ? { changes: { [openText.uri]: language.rename(openText, position, newName) } } : null));
   }
 
-  /** @param {any} params */
+  /**
+   * Returns the completions at a position, in the protocol's format.
+   * @param {any} params
+   */
   completion(params) {
     const trigger = String(getField(getField(params, "context"), "triggerCharacter") || "");
     return this.callAtPosition(params, (language, openText, position) => {
@@ -245,13 +272,16 @@ export class Requests {
     });
   }
 
-  /** @param {any} params */
+  /**
+   * Returns the selection range at each requested position.
+   * @param {any} params
+   */
   selections(params) {
     const positions = needList(getField(params, "positions"), "positions").map(needPosition);
     return this.callWithLanguage(params, (language, openText) => positions.map((position) => {
-      const clamped = openText.clampPosition(position);
-      const columnRanges = language.selectionColumns ? language.selectionColumns(openText, clamped) : [];
-      return selectionRangeAt(openText.lines, clamped, columnRanges, language.parts);
+      const clampedPosition = openText.clampPosition(position);
+      const columnRanges = language.selectionColumns ? language.selectionColumns(openText, clampedPosition) : [];
+      return selectionRangeAt(openText.lines, clampedPosition, columnRanges, language.parts);
     }));
   }
 
@@ -279,11 +309,12 @@ export class Requests {
    * @param {string} uri
    */
   toCallItem(routine, uri) {
-    return { ...routine, kind: FUNCTION, uri };
+    return { ...routine, kind: FUNCTION_SYMBOL, uri };
   }
 
   /**
-   * Calls a function with the position of the call hierarchy item that a request names, and with the text and its language.
+   * Calls a function with the position of the call hierarchy item that a request names, with the text and its language. Returns the result
+   * of the function.
    * @template Result
    * @param {any} params
    * @param {(language: Language, openText: OpenText, position: Position) => Result} callback

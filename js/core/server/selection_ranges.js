@@ -1,5 +1,5 @@
-// Finds the ranges for an editor command that expands the selection step by step: first the word, then larger ranges in its line, the line,
-// the folding ranges around the line, and the whole text.
+// Finds the ranges for an editor command that expands the selection step by step. The first range is the word. The next ranges are larger
+// ranges in its line, the line, the folding ranges around the line, and the whole text.
 
 import { wordAt } from "../text/assembly.js";
 import { findFolds } from "./folding_ranges.js";

@@ -64,8 +64,8 @@ export function signatureAt(line, column, instructions) {
   if (!head || head.to === column || commentStart < textBefore.length) return null;
   const signature = createStatementSignature(head.text.toUpperCase(), instructions);
   if (!signature) return null;
-  const commas = textBefore.slice(head.to).split(",").length - 1;
+  const commaCount = textBefore.slice(head.to).split(",").length - 1;
   const isList = head.text.toUpperCase() === "DB";
-  if (commas >= signature.parameters.length && !isList) return null;
-  return { signatures: [signature], activeSignature: 0, activeParameter: isList ? 0 : commas };
+  if (commaCount >= signature.parameters.length && !isList) return null;
+  return { signatures: [signature], activeSignature: 0, activeParameter: isList ? 0 : commaCount };
 }

@@ -20,8 +20,8 @@ import * as say from "../../words/server.js";
  */
 
 /** The protocol's symbol kinds for tests and for shared steps. */
-const METHOD = 6;
-const FUNCTION = 12;
+const METHOD_SYMBOL = 6;
+const FUNCTION_SYMBOL = 12;
 /** Matches the first line of a test or of shared steps, and captures its parts. */
 const HEAD_LINE = /^([ \t]*)(test|steps)([ \t]+)(\S.*)$/;
 
@@ -68,6 +68,7 @@ export class TestLanguage extends DependentLanguage {
   }
 
   /**
+   * Returns the help for the word at a position; null if there is none.
    * @param {OpenText} openText
    * @param {Position} position
    */
@@ -76,6 +77,7 @@ export class TestLanguage extends DependentLanguage {
   }
 
   /**
+   * Returns the completions at a position.
    * @param {OpenText} openText
    * @param {Position} position
    * @param {string} trigger
@@ -96,17 +98,24 @@ export class TestLanguage extends DependentLanguage {
     return steps ? { uri: openText.uri, range: rangeInLine(steps.line + 1, steps.from, steps.to) } : this.labelAt(openText, position);
   }
 
-  /** @param {OpenText} openText */
+  /**
+   * Returns the tests and shared steps as symbols.
+   * @param {OpenText} openText
+   */
   symbols({ lines }) {
     const heads = findHeads(lines);
     return heads.map(({ kind, name, line, from, to }, at) => {
       const lastLine = (heads[at + 1] ? heads[at + 1].line : lines.length) - 1;
       const range = { start: { line, character: 0 }, end: { line: lastLine, character: lines[lastLine].length } };
-      return { name, kind: kind === "test" ? METHOD : FUNCTION, detail: kind, range, selectionRange: rangeInLine(line + 1, from, to) };
+      const symbolKind = kind === "test" ? METHOD_SYMBOL : FUNCTION_SYMBOL;
+      return { name, kind: symbolKind, detail: kind, range, selectionRange: rangeInLine(line + 1, from, to) };
     });
   }
 
-  /** @param {OpenText} openText */
+  /**
+   * Returns the words to colour.
+   * @param {OpenText} openText
+   */
   colours({ lines }) {
     return colouredWords(lines, COLOURS.tests);
   }

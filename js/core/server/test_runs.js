@@ -42,7 +42,7 @@ export class TestRuns {
   }
 
   /**
-   * Runs a test; throws ProtocolError if the run is cancelled.
+   * Runs a test, and resolves to its result. Throws ProtocolError if the run is cancelled.
    * @param {OpenText} openText
    * @param {string} name the name of the test
    * @param {import("./connection.js").PendingRequest} pending the request; the client can cancel it
@@ -71,14 +71,14 @@ export class TestRuns {
   }
 
   /**
-   * Runs one test; throws ProtocolError if the run is cancelled.
+   * Runs one test, and resolves to the outcomes of all tests that ran for it. Throws ProtocolError if the run is cancelled.
    * @param {import("../testing/test_suite.js").TestedTexts} texts
    * @param {() => Promise<boolean>} shouldContinue
-   * @param {{ name: string, source: string }} only the name of the test, and the URI of its file
+   * @param {{ name: string, source: string }} selectedTest the name of the test, and the URI of its file
    */
-  async runOneTest(texts, shouldContinue, only) {
+  async runOneTest(texts, shouldContinue, selectedTest) {
     try {
-      return await runTests(this.engine, texts, shouldContinue, { only });
+      return await runTests(this.engine, texts, shouldContinue, { selectedTest });
     } catch (error) {
       throw error instanceof CancelledError ? new ProtocolError(REQUEST_CANCELLED, IT_WAS_CANCELLED) : error;
     }

@@ -87,7 +87,7 @@ export class TextBench {
       findBoardError: async (sentBoard) => this.findBoardError(sentBoard),
       findLineErrors: async (sentProgram) => this.findLineErrors(sentProgram),
       findRefusal: async (sentProgram) => this.findProgramRefusal(sentProgram),
-      readMap: async (sentProgram) => this.read(sentProgram).map,
+      readMap: async (sentProgram) => this.assemble(sentProgram).map,
       readRomNumbers: async () => this.boardSession.roms,
     };
   }
@@ -107,7 +107,7 @@ export class TextBench {
    * @param {string} sentProgram the result of `sentText`
    * @returns {Program}
    */
-  read(sentProgram) {
+  assemble(sentProgram) {
     if (!this.program || this.program.text !== sentProgram) this.program = readProgram(this.engine, sentProgram);
     return this.program;
   }

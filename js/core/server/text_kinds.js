@@ -132,9 +132,9 @@ export function findBoard(uri, readText) {
 }
 
 /**
- * Returns the files that a test or property file depends on: the files of the project; or else, in the same folder, `board.toml` and the
- * program with the same base name. `tests` are the project's test files up to this file, because its tests can start at states that earlier
- * files save.
+ * Returns the files that a test or property file depends on. Without a project, these are `board.toml` and the program with the same base
+ * name, in the same folder. `tests` are the project's test files up to this file, because its tests can start at states that earlier files
+ * save.
  * @param {string} uri
  * @param {ReadText} readText
  * @returns {Dependencies}

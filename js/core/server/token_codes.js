@@ -27,8 +27,10 @@ export function colouredWords(lines, colours) {
 }
 
 /**
- * Encodes each word as five numbers: the number of lines after the previous word; the number of columns after the previous word in the same
- * line; the length; the type; and the modifiers.
+ * Encodes each word as five numbers, and returns all numbers in one list:
+ * - the number of lines between the previous word and this word;
+ * - the number of columns from the start of the previous word in the same line, or else from the start of the line;
+ * - the length, the type and the modifiers.
  * @param {ColouredWord[]} words
  * @returns {number[]}
  */
@@ -45,7 +47,7 @@ export function encodeTokens(words) {
 }
 
 /**
- * Returns the edits that change an encoding to another encoding: no edit if both are equal, or else one edit that replaces a range of
+ * Returns the edits that change the old encoding to the new encoding: no edit if both are equal, or else one edit that replaces a range of
  * numbers.
  * @param {number[]} oldTokens
  * @param {number[]} newTokens

@@ -15,7 +15,8 @@ export class TokenMemory {
   constructor() {
     /** @type {Map<string, { resultId: string, data: number[] }>} the last responses, by text URI */
     this.sentTokens = new Map();
-    this.count = 0;
+    /** The number of responses so far. */
+    this.responseCount = 0;
   }
 
   /**
@@ -24,8 +25,8 @@ export class TokenMemory {
    * @param {number[]} data
    */
   store(uri, data) {
-    this.count += 1;
-    const resultId = String(this.count);
+    this.responseCount += 1;
+    const resultId = String(this.responseCount);
     this.sentTokens.delete(uri);
     this.sentTokens.set(uri, { resultId, data });
     if (this.sentTokens.size > MAX_TEXTS) this.sentTokens.delete([...this.sentTokens.keys()][0]);
@@ -33,7 +34,7 @@ export class TokenMemory {
   }
 
   /**
-   * Returns all tokens of a text.
+   * Encodes and stores all tokens of a text. Returns the response.
    * @param {OpenText} openText
    * @param {ColouredWord[]} words
    */
@@ -43,8 +44,8 @@ export class TokenMemory {
   }
 
   /**
-   * Returns the changes of the tokens since the last response. If `previousId` is not the id of the last response for the text, returns all
-   * tokens.
+   * Encodes and stores all tokens of a text. Returns the response with the changes since the last response. If `previousId` is not the id
+   * of the last response for the text, the response has all tokens.
    * @param {OpenText} openText
    * @param {ColouredWord[]} words
    * @param {unknown} previousId the id of the response that the client has
@@ -57,7 +58,7 @@ export class TokenMemory {
   }
 
   /**
-   * Returns the tokens of the lines in a range.
+   * Returns the response with the tokens of the lines in a range. Does not store them.
    * @param {ColouredWord[]} words
    * @param {Range} range
    */

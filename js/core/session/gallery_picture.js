@@ -8,7 +8,7 @@ import { indices } from "../bench/numbers.js";
 
 /**
  * A shape in the picture: a lamp, a key with its legend, or a display with its digits. Sizes are in picture units.
- * @typedef {{ kind: "lamp", x: number, y: number, size: number, colour: string, isLit: boolean }} LampShape
+ * @typedef {{ kind: "lamp", x: number, y: number, radius: number, colour: string, isLit: boolean }} LampShape
  * @typedef {{ kind: "key", x: number, y: number, width: number, height: number, legend: string }} KeyShape
  * @typedef {{ kind: "display", x: number, y: number, width: number, height: number, digits: string,
  *   colour: string }} DisplayShape
@@ -47,15 +47,15 @@ class Drawing {
    * @param {number} lamp
    * @param {number} x the x position of the centre, in picture units
    * @param {number} y the y position of the centre
-   * @param {number} size the radius
+   * @param {number} radius in picture units
    */
-  drawLamp(lamp, x, y, size) {
+  drawLamp(lamp, x, y, radius) {
     const faceText = this.face.colours.get(lamp);
     const colour = faceText ? faceText.text : "red";
     const isLit = !this.litColours.has(colour);
     this.litColours.add(colour);
     this.drawnLamps.add(lamp);
-    this.shapes.push({ kind: "lamp", x, y, size, colour, isLit });
+    this.shapes.push({ kind: "lamp", x, y, radius, colour, isLit });
   }
 
   /** Draws the displays and lamp groups whose lamps are all on the board. */
@@ -74,7 +74,10 @@ class Drawing {
     }
   }
 
-  /** @param {import("../board/face.js").Group} group a display with one digit per row */
+  /**
+   * Draws a display with sample digits.
+   * @param {import("../board/face.js").Group} group a display with one digit per row
+   */
   drawDisplay({ rows, first }) {
     const height = 24;
     const colour = (this.face.colours.get(first) || { text: "red" }).text;

@@ -76,7 +76,8 @@ function readTextsInLines(script) {
 }
 
 /**
- * Determines the kind of a text from the file name, or else from the text.
+ * Determines the kind of a text from the file name, or else from the text. Returns the text as this kind. For bench lines, returns the
+ * texts in them.
  * @param {string} name
  * @param {string} text
  * @returns {FileTexts}

@@ -202,7 +202,7 @@ function checkEnvelope(text) {
 
 /**
  * Reads the lines before the first text: the name, the breakpoints and the watch expressions. In the result, `unended` contains the words
- * of the texts that do not end with a line feed.
+ * of the texts that do not end with a line feed. Throws InvalidProject if a line is invalid.
  * @param {Lines} lines
  */
 function readHead(lines) {
@@ -226,7 +226,7 @@ function readHead(lines) {
 }
 
 /**
- * Reads a text of a project. The next line must be its `word`.
+ * Reads the next text of a project, and returns it. Throws InvalidProject if the next line is not `word`.
  * @param {Lines} lines
  * @param {Word} word
  * @param {Set<string>} unended the words of the texts that do not end with a line feed
@@ -237,7 +237,8 @@ function readText(lines, word, unended) {
 }
 
 /**
- * Reads the name, the texts, the breakpoints and the watch expressions. Throws TextTooLong if a text is too long for the editors.
+ * Reads and returns the name, the texts, the breakpoints and the watch expressions. Throws InvalidProject if a line is invalid, and
+ * TextTooLong if a text is too long for the editors.
  * @param {Lines} lines
  * @param {boolean} [acceptsLongTexts] true to accept texts that are too long for the editors
  * @returns {TextsWithBreakpoints}

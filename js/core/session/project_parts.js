@@ -59,7 +59,7 @@ export function splitProject(project) {
  * Splits a text into its lines, without line ends.
  * @param {string} text
  */
-function splitItems(text) {
+function splitLines(text) {
   const lines = text.split("\n").map((line) => line.replace(/\r$/, ""));
   if (lines[lines.length - 1] === "") lines.pop();
   return lines;
@@ -71,7 +71,7 @@ function splitItems(text) {
  * @returns {SavedBreakpoint[]}
  */
 export function parseBreakpoints(text) {
-  const breakpoints = splitItems(text).map((line, at) => {
+  const breakpoints = splitLines(text).map((line, at) => {
     const breakpoint = parseBreakpoint(line);
     if (!breakpoint) throw new InvalidProject(say.noBreakpointMessage(at + 1));
     return breakpoint;
@@ -86,7 +86,7 @@ export function parseBreakpoints(text) {
  * @param {string} text
  */
 export function parseWatchLines(text) {
-  const values = splitItems(text);
+  const values = splitLines(text);
   const emptyIndex = values.findIndex((line) => line.trim() === "");
   if (emptyIndex >= 0) throw new InvalidProject(say.emptyValue(emptyIndex + 1));
   return values;

@@ -31,8 +31,8 @@ export class RomFiles {
   }
 
   /**
-   * Loads an image into ROM and changes nothing else. Resolves to a message about the loaded bytes, or to "" if `act` has reported an
-   * error. Throws MissingRom if the board lacks a ROM for the image.
+   * Pauses the machine and loads an image into ROM. Changes nothing else in the session. Resolves to a message about the loaded bytes, or
+   * to "" if `act` has reported an error. Throws MissingRom if the board lacks a ROM for the image.
    * @param {string} name the name of the image file
    * @param {Int16Array} bytes the bytes by address, NO_BYTE where the image has none
    */
@@ -53,20 +53,20 @@ export class RomFiles {
   /**
    * Resolves to the bytes of all ROMs on the board, by address. An address without a ROM has NO_BYTE, even if `list` reports a byte there.
    */
-  async bytes() {
+  async readBytes() {
     const chips = await this.readChips();
     const allBytes = parseRomBytes(await this.callbacks.ask(listQueries(PAGE_NUMBERS.filter((page) => chips.includes(page)))));
     return allBytes.map((byte, at) => (chips.includes(Math.floor(at / PAGE_BYTES)) ? byte : NO_BYTE));
   }
 
   /** Resolves to the ROM contents in Intel HEX format; to "" if the board has no ROM. */
-  async hex() {
-    return (await this.readChips()).length === 0 ? "" : writeHex(await this.bytes());
+  async readHex() {
+    return (await this.readChips()).length === 0 ? "" : writeHex(await this.readBytes());
   }
 
   /** Resolves to the bytes from address 000 to the end of the last ROM on the board, with 0 for missing ROMs. */
-  async image() {
+  async readImage() {
     const end = (Math.max(-1, ...(await this.readChips())) + 1) * PAGE_BYTES;
-    return Uint8Array.from((await this.bytes()).subarray(0, end), (byte) => Math.max(0, byte));
+    return Uint8Array.from((await this.readBytes()).subarray(0, end), (byte) => Math.max(0, byte));
   }
 }

@@ -25,7 +25,8 @@ function findFirstSentence(text, mark) {
 }
 
 /**
- * Returns the title in the board text; or else the first sentence of the board's comment; or else that of the program's comment.
+ * Returns the title in the board text; or else the first sentence of the board's comment; or else the first sentence of the program's
+ * comment; "" for none.
  * @param {string} boardText
  * @param {string} programText
  */
@@ -34,12 +35,12 @@ export function sessionTitle(boardText, programText) {
 }
 
 /**
- * Describes the parts of a board: `2 ROMs, 1 RAM chip, 3 lamps`.
+ * Returns a description of the parts of a board: `2 ROMs, 1 RAM chip, 3 lamps`.
  * @param {Board} board
  */
 export function describeBoard({ roms, banks, chains, lamps, rows, columns }) {
-  const chips = banks.reduce((sum, bank) => sum + bank.chips, 0);
-  const shifts = chains.reduce((sum, chain) => sum + chain.chips, 0);
-  const counts = [roms.length, chips, shifts, lamps.length, rows * columns];
+  const ramCount = banks.reduce((sum, bank) => sum + bank.chips, 0);
+  const shiftRegisterCount = chains.reduce((sum, chain) => sum + chain.chips, 0);
+  const counts = [roms.length, ramCount, shiftRegisterCount, lamps.length, rows * columns];
   return counts.map((count, at) => count > 0 && formatQuantity(count, say.PARTS[at])).filter(Boolean).join(", ") || say.NO_CHIP;
 }

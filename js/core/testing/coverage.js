@@ -44,7 +44,7 @@ function listCoveredLines({ codes, startCounts, jumpCounts }, map) {
 }
 
 /**
- * Returns the subroutines that the JMS instructions in the given lines call, in ascending address order.
+ * Returns the subroutines that the JMS instructions in `lines` call, in ascending address order. Omits subroutines without a label.
  * @param {ExecutionRecorder} recorder
  * @param {SourceMap} map
  * @param {LineCoverage[]} lines
@@ -69,11 +69,11 @@ export function computeCoverage(recorder, map) {
   const jumps = lines.filter(({ isJump }) => isJump);
   /** @type {LineRange[]} */
   const unexecutedRanges = [];
-  let isOpen = false;
+  let isInRange = false;
   for (const { line, count } of lines) {
-    if (count === 0 && isOpen) unexecutedRanges[unexecutedRanges.length - 1].to = line;
+    if (count === 0 && isInRange) unexecutedRanges[unexecutedRanges.length - 1].to = line;
     else if (count === 0) unexecutedRanges.push({ from: line, to: line });
-    isOpen = count === 0;
+    isInRange = count === 0;
   }
   return {
     lines, unexecutedRanges,

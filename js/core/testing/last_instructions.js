@@ -33,7 +33,8 @@ function findListedPart(actions) {
 }
 
 /**
- * Returns trace lines for the last instructions and commands of a test, followed by a line for the next instruction.
+ * Returns trace lines for the last instructions and commands of a test, followed by a line for the next instruction; an empty list if the
+ * test has done nothing.
  * @param {TestSession} session
  * @param {{ board: Board, map: SourceMap }} names
  * @returns {string[]}

@@ -30,7 +30,7 @@ function* splitRuns(actions) {
 }
 
 /**
- * Returns the last executed instruction at one of the given addresses; null if the test executed none of them.
+ * Returns the last instruction that the test executed at one of `addresses`; null if it executed no such instruction.
  * @param {TestSession} session
  * @param {Set<number>} addresses
  * @returns {PassedInstruction | null}

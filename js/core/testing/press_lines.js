@@ -1,4 +1,4 @@
-// Creates the session lines that press the keys of a board, given by name, one key after another.
+// Creates the bench lines that press keys of a board, by their names, one key after another.
 
 import { LAMPS_FORECAST_QUERY, hasScannedDisplay } from "../engine/perceived_text.js";
 import { TOOL_KEY_DOWN_CYCLES, TOOL_KEY_UP_CYCLES } from "../time/mcs4_time.js";
@@ -10,17 +10,17 @@ import { listNamedKeys } from "./test_text.js";
  * The times in cycles for which each key stays down (`down`) and then up (`up`).
  * @typedef {{ down: number, up: number }} Pace
  *
- * The result of `pressLines`. The last of the session lines queries the lamps, and `unknown` is null. If a name is not a key, `lines` is
- * empty, and `unknown` is the first such name.
- * @typedef {{ lines: string[], unknown: string | null }} PressLines
+ * The result of `pressLines`. If all names are keys, `lines` are the bench lines, and the last line queries the lamps. `unknownName` is
+ * then null. Otherwise, `lines` is empty, and `unknownName` is the first name that is not a key.
+ * @typedef {{ lines: string[], unknownName: string | null }} PressLines
  */
 
 /** @type {Pace} the pace if the user of a tool chooses none */
 export const DEFAULT_PACE = { down: TOOL_KEY_DOWN_CYCLES, up: TOOL_KEY_UP_CYCLES };
 
 /**
- * Returns the bench lines that press and release keys one after another. Splits a word that is not a key name into characters, each of
- * which must be a key name.
+ * Returns the bench lines that press and release keys one after another. Splits a word that is not a key name into characters. Each of
+ * these characters must be a key name.
  * @param {Face} face
  * @param {string} text key names, separated by blanks
  * @param {Pace} pace
@@ -29,11 +29,11 @@ export const DEFAULT_PACE = { down: TOOL_KEY_DOWN_CYCLES, up: TOOL_KEY_UP_CYCLES
 export function pressLines(face, text, { down, up }) {
   const keys = listNamedKeys(face);
   const names = text.split(/[ \t\n]+/).filter((word) => word !== "").flatMap((word) => (keys.has(word) ? [word] : [...word]));
-  const unknown = names.find((name) => !keys.has(name));
-  if (unknown !== undefined) return { lines: [], unknown };
+  const unknownName = names.find((name) => !keys.has(name));
+  if (unknownName !== undefined) return { lines: [], unknownName };
   const lines = names.flatMap((name) => {
     const { press, release } = /** @type {import("./test_text.js").Key} */ (keys.get(name));
     return [press, `run ${down}`, release, `run ${up}`];
   });
-  return { lines: [...lines, hasScannedDisplay(face) ? LAMPS_FORECAST_QUERY.trim() : "lamps"], unknown: null };
+  return { lines: [...lines, hasScannedDisplay(face) ? LAMPS_FORECAST_QUERY.trim() : "lamps"], unknownName: null };
 }

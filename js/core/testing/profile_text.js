@@ -16,14 +16,14 @@ const LOCATION_WIDTH = 22;
 /** @type {(value: string | number, width: number) => string} returns a right-aligned table cell */
 const formatCell = (value, width) => String(value).padStart(width);
 
-/** @param {number} cycles */
+/** @type {(cycles: number) => string} returns the duration of some cycles in milliseconds, as text */
 const formatMilliseconds = (cycles) => say.inMilliseconds(formatTenths(cycles * CYCLE_MS));
 
 /** @type {(ownCycles: number, total: number) => string} returns two table cells: the cycles, and their percentage of the total */
 const formatShare = (ownCycles, total) => `${formatCell(ownCycles, 10)} ${formatCell(formatTenths((100 * ownCycles) / total), 6)}`;
 
 /**
- * Returns the row of a label.
+ * Returns the table row for a label: its address, its cycles, and the number and cycles of its calls.
  * @param {ProfileRow} row
  * @param {number} total
  */
@@ -35,7 +35,7 @@ function formatLabelRow({ label, address, ownCycles, calls }, total) {
 }
 
 /**
- * Returns the row of a key.
+ * Returns the table row for a key: the numbers of presses and of answered presses, and the response times.
  * @param {Profile["keys"][number]} times
  */
 function formatKeyRow({ key, presses, answered, first, last }) {

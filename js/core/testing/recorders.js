@@ -36,6 +36,7 @@ export class ExecutionRecorder {
     this.cycleCounts = new Float64Array(ADDRESS_COUNT);
     /** The cycles that tests spent on instructions that had started before the test. */
     this.earlierInstructionCycles = 0;
+    /** The total cycles of the tests that have ended. */
     this.total = 0;
     /** @type {Map<number, CallCounts>} the calls, by routine address */
     this.calls = new Map();
@@ -67,7 +68,7 @@ export class ExecutionRecorder {
   }
 
   /**
-   * Records a run, given the answers to `queries`, which the bench gave before the run.
+   * Records a run from the answers to `queries`, which the bench gave before the run.
    * @param {ForecastAnswers} answers
    * @param {number} elapsed the cycles from the start of the test to the run
    * @param {() => ForecastAnswers} askAll returns a trace of all instructions in the run
@@ -86,13 +87,13 @@ export class ExecutionRecorder {
    */
   count(counts) {
     let callCount = 0;
-    for (const { address, startCount: begun, jumpCount: jumped } of counts) {
+    for (const { address, startCount, jumpCount } of counts) {
       const code = this.codes[address];
-      this.startCounts[address] += begun;
-      this.jumpCounts[address] += Math.max(0, jumped);
-      this.cycleCounts[address] += instructionCycles(code) * begun;
-      if (isCall(code)) this.getCallCounts(jumpTarget(this.codes, address)).times += begun;
-      if (isCall(code) || isReturn(code)) callCount += begun;
+      this.startCounts[address] += startCount;
+      this.jumpCounts[address] += Math.max(0, jumpCount);
+      this.cycleCounts[address] += instructionCycles(code) * startCount;
+      if (isCall(code)) this.getCallCounts(jumpTarget(this.codes, address)).times += startCount;
+      if (isCall(code) || isReturn(code)) callCount += startCount;
     }
     return callCount;
   }
@@ -112,7 +113,7 @@ export class ExecutionRecorder {
    * Tracks the calls and returns in trace lines. The call stack has three entries, so a fourth nested call overwrites the return address of
    * the first call.
    * @param {string[]} lines
-   * @param {number} elapsed
+   * @param {number} elapsed the cycles from the start of the test to the run
    */
   trackCalls(lines, elapsed) {
     for (const line of lines) {
@@ -143,7 +144,7 @@ export class ExecutionRecorder {
    * Records the first and last lamp change since the last key press. A lamp changes when the instruction that sets the lamp ends, one cycle
    * after the time in the trace line.
    * @param {string[]} lines
-   * @param {number} elapsed
+   * @param {number} elapsed the cycles from the start of the test to the run
    */
   trackLampChanges(lines, elapsed) {
     if (lines.length === 0) return;
@@ -154,8 +155,8 @@ export class ExecutionRecorder {
 
   /**
    * Records a key press.
-   * @param {string} key
-   * @param {number} elapsed
+   * @param {string} key the name of the key
+   * @param {number} elapsed the cycles from the start of the test to the press
    */
   recordPress(key, elapsed) {
     this.finishLastPress();
@@ -202,12 +203,18 @@ export class LineRecorder extends ExecutionRecorder {
     return false;
   }
 
-  /** @param {number} cycles */
+  /**
+   * Returns the query that the bench must answer before a run.
+   * @param {number} cycles
+   */
   queries(cycles) {
     return `count ${cycles}\n`;
   }
 
-  /** @param {ForecastAnswers} answers */
+  /**
+   * Counts the instructions in a run.
+   * @param {ForecastAnswers} answers
+   */
   recordRun(answers) {
     this.count(answers.takeCounts());
   }

@@ -48,7 +48,7 @@ export async function sampleTest(engine, texts) {
   const [key = null] = listNamedKeys(prepared.names.face).values();
   for (const condition of await findConditions(engine, prepared, key ? key.press : "")) {
     const testText = say.sampleTest(key ? key.name : "", HOLD_MS, condition);
-    const { outcomes: [outcome] } = await runTests(engine, { ...texts, testText }, async () => true, { Counting: NullRecorder });
+    const { outcomes: [outcome] } = await runTests(engine, { ...texts, testText }, async () => true, { RecorderClass: NullRecorder });
     if (outcome && !outcome.failure) return testText;
   }
   return say.SAMPLE_OF_CYCLES;

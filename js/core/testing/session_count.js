@@ -20,9 +20,9 @@ import { TestSession } from "./test_session.js";
  * all cycles ran).
  * @typedef {{ coverage: Coverage, profile: Profile, elapsed: number, stop: string }} SessionCounts
  *
- * The result of `countSession`. If the program has errors (`errors`), or if a byte in ROM differs from the program (`other`), the session
- * does not run, and `counted` is null.
- * @typedef {{ errors: ProjectTextError[], other: OtherByte | null, counted: SessionCounts | null }} SessionCount
+ * The result of `countSession`. If the program has errors (`errors`), or if a byte in ROM differs from the program (`otherByte`), the
+ * session does not run, and `counts` is null.
+ * @typedef {{ errors: ProjectTextError[], otherByte: OtherByte | null, counts: SessionCounts | null }} SessionCount
  */
 
 /**
@@ -31,18 +31,18 @@ import { TestSession } from "./test_session.js";
  * @param {State} state
  * @param {string} programText
  * @param {number} cycles
- * @param {typeof ExecutionRecorder} [Counting] the class of the recorder
+ * @param {typeof ExecutionRecorder} [RecorderClass] the class of the recorder
  * @returns {Promise<SessionCount>}
  */
-export async function countSession(engine, state, programText, cycles, Counting = ExecutionRecorder) {
+export async function countSession(engine, state, programText, cycles, RecorderClass = ExecutionRecorder) {
   const startState = copyWithoutStops(engine, state);
   const codes = romCodes(engine, startState);
   const { errors, difference: otherByte, map } = sessionProgram(engine, codes, programText);
-  if (errors.length > 0 || otherByte) return { errors, other: otherByte, counted: null };
-  const recorder = new Counting(codes);
+  if (errors.length > 0 || otherByte) return { errors, otherByte, counts: null };
+  const recorder = new RecorderClass(codes);
   const session = new TestSession(engine, startState, recorder, async () => {});
   const stop = await session.run(cycles);
   session.end();
-  const counted = { coverage: computeCoverage(recorder, map), profile: computeProfile(recorder, map), elapsed: session.elapsed, stop };
-  return { errors: [], other: otherByte, counted };
+  const counts = { coverage: computeCoverage(recorder, map), profile: computeProfile(recorder, map), elapsed: session.elapsed, stop };
+  return { errors: [], otherByte, counts };
 }

@@ -55,7 +55,7 @@ function toRefusalErrors(name, answer) {
 }
 
 /**
- * Wires a board in a new session. Returns the bench's answers to the query `board`, or the errors in the board text.
+ * Wires a board in a temporary session. Returns the bench's answers to the query `board`, or the errors in the board text.
  * @param {Engine} engine
  * @param {string} text
  * @returns {{ errors: ProjectTextError[], answers: string[] }}
@@ -68,7 +68,7 @@ export function wireBoard(engine, text) {
 }
 
 /**
- * Returns a new session with a board and a program. Skips an empty text.
+ * Returns the file of a new session with a board and a program, and the errors in the texts. Skips an empty text.
  * @param {Engine} engine
  * @param {Texts} texts
  * @returns {{ file: Uint8Array, errors: ProjectTextError[] }}
@@ -93,8 +93,8 @@ export function newSession(engine, { boardText, programText }) {
  * @returns {{ prepared: PreparedTests | null, errors: ProjectTextError[] }}
  */
 export function prepareTests(engine, { boardText, programText }) {
-  const { file, errors: refused } = newSession(engine, { boardText, programText });
-  if (refused.length > 0) return { prepared: null, errors: refused };
+  const { file, errors: sessionErrors } = newSession(engine, { boardText, programText });
+  if (sessionErrors.length > 0) return { prepared: null, errors: sessionErrors };
   const program = sentText(programText, ";");
   const queries = `board\nmap\n${program}.\n`;
   const [board, map] = matchAnswers(readInputs(queries), engine.ask(file, queries).answers);

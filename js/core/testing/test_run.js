@@ -75,7 +75,7 @@ export class TestRun {
   }
 
   /**
-   * Runs a test.
+   * Runs a test. Resolves to its outcome. The test fails without a run if no earlier test has saved its start state.
    * @param {Test} test
    * @param {string} savedBy the name of the test that saves the start state of this test
    * @returns {Promise<Outcome>}
@@ -107,39 +107,39 @@ export class TestRun {
    * Runs steps. Resolves to the failure, or to null if all steps pass.
    * @param {TestSession} session
    * @param {Step[]} steps
-   * @param {string[]} enclosing descriptions of the enclosing repeated and shared steps, innermost first
+   * @param {string[]} enclosingSteps descriptions of the enclosing repeated and shared steps, innermost first
    * @returns {Promise<Failure | null>}
    */
-  async runSteps(session, steps, enclosing) {
+  async runSteps(session, steps, enclosingSteps) {
     for (const step of steps) {
       const { action } = step;
       if ("steps" in action) {
-        const failure = await this.runNestedSteps(session, action, step, enclosing);
+        const failure = await this.runNestedSteps(session, action, step, enclosingSteps);
         if (failure) return failure;
         continue;
       }
       const message = await this.execute(session, action);
-      const context = enclosing.length > 0 ? `; in ${enclosing.join(", in ")}` : "";
+      const context = enclosingSteps.length > 0 ? `; in ${enclosingSteps.join(", in ")}` : "";
       if (message !== "") return { ...stepLocation(step), words: message + context, ...this.describeState(session) };
     }
     return null;
   }
 
   /**
-   * Runs repeated or shared steps.
+   * Runs repeated or shared steps. Resolves to the first failure, or to null if there is none.
    * @param {TestSession} session
    * @param {Extract<Action, { steps: Step[] }>} action
    * @param {Step} step
-   * @param {string[]} enclosing
+   * @param {string[]} enclosingSteps
    */
-  async runNestedSteps(session, action, { source, line }, enclosing) {
+  async runNestedSteps(session, action, { source, line }, enclosingSteps) {
     if (action.kind === "do") {
       const [first] = action.steps;
       const file = !first || first.source.name === source.name ? "" : source.name;
-      return this.runSteps(session, action.steps, [say.describeSharedSteps(action.name, line, file), ...enclosing]);
+      return this.runSteps(session, action.steps, [say.describeSharedSteps(action.name, line, file), ...enclosingSteps]);
     }
     for (let turn = 1; turn <= action.times; turn++) {
-      const failure = await this.runSteps(session, action.steps, [say.describeTurn(turn, action.times, line), ...enclosing]);
+      const failure = await this.runSteps(session, action.steps, [say.describeTurn(turn, action.times, line), ...enclosingSteps]);
       if (failure) return failure;
       await this.yieldToMessages();
     }
@@ -188,8 +188,8 @@ export class TestRun {
    * @param {string} state the name of the state
    */
   save(session, state) {
-    this.engine.keep(session.file);
-    this.states.set(state, { file: session.file.slice(), codes: session.codes });
+    this.engine.prepareForRuns(session.file);
+    this.states.set(state, { file: session.file.slice(), codes: session.printedCodes });
   }
 
   /**
@@ -237,7 +237,8 @@ export class TestRun {
   }
 
   /**
-   * Presses and releases keys. Resolves to the error message, or to "".
+   * Presses keys, releases keys, or presses and then releases one key after another, as `kind` says. Resolves to the error message, or to
+   * "".
    * @param {TestSession} session
    * @param {(Key | ChosenKey)[]} keys
    * @param {"keys" | "press" | "release"} kind
@@ -283,7 +284,7 @@ export class TestRun {
    * Runs to a label with a temporary breakpoint. Resolves to the reason for the stop ("end" if the time limit is reached).
    * @param {TestSession} session
    * @param {Condition} condition
-   * @param {number} end
+   * @param {number} end the time limit, in cycles from the start of the test
    */
   async runToLabel(session, { address }, end) {
     const serveBreakpoint = (/** @type {string} */ word) => this.engine.serve(session.file, `${word} ${address}\n`, session.file);
@@ -301,10 +302,10 @@ export class TestRun {
    * condition becomes true soon. Resolves to the reason for the stop.
    * @param {TestSession} session
    * @param {Condition} condition
-   * @param {number} end
+   * @param {number} end the time limit, in cycles from the start of the test
    */
   async runToChange(session, condition, end) {
-    if (condition.needs.includes("seen") || condition.needs.includes("printed")) return this.runToPerceived(session, condition, end);
+    if (condition.needs.includes("seen") || condition.needs.includes("printed")) return this.runWithPeriodicChecks(session, condition, end);
     let stop = "end";
     // A trace reports neither TEST nor `owed`. TEST does not change during a run, and the first cycle ends a pending instruction, so a
     // condition without traced places is checked after one cycle.
@@ -325,9 +326,9 @@ export class TestRun {
    * reason for the stop.
    * @param {TestSession} session
    * @param {Condition} condition
-   * @param {number} end
+   * @param {number} end the time limit, in cycles from the start of the test
    */
-  async runToPerceived(session, condition, end) {
+  async runWithPeriodicChecks(session, condition, end) {
     let stop = "end";
     while (session.elapsed < end && stop === "end") {
       stop = await session.run(Math.min(CHECK_INTERVAL, end - session.elapsed));
@@ -341,7 +342,7 @@ export class TestRun {
    * @param {TestSession} session
    * @param {Condition} condition
    * @param {ExtraValues} extraValues the values that do not change during a run
-   * @param {number} piece
+   * @param {number} piece the number of cycles to trace
    * @param {number} maxResult the largest possible result
    */
   countCyclesToChange(session, condition, extraValues, piece, maxResult) {

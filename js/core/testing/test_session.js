@@ -51,6 +51,7 @@ export class TestSession {
     this.initialFile = file;
     /** @type {TestAction[]} all actions since the initial state, with consecutive runs joined */
     this.actions = [];
+    /** The buffer for the next stored state. */
     this.spareBuffer = new Uint8Array(file.length);
     this.counter = 0;
     this.owed = "0";
@@ -60,11 +61,14 @@ export class TestSession {
   }
 
   /** The printed codes; empty if the printout is not recorded. */
-  get codes() {
+  get printedCodes() {
     return this.printout ? this.printout.codes : [];
   }
 
-  /** @param {string} lines */
+  /**
+   * Returns the bench's answers to queries.
+   * @param {string} lines
+   */
   ask(lines) {
     return this.engine.ask(this.file, lines).answers;
   }
@@ -113,7 +117,8 @@ export class TestSession {
   }
 
   /**
-   * Executes one `run` and updates the recorder, the printout and the actions.
+   * Executes one `run` and updates the recorder, the printout and the actions. Returns the number of cycles that ran, and the reason for
+   * the stop.
    * @param {number} cycles the number of cycles, at most MAX_RUN_CYCLES
    */
   runPiece(cycles) {
@@ -133,9 +138,9 @@ export class TestSession {
     this.readRegistersFrom(answers.take());
     this.lastRunCycles = run.cycles;
     if (run.cycles >= LISTABLE_CYCLES) {
-      const { file: old } = this.storedState;
+      const { file: previousBuffer } = this.storedState;
       this.storedState = { file: this.spareBuffer, elapsed: this.elapsed, laterActions: [] };
-      this.spareBuffer = old;
+      this.spareBuffer = previousBuffer;
     }
     if (run.cycles > 0) this.storedState.laterActions.push({ line: "run", cycles: run.cycles });
     this.addRun(run.cycles);

@@ -25,12 +25,13 @@ import { readSources } from "./test_text.js";
  * @typedef {{ boardText: string, programText: string, testText?: string, sources?: Source[] }} TestedTexts
  *
  * The options of a test run:
- * - `Counting`: the class of the recorder. A subclass of ExecutionRecorder records less, so the profile or the coverage can be empty;
- * - `ended`: called with each outcome when its test ends;
- * - `ran`: called with the session of each test at its end;
- * - `only`: the test to run, after the tests that save its start state. Without this option, all tests run.
- * @typedef {{ Counting?: typeof ExecutionRecorder, ended?: (outcome: Outcome, number: number, total: number) => void,
- *   ran?: (session: import("./test_session.js").TestSession) => void, only?: { name: string, source: string } | null }} Options
+ * - `RecorderClass`: the class of the recorder. A subclass of ExecutionRecorder records less, so the profile or the coverage can be empty;
+ * - `handleOutcome`: called with each outcome when its test ends;
+ * - `handleTestEnd`: called with the session of each test at its end;
+ * - `selectedTest`: the test to run, after the tests that save its start state. Without this option, all tests run.
+ * @typedef {{ RecorderClass?: typeof ExecutionRecorder, handleOutcome?: (outcome: Outcome, number: number, total: number) => void,
+ *   handleTestEnd?: (session: import("./test_session.js").TestSession) => void,
+ *   selectedTest?: { name: string, source: string } | null }} Options
  *
  * The results of the tests. If the texts have errors (`errors`), no test runs, and `coverage` and `profile` are null.
  * @typedef {{ errors: ProjectTextError[], outcomes: Outcome[], coverage: Coverage | null, profile: Profile | null }} Report
@@ -65,7 +66,7 @@ function hasStep(steps, isWanted) {
 }
 
 /**
- * Returns the test that saves the start state of a given test; undefined if the given test starts at power-on.
+ * Returns the test that saves the start state of another test; undefined if that test starts at power-on.
  * @param {Test[]} tests
  * @param {Test} test
  */
@@ -102,14 +103,14 @@ const changesRom = (action) => action.kind === "set" && action.changesRom;
  * @returns {Promise<Report>}
  */
 export async function runTests(engine, texts, shouldContinue, options = {}) {
-  const { Counting = ExecutionRecorder, ended = () => {}, ran = () => {}, only = null } = options;
+  const { RecorderClass = ExecutionRecorder, handleOutcome = () => {}, handleTestEnd = () => {}, selectedTest = null } = options;
   const { prepared, errors, tests: allTests } = parseTestedTexts(engine, texts);
   const { sources = [] } = texts;
-  const isSelected = only
-    && ((/** @type {Test} */ { name, textNumber }) => name === only.name && sources[textNumber - 1].name === only.source);
+  const isSelected = selectedTest
+    && ((/** @type {Test} */ { name, textNumber }) => name === selectedTest.name && sources[textNumber - 1].name === selectedTest.source);
   const tests = isSelected ? addPrerequisites(allTests, isSelected) : allTests;
   if (!prepared) return { errors, outcomes: [], coverage: null, profile: null };
-  const recorder = new Counting(prepared.codes);
+  const recorder = new RecorderClass(prepared.codes);
   /** @type {Outcome[]} */
   const outcomes = [];
   let lastYield = performance.now();
@@ -120,13 +121,13 @@ export async function runTests(engine, texts, shouldContinue, options = {}) {
   };
   const printer = tests.some(({ steps }) => hasStep(steps, needsPrintout)) ? prepared.names.face.printer : null;
   const run = new TestRun(engine, prepared, recorder, yieldToMessages, printer);
-  run.onEnd = ran;
+  run.onEnd = handleTestEnd;
   run.changesRom = tests.some(({ steps }) => hasStep(steps, changesRom));
-  if (tests.length > 1) engine.keep(prepared.file);
+  if (tests.length > 1) engine.prepareForRuns(prepared.file);
   for (const test of tests) {
     const savingTest = findSavingTest(tests, test);
     outcomes.push(await run.run(test, savingTest ? savingTest.name : ""));
-    ended(outcomes[outcomes.length - 1], outcomes.length, tests.length);
+    handleOutcome(outcomes[outcomes.length - 1], outcomes.length, tests.length);
     await yieldToMessages();
   }
   recorder.codes = prepared.codes;

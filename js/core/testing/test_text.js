@@ -36,8 +36,8 @@ import * as say from "../../words/testing.js";
  *   | { kind: "repeat", times: number, steps: Step[] } | { kind: "do", name: string, steps: Step[] }} Action
  * @typedef {{ source: Source, line: number, text: string, action: Action }} Step
  *
- * Shared steps, defined by a `steps` line. `lines` is the number of lines that they execute, including all repetitions.
- * @typedef {{ source: Source, name: string, line: number, steps: Step[], lines: number }} SharedSteps
+ * Shared steps, defined by a `steps` line. `lineCount` is the number of lines that they execute, including all repetitions.
+ * @typedef {{ source: Source, name: string, line: number, steps: Step[], lineCount: number }} SharedSteps
  *
  * A test. `textNumber` is the number of its text, from 1. `from` is the name of its start state, "" for power-on.
  * @typedef {{ textNumber: number, name: string, line: number, from: string, steps: Step[] }} Test
@@ -99,6 +99,7 @@ export function listNamedKeys(face) {
   return keys;
 }
 
+/** A reader of test texts. Its methods throw InvalidLineError for an invalid line; `readSource` records these errors. */
 class TestReader {
   /** @param {Names} names */
   constructor(names) {
@@ -113,7 +114,7 @@ class TestReader {
     /** @type {TestTextError[]} */
     this.errors = [];
     /** @type {Map<string, Test>} the tests that save states, by state name, in the current text */
-    this.savedBy = new Map();
+    this.savingTests = new Map();
     /** @type {Map<string, SharedSteps>} */
     this.sharedSteps = new Map();
     /** @type {SharedSteps | null} the current shared steps; null in a test */
@@ -123,7 +124,7 @@ class TestReader {
     /** @type {{ line: number, times: number, outer: Step[] }[]} the repetitions without an `end` so far, outermost first */
     this.openRepeats = [];
     /** The number of lines that the current test or shared steps execute, up to the current line. */
-    this.lines = 0;
+    this.lineCount = 0;
     /** True after the first `test` or `steps` line of the current text. */
     this.hasBegun = false;
   }
@@ -134,16 +135,16 @@ class TestReader {
   }
 
   /**
-   * Parses a text.
+   * Parses a text. Adds its tests, shared steps and errors to those of the earlier texts.
    * @param {Source} source
    */
   readSource(source) {
     this.source = source;
     this.textNumber += 1;
-    this.savedBy.clear();
+    this.savingTests.clear();
     this.hasBegun = false;
-    const plain = source.text.replace(/^\uFEFF/, "").replace(/\r(?=\n|$)/g, "");
-    const originalLines = plain.split("\n");
+    const plainText = source.text.replace(/^\uFEFF/, "").replace(/\r(?=\n|$)/g, "");
+    const originalLines = plainText.split("\n");
     const lines = originalLines.map((line) => line.replace(/^[ \t]+|[ \t]+$/g, ""));
     for (let at = 0; at < lines.length; at++) {
       const line = this.removeComment(lines[at]);
@@ -168,6 +169,7 @@ class TestReader {
   }
 
   /**
+   * Records an error in the current text.
    * @param {number} line
    * @param {string} message
    * @param {number} [column]
@@ -216,10 +218,11 @@ class TestReader {
   beginPart() {
     this.closeRepeats();
     this.hasBegun = true;
-    this.lines = 0;
+    this.lineCount = 0;
   }
 
   /**
+   * Adds a test. Fails if the name is missing.
    * @param {string} name
    * @param {number} line
    */
@@ -231,6 +234,7 @@ class TestReader {
   }
 
   /**
+   * Adds shared steps. Fails if the name is missing or already in use.
    * @param {string[]} words
    * @param {number} line
    */
@@ -239,7 +243,7 @@ class TestReader {
     const previous = this.sharedSteps.get(name);
     this.steps = [];
     const { source } = this;
-    this.currentShared = { source, name, line, steps: this.steps, lines: 0 };
+    this.currentShared = { source, name, line, steps: this.steps, lineCount: 0 };
     this.sharedSteps.set(name, this.currentShared);
     if (name === "") fail(say.STEPS_NAME_MISSING);
     if (previous) fail(say.stepsDefinedTwice(name, previous.line, previous.source.name === source.name ? "" : previous.source.name));
@@ -252,7 +256,10 @@ class TestReader {
     for (const { line } of this.openRepeats.splice(0)) this.addError(line, say.NO_END);
   }
 
-  /** @param {string[]} words */
+  /**
+   * Ends the innermost repetition. Fails if there is none.
+   * @param {string[]} words
+   */
   endRepeat(words) {
     const openRepeat = this.openRepeats.pop();
     if (openRepeat) this.steps = openRepeat.outer;
@@ -262,13 +269,13 @@ class TestReader {
 
   /**
    * Adds lines to the number of executed lines, multiplied by the counts of the open repetitions. Fails if the number becomes too large.
-   * @param {number} lineCount the number of lines in the text
+   * @param {number} addedCount the number of lines in the text
    */
-  addLines(lineCount) {
-    const previousLines = this.lines;
-    this.lines += this.openRepeats.reduce((product, { times }) => product * times, lineCount);
-    if (this.currentShared) this.currentShared.lines = this.lines;
-    if (previousLines <= MAX_LINES && this.lines > MAX_LINES) fail(say.TOO_MANY_LINES);
+  addLines(addedCount) {
+    const previousCount = this.lineCount;
+    this.lineCount += this.openRepeats.reduce((product, { times }) => product * times, addedCount);
+    if (this.currentShared) this.currentShared.lineCount = this.lineCount;
+    if (previousCount <= MAX_LINES && this.lineCount > MAX_LINES) fail(say.TOO_MANY_LINES);
   }
 
   /**
@@ -307,13 +314,13 @@ class TestReader {
     const [, name] = words;
     const { currentShared } = this;
     if (currentShared && currentShared.name === name) fail(say.stepsUseThemselves(name));
-    const knownNames = [...this.sharedSteps.keys()].filter((known) => known !== "" && (!currentShared || known !== currentShared.name));
+    const usableNames = [...this.sharedSteps.keys()].filter((other) => other !== "" && (!currentShared || other !== currentShared.name));
     const shared = this.sharedSteps.get(name);
     if (!shared) {
-      const which = say.knownSteps(knownNames.join(" "), name);
-      return fail(say.noStepsMessage(name, which));
+      const explanation = say.knownSteps(usableNames.join(" "), name);
+      return fail(say.noStepsMessage(name, explanation));
     }
-    this.addLines(shared.lines);
+    this.addLines(shared.lineCount);
     return { kind: "do", name, steps: shared.steps };
   }
 
@@ -338,6 +345,7 @@ class TestReader {
   }
 
   /**
+   * Parses `from` or `save`. Fails if the line is not allowed here, or if the state does not exist or exists already.
    * @param {"from" | "save"} kind
    * @param {string[]} words
    * @returns {Action}
@@ -347,14 +355,14 @@ class TestReader {
     if (words.length !== 1) fail(say.stateSyntax(kind));
     if (kind === "save" && this.openRepeats.length > 0) fail(say.SAVED_ONCE);
     if (this.currentShared) fail(say.noStatesMessage(kind));
-    const savingTest = this.savedBy.get(state);
+    const savingTest = this.savingTests.get(state);
     if (kind === "save") {
       if (savingTest) fail(say.savedBefore(state, savingTest.name));
-      this.savedBy.set(state, this.test);
+      this.savingTests.set(state, this.test);
       return { kind, state };
     }
     if (this.test.steps.length > 1 || this.openRepeats.length > 0) fail(say.FROM_POSITION);
-    const knownStates = this.savedBy.size > 0 ? say.knownStates([...this.savedBy.keys()].join(" ")) : "";
+    const knownStates = this.savingTests.size > 0 ? say.knownStates([...this.savingTests.keys()].join(" ")) : "";
     if (!savingTest) fail(say.noSuchStateMessage(state, knownStates));
     if (savingTest === this.test) fail(say.OWN_STATE);
     this.test.from = state;
@@ -420,7 +428,7 @@ class TestReader {
   }
 
   /**
-   * Parses `until`.
+   * Parses an `until` line: its condition and its time limit.
    * @param {string} text the line
    * @param {number} startColumn the column of the condition
    * @returns {Action}
@@ -452,6 +460,7 @@ class TestReader {
 }
 
 /**
+ * Parses the two times after `pace`.
  * @param {string[]} words
  * @returns {Action}
  */
@@ -464,7 +473,7 @@ function parsePace(words) {
 }
 
 /**
- * Returns the lines of steps. Replaces each `do` line by the lines of the shared steps.
+ * Returns the lines of steps. Replaces each `do` line with the lines of the shared steps.
  * @param {Step[]} steps
  * @returns {{ text: string, action: Action }[]}
  */

@@ -58,7 +58,7 @@ function splitOperands(line, from, to) {
 }
 
 /** @type {Map<string, Parts>} the parts of the lines that were split before, by line; each edit splits the whole text again */
-const cache = new Map();
+const partsCache = new Map();
 const MAX_CACHED_LINES = 8192;
 const MAX_CACHED_LENGTH = 255;
 
@@ -69,11 +69,11 @@ const MAX_CACHED_LENGTH = 255;
  */
 export function splitStatement(line) {
   if (line.length > MAX_CACHED_LENGTH) return splitLine(line);
-  const cachedParts = cache.get(line);
+  const cachedParts = partsCache.get(line);
   if (cachedParts) return cachedParts;
-  if (cache.size >= MAX_CACHED_LINES) cache.clear();
+  if (partsCache.size >= MAX_CACHED_LINES) partsCache.clear();
   const parts = splitLine(line);
-  cache.set(line, parts);
+  partsCache.set(line, parts);
   return parts;
 }
 
@@ -124,8 +124,8 @@ export function tokenizeLine(line, isInstruction) {
   if (label) tokens.push({ ...label, kind: "label" });
   if (head) {
     const word = head.text.toUpperCase();
-    const other = DIRECTIVES.includes(word) ? "directive" : "unknown";
-    tokens.push({ ...head, kind: isInstruction(word) ? "instruction" : other });
+    const otherKind = DIRECTIVES.includes(word) ? "directive" : "unknown";
+    tokens.push({ ...head, kind: isInstruction(word) ? "instruction" : otherKind });
   }
   for (const word of operands.filter(({ text }) => text !== "")) tokens.push({ ...word, kind: classifyOperand(word.text) });
   if (comment < line.length) tokens.push({ text: line.slice(comment), from: comment, to: line.length, kind: "comment" });

@@ -54,7 +54,7 @@ class BoardErrorText {
     this.lines = new Map(boardLines(this.parts).map((line) => [line.name, line]));
   }
 
-  /** The tables of the kind in which the error is, such as all `[[rom]]` tables. */
+  /** All tables of the same kind as the table with the error, such as all `[[rom]]` tables. */
   get entries() {
     const { section } = this.error;
     return this.text.entries.filter(({ table }) => table.replace(/[[\]]/g, "") === section);
@@ -201,8 +201,8 @@ class BoardErrorText {
     const { section, key: name } = this.error;
     const knownNames = section === "" ? Object.keys(PART_KEYS) : PART_KEYS[section];
     const suggestions = findSimilarWords(name, knownNames);
-    const instead = formatSuggestion(suggestions) || say.whichHasKeys(knownNames.join(", "));
-    const message = section === "" ? say.noPartMessage(name, instead) : say.noKeyOfMessage(name, section, instead);
+    const suggestionText = formatSuggestion(suggestions) || say.whichHasKeys(knownNames.join(", "));
+    const message = section === "" ? say.noPartMessage(name, suggestionText) : say.noKeyOfMessage(name, section, suggestionText);
     const range = key || entry;
     const unknownKeyError = range ? createErrorAt(UNKNOWN_KEY, range, message) : this.createWholeLineError(message);
     const quickFixTexts = key ? suggestions : suggestions.map(formatHeader);

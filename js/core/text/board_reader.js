@@ -48,7 +48,7 @@ class TomlSyntaxError extends Error {
   }
 }
 
-/** Parses a board text. */
+/** A parser of one board text. Its methods throw TomlSyntaxError at a syntax error; `read` records these errors. */
 export class BoardReader {
   /** @param {string} text */
   constructor(text) {
@@ -81,7 +81,7 @@ export class BoardReader {
   }
 
   /**
-   * Returns whether the next word is a given punctuation mark.
+   * Returns whether the next word is the punctuation mark `mark`.
    * @param {string} mark
    */
   isMark(mark) {
@@ -191,7 +191,7 @@ export class BoardReader {
   }
 
   /**
-   * Reads a value.
+   * Reads the value of a key, or an element of an array.
    * @param {string} key the name of the key, for messages
    * @returns {Value}
    */
@@ -238,13 +238,13 @@ export class BoardReader {
     throw new TomlSyntaxError(this.word, say.needsQuotesMessage(text));
   }
 
-  /** Skips line ends. */
+  /** Skips line ends, so that the current word is on the next line with words. */
   skipLineEnds() {
     while (this.at < this.words.length - 1 && this.word.kind === "end") this.at += 1;
   }
 
   /**
-   * Reads an array.
+   * Reads an array, which can extend over several lines. Returns its elements.
    * @param {string} key the name of the key, for messages
    * @returns {Value[]}
    */

@@ -46,7 +46,7 @@ function isOuter(lineAt, line, parts) {
 }
 
 /**
- * Returns whether the current range ends before a given line.
+ * Returns whether the current range ends before a line.
  * @param {LineAt} lineAt
  * @param {number} line
  * @param {Parts} parts

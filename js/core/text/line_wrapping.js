@@ -1,7 +1,7 @@
 // Wraps paragraphs into lines of a maximum width.
 
 /**
- * Wraps a paragraph into lines. A word that is longer than the width gets a separate line.
+ * Returns a paragraph, wrapped into lines. A word that is longer than the width gets a separate line.
  * @param {string} text
  * @param {number} width the maximum line length, including the prefix
  * @param {string} [firstPrefix] the prefix of the first line
@@ -23,7 +23,7 @@ export function wrapText(text, width, firstPrefix = "", otherPrefix = firstPrefi
 export const UNWRAPPED_PREFIX = "    ";
 
 /**
- * Wraps the long lines of a message and indents the continuation lines.
+ * Returns a message with its long lines wrapped, and the continuation lines indented.
  * @param {string} message
  * @param {number} width
  */

@@ -102,7 +102,7 @@ export function findMissingRoms(lines, map, roms) {
 /**
  * Returns whether a text is probably not a program: it has lines with code, and each such line up to the last reported error has an error.
  * @param {string} program
- * @param {TextErrors} found the errors in the text
+ * @param {TextErrors} textErrors the errors in the text
  */
 export function isProbablyNotProgram(program, { errors, isComplete }) {
   const wrongLines = new Set(errors.map(({ line }) => line));

@@ -53,8 +53,8 @@ function findColumnAfter(text, column, { tabSize }) {
 function formatGap(from, to, { tabSize, insertSpaces }) {
   if (insertSpaces || to - from < 2) return " ".repeat(to - from);
   const lastStop = Math.floor(to / tabSize);
-  const tabs = Math.max(0, lastStop - Math.floor(from / tabSize));
-  return "\t".repeat(tabs) + " ".repeat(to - (tabs > 0 ? lastStop * tabSize : from));
+  const tabCount = Math.max(0, lastStop - Math.floor(from / tabSize));
+  return "\t".repeat(tabCount) + " ".repeat(to - (tabCount > 0 ? lastStop * tabSize : from));
 }
 
 /**
@@ -164,10 +164,10 @@ export function findLineChanges(oldLines, newLines) {
   return oldLines.flatMap((old, line) => {
     const text = newLines[line];
     if (old === text) return [];
-    const shorter = Math.min(old.length, text.length);
+    const minLength = Math.min(old.length, text.length);
     let [from, suffix] = [0, 0];
-    while (from < shorter && old[from] === text[from]) from += 1;
-    while (suffix < shorter - from && old[old.length - 1 - suffix] === text[text.length - 1 - suffix]) suffix += 1;
+    while (from < minLength && old[from] === text[from]) from += 1;
+    while (suffix < minLength - from && old[old.length - 1 - suffix] === text[text.length - 1 - suffix]) suffix += 1;
     return [{ line, from, to: old.length - suffix, text: text.slice(from, text.length - suffix) }];
   });
 }

@@ -65,8 +65,8 @@ function convertForeignNumber(text) {
  * @param {string} text
  */
 function describeNumberError(text) {
-  const converted = convertForeignNumber(text);
-  if (converted) return converted.explanation;
+  const conversion = convertForeignNumber(text);
+  if (conversion) return conversion.explanation;
   if (/^-\d+$/.test(text)) return say.NO_NEGATIVES;
   if (/[-+*/()<>]/.test(text)) return say.NO_EXPRESSIONS;
   if (/\s/.test(text)) return say.OPERAND_COMMA_MISSING;
@@ -79,8 +79,8 @@ function describeNumberError(text) {
  * @param {string} text
  */
 function findNumberFixes(text) {
-  const converted = convertForeignNumber(text);
-  return converted ? [converted.number] : [];
+  const conversion = convertForeignNumber(text);
+  return conversion ? [conversion.number] : [];
 }
 
 /**
@@ -235,13 +235,13 @@ function findFormError(parts, knownWords) {
     const error = findOperandError(upperCaseWord, kinds[at], operands[at], knownWords, at === 0);
     if (error) return error;
   }
-  const extra = operands[kinds.length];
+  const extraOperand = operands[kinds.length];
   const expectation = kinds.map((kind) => OPERAND_KINDS[kind].what).join(say.AND_AFTER);
-  return { word: extra || head, message: say.takesNoMore(upperCaseWord, expectation, Boolean(extra)) };
+  return { word: extraOperand || head, message: say.takesNoMore(upperCaseWord, expectation, Boolean(extraOperand)) };
 }
 
 /**
- * Returns the error in a line with an out-of-range value (refusal 33).
+ * Returns the error in a line with an out-of-range value (refusal 33); null if no word can be identified as the cause.
  * @param {Parts} parts
  * @param {KnownWords} knownWords
  * @returns {WordError | null}
@@ -271,7 +271,7 @@ function findLastName({ operands }) {
 }
 
 /**
- * Returns the error in a line with an undefined name (refusal 32).
+ * Returns the error in a line with an undefined name (refusal 32); null if no operand is an undefined name.
  * @param {Parts} parts
  * @param {KnownWords} knownWords
  * @returns {WordError | null}

@@ -60,7 +60,7 @@ function findCondition(words) {
 }
 
 /**
- * Returns the words that can come next in a line that starts with a label.
+ * Returns the possible next words in a line that starts with a label.
  * @param {string[]} words the words of the line so far
  */
 function listWordsAfterLabel([, secondWord, ...laterWords]) {
@@ -69,7 +69,7 @@ function listWordsAfterLabel([, secondWord, ...laterWords]) {
 }
 
 /**
- * Returns the words that can come next in a line.
+ * Returns the possible next words in a line.
  * @param {string[]} previousWords the words before the unfinished word
  * @param {string} unfinishedWord the unfinished word
  * @param {TestNames} names

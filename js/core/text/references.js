@@ -17,9 +17,9 @@ import * as say from "../../words/text.js";
  */
 function findReferencesInLine(text, line, name) {
   const { label, operands } = splitStatement(text);
-  const defined = label && label.text === name ? [{ line, from: label.from, to: label.to, isDefinition: true }] : [];
-  const used = operands.filter((word) => word.text === name).map(({ from, to }) => ({ line, from, to, isDefinition: false }));
-  return [...defined, ...used];
+  const definitions = label && label.text === name ? [{ line, from: label.from, to: label.to, isDefinition: true }] : [];
+  const uses = operands.filter((word) => word.text === name).map(({ from, to }) => ({ line, from, to, isDefinition: false }));
+  return [...definitions, ...uses];
 }
 
 /**

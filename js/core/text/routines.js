@@ -113,13 +113,13 @@ export class Routines {
    */
   routineAt(line) {
     const first = this.routines.find((routine) => routine.line === line);
-    const inside = this.routines.filter((routine) => this.findReachedLines(routine.line).has(line));
+    const reachingRoutines = this.routines.filter((routine) => this.findReachedLines(routine.line).has(line));
     // If several routines reach the line, the nearest routine that starts above the line has priority.
-    return first || inside.filter((routine) => routine.line <= line).pop() || inside[0] || null;
+    return first || reachingRoutines.filter((routine) => routine.line <= line).pop() || reachingRoutines[0] || null;
   }
 
   /**
-   * Returns the routine that starts at a label, even if nothing calls it.
+   * Returns the routine that starts at a label, even if nothing calls it; null if there is no such label.
    * @param {string} name
    * @returns {Routine | null}
    */
@@ -132,7 +132,7 @@ export class Routines {
   }
 
   /**
-   * Returns the calls in the given lines, in line order.
+   * Returns the calls in some lines, in line order.
    * @param {Iterable<number>} lines the line numbers from 0
    */
   findCallsInLines(lines) {
@@ -171,10 +171,10 @@ export class Routines {
    * @returns {Routine[]}
    */
   findRoutinesContaining(line) {
-    const inside = this.routines.filter((candidate) => this.findReachedLines(candidate.line).has(line));
-    if (inside.length > 0) return inside;
-    const above = [...this.names].filter(([, at]) => at - 1 <= line && !this.parts[at - 1].defines).pop();
-    const routine = above ? this.getByName(above[0]) : null;
+    const reachingRoutines = this.routines.filter((candidate) => this.findReachedLines(candidate.line).has(line));
+    if (reachingRoutines.length > 0) return reachingRoutines;
+    const nearestLabel = [...this.names].filter(([, at]) => at - 1 <= line && !this.parts[at - 1].defines).pop();
+    const routine = nearestLabel ? this.getByName(nearestLabel[0]) : null;
     return routine ? [routine] : [];
   }
 

@@ -63,7 +63,7 @@ export function toggleComments(lines, mark) {
 }
 
 /**
- * Replaces each non-ASCII character in the comment of a line by a blank, so that positions stay the same.
+ * Returns a line in which a blank replaces each non-ASCII character of the comment. Positions in the line stay the same.
  * @param {string} line
  * @param {CommentMark} mark
  */
@@ -74,7 +74,7 @@ function replaceNonAscii(line, mark) {
 }
 
 /**
- * Removes blanks and tabs from both ends of a text.
+ * Returns a text without the blanks and tabs at both ends.
  * @param {string} text
  */
 export function trimBlanks(text) {
@@ -109,7 +109,8 @@ function mapLines(text, change) {
 }
 
 /**
- * Replaces each non-ASCII character in comments by a blank. Positions in the result are therefore valid in the original text.
+ * Returns a text in which a blank replaces each non-ASCII character in comments. Positions in the result are therefore valid in the
+ * original text.
  * @param {string} text
  * @param {CommentMark} mark
  */
@@ -157,10 +158,10 @@ function findSendingErrorInLine(line, lineToSend, lineNumber) {
     const message = say.lineTooLong(MAX_LINE_LENGTH, lineToSend.length);
     return { number: LINE_TOO_LONG, ...range, from: line.indexOf(lineToSend) + MAX_LINE_LENGTH, words: message };
   }
-  const invalid = /[^\t -~]+/u.exec(line);
-  if (!invalid) return null;
-  const from = invalid.index;
-  return { number: NOT_ASCII, line: lineNumber, from, to: from + invalid[0].length, words: describeCharacter([...invalid[0]][0]) };
+  const invalidCharacters = /[^\t -~]+/u.exec(line);
+  if (!invalidCharacters) return null;
+  const { 0: characters, index: from } = invalidCharacters;
+  return { number: NOT_ASCII, line: lineNumber, from, to: from + characters.length, words: describeCharacter([...characters][0]) };
 }
 
 /**

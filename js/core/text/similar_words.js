@@ -26,13 +26,13 @@ export function editDistance(first, second) {
 
 /**
  * Returns the one or two words that are most similar to a misspelled word; an empty list if no word is similar enough.
- * @param {string} misspelled
+ * @param {string} misspelledWord
  * @param {Iterable<string>} words
  * @returns {string[]}
  */
-export function findSimilarWords(misspelled, words) {
-  const maxDistance = misspelled.length <= 4 ? 1 : 2;
-  const lowerCaseWord = misspelled.toLowerCase();
+export function findSimilarWords(misspelledWord, words) {
+  const maxDistance = misspelledWord.length <= 4 ? 1 : 2;
+  const lowerCaseWord = misspelledWord.toLowerCase();
   const candidates = [...words].map((word) => ({ word, distance: editDistance(lowerCaseWord, word.toLowerCase()) }))
     .filter(({ distance }) => distance <= maxDistance);
   const minDistance = Math.min(...candidates.map(({ distance }) => distance));

@@ -1,4 +1,4 @@
-// Replaces tabs by blanks.
+// Replaces tabs with blanks.
 
 const TAB_WIDTH = 8;
 

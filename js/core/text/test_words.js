@@ -69,7 +69,7 @@ export function listFirstWords(forms) {
 }
 
 /**
- * Returns the words that can come next in a line.
+ * Returns the possible next words in a line.
  * @param {string[]} previousWords the words before the unfinished word
  * @param {string} unfinishedWord the unfinished word
  * @param {TestNames} names
@@ -89,7 +89,7 @@ function listNextWords(previousWords, unfinishedWord, { keys, lamps, labels }, f
 const CONJUNCTIONS = new Set(["and", "or", "&&", "||"]);
 
 /**
- * Returns the words that can come next in a condition.
+ * Returns the possible next words in a condition.
  * @param {string[]} previousWords the words of the condition so far
  * @param {TestNames} names
  * @param {Form[]} conditions the forms of conditions
@@ -112,8 +112,7 @@ export function listNextConditionWords(previousWords, { keys, lamps, labels }, c
  * Returns the completions of the unfinished word before the caret.
  * @param {string} line
  * @param {number} column the column of the caret
- * @param {(previousWords: string[], unfinishedWord: string) => CompletionItem[]} findWords returns the words that can
- *   come next
+ * @param {(previousWords: string[], unfinishedWord: string) => CompletionItem[]} findWords returns the possible next words
  * @returns {Completion}
  */
 export function completeWord(line, column, findWords) {
@@ -160,8 +159,8 @@ export function wordsUpTo(line, column) {
  * @param {string} word
  */
 export function findDescription(forms, word) {
-  const known = forms.find((form) => form.word === word) || forms.find((form) => normalizeWord(form.word) === normalizeWord(word));
-  return known ? `${known.form}: ${known.effect}` : "";
+  const matchingForm = forms.find((form) => form.word === word) || forms.find((form) => normalizeWord(form.word) === normalizeWord(word));
+  return matchingForm ? `${matchingForm.form}: ${matchingForm.effect}` : "";
 }
 
 /**
@@ -180,8 +179,8 @@ export function helpForTest(lines, line, column, { steps, conditions }) {
 }
 
 /**
- * Replaces each number in a word by 0, and also each single capital letter, which is a placeholder for a number in the manual. The results
- * for `ram.1.0x20` and `ram.B.S` are therefore equal.
+ * Returns a word in which 0 replaces each number and each single capital letter, which is a placeholder for a number in the manual. A label
+ * becomes `@`. The results for `ram.1.0x20` and `ram.B.S` are therefore equal.
  * @param {string} word
  */
 function normalizeWord(word) {

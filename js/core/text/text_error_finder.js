@@ -29,7 +29,7 @@ import { asciiCommentsText, findSendingErrors, sentText } from "./sendable_text.
 const LAST_TEXT_REFUSAL = 42;
 
 /**
- * Returns the given refusal if it is for an error in a text; otherwise null.
+ * Returns a refusal if it is for an error in a text; otherwise null.
  * @param {Refusal | null} refusal
  */
 export function textRefusalOrNull(refusal) {

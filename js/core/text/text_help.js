@@ -68,8 +68,8 @@ export function helpForProgram(lines, line, column, instructions, meaningOf) {
   if (REGISTER.test(word.text) || PAIR.test(word.text)) return describeRegister(word.text);
   const meaning = meaningOf(word.text);
   if (meaning) return meaning;
-  const definedIn = findDefinedNames(lines).get(word.text);
-  return definedIn ? say.definedInLine(word.text, definedIn) : "";
+  const definitionLine = findDefinedNames(lines).get(word.text);
+  return definitionLine ? say.definedInLine(word.text, definitionLine) : "";
 }
 
 /**

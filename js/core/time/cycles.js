@@ -6,8 +6,8 @@ import { CYCLE_US } from "./mcs4_time.js";
 import * as say from "../../words/time.js";
 
 /**
- * The stored counts of a session. `total` is the number of cycles so far. The other members are the values that `total` had earlier:
- * `reset` at the last reset, `from` at the start of the last run, and `marks` at the user's marks (at most two).
+ * The stored counts of a session. `total` is the number of cycles so far. `reset` was the total at the last reset, and `from` was the total
+ * at the start of the last run. `marks` are the totals at the user's marks (at most two).
  * @typedef {{ total: number, reset: number, from: number, marks: number[] }} StoredCycles
  */
 
@@ -44,8 +44,8 @@ export class Cycles {
   }
 
   /**
-   * Stores the cycle counts that the bench reports.
-   * @param {{ total: number, reset: number }} counts
+   * Stores the cycle counts that the bench reports. If the total has changed while the session was paused, a new run has started.
+   * @param {{ total: number, reset: number }} counts the number of cycles so far, and this number at the last reset
    */
   update({ total, reset }) {
     if (total !== this.total && this.isPaused) {
@@ -57,12 +57,12 @@ export class Cycles {
   }
 
   /** Records that the session is paused. */
-  stop() {
+  recordPause() {
     this.isPaused = true;
   }
 
   /** Sets the first or the second mark. A third mark replaces both. */
-  mark() {
+  addMark() {
     this.marks = this.marks.length === 1 ? [...this.marks, this.total] : [this.total];
   }
 

@@ -5,14 +5,14 @@ import { CYCLES_PER_SECOND, FRAME_MS } from "./mcs4_time.js";
 
 /** The maximum number of cycles per frame. A browser that is too slow skips the cycles above this number. */
 export const MAX_CYCLES_PER_FRAME = 20000;
-/** The maximum time by which a key press is simulated early, in milliseconds: one frame, because lamps change only once per frame. */
+/** The maximum time that a key press can be simulated early, in milliseconds: one frame, because lamps change only once per frame. */
 export const MAX_EARLY_MS = FRAME_MS;
 /** The minimum time between two frames that counts as a gap, in milliseconds. */
 export const MIN_GAP_MS = 1000;
 
 export class RealTime {
   /**
-   * Starts at the given time, at which no cycles are due.
+   * Starts at a time at which no cycles are due.
    * @param {number} now the frame clock in milliseconds
    * @param {number} wall the wall clock in milliseconds; it continues while the computer sleeps
    */
@@ -26,13 +26,13 @@ export class RealTime {
     this.perSecond = CYCLES_PER_SECOND;
   }
 
-  /** The time up to which the session has been simulated, on the frame clock. */
+  /** The time up to which the session has been simulated, in milliseconds of the frame clock. */
   get simulatedUntil() {
     return this.lastFrame + (Math.max(0, -this.owed) * 1000) / this.perSecond;
   }
 
   /**
-   * Restarts at the given time, at which no cycles are due. Forgets cycles that were simulated early.
+   * Restarts at a time at which no cycles are due. Forgets cycles that were simulated early.
    * @param {number} now
    * @param {number} wall
    */
@@ -50,7 +50,7 @@ export class RealTime {
 
   /**
    * Skips the time since the last frame if the page was hidden or blocked, or the computer slept. Returns the length of this gap in
-   * milliseconds; null if there was no gap.
+   * milliseconds (`gap`) and whether the page was hidden (`wasHidden`); null if there was no gap.
    * @param {number} now
    * @param {number} wall
    * @returns {{ gap: number, wasHidden: boolean } | null}
@@ -65,8 +65,8 @@ export class RealTime {
   }
 
   /**
-   * Returns the number of cycles that are due, and counts them as simulated.
-   * @param {number} now
+   * Returns the number of cycles that are due, and counts them as simulated. Skips the cycles above MAX_CYCLES_PER_FRAME.
+   * @param {number} now the frame clock in milliseconds
    * @param {number} [earlyTime] the time to simulate early, in milliseconds
    */
   takeDueCycles(now, earlyTime = 0) {

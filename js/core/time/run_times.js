@@ -27,12 +27,12 @@ function formatRunTime(cycles) {
 }
 
 /**
- * Returns the durations of the runs in a range of answers, and where the runs stopped. An answer in the range that rejects a line is an
- * error.
+ * Returns the durations of the runs in a range of answers, and where the runs stopped. The result has an error message if an answer in the
+ * range rejects a line, if the range contains no run, or if there are fewer than `lastAnswer` answers.
  * @param {string[]} answers
  * @param {number} firstAnswer the number of the first answer to use, from 1
  * @param {number} lastAnswer the number of the last answer to use; 0 for the end of the list
- * @param {PlaceDescriber | null} describePlace
+ * @param {PlaceDescriber | null} describePlace null to say why each run stopped instead of where
  * @returns {RunTimes}
  */
 export function runTimes(answers, firstAnswer, lastAnswer, describePlace) {
@@ -40,23 +40,23 @@ export function runTimes(answers, firstAnswer, lastAnswer, describePlace) {
   let cycles = 0;
   /** @type {{ time: string, stop: string, place: string }[]} */
   const runs = [];
-  let isOpen = false;
+  let lacksPlace = false;
   for (let at = 1; at <= answers.length; at++) {
     const answer = answers[at - 1];
-    if (answer.startsWith("ok ")) isOpen = false;
+    if (answer.startsWith("ok ")) lacksPlace = false;
     if (at >= firstAnswer && (at <= lastAnswer || lastAnswer === 0)) {
       if (REFUSAL.test(answer)) return createErrorResult(say.isRefusalMessage(at, answer));
       const run = readRun(answer);
       if (run) {
         cycles += run.cycles;
         runs.push({ time: formatRunTime(run.cycles), stop: run.end, place: "" });
-        isOpen = true;
+        lacksPlace = true;
       }
     }
-    const [, counter = ""] = (isOpen && describePlace && COUNTER.exec(answer)) || [];
+    const [, counter = ""] = (lacksPlace && describePlace && COUNTER.exec(answer)) || [];
     if (counter !== "" && describePlace) {
       runs[runs.length - 1].place = describePlace(counter);
-      isOpen = false;
+      lacksPlace = false;
     }
   }
   if (answers.length < lastAnswer) return createErrorResult(say.onlyAnswers(answers.length));

@@ -12,7 +12,7 @@ import * as say from "../../words/time.js";
  * Creates a speed; the default is real time.
  * @param {string} id
  * @param {string} label
- * @param {Partial<Speed>} changes
+ * @param {Partial<Speed>} changes the members that differ from real time
  * @returns {Speed}
  */
 function createSpeed(id, label, changes = {}) {

@@ -49,11 +49,11 @@ export class Travel {
    * do not contain the goal, starts the session.
    * @param {Goal} goal
    */
-  async goOn(goal) {
+  async runToGoal(goal) {
     await this.callbacks.pause();
     if (goal.kind === "when") await this.bench.call("takeNames", [this.callbacks.texts()]);
     this.callbacks.storeGoal(goal);
-    const result = await this.callbacks.change(say.SEARCHING_GOAL, (ways) => this.bench.call("goOn", [goal], ways));
+    const result = await this.callbacks.change(say.SEARCHING_GOAL, (ways) => this.bench.call("runToGoal", [goal], ways));
     this.callbacks.storeGoal(null);
     if (!result) return;
     const { cycles, isReached, end, id, endsAtReturn: returns } = result.searchResult;

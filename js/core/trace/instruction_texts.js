@@ -79,25 +79,26 @@ export class InstructionTexts {
   }
 
   /**
-   * Reads the texts of the instructions at the given addresses from the bench, except for those that are already known.
+   * Reads the texts of the instructions at `addresses` from the bench, except for the texts that it has read before.
    * @param {EngineHost} engine
    * @param {State} state
    * @param {number[]} addresses
    */
   readInstructions(engine, state, addresses) {
-    const unread = addresses.filter((address) => !this.texts.has(address));
-    if (unread.length === 0) return;
+    const unreadAddresses = addresses.filter((address) => !this.texts.has(address));
+    if (unreadAddresses.length === 0) return;
     // An instruction at the last address can have its second byte at address 0.
-    const listedAddresses = unread.includes(LAST_ADDRESS) ? [...unread, 0] : unread;
+    const listedAddresses = unreadAddresses.includes(LAST_ADDRESS) ? [...unreadAddresses, 0] : unreadAddresses;
     const { answers } = engine.ask(state, joinLines(listedAddresses.map((address) => `list 0x${hex(address, 3)} 1`)));
     listedAddresses.forEach((address, at) => {
       this.codes[address] = parseInt(answers[at].slice(...CODE_COLUMNS), 16);
     });
-    unread.forEach((address, at) => this.texts.set(address, this.formatInstruction(address, answers[at])));
+    unreadAddresses.forEach((address, at) => this.texts.set(address, this.formatInstruction(address, answers[at])));
   }
 
   /**
-   * Returns the text of an instruction (`text`), and the line with its label (`label`, "" for none).
+   * Returns the text of an instruction (`text`), and the line with its label (`label`). `label` is "" if the instruction has no label, or
+   * if its source line already shows the label.
    * @param {number} address
    * @param {string} listingLine the listing line of the instruction
    */
@@ -113,7 +114,7 @@ export class InstructionTexts {
   }
 
   /**
-   * Replaces the target address of a jump in a listing line by its label.
+   * Returns a listing line in which the label of the target, if any, replaces the target address of a jump.
    * @param {string} text
    */
   replaceTarget(text) {
@@ -123,7 +124,8 @@ export class InstructionTexts {
   }
 
   /**
-   * Replaces the instruction in a listing line by the number and text of its source line.
+   * Returns a listing line in which the number and the text of the source line replace the instruction. If no instruction of the source
+   * starts at the address, adds only the line number. Returns the listing line unchanged if the trace shows no source line for the address.
    * @param {string} text the listing line
    * @param {number} address
    */
@@ -147,7 +149,7 @@ export class InstructionTexts {
   }
 
   /**
-   * Returns the first columns of a trace line that has a given text instead of an instruction.
+   * Returns the first columns of a trace line that has `text` instead of an instruction.
    * @param {number} cycles the cycles before the line
    * @param {string} text
    */

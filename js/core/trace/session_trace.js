@@ -55,7 +55,7 @@ export class SessionTrace {
   }
 
   /**
-   * Yields the trace lines of the next cycles. Ignores breakpoints and watches.
+   * Yields lists with the trace lines of the next cycles. Ignores breakpoints and watches.
    * @param {number} cycles
    * @param {TraceNames | null} names
    */
@@ -65,7 +65,8 @@ export class SessionTrace {
   }
 
   /**
-   * Yields the trace lines of the last instructions before the session stops for the first time.
+   * Yields one list with the trace lines of the last instructions before the session stops for the first time. If it stops, the last line
+   * of the list is the instruction at the stop.
    * @param {number} count the number of instructions
    * @param {number} cycles the maximum number of cycles up to the stop
    * @param {TraceNames | null} names
@@ -85,9 +86,10 @@ export class SessionTrace {
   }
 
   /**
-   * Yields the trace lines of a range of cycles. If the session stops, the last line is the instruction at the stop.
+   * Yields lists with the trace lines of a range of cycles. If the session stops, the last line is the instruction at the stop.
    * @param {State} state the state at the start of the range, which becomes the state at its end
-   * @param {{ from: number, to: number, end: string }} range the range; `end` is the reason for the stop at its end
+   * @param {{ from: number, to: number, end: string }} range the range, in cycles after the start state; `end` is the reason for the stop
+   *   at the end of the range
    * @param {TraceNames | null} names
    */
   async* traceRange(state, { from, to, end }, names) {

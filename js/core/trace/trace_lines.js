@@ -73,7 +73,8 @@ export class TraceLines {
   }
 
   /**
-   * Returns the line for the second cycle of an instruction that started before the trace; an empty list if there is none.
+   * Returns a list with the line for the second cycle of an instruction that started before the trace; an empty list if no second cycle is
+   * pending.
    * @param {State} state
    * @param {number} elapsed the number of cycles before the line
    */
@@ -84,8 +85,8 @@ export class TraceLines {
   }
 
   /**
-   * Returns the lines of a run: one text per executed instruction. The text begins with a line for the label of the instruction, if it has
-   * one that its source line does not show.
+   * Returns the lines of a run: one text per executed instruction. If the instruction has a label that its source line does not show, the
+   * text begins with a line for the label.
    * @param {State} state
    * @param {number} cycles the length of the run in cycles, at most the maximum of the bench
    * @param {number} elapsed the number of cycles before the run
@@ -107,7 +108,7 @@ export class TraceLines {
   }
 
   /**
-   * Merges the answers to all queries into the lines of the trace.
+   * Returns the lines of the trace, which combine the answers to all queries.
    * @param {Group[]} groups
    * @param {Trace} main the trace of MAIN_PLACES
    * @param {{ elapsed: number, firstCycle: number }} from `elapsed` is the number of cycles before the run; `firstCycle` is the cycle of

@@ -10,7 +10,7 @@ import { WRR } from "../engine/rom_codes.js";
  * text, the trace shows no change.
  * @typedef {{ name: string, textOf: (value: string) => string }} TracePlace
  *
- * A function that returns whether a run executes a given opcode.
+ * A function that returns whether a run executes an opcode.
  * @typedef {(code: number) => boolean} OpcodeTest
  */
 
@@ -44,8 +44,8 @@ function listChipPlaces(bank, chip, executes) {
 }
 
 /**
- * Returns the ports of the ROMs that have output lines. The text of a value leaves out the input lines, because the program does not change
- * them.
+ * Returns a place for each ROM port that has output lines. The text of a value leaves out the input lines, because the program does not
+ * change them.
  * @param {Board} board
  */
 function listRomPlaces({ roms }) {
@@ -56,7 +56,8 @@ function listRomPlaces({ roms }) {
 }
 
 /**
- * Returns all places that the executed instructions can change.
+ * Returns the places that the executed instructions can change, except those of the main query of TraceLines: the program counter, the
+ * accumulator, the carry, and the registers below `firstRegister`.
  * @param {Board} board
  * @param {number} firstRegister the number of the first register that needs a place
  * @param {OpcodeTest} executes

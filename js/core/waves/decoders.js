@@ -1,6 +1,6 @@
-// The decoders of a recording. A decoder is a line whose values are computed from those of several signal lines. The decoder of a shift
-// register (4003) shows the bit that each clock edge shifts in. When the clock has been at rest for REST_CYCLES cycles, the decoder shows
-// all bits of the register. The decoder of the key matrix shows the driven rows and the pressed keys.
+// The decoders of a recording. A decoder is a line whose values are computed from the values of several signal lines. The decoder of a
+// shift register (4003) shows the bit that each clock edge shifts in. When the clock has been at rest for REST_CYCLES cycles, the decoder
+// shows all bits of the register. The decoder of the key matrix shows the driven rows and the pressed keys.
 
 import { countUpTo } from "./number_queue.js";
 import * as say from "../../words/waves.js";
@@ -15,7 +15,7 @@ import * as say from "../../words/waves.js";
 export const REST_CYCLES = 16;
 
 /**
- * The values in the track of a shift register. A value is AT_REST, or the sum of the bit shifted in and BIT or OTHER_BIT. BIT and OTHER_BIT
+ * The values in the track of a shift register. A value is AT_REST, or the bit that was shifted in plus BIT or OTHER_BIT. BIT and OTHER_BIT
  * alternate, so that two equal bits in a row are still two changes.
  */
 const AT_REST = 0;
@@ -34,7 +34,7 @@ export function isDecoder({ kind }) {
 }
 
 /**
- * Returns the moment of the last rising edge of a line, at or before a given moment; -1 if there is none.
+ * Returns the moment of the last rising edge of a line, at or before `moment`; -1 if there is none.
  * @param {Track} clock the track of a one-bit line
  * @param {number} moment
  */
@@ -71,7 +71,7 @@ export function extendShiftTrack({ clock, data, rise }, track, computedUntil, en
 }
 
 /**
- * Returns the bits of a register as a number in a given base. Uses BigInt because a register can have more than 53 bits.
+ * Returns the bits of a register as the text of a number in a number base. Uses BigInt because a register can have more than 53 bits.
  * @param {number[]} bits the bits, lowest first
  * @param {NumberBase} base
  */

@@ -16,11 +16,11 @@ import * as say from "../../words/waves.js";
 
 export class LiveWaves {
   /**
-   * @param {Recording} recorded the first part of the recording
+   * @param {Recording} firstPart the first part of the recording
    * @param {RecordingSettings} settings
    */
-  constructor(recorded, settings) {
-    this.waves = new Waves(recorded);
+  constructor(firstPart, settings) {
+    this.waves = new Waves(firstPart);
     this.settings = settings;
     /** The moment of the trigger; -1 if the trigger has not occurred. */
     this.triggerMoment = -1;
@@ -61,11 +61,11 @@ export class LiveWaves {
 
   /** The status of the recording, as text. Changes rarely. */
   get statusText() {
-    const { waves, triggerMoment, endReason: over } = this;
+    const { waves, triggerMoment, endReason } = this;
     const { trigger } = this.settings;
     const triggerText = triggerMoment < 0 ? "" : say.triggerWasAt(formatNumber(triggerMoment));
-    if (over === "trigger") return say.recordedDuration(this.lengthText, triggerText);
-    if (over !== "") return say.recordedUntil(this.lengthText || say.NOTHING, say.END_REASONS[over] || over, triggerText);
+    if (endReason === "trigger") return say.recordedDuration(this.lengthText, triggerText);
+    if (endReason !== "") return say.recordedUntil(this.lengthText || say.NOTHING, say.END_REASONS[endReason] || endReason, triggerText);
     if (triggerMoment >= 0) return say.recordsAfter(triggerText);
     const statusText = waves.cycles === 0 ? say.RECORDS_SOON : say.RECORDS;
     return `${statusText}${trigger ? say.waitsFor(trigger) : ""}`;

@@ -2,7 +2,7 @@
 
 /** @typedef {Uint16Array | Uint32Array | Float64Array} Numbers */
 
-/** The initial capacity. */
+/** The minimum capacity of the array after the first number is added. */
 const FIRST_CAPACITY = 64;
 /** The minimum number of unused elements at the start of the array for which the queue moves the numbers to the start. */
 const MIN_UNUSED = 4096;

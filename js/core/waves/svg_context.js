@@ -65,17 +65,26 @@ export class SvgContext {
     this.path = "";
   }
 
-  /** @param {number[]} point */
+  /**
+   * Starts a new line at a point.
+   * @param {number[]} point
+   */
   moveTo(...point) {
     this.path += `M${point.map(formatNumber).join()}`;
   }
 
-  /** @param {number[]} point */
+  /**
+   * Adds a line to a point.
+   * @param {number[]} point
+   */
   lineTo(...point) {
     this.path += `${this.path === "" ? "M" : "L"}${point.map(formatNumber).join()}`;
   }
 
-  /** @param {number[]} box */
+  /**
+   * Sets the rectangle to which `clip` limits the later drawing.
+   * @param {number[]} box x, y, width and height
+   */
   rect(...box) {
     const [x, y, width, height] = box.map(formatNumber);
     this.currentBox = { x, y, width, height };
@@ -92,13 +101,17 @@ export class SvgContext {
     this.parts.push(tag("path", { d: this.path, ...attributes }));
   }
 
-  /** @param {number[]} box */
+  /**
+   * Draws a filled rectangle.
+   * @param {number[]} box x, y, width and height
+   */
   fillRect(...box) {
     this.rect(...box);
     this.parts.push(tag("rect", { ...this.currentBox, fill: this.fillStyle }));
   }
 
   /**
+   * Draws a text.
    * @param {string} text
    * @param {number} x
    * @param {number} y the y position of the text centre
@@ -108,12 +121,18 @@ export class SvgContext {
     this.parts.push(tag("text", { x: formatNumber(x), y: formatNumber(y), ...attributes }, escapeText(text)));
   }
 
-  /** @param {string} text */
+  /**
+   * Returns the estimated width of a text.
+   * @param {string} text
+   */
   measureText(text) {
     return { width: text.length * CHARACTER_WIDTH };
   }
 
-  /** @param {number[]} lengths */
+  /**
+   * Sets the lengths of dashes and gaps; an empty list means solid lines.
+   * @param {number[]} lengths
+   */
   setLineDash(lengths) {
     this.dash = lengths.length === 0 ? {} : { "stroke-dasharray": lengths.join(" ") };
   }

@@ -114,8 +114,8 @@ export class VcdText {
     if (lines.length > 0) yield `${lines.join("\n")}\n`;
   }
 
-  /** Returns the end of the file. */
-  end() {
+  /** Returns the last line of the file, with the end of the recording; "" if the last change is at the end. */
+  formatEnd() {
     const { cycles } = this.waves;
     return cycles > this.lastWritten ? `#${(cycles - this.startMoment) * UNITS_PER_CYCLE}\n` : "";
   }
@@ -148,6 +148,6 @@ export function* vcdParts(waves, chosenLines) {
   const text = new VcdText(waves, chosenLines);
   yield text.formatHead();
   yield* text.formatChanges();
-  const end = text.end();
+  const end = text.formatEnd();
   if (end) yield end;
 }

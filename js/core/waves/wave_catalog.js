@@ -73,12 +73,12 @@ export function searchLines(allLines, text, chosenNames) {
   const isAll = text.trim() === "";
   const isCharacter = (/** @type {WaveLine} */ { group }) => group.startsWith(say.RAM_GROUP);
   let remaining = isAll ? 0 : MAX_NIBBLES;
-  const matching = findMatchingLines(allLines, text);
-  if (matching.length === 0 && !isAll) return { lines: matching, note: say.noNameMessage(text.trim()) };
-  const lines = matching.filter((line) => !isCharacter(line) || chosenNames.has(line.name) || remaining-- > 0);
-  const hidden = matching.length - lines.length;
-  if (hidden === 0) return { lines, note: "" };
-  return { lines, note: say.notListedMessage(hidden) };
+  const matchingLines = findMatchingLines(allLines, text);
+  if (matchingLines.length === 0 && !isAll) return { lines: matchingLines, note: say.noNameMessage(text.trim()) };
+  const lines = matchingLines.filter((line) => !isCharacter(line) || chosenNames.has(line.name) || remaining-- > 0);
+  const hiddenCount = matchingLines.length - lines.length;
+  if (hiddenCount === 0) return { lines, note: "" };
+  return { lines, note: say.notListedMessage(hiddenCount) };
 }
 
 /**

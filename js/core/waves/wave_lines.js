@@ -73,10 +73,10 @@ function createLevelLines(group, count, face) {
  */
 function createChipLines({ roms, banks, chains }, face) {
   const chips = roms.map(({ chip }) => Number(chip)).sort((one, other) => one - other);
-  const sorted = [...banks].sort((one, other) => one.bank - other.bank);
+  const sortedBanks = [...banks].sort((one, other) => one.bank - other.bank);
   return [
     ...chips.flatMap((chip) => createLevelLines(`rom${chip}`, 4, face)),
-    ...sorted.flatMap(({ bank, chips: count }) => indices(count).flatMap((chip) => createLevelLines(`ram${bank}.${chip}`, 4, face))),
+    ...sortedBanks.flatMap(({ bank, chips: count }) => indices(count).flatMap((chip) => createLevelLines(`ram${bank}.${chip}`, 4, face))),
     ...chains.flatMap(({ chips: count }, chain) => createLevelLines(`chain${chain}`, BITS_PER_CHIP * count, face)),
   ];
 }
@@ -153,7 +153,8 @@ const PAIR_WIDTH = 8;
 const WIDTHS = { cy: 1, dcl: 3, src: 8 };
 
 /**
- * Returns the line for a requested value: a register, a pair, a RAM nibble or a status nibble. Returns null if the board does not have it.
+ * Returns the line for a requested value: a register, a pair, a RAM nibble or a status nibble. Returns null for any other text, and if the
+ * board does not have the register or nibble.
  * @param {string} text
  * @param {Board} board
  * @returns {WaveLine | null}
@@ -174,7 +175,7 @@ export function createValueLine(text, board) {
 export const REGISTER_NAMES = ["acc", "cy", ...indices(16).map((at) => `r${at}`), ...indices(8).map((at) => `p${at}`), "dcl", "src"];
 
 /**
- * Returns the names of all RAM nibbles on a board.
+ * Returns the names of all RAM nibbles on a board, including status nibbles.
  * @param {Board} board
  */
 export function characterNames({ banks }) {
@@ -185,11 +186,11 @@ export function characterNames({ banks }) {
 }
 
 /**
- * Returns the lines of a board in this order: ROMs, RAM chips, chains, lamps, keys, TEST, ports as numbers, decoders, requested values, the
- * program counter, and the label if the program labels are known.
+ * Returns the lines of a board. Their order is: ROMs, RAM chips, chains, lamps, keys, TEST, ports as numbers, decoders, requested values,
+ * the program counter. If the program labels are known, the label is the last line.
  * @param {Board} board
  * @param {string} text the board text, for the names
- * @param {boolean} hasLabels
+ * @param {boolean} hasLabels true if the program labels are known
  * @param {string[]} [values] the names of the requested values
  * @returns {WaveLine[]}
  */

@@ -20,11 +20,11 @@ export function createRecordedProgram(map, text) {
 
 /**
  * Returns the program of a recording; null if the source is not the program in ROM.
- * @param {ProgramCheck} checked
+ * @param {ProgramCheck} programCheck the result of comparing the source with ROM
  * @param {string} text
  * @returns {RecordedProgram | null}
  */
-export function recordedProgram({ map, refusal, difference }, text) {
+export function createProgramFromCheck({ map, refusal, difference }, text) {
   const source = new SourceMap(map, text);
   return refusal || difference || source.count === 0 ? null : createRecordedProgram(source, text);
 }

@@ -88,8 +88,9 @@ export class Waves {
   }
 
   /**
+   * Adds an instruction at the end of the recording. Replaces the last instruction if it starts at the same moment.
    * @param {number} moment
-   * @param {number} counter
+   * @param {number} counter the program counter
    */
   appendInstruction(moment, counter) {
     if (this.moments.last === moment) {
@@ -188,7 +189,7 @@ export class Waves {
   }
 
   /**
-   * Returns the moment of the last rising clock edge of a shift register, at or before a given moment; -1 if there is none.
+   * Returns the moment of the last rising clock edge of a shift register, at or before `moment`; -1 if there is none.
    * @param {number} line
    * @param {number} moment
    */
@@ -279,7 +280,7 @@ export class Waves {
   }
 
   /**
-   * Returns the moment of the next change of a line after a given moment; undefined if there is none.
+   * Returns the moment of the next change of a line after `moment`; undefined if there is none.
    * @param {number} line
    * @param {number} moment
    * @returns {number | undefined}
@@ -290,7 +291,7 @@ export class Waves {
   }
 
   /**
-   * Returns the moment of the last change of a line before a given moment; undefined if there is none.
+   * Returns the moment of the last change of a line before `moment`; undefined if there is none.
    * @param {number} line
    * @param {number} moment
    * @returns {number | undefined}

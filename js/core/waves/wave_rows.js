@@ -19,24 +19,29 @@ export class WaveRows {
     const { order = [], looks = {}, folded = [] } = storedRows;
     /** The names of lines in the order that the user has chosen. Lines that are not in this list keep their default order. */
     this.order = order;
-    this.looks = new Map(Object.entries(looks));
+    /** The appearances of rows, by line name. */
+    this.appearances = new Map(Object.entries(looks));
     this.folded = new Set(folded);
   }
 
   /** @returns {StoredRows} */
   get storedRows() {
-    return { order: this.order, looks: Object.fromEntries(this.looks), folded: [...this.folded] };
+    return { order: this.order, looks: Object.fromEntries(this.appearances), folded: [...this.folded] };
   }
 
   /**
+   * Returns the appearance of a row, given the name of its line.
    * @param {string} name
    * @returns {RowAppearance}
    */
   getAppearance(name) {
-    return this.looks.get(name) || {};
+    return this.appearances.get(name) || {};
   }
 
-  /** @param {string} name */
+  /**
+   * Returns the group of a line; "" for none.
+   * @param {string} name
+   */
   groupOf(name) {
     return this.getAppearance(name).group || "";
   }
@@ -47,11 +52,11 @@ export class WaveRows {
    * @param {RowAppearance} changes the changed properties
    */
   change(name, changes) {
-    this.looks.set(name, { ...this.getAppearance(name), ...changes });
+    this.appearances.set(name, { ...this.getAppearance(name), ...changes });
   }
 
   /**
-   * Sorts line names into row order. A name that is not in the stored order follows the name that precedes it in board order.
+   * Returns line names in row order. A name that is not in the stored order follows the name that precedes it in board order.
    * @param {string[]} names the line names in board order
    */
   sortNames(names) {
@@ -108,12 +113,15 @@ export class WaveRows {
     if (movedRow.line >= 0) this.change(movedRow.name, { group: joinsGroup ? targetRow.group : "" });
     const isAfter = isDown && !(joinsGroup && targetRow.line < 0);
     const neighbour = neighbourNames[isAfter ? neighbourNames.length - 1 : 0];
-    const place = neighbourNames.length === 0 ? otherNames.length : otherNames.indexOf(neighbour) + Number(isAfter);
-    otherNames.splice(place, 0, ...movedNames);
+    const position = neighbourNames.length === 0 ? otherNames.length : otherNames.indexOf(neighbour) + Number(isAfter);
+    otherNames.splice(position, 0, ...movedNames);
     this.order = [...otherNames, ...this.order.filter((name) => !otherNames.includes(name))];
   }
 
-  /** @param {string} group the group to fold or unfold */
+  /**
+   * Folds a group, or unfolds a folded group.
+   * @param {string} group the group to fold or unfold
+   */
   fold(group) {
     if (!this.folded.delete(group)) this.folded.add(group);
   }

@@ -63,7 +63,7 @@ export function readSearch(text, waves, markedLine) {
   if (edge) return makeEdgeSearch(edge[1], edge[2], waves, markedLine);
   const comparison = /^(.*?)\s*(!=|<=|>=|=|<|>)\s*(\S+)$/.exec(trimmed);
   const [, name, sign, value] = comparison || ["", "", "=", trimmed];
-  return parseValue(name, sign, value, waves, markedLine);
+  return makeValueSearch(name, sign, value, waves, markedLine);
 }
 
 /**
@@ -103,11 +103,11 @@ function makeEdgeSearch(name, edge, waves, markedLine) {
  * @param {Waves} waves
  * @param {number} markedLine
  */
-function parseValue(name, sign, value, waves, markedLine) {
+function makeValueSearch(name, sign, value, waves, markedLine) {
   const { line, error } = findSearchLine(name, waves, markedLine);
   if (error) return searchError(error);
   const { kind, width, name: lineName } = waves.lines[line];
-  if (isDecoder(waves.lines[line])) return parseKeySearch(waves.lines[line], line, sign, value);
+  if (isDecoder(waves.lines[line])) return makeKeySearch(waves.lines[line], line, sign, value);
   const label = kind === "label" || kind === "pc" ? findLabel(waves, value.replace(/^@/, "")) : null;
   const binary = /^0b([01]+)$/i.exec(value);
   const number = label ? (kind === "pc" ? label.address : label.number) : binary ? parseInt(binary[1], 2) : parseNumber(value);
@@ -127,7 +127,7 @@ function parseValue(name, sign, value, waves, markedLine) {
  * @param {string} key
  * @returns {{ search: Search | null, error: string }}
  */
-function parseKeySearch(decoder, line, sign, key) {
+function makeKeySearch(decoder, line, sign, key) {
   if (sign !== "=" || !decoder.places.includes(key)) return searchError(say.isDecodedMessage(decoder.name));
   return { search: { line, matches: (value) => parseScan(decoder, value).keys.includes(key), findsEachMatch: false }, error: "" };
 }
@@ -139,7 +139,7 @@ function parseKeySearch(decoder, line, sign, key) {
  * @param {number} moment
  * @param {boolean} isForward true to search after the moment, false to search before it
  */
-export function find(waves, { line, matches, findsEachMatch }, moment, isForward) {
+export function findMatch(waves, { line, matches, findsEachMatch }, moment, isForward) {
   const track = waves.getTrack(line);
   const changes = track.moments.all;
   const direction = isForward ? 1 : -1;

@@ -10,7 +10,7 @@ const NEAR_PIXELS = 7;
 /** @typedef {import("./wave_recording.js").Waves} Waves */
 
 /**
- * Limits a number to a range.
+ * Returns the number in a range that is nearest to a number.
  * @param {number} number
  * @param {number} min
  * @param {number} max
@@ -27,13 +27,14 @@ export class WaveWindow {
   constructor(end, begin = 0) {
     this.begin = begin;
     this.end = end;
+    /** The first visible moment, and the number of visible cycles. */
     this.from = begin;
     this.span = Math.max(1, end - begin);
     /** The width of the view in pixels. */
     this.width = 1;
     this.cursors = [begin, begin];
     /** The index of the cursor that the user moves. */
-    this.active = 0;
+    this.activeCursor = 0;
   }
 
   /** The length of the recording in cycles. */
@@ -48,7 +49,7 @@ export class WaveWindow {
 
   /** The moment of the active cursor. */
   get moment() {
-    return this.cursors[this.active];
+    return this.cursors[this.activeCursor];
   }
 
   /** The number of cycles between the cursors. */
@@ -73,7 +74,7 @@ export class WaveWindow {
   }
 
   /**
-   * Zooms in by a factor; a factor below 1 zooms out. The given moment keeps its position on the screen.
+   * Zooms in by a factor; a factor below 1 zooms out. The moment `moment` keeps its position on the screen.
    * @param {number} factor
    * @param {number} moment
    */
@@ -83,7 +84,10 @@ export class WaveWindow {
     this.goTo(moment - share * this.span);
   }
 
-  /** @param {number} from the first visible moment */
+  /**
+   * Scrolls to a moment, as far as the recording allows.
+   * @param {number} from the first visible moment
+   */
   goTo(from) {
     this.from = clamp(from, this.begin, Math.max(this.begin, this.end - this.span));
   }
@@ -141,7 +145,7 @@ export class WaveWindow {
    */
   move(moment) {
     const to = clamp(Math.round(moment), this.begin, this.end);
-    this.cursors[this.active] = to;
+    this.cursors[this.activeCursor] = to;
     if (to < this.from || to > this.to) this.goTo(to - this.span / 2);
   }
 

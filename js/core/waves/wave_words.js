@@ -14,7 +14,7 @@ import * as say from "../../words/waves.js";
 export const MAX_CYCLES = 10000000;
 
 /**
- * Returns a value as text, in a given number base.
+ * Returns a value as text, in a number base.
  * @param {number} value
  * @param {number} width the width of the value in bits
  * @param {NumberBase} base
@@ -89,9 +89,9 @@ export function screenReaderText(moment, waves, line) {
  */
 export function describeRecording({ length, isStuck }, wantedCycles, isBefore) {
   if (length === 0 && isBefore) return say.NOTHING_BEFORE;
-  const recorded = say.recordedSpan(cyclesText(length), formatCycleTime(length));
-  if (isStuck) return say.codeFollows(recorded);
-  return length < wantedCycles ? say.noFurtherBackMessage(recorded) : recorded;
+  const recordedText = say.recordedSpan(cyclesText(length), formatCycleTime(length));
+  if (isStuck) return say.codeFollows(recordedText);
+  return length < wantedCycles ? say.noFurtherBackMessage(recordedText) : recordedText;
 }
 
 /**

@@ -18,7 +18,7 @@ const LOCKED_STATUS = 75;
 
 /**
  * Acquires the lock of a session file, as the native program does while it serves the file. Resolves to a function that releases the lock.
- * The end of this process also releases the lock.
+ * The end of this process also releases the lock. Throws an error if another process holds the lock, or if the lock cannot be acquired.
  * @param {string} session the session's file name
  */
 async function acquireLock(session) {
@@ -36,7 +36,7 @@ async function acquireLock(session) {
 }
 
 /**
- * Returns the offsets of the commit bytes of all records in the active slot's log.
+ * Returns the offsets of the commit bytes of all committed records in the active slot's log.
  * @param {Uint8Array} bytes the contents of a session file
  */
 function findCommitOffsets(bytes) {
@@ -69,7 +69,8 @@ function truncateLog(session, offset) {
 }
 
 /**
- * Removes the last commands of a session. Resolves to the line to print.
+ * Removes the last commands of a session. Resolves to the line to print. Throws an error if the log has fewer commands, or if the shortened
+ * session would not open as expected.
  * @param {string} session the session's file name
  * @param {number} count the number of commands to remove; 0 to report only how many can be removed
  */

@@ -13,7 +13,7 @@ const LCOV_BEGIN = "TN:";
 export function run({ folder, lcov, session }, positionals) {
   return runTestsOrSession({
     name: "cover",
-    Counting: LineRecorder,
+    RecorderClass: LineRecorder,
     checkNames: (names) => {
       if (lcov !== undefined) checkOutputFile(lcov, LCOV_BEGIN, NOT_AN_LCOV_FILE, names);
     },

@@ -10,14 +10,15 @@ import { CommandError, UsageError, print } from "../output.mjs";
 const LINE_NUMBER = /^\d{1,9}$/;
 
 /**
- * Parses the range of answer lines with the runs to add up. `last` is 0 for all lines from `first` to the end.
+ * Parses the range of answer lines with the runs to add up. Returns the numbers of the first and the last line, from 1; `last` is 0 for all
+ * lines from `first` to the end. Throws a UsageError if the words are not such a range.
  * @param {string[]} words
  */
 function parseRange(words) {
   if (words.length === 0) return { first: 1, last: 0 };
   checkArguments(words, ["FIRST", "LAST"]);
-  const invalid = words.find((word) => !LINE_NUMBER.test(word));
-  if (invalid !== undefined) throw new UsageError(notALineNumberMessage(invalid));
+  const invalidWord = words.find((word) => !LINE_NUMBER.test(word));
+  if (invalidWord !== undefined) throw new UsageError(notALineNumberMessage(invalidWord));
   const [first, last] = words.map(Number);
   if (first < 1 || last < first) throw new UsageError(FIRST_AND_LAST);
   return { first, last };

@@ -46,7 +46,7 @@ async function runScript(prompt, position) {
  */
 const screen = { terminal: null, view: null };
 
-/** The functions by which the prompt controls the view. They forward each call, because the view is created later. */
+/** The functions with which the prompt controls the view. They forward each call, because the view is created later. */
 const viewCalls = {
   toggle: () => (screen.view ? screen.view.toggle() : ""),
   turn: (/** @type {boolean} */ isOn) => (screen.view ? screen.view.turn(isOn) : ""),
@@ -83,9 +83,9 @@ async function runInteractive(prompt) {
 async function debugFiles(names) {
   const engine = await Engine.load(readPageModule());
   const data = readPageData();
-  const debugging = await launch(engine, { ...names, cwd: process.cwd() }, host, new ErrorMessages(data.refusals));
+  const launchResult = await launch(engine, { ...names, cwd: process.cwd() }, host, new ErrorMessages(data.refusals));
   const position = { line: 0 };
-  const prompt = new Prompt(debugging, data, {
+  const prompt = new Prompt(launchResult, data, {
     print: (words) => process.stdout.write(`${escapeControls(words)}\n`),
     complain: (words) => {
       if (screen.terminal) screen.terminal.complain(words);
@@ -95,11 +95,11 @@ async function debugFiles(names) {
     read: (name) => readDecodedFile(expandTilde(name), MAX_TEXT_BYTES).text,
     write: (name, text) => {
       const file = expandTilde(name);
-      checkOutputFile(file, SAVED_HEAD, NOT_A_BREAKPOINTS_FILE, [names.board, names.program, names.session].flatMap((each) => each ?? []));
+      checkOutputFile(file, SAVED_HEAD, NOT_A_BREAKPOINTS_FILE, [names.board, names.program, names.session].flatMap((input) => input ?? []));
       writeUserFile(file, text);
     },
     files: completePath,
-    source: () => (debugging.program === "" ? null : host.read(debugging.program)),
+    source: () => (launchResult.program === "" ? null : host.read(launchResult.program)),
     isInteractive,
     view: isInteractive ? viewCalls : null,
   });
@@ -108,7 +108,7 @@ async function debugFiles(names) {
     await prompt.begin();
     return await runScript(prompt, position);
   } finally {
-    if (debugging.writer) await debugging.writer.end();
+    if (launchResult.writer) await launchResult.writer.end();
   }
 }
 

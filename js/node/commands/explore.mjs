@@ -47,7 +47,7 @@ export async function run(values, positionals) {
 }
 
 /**
- * Runs a search. Returns its report.
+ * Runs a search. Resolves to its report.
  * @param {string[]} names the file names of board, program and properties
  * @param {Omit<import("../explore_processes.mjs").Settings, "folder" | "texts">} limits
  */

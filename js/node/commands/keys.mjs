@@ -12,7 +12,8 @@ import { CommandError, print, printVerbatim } from "../output.mjs";
 const MAX_CYCLES = 100000;
 
 /**
- * Executes lines in a session up to the first run that stops early, and prints the answers. Resolves to the exit status.
+ * Executes lines in a session up to the first run that stops early or the first rejected line, and prints the answers. Resolves to the exit
+ * status. Throws a CommandError for a rejected line.
  * @param {string} session the session's file name
  * @param {string[]} lines
  */

@@ -2,7 +2,7 @@
 import { basename } from "node:path";
 import { parseRomCodes } from "../../core/engine/rom_codes.js";
 import { listQueries, PAGE_NUMBERS } from "../../core/bench/rom_bytes.js";
-import { differingLines } from "../../core/bench/script_progress.js";
+import { findDifferingLines } from "../../core/bench/script_progress.js";
 import { missingParts } from "../../core/board/face_board.js";
 import { sortByLine } from "../../core/board/face.js";
 import { Panel } from "../../core/panel/terminal_panel.js";
@@ -55,7 +55,8 @@ async function readAnswers(session, lines) {
 }
 
 /**
- * Reads the board and the program. Throws an error if they differ from the session's board or from the contents of its ROM.
+ * Reads the board and the program. Throws an error if they differ from the session's board or from the contents of its ROM. Resolves to the
+ * board, its front panel and the source, which is null without a program.
  * @param {SessionProcess} session
  * @param {string} name the session's file name
  * @param {{ board: InputText, program: InputText | null }} texts
@@ -63,7 +64,7 @@ async function readAnswers(session, lines) {
 async function readTexts(session, name, texts) {
   const engine = await startEngine();
   const { board, face, answers } = await readBoardAndFace(engine, texts.board);
-  const boardDifferences = differingLines(await readAnswers(session, "board\n"), answers);
+  const boardDifferences = findDifferingLines(await readAnswers(session, "board\n"), answers);
   const { name: boardName } = texts.board;
   if (boardDifferences.length > 0) throw new CommandError([`${boardDiffers(boardName)} (< ${name}, > ${boardName})`, ...boardDifferences].join("\n"));
   const { program } = texts;

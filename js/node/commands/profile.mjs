@@ -8,7 +8,7 @@ import { runTestsOrSession } from "../test_commands.mjs";
 export function run({ folder, session }, positionals) {
   return runTestsOrSession({
     name: "profile",
-    Counting: ExecutionRecorder,
+    RecorderClass: ExecutionRecorder,
     printCounts: ({ profile }) => print(profileText(profile)),
   }, { folder, session }, positionals);
 }

@@ -14,7 +14,7 @@ import { isInside, checkOutputFile, readUserFile, statInput, writeNewFiles, writ
 
 const PROJECT_HEADER = "fethsaim project ";
 const SESSION_HEADER = "MCS4BEN1";
-/** The kinds of texts of which a folder can have several. A project file can have only one text of each kind. */
+/** The kinds of texts that a folder can contain more than once. A project file can have only one text of each kind. */
 const LIST_KINDS = /** @type {const} */ (["tests", "properties"]);
 
 /**
@@ -70,7 +70,8 @@ function readText(folder, name) {
 }
 
 /**
- * Returns the paths of the texts: those in `mcs4.toml`, or the standard names of the files that exist.
+ * Resolves to the paths of the texts: those in `mcs4.toml`. Without that file, the texts have their standard names, and a missing file of
+ * tests or properties has the path "". Throws an error if the project has several files of tests or properties.
  * @param {string} folder
  * @returns {Promise<{ board: string, program: string, tests: string, properties: string }>} "" if there are no tests or no properties
  */
@@ -89,7 +90,8 @@ async function findTextPaths(folder) {
 }
 
 /**
- * Returns the bytes of the session file in a folder. If there is none, creates a new session from the texts.
+ * Resolves to the bytes of the session file in a folder. If there is none, creates a new session from the texts. Throws an error if the
+ * file is in use or is not a session file, or if the texts have errors.
  * @param {string} folder
  * @param {{ board: string, program: string }} names the paths of the texts
  * @param {{ boardText: string, programText: string }} texts
@@ -112,7 +114,8 @@ async function readSession(folder, names, texts) {
 }
 
 /**
- * Returns the name of the project in a folder: the first line of its name file, or else the name of the folder.
+ * Returns the name of the project in a folder: the first line of its name file, or the name of the folder if there is no such file. Throws
+ * an error if the first line is blank.
  * @param {string} folder
  */
 function readProjectName(folder) {

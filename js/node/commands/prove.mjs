@@ -36,7 +36,7 @@ async function proveAll(judge, file) {
   const progress = new ProgressLine();
   const judgedProperties = [];
   for (const index of Array(total).keys()) {
-    progress.begin((seconds) => provingSoFar(index + 1, total, judge.textOf(index), seconds));
+    progress.beginStep((seconds) => provingSoFar(index + 1, total, judge.textOf(index), seconds));
     const judgedProperty = /** @type {import("../../core/prove/verdicts.js").JudgedProperty} */ (await judge.judgeNext());
     progress.clear();
     print((index === 0 ? tapHead(total) : "") + formatJudgedTap(judgedProperty, index, file));

@@ -30,7 +30,8 @@ async function printAnswers(stream) {
 }
 
 /**
- * Executes the bytes of a script in a session, and prints the answers. Resolves to the exit status.
+ * Executes the bytes of a script in a session, and prints the answers. Resolves to the exit status. Throws an error if the session is
+ * rejected.
  * @param {string} session the session's file name
  * @param {Buffer} bytes
  */
@@ -52,11 +53,11 @@ async function serveBytes(session, bytes) {
 /**
  * Returns the bytes after a number of lines.
  * @param {Buffer} bytes
- * @param {number} lines the number of lines to skip
+ * @param {number} lineCount the number of lines to skip
  */
-function skipLines(bytes, lines) {
+function skipLines(bytes, lineCount) {
   let offset = 0;
-  for (let remaining = lines; remaining > 0 && offset < bytes.length; remaining--) {
+  for (let remaining = lineCount; remaining > 0 && offset < bytes.length; remaining--) {
     const lineEnd = bytes.indexOf("\n", offset);
     offset = lineEnd < 0 ? bytes.length : lineEnd + 1;
   }
@@ -73,10 +74,10 @@ export async function run(_, positionals) {
   // If there is no native program, fail before anything else.
   findProgramPath();
   const engine = await startEngine();
-  const { lines, message: words, differing: differingLines } = await compareWithScript(
+  const { lineCount, message: words, differingLines } = await compareWithScript(
     engine, await openSession(engine, texts, session), bytes.toString("latin1"), yieldToMessages,
   );
   if (words !== "") throw new CommandError(scriptDoesNotMatch(session, scriptName, words, differingLines));
   if (!texts.read(session, MAX_TEXT_BYTES).equals(sessionBytes)) throw new CommandError(changedMeanwhile(session));
-  return serveBytes(session, skipLines(bytes, lines));
+  return serveBytes(session, skipLines(bytes, lineCount));
 }

@@ -18,15 +18,16 @@ const ACTION_FORMATS = { load: ["hex", "srec", "bnpf", "binary"], ask: [], save:
 const PARSERS = { hex: readHex, srec: readSRecords, bnpf: readBnpf };
 
 /**
- * Returns the image format that an option names, or null if there is no such option.
+ * Returns the image format that an option names, or null if there is no such option. Throws a UsageError for two formats, or for a format
+ * that the action does not accept.
  * @param {string} action
  * @param {import("./table.mjs").Values} values
  * @returns {ImageFormat | null}
  */
 function chooseFormat(action, values) {
-  const givenFormats = ACTION_FORMATS.load.filter((name) => values[name]);
-  if (givenFormats.length > 1) throw new UsageError(say.excludeEachOther(`--${givenFormats[0]}`, `--${givenFormats[1]}`));
-  const [format = null] = givenFormats;
+  const chosenFormats = ACTION_FORMATS.load.filter((name) => values[name]);
+  if (chosenFormats.length > 1) throw new UsageError(say.excludeEachOther(`--${chosenFormats[0]}`, `--${chosenFormats[1]}`));
+  const [format = null] = chosenFormats;
   if (format && !ACTION_FORMATS[action].includes(format)) throw new UsageError(say.unsupportedFormat(action, format));
   return format;
 }
@@ -43,28 +44,28 @@ function parseImage(format, file, address) {
 
 /**
  * Prints the session lines that load an image into ROM.
- * @param {ImageFormat | null} givenFormat
+ * @param {ImageFormat | null} chosenFormat the format that an option names; null to detect the format
  * @param {string[]} words
  */
-function printLoadLines(givenFormat, words) {
+function printLoadLines(chosenFormat, words) {
   checkArguments(words, ["IMAGE"], 2);
   const [name, word = "0"] = words;
   const address = parseNumber(word);
   if (!(address < ADDRESS_COUNT)) throw new UsageError(say.ADDRESS_RANGE);
   const file = new InputTexts().read(name, MAX_TEXT_BYTES);
-  const format = givenFormat || detectFormat(name, file);
+  const format = chosenFormat || detectFormat(name, file);
   if (!format) throw new CommandError(say.textNoImage(name));
   try {
     print(createByteTexts(parseImage(format, file, address)).map((text) => `asm\n${text}.\n`).join(""));
   } catch (error) {
     if (!(error instanceof ImageError)) throw error;
-    const hint = givenFormat === null && error instanceof RecordError && error.message.startsWith("line 1:") ? say.BINARY_HINT : "";
+    const hint = chosenFormat === null && error instanceof RecordError && error.message.startsWith("line 1:") ? say.BINARY_HINT : "";
     throw new CommandError(`${name}: ${error.message}${hint}`);
   }
 }
 
 /**
- * Parses the first address and the byte count of a range.
+ * Parses the first address and the byte count of a range. Throws a UsageError if they are not a range within ROM.
  * @param {string[]} words
  */
 function parseRange(words) {
@@ -89,7 +90,8 @@ function printQueries(words) {
 }
 
 /**
- * Returns the bytes of a range, read from the bench's answers. A later answer overrides an earlier answer.
+ * Returns the contents of ROM, with the bytes of a range from the bench's answers, and NO_BYTE at all other addresses. A later answer
+ * overrides an earlier answer. Throws a CommandError if an answer is a refusal or a byte is missing.
  * @param {string} answers
  * @param {{ first: number, count: number }} range
  */

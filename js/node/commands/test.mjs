@@ -5,5 +5,5 @@ import { runTestCommand } from "../test_commands.mjs";
 
 /** @type {import("./table.mjs").CommandModule["run"]} */
 export function run({ folder }, positionals) {
-  return runTestCommand({ name: "test", Counting: NullRecorder, formatOutcome: testTap }, folder, positionals);
+  return runTestCommand({ name: "test", RecorderClass: NullRecorder, formatOutcome: testTap }, folder, positionals);
 }

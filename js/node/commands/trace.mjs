@@ -12,7 +12,8 @@ const MAX_LAST_INSTRUCTIONS = 10000;
 const MAX_CYCLES_WITH_LAST = 100000000;
 
 /**
- * Returns the file name of the program that supplies labels or source lines, or undefined if there is none.
+ * Resolves to the file name of the program that supplies labels or source lines, or to undefined if there is none. Throws a UsageError if
+ * both options name a program.
  * @param {import("./table.mjs").Values} values
  */
 async function findProgramName({ folder, names, source }) {

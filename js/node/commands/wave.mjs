@@ -23,8 +23,9 @@ import { checkOutputFile, writeUserFile } from "../user_files.mjs";
  *
  * An opened session. `state` is its state without breakpoints and watches. `boardText` is the text of its board; null if the user names
  * none. `program` is the program with its labels; null if the user names none.
- * @typedef {{ engine: import("../../core/engine/engine_host.js").EngineHost, state: Uint8Array, board: import("../../core/bench/answers.js").Board,
- *   boardText: InputText | null, face: Face, program: import("../../core/engine/wave_recorder.js").RecordedProgram | null }} OpenedSession
+ * @typedef {{ face: Face, state: Uint8Array, boardText: InputText | null, board: import("../../core/bench/answers.js").Board,
+ *   engine: import("../../core/engine/engine_host.js").EngineHost,
+ *   program: import("../../core/engine/wave_recorder.js").RecordedProgram | null }} OpenedSession
  */
 
 const MAX_CYCLES = 10000000;
@@ -108,18 +109,18 @@ function reportStop({ isStuck, cycles }, wantedCycles) {
 async function printVcd(openedSession, cycles, words) {
   const { engine, state, board, program } = openedSession;
   const choice = convertLineErrors(() => chooseLines(board, readBoardText(openedSession), program !== null, words));
-  const { lines, chosen } = linesWithMembers(choice.lines, choice.chosenIndexes);
+  const { lines, chosenIndexes } = linesWithMembers(choice.lines, choice.chosenIndexes);
   /** @type {VcdText | null} */
   let text = null;
   for await (const waves of recordPieces(engine, state, { lines, program, cycles }, yieldToMessages)) {
     if (!text) {
-      text = new VcdText(waves, chosen);
+      text = new VcdText(waves, chosenIndexes);
       print(text.formatHead());
     }
     for (const part of text.formatChanges()) print(part);
   }
   if (!text) return;
-  print(text.end());
+  print(text.formatEnd());
   reportStop(text.waves, cycles);
 }
 
@@ -135,7 +136,8 @@ function panelBuzzerLine({ board, boardText, face: { buzzer } }) {
 }
 
 /**
- * Returns the output line whose sound the user wants: `word` if it is given; otherwise the line that the front panel names.
+ * Returns the output line whose sound the user wants: `word` if it is given; otherwise the line that the front panel names. Throws an error
+ * if the board does not have this output line.
  * @param {OpenedSession} openedSession
  * @param {string | undefined} word
  */
@@ -157,12 +159,12 @@ async function writeWav(openedSession, cycles, word, name) {
   const { engine, state, board } = openedSession;
   const line = buzzerLine(openedSession, word);
   const choice = convertLineErrors(() => chooseLines(board, "", false, [line]));
-  const { lines, chosen } = linesWithMembers(choice.lines, choice.chosenIndexes);
+  const { lines, chosenIndexes } = linesWithMembers(choice.lines, choice.chosenIndexes);
   const edges = [];
   let [level, recordedCycles] = [-1, 0];
   for await (const waves of recordPieces(engine, state, { lines, program: null, cycles }, yieldToMessages)) {
-    if (level < 0) level = waves.numberAt(chosen[0], 0);
-    for (const edge of waves.changesOf(chosen[0])) edges.push(edge);
+    if (level < 0) level = waves.numberAt(chosenIndexes[0], 0);
+    for (const edge of waves.changesOf(chosenIndexes[0])) edges.push(edge);
     recordedCycles = waves.cycles;
     if (recordedCycles < cycles && waves.isStuck) reportStop(waves, cycles);
   }

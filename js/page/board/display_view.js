@@ -19,7 +19,7 @@ const SEGMENT_PATHS = [
   "M5 3 8 1h20l3 2-4 4H9z", "M32 4l2 3v20l-2 2-3-3V8z", "M32 31l2 2v20l-2 3-3-4V34z", "M5 57l4-4h18l4 4-3 2H8z",
   "M4 31l3 3v18l-3 4-2-3V33z", "M4 4l3 4v18l-3 3-2-2V7z", "M5 30l4-3h18l4 3-4 3H9z", "M38 54h5v5h-5z",
 ];
-/** A drawn digit. `show` updates the page only if a segment's brightness has changed. */
+/** A drawn digit. `show` updates only the segments that have changed. */
 class Digit {
   /**
    * @param {boolean} isSign true if the digit consists only of a minus sign
@@ -126,7 +126,7 @@ export class DisplayView {
   }
 
   /**
-   * @param {string[]} lines the line of each lamp
+   * @param {string[]} lines the name of each lamp's line, for example `ram0.3.2`
    * @param {Face} face
    */
   draw(lines, face) {
@@ -174,7 +174,6 @@ export class DisplayView {
   }
 
   /** @param {{ number: string, names: string }} content the displayed number, and the names of the lamps that are on */
-
   showText({ number, names }) {
     this.textCell.set(number);
     this.announcer.announce(names ? `${number} ${names}` : number);

@@ -15,7 +15,7 @@ import * as say from "../../words/board.js";
  * @typedef {import("../../core/bench/answers.js").Board} Board
  * @typedef {import("../../core/board/board_keys.js").BoardKey} BoardKey
  * @typedef {import("../../core/engine/brightness_meter.js").LitShares} LitShares
- * @typedef {BoardKey & { button: HTMLButtonElement, down: import("../ui/dom.js").Switch }} ShownKey
+ * @typedef {BoardKey & { button: HTMLButtonElement, downSwitch: import("../ui/dom.js").Switch }} ShownKey
  */
 
 /** The maximum number of error messages in the list. */
@@ -156,7 +156,7 @@ export class FrontView {
     if (boardKey.letter && boardKey.letter !== boardKey.legend) keyButton.append(element("kbd", {}, boardKey.letter));
     keyButton.setAttribute("aria-label", boardKey.description);
     this.connectKey(keyButton, boardKey);
-    return { ...boardKey, button: keyButton, down: pressedSwitch(keyButton) };
+    return { ...boardKey, button: keyButton, downSwitch: pressedSwitch(keyButton) };
   }
 
   /** @param {string} marks one character per lamp: `*` if the lamp is on at this instant */
@@ -172,7 +172,7 @@ export class FrontView {
    * Shows the lamps as perceived during the last frame.
    * @param {string} marks one character per lamp: `*` if the lamp is on at the end of the frame
    * @param {LitShares} litShares
-   * @param {number} time the duration of the frame in milliseconds
+   * @param {number} time the duration of the frame in milliseconds; Infinity if earlier light must be ignored
    */
   showBrightness(marks, litShares, time) {
     if (!this.showsBrightness) this.brightness.begin(this.marks);
@@ -194,7 +194,7 @@ export class FrontView {
   }
 
   showKeysDown() {
-    for (const shownKey of this.keys) shownKey.down.set(this.isDown(shownKey.key));
+    for (const shownKey of this.keys) shownKey.downSwitch.set(this.isDown(shownKey.key));
   }
 
   /** @param {string} level the level of the TEST pin: "0" or "1" */

@@ -41,7 +41,7 @@ export class KeyPresser {
   }
 
   /** Forgets all pressed keys and pending touches, because the board's keys have changed. */
-  forget() {
+  forgetKeys() {
     this.heldKeys.clear();
     for (const timer of this.touchTimers.values()) clearTimeout(timer);
     this.touchTimers.clear();
@@ -117,8 +117,8 @@ export class KeyPresser {
   }
 
   /**
-   * Presses a key, or releases it if it is already down. A switch, or a key that is pressed with Shift, stays down until it is pressed
-   * again.
+   * Presses a key, or releases it if it is already down. A switch stays down until it is pressed again. So does a key that is pressed with
+   * Shift or while time is paused.
    * @param {Pick<BoardKey, "key" | "isSwitch">} boardKey
    * @param {boolean} isShiftDown
    */

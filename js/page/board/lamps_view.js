@@ -15,7 +15,7 @@ import * as say from "../../words/board.js";
  * @typedef {import("../../core/board/lamp_state.js").LampReader} LampReader
  */
 
-/** A drawn lamp. `show` updates the page only if the lamp's brightness has changed. */
+/** A drawn lamp. `show` updates the page only if the lamp's brightness or its state (on or off) has changed. */
 class Lamp {
   /**
    * @param {LampReader} reader
@@ -82,14 +82,14 @@ export class LampsView {
   constructor() {
     /** @type {Lamp[]} */
     this.lamps = [];
-    /** @type {string[]} the line of each lamp */
+    /** @type {string[]} the name of each lamp's line, for example `ram0.3.2` */
     this.lines = [];
     /** @type {Face | null} */
     this.face = null;
   }
 
   /**
-   * @param {string[]} lines the line of each lamp
+   * @param {string[]} lines the name of each lamp's line
    * @param {Face} face
    */
   draw(lines, face) {

@@ -91,7 +91,7 @@ export class PrinterView {
     this.printoutBlock.focus();
   }
 
-  /** Shows the lines of the printout. Reuses the elements of unchanged leading lines. */
+  /** Shows the last MAX_SHOWN_LINES lines of the printout. Reuses the elements of unchanged leading lines. */
   show() {
     const lines = this.printer ? printoutLines(this.codes, this.printer.words).slice(-MAX_SHOWN_LINES) : [];
     if (lines[lines.length - 1] === "") lines.pop();

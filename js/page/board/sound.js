@@ -1,5 +1,5 @@
-// The sound of the board's buzzer. If sound is on and time runs at the real chip's speed, Web Audio plays the level changes of the buzzer's
-// line.
+// The sound of the board's buzzer. If sound is on and time is running at the real chip's speed, Web Audio plays the level changes of the
+// buzzer's line.
 
 import { CYCLES_PER_SECOND } from "../../core/time/mcs4_time.js";
 import { Cell, block, button, onClick, pressedSwitch } from "../ui/dom.js";
@@ -46,7 +46,7 @@ class Player {
     const samples = this.sampleBuffer.add(levels);
     const currentTime = this.context.currentTime;
     if (!samples || this.endTime > currentTime + MAX_DELAY_SECONDS) return;
-    // An audio context's time is 0 until the context runs.
+    // The last block has ended, or this is the first block. (An audio context's time is 0 until the context runs.)
     if (this.endTime <= currentTime) this.endTime = currentTime + SOUND_DELAY_SECONDS;
     const buffer = this.context.createBuffer(1, samples.length, CYCLES_PER_SECOND);
     buffer.copyToChannel(samples, 0);
@@ -73,7 +73,7 @@ export class Sound {
    * Selects the buzzer of a new board or front panel.
    * @param {{ place: string, name: string } | null} buzzer null if the board has no buzzer
    */
-  draw(buzzer) {
+  setBuzzer(buzzer) {
     const line = buzzer ? buzzer.place : "";
     block("sound").hidden = line === "";
     button("sound-button").textContent = say.soundOf(buzzer ? buzzer.name : "");

@@ -71,7 +71,7 @@ export class WiringView {
   }
 
   /** Forgets the levels before another board is used. */
-  forget() {
+  forgetLevels() {
     this.ports = null;
     this.ramPorts.clear();
   }
@@ -120,7 +120,6 @@ export class WiringView {
     this.root.replaceChildren(picture);
     this.descriptionList.replaceChildren(...parts.map(({ title, descriptions }) => (
       element("li", {}, `${title}: ${descriptions.join("; ")}.`))));
-
     this.setTabStop(this.items.has(focusedName) ? focusedName : this.tabStop);
     if (focusedName) this.focus(this.tabStop);
     this.showMark();
@@ -233,7 +232,7 @@ export class WiringView {
   }
 
   /**
-   * Makes one part or pin the only element of the picture that the Tab key reaches.
+   * Makes one part or pin the only element of the picture that the Tab key reaches. If there is none with this name, chooses the first one.
    * @param {string} name
    */
   setTabStop(name) {
@@ -281,7 +280,7 @@ export class WiringView {
   }
 
   /**
-   * Converts window coordinates to picture coordinates.
+   * Returns the picture coordinates of a point in the window, or (0, 0) if there is no picture.
    * @param {{ clientX: number, clientY: number }} event
    */
   toPicturePoint({ clientX, clientY }) {

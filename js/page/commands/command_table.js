@@ -31,7 +31,7 @@ import * as say from "../../words/page_commands.js";
  * @property {() => void} continueOrPause Resumes or pauses time.
  * @property {() => void} step Executes one instruction.
  * @property {(goal: import("../../core/debug/goals.js").Goal) => void} runToGoal Runs until a goal is reached.
- * @property {(goal: import("../../core/engine/past_search.js").BackGoal) => void} goBack Goes back to a goal.
+ * @property {(goal: import("../../core/engine/past_search.js").BackGoal) => void} goBack Goes back in time to a goal.
  * @property {() => void} goForward Returns to the state before the last move back.
  * @property {() => boolean} canGoForward Returns true if a move back can be undone.
  * @property {() => void} runToCursor Runs to the line of the caret in the source.
@@ -41,20 +41,20 @@ import * as say from "../../words/page_commands.js";
  * @property {(theme: Theme) => void} setTheme Sets the colours of the page.
  * @property {() => void} print Prints the page.
  * @property {(name: string) => void} show Brings a text or a panel to the front, by its name.
- * @property {(button: string, containerName: string) => void} press Brings the text or panel `containerName` to the front, then clicks the
- *   button with the id `button`.
- * @property {(button: string) => boolean} isOffered Returns true if the button with the id `button` is available.
- * @property {(field: string, containerName: string) => void} enter Brings the text or panel `containerName` to the front, then focuses the
- *   field with the id `field`.
+ * @property {(button: string, containerName: string) => void} clickButton Brings the text or panel `containerName` to the front, then
+ *   clicks the button with the id `button`.
+ * @property {(button: string) => boolean} isButtonAvailable Returns true if the button with the id `button` is available.
+ * @property {(field: string, containerName: string) => void} focusField Brings the text or panel `containerName` to the front, then focuses
+ *   the field with the id `field`.
  * @property {(text: TextName) => void} sendText Sends a text to the bench, like the first button of the text's editor.
- * @property {(box: string) => void} toggle Toggles the check box with the id `box`.
+ * @property {(box: string) => void} toggleCheckBox Toggles the check box with the id `box`.
  * @property {(isSource: boolean) => boolean} hasText Returns true if a text editor is in front. If `isSource` is true, only the source's
  *   editor counts.
  * @property {(textAction: TextAction) => void} performTextAction Performs an editing action in the editor that is in front.
  * @property {(fieldName?: import("../machine/breakpoint_form.js").BreakpointField) => void} toggleOrEditBreakpoint Toggles the
  *   breakpoint at the caret's line. With `fieldName`, opens that field of the breakpoint instead.
- * @property {() => void} open Asks for a file to open.
- * @property {() => void} save Saves the project to a file.
+ * @property {() => void} openFile Asks for a file to open.
+ * @property {() => void} saveProject Saves the project to a file.
  * @property {() => void} saveSession Saves only the session file.
  * @property {() => void} exportFiles Opens the dialog to export texts and ROM images.
  * @property {() => void} openProjects Opens the list of projects.
@@ -102,8 +102,8 @@ function command(id, group, action, options = {}) {
  */
 function buttonCommand(id, group, button, containerName, reason = say.NOT_NOW, options = {}) {
   /** @param {CommandCalls} calls */
-  const unavailableReason = (calls) => (calls.isOffered(button) ? "" : reason);
-  return command(id, group, (calls) => calls.press(button, containerName), { unavailableReason, ...options });
+  const unavailableReason = (calls) => (calls.isButtonAvailable(button) ? "" : reason);
+  return command(id, group, (calls) => calls.clickButton(button, containerName), { unavailableReason, ...options });
 }
 
 /**
@@ -131,24 +131,24 @@ const TIME_COMMANDS = [
   command("time.redo", "time", (calls) => calls.goForward(), {
     unavailableReason: (calls) => (calls.canGoForward() ? "" : say.NOTHING_UNDONE) }),
   command("time.toCursor", "time", (calls) => calls.runToCursor(), { keys: ["Ctrl+F10"], place: "source" }),
-  command("time.count", "time", (calls) => calls.enter("step-count", "history")),
-  command("time.untilChange", "time", (calls) => calls.enter("change-place", "history")),
+  command("time.count", "time", (calls) => calls.focusField("step-count", "history")),
+  command("time.untilChange", "time", (calls) => calls.focusField("change-place", "history")),
   buttonCommand("time.backToChange", "time", "back-change", "history"),
   command("time.reset", "time", (calls) => calls.sendLine("reset\n"), { icon: "reset" }),
   command("time.test", "time", (calls) => calls.toggleTestPin(), {
-    unavailableReason: (calls) => (calls.isOffered("test") ? "" : say.NO_TEST_PIN) }),
+    unavailableReason: (calls) => (calls.isButtonAvailable("test") ? "" : say.NO_TEST_PIN) }),
 ];
 
 /** @type {Command[]} */
 const PROJECT_COMMANDS = [
-  command("project.open", "project", (calls) => calls.open(), { icon: "open", keys: ["Ctrl+O"] }),
-  command("project.save", "project", (calls) => calls.save(), { icon: "save", keys: ["Ctrl+S"] }),
+  command("project.open", "project", (calls) => calls.openFile(), { icon: "open", keys: ["Ctrl+O"] }),
+  command("project.save", "project", (calls) => calls.saveProject(), { icon: "save", keys: ["Ctrl+S"] }),
   command("project.saveSession", "project", (calls) => calls.saveSession(), { icon: "file" }),
   command("project.export", "project", (calls) => calls.exportFiles(), { icon: "export" }),
   command("project.print", "project", (calls) => calls.print(), { icon: "print" }),
   command("project.all", "project", (calls) => calls.openProjects(), { icon: "projects" }),
   command("project.examples", "project", (calls) => calls.openExamples(), { icon: "examples" }),
-  command("project.rename", "project", (calls) => calls.enter("name", "")),
+  command("project.rename", "project", (calls) => calls.focusField("name", "")),
   command("project.share", "project", (calls) => calls.share(), { icon: "share" }),
 ];
 
@@ -163,7 +163,7 @@ const SHOW_COMMANDS = [
 /** @type {Command[]} */
 const BOARD_COMMANDS = [
   command("board.apply", "board", (calls) => calls.sendText("board"), { keys: ["Ctrl+Enter"], place: "board" }),
-  command("board.type", "board", (calls) => calls.toggle("typing")),
+  command("board.type", "board", (calls) => calls.toggleCheckBox("typing")),
   buttonCommand("board.sound", "board", "sound-button", "front", say.NO_BUZZER),
   buttonCommand("board.tear", "board", "clear-printout", "front", say.NO_PRINTER),
   buttonCommand("board.first", "board", "first-board", "front", say.HAS_BOARD),
@@ -191,7 +191,7 @@ const TEXT_COMMANDS = [
   textCommand("text.redo", "redo", ["Ctrl+Y"]),
   buttonCommand("text.smaller", "text", "text-smaller", ""),
   buttonCommand("text.larger", "text", "text-larger", ""),
-  command("text.wrap", "text", (calls) => calls.toggle("text-wrap")),
+  command("text.wrap", "text", (calls) => calls.toggleCheckBox("text-wrap")),
 ];
 
 /** @type {Command[]} */
@@ -204,12 +204,12 @@ const DEBUG_COMMANDS = [
   buttonCommand("debug.allOff", "debug", "breakpoints-off", "breakpoints", say.NO_BREAKPOINTS),
   buttonCommand("debug.hits", "debug", "breakpoints-hits", "breakpoints", say.NO_BREAKPOINTS),
   buttonCommand("debug.removeAll", "debug", "breakpoints-remove", "breakpoints", say.NO_BREAKPOINTS),
-  command("debug.watch", "debug", (calls) => calls.enter("watched-field", "watched")),
-  command("debug.heat", "debug", (calls) => calls.enter("heat", "memory")),
-  command("debug.console", "debug", (calls) => calls.enter("lines", "talk")),
-  command("debug.goTo", "debug", (calls) => calls.enter("go-to", "listing")),
+  command("debug.watch", "debug", (calls) => calls.focusField("watched-field", "watched")),
+  command("debug.heat", "debug", (calls) => calls.focusField("heat", "memory")),
+  command("debug.console", "debug", (calls) => calls.focusField("lines", "talk")),
+  command("debug.goTo", "debug", (calls) => calls.focusField("go-to", "listing")),
   buttonCommand("debug.there", "debug", "break-there", "listing"),
-  command("debug.follow", "debug", (calls) => calls.toggle("follow")),
+  command("debug.follow", "debug", (calls) => calls.toggleCheckBox("follow")),
 ];
 
 /** @type {Command[]} */
@@ -246,7 +246,7 @@ const waveCommand = (id, button) => buttonCommand(id, "waves", button, "waves", 
 /** @type {Command[]} */
 const WAVE_COMMANDS = [
   buttonCommand("waves.record", "waves", "record", "waves", "", { icon: "record" }),
-  command("waves.trigger", "waves", (calls) => calls.enter("trigger", "waves")),
+  command("waves.trigger", "waves", (calls) => calls.focusField("trigger", "waves")),
   waveCommand("waves.save", "save-waves"),
   waveCommand("waves.png", "save-png"),
   waveCommand("waves.svg", "save-svg"),
@@ -258,8 +258,8 @@ const WAVE_COMMANDS = [
   waveCommand("waves.a", "cursor-a"),
   waveCommand("waves.b", "cursor-b"),
   waveCommand("waves.instruction", "wave-go-to"),
-  command("waves.search", "waves", (calls) => calls.enter("wave-search", "waves"), {
-    unavailableReason: (calls) => (calls.isOffered("zoom-in") ? "" : say.NO_WAVES) }),
+  command("waves.search", "waves", (calls) => calls.focusField("wave-search", "waves"), {
+    unavailableReason: (calls) => (calls.isButtonAvailable("zoom-in") ? "" : say.NO_WAVES) }),
   waveCommand("waves.findBefore", "find-before"),
   waveCommand("waves.findAfter", "find-after"),
   buttonCommand("waves.changing", "waves", "waves-changing", "waves"),
@@ -276,9 +276,9 @@ const HELP_COMMANDS = [
 ];
 
 /**
- * Returns a command whose label is not in the table of labels, such as the command that shows a given panel.
+ * Returns a command whose label is not in the table of labels, such as the commands that show the panels.
  * @param {string} id
- * @param {string} label the label
+ * @param {string} label
  * @param {Command["group"]} group
  * @param {Command["act"]} action
  * @param {IconName} [icon]

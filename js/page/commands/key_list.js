@@ -10,7 +10,7 @@ import * as say from "../../words/page_commands.js";
  */
 
 /**
- * Returns a table row for each command with keys: its keys and its name.
+ * Returns a table row for each command with keys: its keys and its name, and where the keys work if not everywhere.
  * @returns {string[][]}
  */
 export function makeKeyRows() {

@@ -33,8 +33,8 @@ export function commandForKey(event) {
 /**
  * Listens to the keys that work everywhere. While a dialog is open, these keys trigger neither the command nor the browser's default
  * action.
- * @param {(command: Command) => void} action
- * @param {() => boolean} isBlocked
+ * @param {(command: Command) => void} action executes a command
+ * @param {() => boolean} isBlocked returns true while a dialog is open
  * @param {Pick<Window, "addEventListener">} target
  */
 export function listenToKeys(action, isBlocked, target = window) {

@@ -154,7 +154,7 @@ export class MenuView {
   }
 }
 
-/** A context menu. It opens at a given point in the window. */
+/** A context menu. It opens at a point in the window, for example at the pointer. */
 export class ContextMenu {
   /**
    * @param {string} id

@@ -14,8 +14,11 @@ export function splitQuery(query) {
 }
 
 /**
- * Returns an entry's rank, from best to worst: 0 if its label begins with the query; 1 if each query word begins a word of the label; 2 if
- * the label contains each query word; 3 if label, hint and keys together contain each query word. Returns -1 if the entry does not match.
+ * Returns an entry's rank, from best to worst, or -1 if the entry does not match:
+ * - 0: the entry was made for the query, or its label begins with the query;
+ * - 1: each query word begins a word of the label;
+ * - 2: the label contains each query word;
+ * - 3: label, hint and keys together contain each query word.
  * @param {Entry} entry
  * @param {string[]} queryWords
  */

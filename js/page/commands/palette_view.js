@@ -9,15 +9,15 @@ import * as say from "../../words/page_commands.js";
 /**
  * @typedef {import("./palette_search.js").Entry} Entry
  *
- * `commands` returns an entry for each command, `places` an entry for each destination, including a destination made for the query.
- * @typedef {{ commands: () => Entry[], places: (query: string) => Entry[] }} EntryProviders
+ * `commands` returns an entry for each command, `destinations` an entry for each destination, including a destination made for the query.
+ * @typedef {{ commands: () => Entry[], destinations: (query: string) => Entry[] }} EntryProviders
  */
 
 /** The first character of a query that searches commands. A query without this character searches destinations. */
 export const COMMAND_PREFIX = ">";
 /** The maximum number of entries that are drawn. */
 const MAX_DRAWN_ENTRIES = 500;
-/** The number of entries by which Page Up and Page Down move. */
+/** The number of entries that Page Up or Page Down moves the selection. */
 const PAGE_STEP = 8;
 
 export class PaletteView {
@@ -64,14 +64,14 @@ export class PaletteView {
     const title = searchesCommands ? say.PALETTE : say.GO_TO;
     this.dialog.setAttribute("aria-label", title);
     this.list.setAttribute("aria-label", title);
-    field.setAttribute("aria-label", searchesCommands ? say.TYPE_COMMAND : say.TYPE_PLACE);
-    field.placeholder = searchesCommands ? say.TYPE_COMMAND : say.TYPE_PLACE;
-    const allEntries = searchesCommands ? this.providers.commands() : this.providers.places(query.trim());
+    field.setAttribute("aria-label", searchesCommands ? say.TYPE_COMMAND : say.TYPE_DESTINATION);
+    field.placeholder = searchesCommands ? say.TYPE_COMMAND : say.TYPE_DESTINATION;
+    const allEntries = searchesCommands ? this.providers.commands() : this.providers.destinations(query.trim());
     this.entries = searchEntries(allEntries, query).slice(0, MAX_DRAWN_ENTRIES);
     this.list.replaceChildren(...this.entries.map((entry, index) => this.makeOption(entry, index)));
     const { length } = this.entries;
     const noMatchText = splitQuery(query).length > 0 && length === 0 ? say.noneHas(query.trim()) : "";
-    this.countStatus.textContent = noMatchText || (searchesCommands ? say.countOfCommands(length) : say.countOfPlaces(length));
+    this.countStatus.textContent = noMatchText || (searchesCommands ? say.countOfCommands(length) : say.countOfDestinations(length));
     if (noMatchText) this.list.append(element("li", { "role": "option", "aria-disabled": "true" }, noMatchText));
     this.choose(0);
   }

@@ -116,14 +116,14 @@ export class DrawingController {
     if (this.calls.isInFront()) this.reportFailure(this.drawing.refresh());
   }
 
-  /** Draws the picture again DRAW_DELAY milliseconds after the last edit of the text. */
+  /** Draws the picture again DRAW_DELAY milliseconds after the last edit, if the text has changed and the Wiring tab is in front. */
   handleEdit() {
     clearTimeout(this.drawTimer);
     this.drawTimer = window.setTimeout(() => this.drawing.text !== this.calls.text() && this.updateFromText(), DRAW_DELAY);
   }
 
-  /** Forgets the drawing, because another session has been opened. */
-  begin() {
+  /** Forgets the drawing, because another session has been opened. Loads the positions of the parts that were moved in that session. */
+  openSession() {
     this.drawing.reset();
     this.drawing.movedParts.load(this.storedPositions);
   }
@@ -138,8 +138,8 @@ export class DrawingController {
   }
 
   /**
-   * Adds a part from the shelf, with its title at `point` in the picture; null for the default position. If the new part becomes an element
-   * of an existing part, such as a lamp in a row of lamps, `point` is ignored.
+   * Adds a part from the shelf and focuses it. Its title is at `point` in the picture; if `point` is null, the part is at its default
+   * position. If the new part becomes an element of an existing part, such as a lamp in a row of lamps, `point` is ignored.
    * @param {import("../../core/drawing/drawing_actions.js").DrawingAction} action
    * @param {import("../../core/board/wiring.js").Point | null} point
    */

@@ -112,8 +112,8 @@ export class PictureInput {
       this.calls.handleDrop();
       return;
     }
-    const end = this.view.nameAt(document.elementFromPoint(event.clientX, event.clientY));
-    if (this.endPins.has(end)) this.calls.drawWire(heldItem.name, end);
+    const endPin = this.view.nameAt(document.elementFromPoint(event.clientX, event.clientY));
+    if (this.endPins.has(endPin)) this.calls.drawWire(heldItem.name, endPin);
     else this.calls.cancelAction();
   }
 

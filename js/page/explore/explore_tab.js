@@ -89,7 +89,7 @@ export class ExploreTab {
     this.exploreButton = new Cell(button("explore"));
     this.exploreButton.set(say.EXPLORE);
     onClick(button("clear-finds"), () => this.clear());
-    /** The number of known errors in the text. */
+    /** The number of errors in the text, as last reported by `showMark`. */
     this.errorCount = 0;
     this.proofs = this.makeProofs();
   }
@@ -120,7 +120,7 @@ export class ExploreTab {
     return this.resultsBySession.get(this.sessionId) || null;
   }
 
-  /** Checks the text. Called when a session has been opened, and when the tab comes to the front. */
+  /** Checks the text. Called when a session has been opened, and when the tab is brought to the front. */
   refresh() {
     this.textTab.refresh();
   }
@@ -138,18 +138,18 @@ export class ExploreTab {
    * Handles the opening of another session: stops the search and shows the earlier results of the opened session.
    * @param {string} sessionId the id of the opened session
    */
-  begin(sessionId) {
-    this.stop();
+  openSession(sessionId) {
+    this.stopSearch();
     this.sessionId = sessionId;
     this.view.clear();
     this.show();
-    this.proofs.begin(sessionId);
+    this.proofs.openSession(sessionId);
     this.textTab.offerFirstText();
   }
 
-  /** Clears the counterexamples and the verdicts. */
+  /** Stops the search, and clears the counterexamples and the verdicts. */
   clear() {
-    this.stop();
+    this.stopSearch();
     this.resultsBySession.delete(this.sessionId);
     this.view.clear();
     this.proofs.clear();
@@ -200,12 +200,12 @@ export class ExploreTab {
     return isRunning ? say.STARTING : "";
   }
 
-  stop() {
+  stopSearch() {
     if (this.controller) this.controller.abort();
   }
 
   exploreOrStop() {
-    if (this.controller) this.stop();
+    if (this.controller) this.stopSearch();
     else this.explore().catch(this.calls.reportFailure);
   }
 

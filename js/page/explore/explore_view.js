@@ -113,16 +113,16 @@ export class ExploreView {
   /**
    * @param {Report} report
    * @param {boolean} isRunning
-   * @param {boolean} isSearched true if the search has executed a step
+   * @param {boolean} isSearched true if the search is running or has executed a step
    */
   showCoverage(report, isRunning, isSearched) {
     const coverage = coverageOf(report);
     for (const { name, root, bar, label } of this.bars) {
       root.hidden = !isSearched;
-      const { part, whole, words } = coverage[name];
-      bar.max = Math.max(1, whole);
-      bar.value = part;
-      label.set(words);
+      const { count, total, text } = coverage[name];
+      bar.max = Math.max(1, total);
+      bar.value = count;
+      label.set(text);
     }
     // The list would change continuously during a search, so it is empty until the end.
     this.listNeverRunLines(isRunning || !isSearched ? [] : coverage.unexecutedLines);

@@ -20,7 +20,7 @@ import * as say from "../../words/help.js";
 /**
  * The callbacks through which the guide acts on the page.
  * @typedef {object} PageCalls
- * @property {(example: Example) => Promise<boolean>} begin Opens a new session from an example. Resolves to true if the session was
+ * @property {(example: Example) => Promise<boolean>} openExample Opens a new session from an example. Resolves to true if the session was
  *   created.
  * @property {() => void} showSource Brings the source to the front.
  * @property {() => string} program Returns the text of the source.
@@ -48,7 +48,7 @@ export class Guide {
       openHelp: (query) => this.help.open(query),
     });
     this.tour = new TourView({
-      begin: (example) => this.beginTour(example),
+      openExample: (example) => this.openTourExample(example),
       putProgram: (program) => this.putProgram(program),
       isProgramInSource: (program) => calls.program() === program,
       reveal: calls.reveal,
@@ -57,9 +57,12 @@ export class Guide {
     });
   }
 
-  /** @param {Example} example */
-  async beginTour(example) {
-    const hasOpened = await this.calls.begin(example);
+  /**
+   * Opens a new session from the tour's example, closes the help and shows the source. Resolves to true if the session was created.
+   * @param {Example} example
+   */
+  async openTourExample(example) {
+    const hasOpened = await this.calls.openExample(example);
     if (hasOpened) {
       this.help.close();
       this.calls.showSource();
@@ -68,7 +71,7 @@ export class Guide {
   }
 
   /**
-   * Opens an example's story next to the current session.
+   * Opens an example's story next to the current session, or reports that the example has no story.
    * @param {string} name the name of the example
    * @param {Example[]} examples
    */
@@ -79,7 +82,7 @@ export class Guide {
     else this.calls.showRefusal(say.noSuchStoryMessage(shortName(name)));
   }
 
-  /** Closes the story when another session is opened. */
+  /** Closes the story, if one is open. Called when another session is opened. */
   endStory() {
     if (this.tour.isOn && this.tour.isStory) this.tour.close();
   }

@@ -27,7 +27,7 @@ export class PointerRing {
     this.updatePosition();
   }
 
-  stop() {
+  hide() {
     clearInterval(this.timer);
     this.node.hidden = true;
   }

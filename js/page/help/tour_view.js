@@ -15,7 +15,7 @@ import * as say from "../../words/help.js";
 /**
  * The callbacks of the tour panel.
  * @typedef {object} TourCalls
- * @property {(example: Example) => Promise<boolean>} begin Opens a new session from an example. Resolves to true if the session was
+ * @property {(example: Example) => Promise<boolean>} openExample Opens a new session from an example. Resolves to true if the session was
  *   created.
  * @property {(program: string) => void} putProgram Puts a program into the source.
  * @property {(action: import("../../core/help/story.js").StoryAction) => Promise<string>} executeAction Executes the action of a story's
@@ -50,15 +50,15 @@ export class TourView {
     this.putButton = button("tour-put");
     this.nextButton = button("tour-next");
     this.ring = new PointerRing();
-    for (const name of ["tour-begin", "first-program", "hello-program"]) onClick(button(name), () => this.begin());
+    for (const name of ["tour-begin", "first-program", "hello-program"]) onClick(button(name), () => this.startTour());
     onClick(button("tour-close"), () => this.close());
     onClick(this.putButton, () => calls.putProgram(this.progress.step.program));
     onClick(this.nextButton, () => (this.isLastStep ? this.close() : this.show(this.progress.stepIndex + 1)));
     onClick(button("tour-back"), () => this.show(Math.max(0, this.progress.stepIndex - 1)));
   }
 
-  async begin() {
-    if (await this.calls.begin(TOUR_EXAMPLE)) this.open(TOUR);
+  async startTour() {
+    if (await this.calls.openExample(TOUR_EXAMPLE)) this.open(TOUR);
   }
 
   /** @param {TourStep[]} steps */
@@ -73,7 +73,7 @@ export class TourView {
   close() {
     this.isOn = false;
     this.root.hidden = true;
-    this.ring.stop();
+    this.ring.hide();
     this.calls.handleTourEnd();
   }
 
@@ -92,7 +92,7 @@ export class TourView {
     const { title, paragraphs, program } = this.progress.step;
     this.title.set(say.stepOf(index + 1, this.progress.steps.length, title));
     this.textBlock.replaceChildren(...paragraphs.map((paragraph) => (
-      element("p", {}, ...[paragraph].flat().map((part) => this.makeNode(part))))));
+      element("p", {}, ...[paragraph].flat().map((piece) => this.makeNode(piece))))));
     this.program.set(program);
     this.program.node.hidden = program === "";
     this.putButton.hidden = program === "";
@@ -102,13 +102,13 @@ export class TourView {
   }
 
   /**
-   * Scrolls the step's target into view and puts a ring around the element that the user needs next: first the button that inserts the
-   * program, then the target, then the button for the next step.
+   * Scrolls the step's target into view. Puts a ring around the element that the user needs next: first the button that inserts the
+   * program, then the target, then the button for the next step. Without a target, no ring is visible.
    */
   pointAtTarget() {
     const { program, target } = this.progress.step;
     if (!target) {
-      this.ring.stop();
+      this.ring.hide();
       return;
     }
     this.calls.reveal(target);
@@ -118,11 +118,11 @@ export class TourView {
     });
   }
 
-  /** @param {ParagraphPiece} part */
-  makeNode(part) {
-    if (typeof part === "string") return part;
-    const node = element("button", { type: "button", className: "place" }, part.linkText);
-    onClick(node, async () => this.status.set(await this.calls.executeAction(part.action)));
+  /** @param {ParagraphPiece} piece */
+  makeNode(piece) {
+    if (typeof piece === "string") return piece;
+    const node = element("button", { type: "button", className: "place" }, piece.linkText);
+    onClick(node, async () => this.status.set(await this.calls.executeAction(piece.action)));
     return node;
   }
 
@@ -147,10 +147,10 @@ export class TourView {
     this.showDone();
   }
 
-  /** @param {string} end the reason why the last run ended */
-  recordEnd(end) {
+  /** @param {string} endReason the reason why the last run ended */
+  recordEnd(endReason) {
     if (!this.isOn || this.progress.isDone) return;
-    this.progress.recordEnd(end);
+    this.progress.recordEnd(endReason);
     this.showDone();
   }
 }

@@ -36,7 +36,7 @@ import { stoppedAt } from "../../words/stops.js";
  *   session could not be saved, or "".
  * @property {(tally: Tally) => void} countHits Shows the hit counts and log messages of breakpoints.
  * @property {() => boolean} isRunning Returns true if time is running.
- * @property {() => void} forgetGoal Forgets the goal of the current run. Called after the bench was reset.
+ * @property {() => void} forgetGoal Forgets the goal of the current run. Called after the command `reset`.
  * @property {(stop: Stop) => string} describeStop Returns the message with the reason why a run stopped.
  * @property {(message: string) => void} showMessage Shows a message in the status line.
  * @property {(error: unknown) => void} reportFailure Reports an error that a call threw.
@@ -64,12 +64,12 @@ export class LineServer {
    */
   async serveLines(lines) {
     const result = await this.performWork(say.SENDING_LINES, (options) => this.bench.call("serve", [lines], options));
-    return result && result.first;
+    return result && result.firstAnswer;
   }
 
   /**
    * Replaces each `@NAME` in typed lines with the name's value, and sends the lines to the bench. Breakpoints stop a run that a line
-   * starts. Resolves to the first answer, or to null after a failure.
+   * starts. Resolves to the first answer, or to null after a failure or if a name is unknown.
    * @param {string} typedLines
    */
   async serveTyped(typedLines) {
@@ -86,7 +86,7 @@ export class LineServer {
     if (id !== 0 && !calls.isRunning()) {
       calls.showMessage(lineEnded(calls.describeStop({ reason: "break", id, cycles, endsAtReturn: false }), cutLine));
     }
-    return result.first;
+    return result.firstAnswer;
   }
 
   /**
@@ -124,6 +124,7 @@ export class LineServer {
 
   /**
    * Updates the status line after lines were executed: reports a reset, or the new program counter if it has changed while time is paused.
+   * After a reset, also forgets the goal of the run.
    * @param {string} previousCounter the program counter before the lines, as three hexadecimal digits
    * @param {ServedInput[]} entries
    */

@@ -21,11 +21,11 @@ const MAX_EXPLAINED_COMMANDS = 4;
 
 export class LinesView {
   /**
-   * @param {{ form: string, effect: string }[]} lines the forms of the bench's commands, with their explanations
+   * @param {{ form: string, effect: string }[]} commandForms the forms of the bench's commands, with their explanations
    * @param {LinesCalls} calls
    */
-  constructor(lines, calls) {
-    this.lines = lines;
+  constructor(commandForms, calls) {
+    this.commandForms = commandForms;
     this.calls = calls;
     this.textArea = byId("lines", HTMLTextAreaElement);
     this.hint = new Cell(block("lines-hint"));
@@ -77,7 +77,7 @@ export class LinesView {
   }
 
   /**
-   * Recalls the previous or the next line that was sent.
+   * Recalls the previous or the next line that was sent. After the last sent line, restores the draft.
    * @param {KeyboardEvent} event
    * @param {number} step -1 or 1
    */
@@ -98,14 +98,14 @@ export class LinesView {
 
   /** Completes the typed word if it begins exactly one command. */
   complete() {
-    const words = new Set(matchLines(this.lines, this.lastLine).map(({ form }) => form.split(" ")[0]));
+    const words = new Set(matchLines(this.commandForms, this.lastLine).map(({ form }) => form.split(" ")[0]));
     const [word] = words;
     if (words.size !== 1 || this.lastLine.includes(" ")) return;
     this.text = `${this.text.slice(0, this.text.lastIndexOf("\n") + 1)}${word} `;
   }
 
   showHint() {
-    const matches = matchLines(this.lines, this.lastLine);
+    const matches = matchLines(this.commandForms, this.lastLine);
     const shownForms = matches.slice(0, MAX_EXPLAINED_COMMANDS).map(({ form, effect }) => `${form}: ${effect}`);
     if (matches.length > MAX_EXPLAINED_COMMANDS) shownForms.push(matches.slice(MAX_EXPLAINED_COMMANDS).map(({ form }) => form).join(", "));
     this.hint.set(shownForms.length > 0 ? shownForms.join("\n") : say.LINES_HINT);

@@ -16,12 +16,12 @@ import * as say from "../../words/machine.js";
  * The callbacks of the breakpoint form.
  * @typedef {object} BreakpointFormCalls
  * @property {(id: number, changes: BreakpointTexts) => void} change Changes the breakpoint with this id, and sends the change to the bench.
- * @property {(id: number, changes: BreakpointTexts) => void} type Shows the typed texts in the breakpoint's mark and list entry, but does
- *   not send them to the bench.
+ * @property {(id: number, changes: BreakpointTexts) => void} showTypedTexts Shows the typed texts in the breakpoint's mark and list
+ *   entry, but does not send them to the bench.
  * @property {() => Promise<void>} waitForChanges Resolves when the bench has received all changes.
  * @property {(breakpoint: Breakpoint, node: HTMLElement) => void} placeForm Puts the form below the breakpoint's source line, or into the
  *   list of breakpoints if the breakpoint has no line.
- * @property {(action: () => void) => void} callWhenPlaced Calls `action` as soon as the form is in the page and can receive the focus.
+ * @property {(action: () => void) => void} callWhenPlaced Calls `action` when the form is in the page and can receive the focus.
  * @property {(node: HTMLElement) => void} removeForm Removes the form.
  * @property {(breakpoint: Breakpoint) => void} returnFocus Moves the focus back to the breakpoint's line or list entry.
  */
@@ -68,7 +68,7 @@ export class BreakpointForm {
     });
     node.addEventListener("input", () => {
       const changes = this.readFields();
-      if (this.originalBreakpoint && changes) this.calls.type(this.originalBreakpoint.id, changes);
+      if (this.originalBreakpoint && changes) this.calls.showTypedTexts(this.originalBreakpoint.id, changes);
     });
     node.addEventListener("keydown", (event) => {
       if (event.key !== "Escape") return;
@@ -83,7 +83,8 @@ export class BreakpointForm {
   }
 
   /**
-   * Opens the form for a breakpoint, with the caret in one of its fields.
+   * Opens the form for a breakpoint, with the caret in one of its fields. If the form is open for another breakpoint, first applies its
+   * fields.
    * @param {Breakpoint} breakpoint
    * @param {string} error the error in the breakpoint's texts; "" if there is none
    * @param {BreakpointField} fieldName the field that receives the caret
@@ -108,7 +109,7 @@ export class BreakpointForm {
   }
 
   /**
-   * Updates the form after the list of breakpoints has changed.
+   * Updates the form after the list of breakpoints has changed. Closes the form if its breakpoint was removed.
    * @param {(id: number) => Breakpoint | undefined} find returns the breakpoint with an id, or undefined if it was removed
    * @param {Map<number, string>} errors the error of each breakpoint that has an error, by breakpoint id
    */
@@ -130,7 +131,7 @@ export class BreakpointForm {
   }
 
   /**
-   * Returns the contents of the fields, or null if the hit count is not a valid number.
+   * Returns the contents of the fields, or null if the hit count is not a valid number. Marks an invalid hit count.
    * @returns {BreakpointTexts | null}
    */
   readFields() {
@@ -140,14 +141,17 @@ export class BreakpointForm {
     return hitCount < 1 ? null : { condition: condition.value.trim(), from: hitCount, note: note.value.trim() };
   }
 
-  /** Applies the contents of the fields. Returns false if the hit count is not a valid number. */
+  /**
+   * Applies the contents of the fields. Returns false if the form is closed or the hit count is not a valid number; nothing is then
+   * applied.
+   */
   applyFields() {
     const changes = this.originalBreakpoint && this.readFields();
     if (this.originalBreakpoint && changes) this.calls.change(this.originalBreakpoint.id, changes);
     return changes !== null;
   }
 
-  /** Applies the contents of the fields. Closes the form if the condition has no error. */
+  /** Applies the contents of the fields. Closes the form if neither the condition nor the log message has an error. */
   async apply() {
     const { originalBreakpoint } = this;
     if (!originalBreakpoint || !this.applyFields()) return;
@@ -155,7 +159,7 @@ export class BreakpointForm {
     if (this.originalBreakpoint === originalBreakpoint && this.status.text === "") this.finish(originalBreakpoint);
   }
 
-  /** Restores the breakpoint as it was before the edits, and closes the form. */
+  /** Restores the breakpoint's texts and hit count from before the edits, and closes the form. */
   cancel() {
     const { originalBreakpoint } = this;
     if (!originalBreakpoint) return;
@@ -173,7 +177,7 @@ export class BreakpointForm {
     this.calls.removeForm(this.node);
   }
 
-  /** Removes the form. */
+  /** Removes the form without applying its fields. */
   close() {
     if (!this.originalBreakpoint) return;
     this.originalBreakpoint = null;

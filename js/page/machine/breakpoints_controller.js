@@ -68,12 +68,12 @@ export class BreakpointsController {
   makeManager() {
     const { calls } = this;
     return new BreakpointManager({
-      set: (locatedBreakpoints) => this.sendBreakpoints(locatedBreakpoints),
-      changed: () => this.show(),
-      counted: () => this.view.showHits(this.manager),
-      listEdited: calls.saveSession,
+      setBreakpoints: (locatedBreakpoints) => this.sendBreakpoints(locatedBreakpoints),
+      handleChange: () => this.show(),
+      handleNewHits: () => this.view.showHits(this.manager),
+      saveList: calls.saveSession,
       showMessage: calls.showMessage,
-      failed: calls.reportFailure,
+      reportFailure: calls.reportFailure,
     });
   }
 
@@ -97,7 +97,7 @@ export class BreakpointsController {
     const { calls } = this;
     return new BreakpointForm({
       change: (id, changes) => this.manager.change(id, changes),
-      type: (id, changes) => this.manager.saveTypedEdit(id, changes),
+      showTypedTexts: (id, changes) => this.manager.saveTypedEdit(id, changes),
       waitForChanges: () => this.manager.allSent,
       placeForm: ({ id, line }, node) => {
         calls.showBelow(line, line > 0 ? node : null);
@@ -180,7 +180,7 @@ export class BreakpointsController {
   /** @param {SessionRecord} record the record of the session to show */
   open(record) {
     this.form.close();
-    this.view.forget();
+    this.view.clearLog();
     this.manager.watchTexts = record.watched || [];
     this.manager.open(record.id, record.breakpoints);
   }
@@ -212,7 +212,7 @@ export class BreakpointsController {
     await this.manager.allSent;
   }
 
-  /** @param {Tally} tally the hit counts and log messages since the last frame */
+  /** @param {Tally} tally the new hit counts and log messages */
   count(tally) {
     this.manager.count(tally);
     this.view.log(tally, this.manager);

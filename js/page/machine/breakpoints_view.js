@@ -1,4 +1,5 @@
-// The list of breakpoints and the log below it. An entry has an enable switch, a location, an action and a hit count.
+// The list of breakpoints and the log below it. An entry has a check box that enables the breakpoint, the breakpoint's mark, location and
+// hit count, and buttons that edit and remove it. Below are the breakpoint's condition and log message, and its error.
 
 import { formatCycles } from "../../core/time/cycles.js";
 import { addressWithName, lineReference } from "../../words/stops.js";
@@ -33,7 +34,8 @@ import * as say from "../../words/machine.js";
  */
 
 /**
- * Returns the location of a breakpoint as text.
+ * Returns a breakpoint's location as text: its address and name if there is a source map, otherwise its source line. A breakpoint with
+ * neither a map nor a line is shown with its address.
  * @param {Breakpoint} breakpoint
  * @param {SourceMap | null} map
  */
@@ -129,7 +131,8 @@ export class BreakpointsView {
   }
 
   /**
-   * Appends the log messages of breakpoints to the log.
+   * Appends the log messages of breakpoints to the log, and says how many messages were omitted. Removes the oldest messages beyond
+   * MAX_NOTES.
    * @param {Tally} tally
    * @param {ShownManager} manager
    */
@@ -164,7 +167,7 @@ export class BreakpointsView {
   }
 
   /** Clears the log, because another session has been opened. */
-  forget() {
+  clearLog() {
     this.notes.replaceChildren();
     this.notes.hidden = true;
   }

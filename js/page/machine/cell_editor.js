@@ -20,7 +20,7 @@ import * as say from "../../words/machine.js";
 
 
 /**
- * Returns a typed value in the syntax of the `poke` command, or "" if the text is not a hexadecimal number.
+ * Returns a typed value in the syntax of the `poke` command, or "" if the text is not a hexadecimal number of at most 8 digits.
  * @param {string} text
  */
 export function parseHexValue(text) {

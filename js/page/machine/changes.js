@@ -43,7 +43,7 @@ export class Changes {
   }
 
   /** Forgets all cells, because the page is about to replace them. */
-  forget() {
+  forgetCells() {
     this.clear();
     this.textsAtPause.clear();
   }

@@ -1,7 +1,7 @@
 // The field for an address to show in the disassembly, and the button that sets or removes a breakpoint at this address.
 
 import { Cell, block, button, byId, element, field, onClick } from "../ui/dom.js";
-import { parseGoal } from "../../core/machine/go_to_target.js";
+import { parseGoToTarget } from "../../core/machine/go_to_target.js";
 
 /**
  * @typedef {import("../../core/machine/source_map.js").SourceMap} SourceMap
@@ -39,9 +39,12 @@ export class GoToView {
     this.nameList.replaceChildren(...names.map((name) => element("option", { value: name })));
   }
 
-  /** Shows the typed address in the disassembly. Returns the address, or null if the typed text is not an address. */
+  /**
+   * Shows the typed address in the disassembly. Returns the address. If the typed text is not an address or a name, shows a message and
+   * returns null.
+   */
   goToTypedAddress() {
-    const { address, message } = parseGoal(this.field.value, this.map);
+    const { address, message } = parseGoToTarget(this.field.value, this.map);
     this.status.set(message);
     this.field.setAttribute("aria-invalid", String(message !== ""));
     if (message !== "") return null;

@@ -24,15 +24,15 @@ import * as say from "../../words/machine.js";
  * @property {() => boolean} isRunning Returns true if time is running.
  * @property {(cycles: number, signal: AbortSignal) => Promise<Heat | null>} countChanges Counts the changes in the last `cycles` cycles.
  *   Resolves to null if `signal` is aborted or if the count fails. A failure has already been reported.
- * @property {(isOn: boolean) => void} setWatch Starts or stops the bench's reports of RAM changes.
- * @property {(heatByPlace: Map<string, CellHeat>) => void} showCells Shows the heat of cells. `heatByPlace` has the heat of each cell by
- *   the cell's location. Cells that are not in the map have no colour.
+ * @property {(isOn: boolean) => void} setReporting Starts or stops the bench's reports of RAM changes.
+ * @property {(heatByPlace: Map<string, CellHeat>) => void} showCells Colours the cells. `heatByPlace` has the colour and the text of each
+ *   cell, by the cell's location. Cells that are not in the map have no colour.
  * @property {(place: string) => string} describePlace Returns the name of the cell at location `place`, or a description if the cell has
  *   no name.
  * @property {() => SourceMap | null} map Returns the source map of the program in ROM, or null if ROM does not match the source.
  */
 
-/** The delay in milliseconds between the user's last input and the count of changes, while time is paused. */
+/** The delay in milliseconds before changes are counted, after the user's last input or the last snapshot, while time is paused. */
 const COUNT_DELAY_MS = 300;
 /** The maximum number of cycles over which changes are counted. */
 const MAX_CYCLES = 10000000;
@@ -73,7 +73,7 @@ export class HeatView {
     this.preferences.set("heat-cycles", this.cyclesField.value);
     this.showCyclesField();
     this.clear();
-    this.updateWatch();
+    this.updateReporting();
     if (this.kindSelect.value !== "") this.readCycles();
     this.isStale = true;
     this.restartTimer();
@@ -94,8 +94,8 @@ export class HeatView {
    * Switches the bench's reports of RAM changes on if a heat map is selected, otherwise off. Called when the selection or the board
    * changes.
    */
-  updateWatch() {
-    this.calls.setWatch(this.kindSelect.value !== "");
+  updateReporting() {
+    this.calls.setReporting(this.kindSelect.value !== "");
   }
 
   showCyclesField() {
@@ -104,20 +104,20 @@ export class HeatView {
 
   /**
    * Updates the heat map with a frame that the worker has reported while time is running.
-   * @param {{ warmed: ChipHeat | null, cycles: number }} frame
+   * @param {{ chipHeat: ChipHeat | null, cycles: number }} frame
    */
-  handleFrame({ warmed, cycles }) {
+  handleFrame({ chipHeat, cycles }) {
     if (this.kindSelect.value === "") return;
     // The message about the recorded past does not apply while time is running. A board without RAM has no other message.
-    if (!warmed) this.showStatus("");
+    if (!chipHeat) this.showStatus("");
     const maxCycles = parseCount(this.cyclesField.value, MAX_CYCLES);
-    if (!warmed || maxCycles === 0) return;
-    this.recentHeat.add(warmed, cycles, maxCycles);
+    if (!chipHeat || maxCycles === 0) return;
+    this.recentHeat.add(chipHeat, cycles, maxCycles);
     if (performance.now() - this.lastDrawTime < DRAW_INTERVAL) return;
     this.lastDrawTime = performance.now();
     this.heat = null;
     this.showCells(this.recentHeat.heat, describeChangesWhileRunning);
-    this.showStatus(describeHeatStatus(warmed, warmed.cycles >= cycles));
+    this.showStatus(describeHeatStatus(chipHeat, chipHeat.cycles >= cycles));
   }
 
   /** Marks the heat map as out of date after a new snapshot. */

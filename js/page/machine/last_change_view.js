@@ -14,7 +14,7 @@ import { putBelow } from "../ui/popup_message.js";
  * @property {() => boolean} isRunning Returns true if time is running. The tooltip appears only while time is paused.
  * @property {(editableCell: EditableCell, signal: AbortSignal) => Promise<string>} describeLastChange Resolves to a text about the last
  *   change of a cell, or to "" if `signal` is aborted or the search fails.
- * @property {(cell: HTMLElement) => EditableCell | undefined} editableCellAt Returns the location whose value the element `cell` shows, or
+ * @property {(cell: HTMLElement) => EditableCell | undefined} editableCellAt Returns the editable cell that the element `cell` shows, or
  *   undefined if the element shows no editable value.
  */
 

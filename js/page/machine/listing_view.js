@@ -79,10 +79,10 @@ export class ListingView {
     });
   }
 
-  /** Reads the lines again from the same address. */
+  /** Reads the lines again, from the same address or around the program counter if the disassembly follows it. */
   rereadLines() {
     if (!this.followsCounter && this.lines.length > 0) this.firstAddress = this.lines[0].address;
-    this.forget();
+    this.discardLines();
     this.requestUpdate();
   }
 
@@ -103,14 +103,14 @@ export class ListingView {
   }
 
   /**
-   * Shows the disassembly from an address. If the disassembly followed the counter, it will follow again when the counter changes, unless
-   * time is running fast.
+   * Makes the disassembly begin at an address when `show` is next called. If the disassembly followed the counter, it will follow again
+   * when the counter changes, unless time is running fast.
    * @param {number} address
    */
   goTo(address) {
     if (this.followsCounter && !this.isFast) this.counterAtLeave = this.counter;
     this.fixFirstAddress(address);
-    this.forget();
+    this.discardLines();
   }
 
   /** @param {SourceMap | null} map */
@@ -120,8 +120,8 @@ export class ListingView {
     this.setLines(this.lines);
   }
 
-  /** Discards all lines, because the contents of ROM may have changed. */
-  forget() {
+  /** Discards all lines, and the lines that are being read. `show` then reads them again. */
+  discardLines() {
     this.setLines([]);
     this.requestCount += 1;
   }
@@ -137,7 +137,7 @@ export class ListingView {
   }
 
   /**
-   * Shows the line of the program counter. Reads other lines if needed.
+   * Shows the disassembly and marks the line of the program counter. Reads other lines if needed.
    * @param {boolean} isFast true if time is running too fast for the disassembly to follow each instruction
    */
   async show(isFast) {
@@ -159,8 +159,9 @@ export class ListingView {
   }
 
   /**
-   * Returns true if other lines must be read. A disassembly that does not follow the counter is read again only if the counter points
-   * to the second byte of a line, and not while time is running fast.
+   * Returns true if other lines must be read. A disassembly that follows the counter is read again if the counter is not visible; while
+   * time is running fast, at most once in FOLLOW_INTERVAL. A disassembly that does not follow the counter is read again only if the counter
+   * points to the second byte of a line, and not while time is running fast.
    * @param {boolean} isFast
    */
   mustReadLines(isFast) {
@@ -170,7 +171,8 @@ export class ListingView {
   }
 
   /**
-   * Returns true if the visible lines include the program counter's line and some lines around it.
+   * Returns true if the visible lines include the program counter's line, one line before it and three lines after it. At the start and the
+   * end of ROM, fewer lines are enough.
    * @param {number} counter
    */
   isCounterVisible(counter) {

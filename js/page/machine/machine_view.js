@@ -49,14 +49,14 @@ export class RegistersView {
     /** @type {Map<string, Cell>} */
     this.cells = new Map();
     const registerNames = indices(16).map((number) => `R${number}`);
-    block("registers").append(this.group(["acc", "cy", "pc", "dcl", "owed"]), this.group(registerNames, "cells of-eight"));
+    block("registers").append(this.makeGroup(["acc", "cy", "pc", "dcl", "owed"]), this.makeGroup(registerNames, "cells of-eight"));
   }
 
   /**
    * @param {string[]} names
    * @param {string} className
    */
-  group(names, className = "cells") {
+  makeGroup(names, className = "cells") {
     const group = element("dl", { className }, ...names.map((name) => {
       const title = element("dt", { id: `name-${name}`, title: this.explain(name) }, name);
       const value = element("button", { type: "button", id: `value-${name}` });
@@ -182,7 +182,7 @@ export class PortsView {
       if (chain.shownBits === bits) return;
       chain.shownBits = bits;
       chain.bits.forEach((cell, bit) => cell.set(bits[bit]));
-      chain.oneSwitches.forEach((one, bit) => one.set(bits[bit] === "1"));
+      chain.oneSwitches.forEach((oneSwitch, bit) => oneSwitch.set(bits[bit] === "1"));
     });
   }
 }

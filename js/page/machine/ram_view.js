@@ -1,4 +1,5 @@
-// The board's RAM as a table for each bank. A click on a nibble sets or clears a watch on this nibble. Nibbles can be edited in place.
+// The board's RAM as a table for each bank. All nibbles can be edited in place. A click on a nibble of main memory sets or clears a watch
+// on this nibble. Status characters cannot be watched.
 
 import { Cell, block, byId, element, makeFirstTabStop, makeOneTabStop, pressedSwitch } from "../ui/dom.js";
 import { hex, indices } from "../../core/bench/numbers.js";
@@ -13,7 +14,7 @@ import * as say from "../../words/machine.js";
  * @typedef {import("./heat_view.js").CellHeat} CellHeat
  * @typedef {import("../ui/dom.js").Switch} Switch
  * @typedef {{ bank: number, chip: number, register: number }} Register the location of a register
- * @typedef {{ characters: Cell[], status: Cell[], names: HTMLElement, shownText: string }} ShownRegister
+ * @typedef {{ nibbles: Cell[], statusCells: Cell[], names: HTMLElement, shownText: string }} ShownRegister
  */
 
 /** @param {Register} register */
@@ -22,7 +23,7 @@ function describeRegister({ bank, chip, register }) {
 }
 
 /**
- * Returns the labels of a register's named nibbles: the number of the nibble, then its name.
+ * Returns the labels of a register's named nibbles, for example `A total`, and of its named status characters, for example `status 1 sign`.
  * @param {string} register the register as `bank.chip.register`
  * @param {ReadonlyMap<string, string[]>} names
  */
@@ -62,10 +63,10 @@ export class RamView {
     /** @type {Map<string, ShownRegister>} the registers, by `bank.chip.register` */
     this.registers = new Map();
     /** @type {Map<string, { node: HTMLElement, title: string }>} the nibbles, by their locations as the `poke` command names them */
-    this.characters = new Map();
+    this.nibbles = new Map();
     /** @type {ReadonlyMap<string, string[]>} the names of nibbles, by the nibble's location */
     this.names = new Map();
-    /** @type {ReadonlyMap<string, CellHeat>} the heat of the nibbles that changed recently, by the nibble's location */
+    /** @type {ReadonlyMap<string, CellHeat>} the nibbles that the heat map colours, by the nibble's location */
     this.heatByPlace = new Map();
     /** @type {Map<string, Cell>} the value of each chip's output port, by `bank.chip` */
     this.ports = new Map();
@@ -84,7 +85,7 @@ export class RamView {
   draw(board) {
     this.watchSwitches.clear();
     this.registers.clear();
-    this.characters.clear();
+    this.nibbles.clear();
     this.ports.clear();
     this.heatByPlace = new Map();
     this.tables = board.banks.map((bank) => this.drawBank(bank));
@@ -120,11 +121,11 @@ export class RamView {
   /** @param {Register} location */
   drawRegister(location) {
     const { bank, chip, register } = location;
-    const characters = indices(NIBBLES_PER_REGISTER).map((character) => this.drawCharacter(location, character));
-    const status = indices(STATUS_CHARACTERS_PER_REGISTER).map((character) => this.drawStatus(location, character));
+    const nibbles = indices(NIBBLES_PER_REGISTER).map((index) => this.drawNibble(location, index));
+    const statusCells = indices(STATUS_CHARACTERS_PER_REGISTER).map((index) => this.drawStatus(location, index));
     const names = element("small", { className: "cell-names", hidden: true });
-    this.registers.set(`${bank}.${chip}.${register}`, { characters, status, names, shownText: "" });
-    const groups = [characters.slice(0, NIBBLES_PER_GROUP), characters.slice(NIBBLES_PER_GROUP), status].map(makeNibbleGroup);
+    this.registers.set(`${bank}.${chip}.${register}`, { nibbles, statusCells, names, shownText: "" });
+    const groups = [nibbles.slice(0, NIBBLES_PER_GROUP), nibbles.slice(NIBBLES_PER_GROUP), statusCells].map(makeNibbleGroup);
     const cells = [element("td", {}, ...groups.slice(0, 2), names), element("td", {}, groups[2])];
     if (register === 0) cells[1].append(this.drawPort(bank, chip));
     return element("tr", {}, element("th", { scope: "row", title: describeRegister(location) }, `${chip}.${register}`), ...cells);
@@ -132,12 +133,12 @@ export class RamView {
 
   /**
    * @param {Register} location
-   * @param {number} character
+   * @param {number} index the index of the nibble in its register
    */
-  drawCharacter(location, character) {
+  drawNibble(location, index) {
     const { bank } = location;
-    const srcByte = location.chip * 64 + location.register * 16 + character;
-    const button = element("button", { type: "button", title: say.characterTitle(describeRegister(location), character, hex(srcByte, 2)) });
+    const srcByte = location.chip * 64 + location.register * 16 + index;
+    const button = element("button", { type: "button", title: say.characterTitle(describeRegister(location), index, hex(srcByte, 2)) });
     const watchSwitch = pressedSwitch(button);
     this.watchSwitches.set(`${bank}.${hex(srcByte, 2)}`, watchSwitch);
     this.makeEditable(`ram.${bank}.0x${hex(srcByte, 2)}`, button);
@@ -154,12 +155,12 @@ export class RamView {
 
   /**
    * @param {Register} location
-   * @param {number} character
+   * @param {number} index the index of the status character in its register
    */
-  drawStatus(location, character) {
-    const title = say.statusTitle(describeRegister(location), character);
+  drawStatus(location, index) {
+    const title = say.statusTitle(describeRegister(location), index);
     const button = element("button", { type: "button", className: "status", title });
-    const place = `st.${location.bank}.${location.chip * 4 + location.register}.${character}`;
+    const place = `st.${location.bank}.${location.chip * 4 + location.register}.${index}`;
     this.makeEditable(place, button);
     return new Cell(button);
   }
@@ -171,7 +172,7 @@ export class RamView {
    */
   makeEditable(place, node) {
     this.editor.makeEditable(node, { place, name: node.title, digits: 1 });
-    this.characters.set(place, { node, title: node.title });
+    this.nibbles.set(place, { node, title: node.title });
   }
 
   /**
@@ -191,8 +192,8 @@ export class RamView {
       const register = this.registers.get(name);
       if (!register || register.shownText === characters + status) continue;
       register.shownText = characters + status;
-      register.characters.forEach((cell, index) => this.changes.set(cell, characters[index]));
-      register.status.forEach((cell, index) => this.changes.set(cell, status[index]));
+      register.nibbles.forEach((cell, index) => this.changes.set(cell, characters[index]));
+      register.statusCells.forEach((cell, index) => this.changes.set(cell, status[index]));
     }
     for (const [name, value] of ram.ports) {
       const port = this.ports.get(name);
@@ -206,26 +207,26 @@ export class RamView {
    */
   describePlace(place) {
     const [name] = this.names.get(place) || [];
-    const nibble = this.characters.get(place);
+    const nibble = this.nibbles.get(place);
     return name || (nibble ? nibble.title : place);
   }
 
   /** @param {ReadonlyMap<string, string[]>} names the names of nibbles, by the nibble's location */
   showNames(names) {
     this.names = names;
-    for (const place of this.characters.keys()) this.updateTitle(place);
+    for (const place of this.nibbles.keys()) this.updateTitle(place);
     for (const [name, { names: namesLine }] of this.registers) {
       namesLine.textContent = makeNibbleLabels(name, names).join("  ");
       namesLine.hidden = namesLine.textContent === "";
     }
   }
 
-  /** @param {ReadonlyMap<string, CellHeat>} heatByPlace the heat of the nibbles that changed recently, by the nibble's location */
+  /** @param {ReadonlyMap<string, CellHeat>} heatByPlace the nibbles that the heat map colours, by the nibble's location */
   showHeat(heatByPlace) {
     const oldHeat = this.heatByPlace;
     this.heatByPlace = heatByPlace;
     for (const place of new Set([...oldHeat.keys(), ...heatByPlace.keys()])) {
-      const nibble = this.characters.get(place);
+      const nibble = this.nibbles.get(place);
       if (!nibble) continue;
       const { warmth } = heatByPlace.get(place) || { warmth: 0 };
       if (warmth > 0) nibble.node.dataset.warmth = String(warmth);
@@ -235,11 +236,11 @@ export class RamView {
   }
 
   /**
-   * Sets a RAM nibble's tooltip: its name, its description and its last change.
+   * Sets a RAM nibble's tooltip: its names, its description, and the heat map's text about its changes.
    * @param {string} place the nibble's location as the `poke` command names it
    */
   updateTitle(place) {
-    const nibble = this.characters.get(place);
+    const nibble = this.nibbles.get(place);
     if (!nibble) return;
     const names = this.names.get(place) || [];
     const { changeText } = this.heatByPlace.get(place) || { changeText: "" };

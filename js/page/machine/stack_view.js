@@ -14,7 +14,7 @@ import * as say from "../../words/machine.js";
  * @typedef {{ button: HTMLButtonElement, value: Cell, note: Cell, liveSwitch: Switch }} Row `liveSwitch`: off if the address is stale
  */
 
-/** The column range of the first ROM byte in a line of the bench's answer to `list`. */
+/** The columns of the first ROM byte in a line of the bench's answer to `list`. The end is exclusive. */
 const FIRST_BYTE_COLUMN = 4;
 const FIRST_BYTE_END_COLUMN = 6;
 
@@ -62,7 +62,8 @@ export class StackView {
   }
 
   /**
-   * Returns the address that a click on a row shows: the program counter, or the address of the call that pushed the return address.
+   * Returns the address that a click on a row shows: the program counter, or the address of the call that pushed the return address. For a
+   * stale return address, returns that address itself.
    * @param {number} index
    */
   rowAddress(index) {
@@ -78,7 +79,7 @@ export class StackView {
   }
 
   /** Makes the next call of `explain` read ROM again, because the contents of ROM may have changed. */
-  forget() {
+  invalidateNotes() {
     this.describedAddresses = "";
   }
 

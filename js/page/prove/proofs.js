@@ -72,7 +72,7 @@ export class Proofs {
    * Handles the opening of another session: cancels the proof and shows the earlier results of the opened session.
    * @param {string} sessionId the id of the opened session
    */
-  begin(sessionId) {
+  openSession(sessionId) {
     this.cancel();
     this.sessionId = sessionId;
     this.view.clear();
@@ -105,17 +105,17 @@ export class Proofs {
 
   /** True if no property has a counterexample, and no goal is proved unreachable. Only current verdicts count. */
   get isGood() {
-    return this.currentVerdicts.every((judged) => judged.verdict.kind === "open" || isDesiredVerdict(judged));
+    return this.currentVerdicts.every((propertyVerdict) => propertyVerdict.verdict.kind === "open" || isDesiredVerdict(propertyVerdict));
   }
 
   /**
    * Returns a function that returns true if a verdict is about the current texts.
    * @param {ProofResults} currentResults
-   * @returns {(judged: PropertyVerdict) => boolean}
+   * @returns {(propertyVerdict: PropertyVerdict) => boolean}
    */
   currentVerdictFilter(currentResults) {
     const currentTexts = this.calls.texts();
-    return (judged) => isStillValid(judged, currentResults.texts, currentTexts);
+    return (propertyVerdict) => isStillValid(propertyVerdict, currentResults.texts, currentTexts);
   }
 
   show() {

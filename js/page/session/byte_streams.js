@@ -12,7 +12,7 @@ export function makeStream(name) {
   try {
     return typeof Stream === "function" ? new Stream("deflate-raw") : null;
   } catch {
-    // The browser has CompressionStream but not deflate-raw.
+    // The browser has this stream, but not for deflate-raw.
     return null;
   }
 }

@@ -23,7 +23,7 @@ import * as say from "../../words/session.js";
 /**
  * The callbacks of CurrentSession.
  * @typedef {object} CurrentCalls
- * @property {(record: SessionRecord) => void} begin Shows the texts and the settings of another session, which are in the session's
+ * @property {(record: SessionRecord) => void} showSession Shows the texts and the settings of another session, which are in the session's
  *   record.
  * @property {(state: PageState) => void} show Shows the current state of the session.
  * @property {() => Promise<void>} checkSource Compares the source with ROM. Resolves when the page shows the program's names.
@@ -59,7 +59,7 @@ export class CurrentSession {
     this.session = null;
     /** The time of the last save, in milliseconds. */
     this.lastSaveTime = 0;
-    /** True while the page opens a session in which time will resume. Until then, no source line is marked as the next to execute. */
+    /** True while the page opens a session in which time will resume. Meanwhile, no source line is marked as the next to execute. */
     this.willRun = false;
   }
 
@@ -71,13 +71,13 @@ export class CurrentSession {
    */
   async replaceSession(record, release, example) {
     const { bench, store, calls } = this;
-    await bench.call("settled", [record.file]);
+    await bench.call("settleFile", [record.file]);
     const oldSession = this.session;
     if (oldSession) await this.leaveSession();
     const state = await this.open(record);
     if (oldSession) oldSession.release();
     this.session = new OpenSession(store, record, release, example);
-    calls.begin(record);
+    calls.showSession(record);
     calls.show(state);
     this.showName();
     const { goal, runs } = record;

@@ -20,7 +20,7 @@ export function getDroppedFolders(data) {
 }
 
 /**
- * Resolves to all entries of a folder. The browser returns them in batches.
+ * Resolves to the entries of a folder, which the browser returns in batches. Reads no more batches after MAX_FILES entries.
  * @param {FileSystemDirectoryEntry} folder
  * @returns {Promise<FileSystemEntry[]>}
  */
@@ -37,7 +37,8 @@ async function readEntries(folder) {
 }
 
 /**
- * Adds the files of a folder and of its subfolders to `files`. The keys are the paths.
+ * Adds the files of a folder and of its subfolders to `files`. The keys are the paths. Skips subfolders below MAX_DEPTH and subfolders
+ * whose names begin with a dot. Stops at MAX_FILES files.
  * @param {FileSystemDirectoryEntry} folder
  * @param {string} pathPrefix the folder's path in the dropped folder, with a trailing slash
  * @param {Map<string, File>} files

@@ -26,7 +26,7 @@ async function readBytes(file, limit) {
 }
 
 /**
- * Resolves to the text in the folder's file at `path`, or to "" if `path` is empty.
+ * Resolves to the text in the folder's file at `path`, or to "" if there is no such file. Rejects if the file is not a text of this kind.
  * @param {Map<string, File>} files
  * @param {string} path
  * @param {"board" | "program" | "tests" | "properties"} kind

@@ -12,7 +12,7 @@ import { svgElement } from "../ui/svg.js";
  */
 function drawShape(shape) {
   if (shape.kind === "lamp") {
-    return [svgElement("circle", { class: `lamp ${shape.colour}${shape.isLit ? " lit" : ""}`, cx: shape.x, cy: shape.y, r: shape.size })];
+    return [svgElement("circle", { class: `lamp ${shape.colour}${shape.isLit ? " lit" : ""}`, cx: shape.x, cy: shape.y, r: shape.radius })];
   }
   const { x, y, width, height } = shape;
   const [centreX, centreY] = [x + width / 2, y + height / 2];

@@ -24,8 +24,8 @@ import * as say from "../../words/session.js";
  * @typedef {object} LinkSharingCalls
  * @property {() => Texts | null} currentTexts Returns the name and the texts of the current session, or null if there is none.
  * @property {() => void} showSessionAddress Puts the address of the current session into the address bar.
- * @property {(texts: Texts, file: Uint8Array, runs: boolean) => Promise<boolean>} begin Opens a new session from texts and a file. If
- *   `runs` is true, time runs in the session. Resolves to true if the session was created.
+ * @property {(texts: Texts, file: Uint8Array, runs: boolean) => Promise<boolean>} openTexts Opens a new session from texts and a file. If
+ *   `runs` is true, time is running in the session. Resolves to true if the session was created.
  * @property {() => void} save Saves the project as a file. Called if the link would be too long.
  */
 
@@ -55,7 +55,9 @@ export class LinkSharing {
     this.calls = calls;
   }
 
-  /** Copies a link to the current session. Offers a file instead if the link is too long. */
+  /**
+   * Copies a link to the current session. If the browser cannot copy the link, shows it. If the link is too long, offers a file instead.
+   */
   async share() {
     const texts = this.calls.currentTexts();
     if (!texts) return;
@@ -124,7 +126,7 @@ export class LinkSharing {
         acceptLabel: say.OPEN_AS_NEW,
         declineLabel: say.LEAVE_IT,
       });
-      if (isWanted) await this.calls.begin(texts, result.file, result.rejectedTexts.length === 0 && texts.programText !== "");
+      if (isWanted) await this.calls.openTexts(texts, result.file, result.rejectedTexts.length === 0 && texts.programText !== "");
     } catch (error) {
       this.notice.show(say.linkNotOpened(this.errorMessages.errorMessage(error)), "session");
     } finally {

@@ -19,7 +19,7 @@ let createdCount = 0;
  * @param {Uint8Array} file
  * @param {{ boardText: string, programText: string, testText?: string, propertiesText?: string, breakpoints?: SessionRecord["breakpoints"],
  *   watched?: SessionRecord["watched"], wired?: SessionRecord["wired"] }} content
- * @param {boolean} runs true if time runs when the session is opened
+ * @param {boolean} runs true if time starts when the session is opened
  * @returns {SessionRecord}
  */
 export function newRecord(name, file, content, runs = false) {
@@ -63,8 +63,9 @@ export class OpenSession {
   }
 
   /**
-   * Writes the session. Resolves to "" when the session is on the disk, otherwise to an error message. Calls during a write share the next
-   * write. If the store does not answer in time, the write counts as failed, and later writes wait until the store answers.
+   * Writes the session. Resolves to "" when the session is on the disk, otherwise to an error message. An unchanged example is not written.
+   * Calls during a write share the next write. If the store does not answer in time, the write counts as failed, and later writes wait
+   * until the store answers.
    * @returns {Promise<string>}
    */
   save() {
@@ -84,8 +85,9 @@ export class OpenSession {
   }
 
   /**
-   * Writes the session when the user leaves the page and the page cannot wait. Writes nothing if the store must first answer a read. That
-   * answer would arrive too late, and the unfinished write would block other pages.
+   * Writes the session when the user leaves the page and the page cannot wait. Also saves the texts in local storage. An unchanged example
+   * is not written. Writes nothing if the store must first answer a read. That answer would arrive too late, and the unfinished write would
+   * block other pages. Resolves as `save` does.
    */
   saveNow() {
     if (!this.store.isAtomic || this.isUntouched) return Promise.resolve("");
@@ -106,7 +108,10 @@ export class OpenSession {
     return isUntouched;
   }
 
-  /** @returns {Promise<string>} */
+  /**
+   * Writes the session to the store. Resolves to "", or to the reason why the session was not saved.
+   * @returns {Promise<string>}
+   */
   async write() {
     try {
       this.record.changed = Date.now();

@@ -48,7 +48,7 @@ export class OpeningGuard {
     } finally {
       opening.isEnded = true;
       // The session may have been opened again in the meantime.
-      this.callLater(() => (this.pendingOpenings.get(id) === opening ? this.forget(id) : undefined), HARMLESS_AFTER_MS);
+      this.callLater(() => (this.pendingOpenings.get(id) === opening ? this.clearFlag(id) : undefined), HARMLESS_AFTER_MS);
     }
   }
 
@@ -71,8 +71,11 @@ export class OpeningGuard {
     return age >= 0 && age < RECENT_OPENING_MS;
   }
 
-  /** @param {string} id the id of a session whose opening has ended, or which has been deleted */
-  forget(id) {
+  /**
+   * Clears the flag of a session whose opening has not made the page hang, or of a deleted session.
+   * @param {string} id
+   */
+  clearFlag(id) {
     this.pendingOpenings.delete(id);
     this.accessStore((store) => store.removeItem(KEY_PREFIX + id));
   }
@@ -88,7 +91,7 @@ export class OpeningGuard {
 
   /** Clears the flags of openings that have ended or are recent, because a page that still runs this function has not hung. */
   handleLeave() {
-    for (const [id, { time, isEnded }] of this.pendingOpenings) if (isEnded || this.isRecent(time)) this.forget(id);
+    for (const [id, { time, isEnded }] of this.pendingOpenings) if (isEnded || this.isRecent(time)) this.clearFlag(id);
   }
 
   /** @param {(store: FlagStore) => void} action */

@@ -17,7 +17,7 @@ import * as say from "../../words/session.js";
  *   reported.
  * @property {(id: string) => Promise<boolean>} copy Copies a session and opens the copy. Resolves to false if that fails.
  * @property {(records: SessionRecord[]) => Promise<void>} remove Deletes sessions. Deleted sessions can be restored.
- * @property {() => SessionRecord[]} deleted Returns the sessions that can be restored.
+ * @property {() => SessionRecord[]} deletedSessions Returns the sessions that can be restored.
  * @property {(records: SessionRecord[]) => Promise<void>} restoreSessions Restores deleted sessions.
  * @property {(action: () => Promise<boolean>) => void} runAndClose Executes `action`. Closes the dialog unless `action` resolves to false.
  * @property {(word: string, label: string, action: () => void) => HTMLButtonElement} makeButton Returns a button with a visible word, a
@@ -49,7 +49,7 @@ export class SessionList {
     const { removableSessions } = this;
     this.selectedIds = new Set(removableSessions.map(({ id }) => id).filter((id) => this.selectedIds.has(id)));
     this.listBlock.replaceChildren(...records.map((record) => this.makeEntry(record)));
-    const deletedRecords = this.calls.deleted();
+    const deletedRecords = this.calls.deletedSessions();
     block("bin").hidden = deletedRecords.length === 0;
     this.deletedBlock.replaceChildren(...deletedRecords.map((record) => this.makeDeletedEntry(record)));
     block("choosing").hidden = removableSessions.length < 2;

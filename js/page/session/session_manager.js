@@ -57,7 +57,10 @@ export class SessionManager {
     this.unsavedTexts = new UnsavedTexts();
   }
 
-  /** Resolves to the saved sessions, the most recently changed first. */
+  /**
+   * Resolves to the saved sessions, the most recently changed first. If the store cannot be read, reports the reason and resolves to an
+   * empty list.
+   */
   async savedSessions() {
     try {
       return (await this.store.all()).sort((a, b) => b.changed - a.changed);
@@ -67,7 +70,10 @@ export class SessionManager {
     }
   }
 
-  /** @param {string} id */
+  /**
+   * Resolves to the stored record of a session, with its unsaved texts. Rejects if the session has been deleted.
+   * @param {string} id
+   */
   async readRecord(id) {
     const record = await this.store.get(id);
     if (!record) throw new StoreError(say.NO_LONGER_KEPT);
@@ -87,7 +93,8 @@ export class SessionManager {
   }
 
   /**
-   * Opens a saved session. If the session is open in another tab, deleted or damaged, reports the reason and resolves to false.
+   * Opens a saved session. Resolves to true if it was opened. If the session is open in another tab, deleted or damaged, reports the reason
+   * and resolves to false.
    * @param {string} id
    */
   async open(id) {
@@ -103,7 +110,8 @@ export class SessionManager {
   }
 
   /**
-   * Creates a session, acquires its lock and opens it. Resolves to true if the session was created.
+   * Creates a session, acquires its lock and opens it. Resolves to true if the session was created. Otherwise, reports the reason and
+   * resolves to false.
    * @param {() => Promise<SessionRecord>} makeRecord
    * @param {string} example the example's name if the session is an unchanged example, otherwise ""
    */
@@ -123,17 +131,16 @@ export class SessionManager {
    * Opens a new session from an example.
    * @param {Example} example
    */
-  begin(example) {
+  openExample(example) {
     const makeRecord = () => (example.project === "" ? this.makeExampleRecord(example) : this.makeExampleProjectRecord(example));
     return this.openNew(makeRecord, example.name);
-
   }
 
   /** @param {Example} example */
   async makeExampleRecord(example) {
     const { board, program, tests, properties } = example;
     const texts = { boardText: board, programText: program, testText: tests, propertiesText: properties };
-    const record = newRecord(example.name, await this.bench.call("make", [example]), texts, startsRunning(example));
+    const record = newRecord(example.name, await this.bench.call("createFile", [example]), texts, startsRunning(example));
     return { ...record, isTitled: example.board === "" && example.program === "" };
   }
 
@@ -157,7 +164,7 @@ export class SessionManager {
 
   /**
    * Opens a file. A project or a session file becomes a new session. Texts are loaded into the current session's editors, and an image into
-   * its ROM.
+   * its ROM. If that fails, reports the reason and resolves to false.
    * @param {File} file
    */
   async openFile(file) {
@@ -177,7 +184,7 @@ export class SessionManager {
   }
 
   /**
-   * Opens a project folder as a new session.
+   * Opens a project folder as a new session. If that fails, reports the reason and resolves to false.
    * @param {() => Promise<import("./folder_files.js").Folder>} read reads the folder's files
    */
   async openFolder(read) {
@@ -206,7 +213,7 @@ export class SessionManager {
    */
   async makeProjectRecord(bytes) {
     const project = readProject(bytes, this.bench.size);
-    await this.bench.call("settled", [project.file]);
+    await this.bench.call("settleFile", [project.file]);
     return newRecord(project.name || "session", project.file, project);
   }
 
@@ -217,8 +224,8 @@ export class SessionManager {
    */
   async makeSessionFileRecord(fileName, bytes) {
     // The bench needs only one byte more than the size of a session file to detect a file that is too long.
-    const settledBytes = await this.bench.call("settled", [bytes.slice(0, this.bench.size + 1)]);
-    const texts = await this.bench.call("texts", [settledBytes]);
+    const settledBytes = await this.bench.call("settleFile", [bytes.slice(0, this.bench.size + 1)]);
+    const texts = await this.bench.call("recoverTexts", [settledBytes]);
     return newRecord(fileName.replace(/\.mcs$/i, ""), settledBytes, texts);
   }
 

@@ -34,7 +34,8 @@ import * as say from "../../words/session.js";
  * @property {(record: SessionRecord, release: Release, example: string) => Promise<void>} useSession Makes a session the current session.
  *   `release` releases the session's lock. `example` is the example's name if the session is still unchanged, otherwise "".
  * @property {() => void} showLines Brings the console to the front, for an example that consists only of lines.
- * @property {(text: string) => Promise<void>} openLink Opens the session of a link, given the link's contents.
+ * @property {(text: string) => Promise<void>} openLink Offers to open the texts in a link. `text` is the part of the address after
+ *   `#link=`.
  */
 
 export class SessionsController {
@@ -81,11 +82,11 @@ export class SessionsController {
       open: (id) => this.open(id),
       copy: (id) => manager.copy(id),
       remove: (records) => this.remove(records),
-      deleted: () => trash.deleted,
+      deletedSessions: () => trash.deletedRecords,
       restoreSessions: (records) => trash.restoreSessions(records),
-      begin: (example) => this.begin(example),
-      beginStory: async (example) => {
-        const hasOpened = await this.begin(example);
+      openExample: (example) => this.openExample(example),
+      openStory: async (example) => {
+        const hasOpened = await this.openExample(example);
         if (hasOpened) this.showStory(example);
         return hasOpened;
       },
@@ -129,21 +130,24 @@ export class SessionsController {
   }
 
   /**
-   * Opens a new session from an example. The example's lines appear in the console's input.
+   * Opens a new session from an example. The example's lines appear in the console's input. Resolves to true if the session was created.
    * @param {Example} example
    */
-  async begin(example) {
-    const hasOpened = await this.manager.begin(example);
+  async openExample(example) {
+    const hasOpened = await this.manager.openExample(example);
     if (!hasOpened) return false;
     this.offeredLines.offer(example.lines);
     if (example.lines !== "" && example.board === "") this.calls.showLines();
     return true;
   }
 
-  /** @param {string} name the name of an example */
-  async beginExampleByName(name) {
+  /**
+   * Opens a new session from an example. Resolves to true if the session was created. Shows a notice if there is no such example.
+   * @param {string} name the name of an example
+   */
+  async openExampleByName(name) {
     const example = [...this.examples, TOUR_EXAMPLE].find((candidate) => candidate.name === name);
-    if (example) return this.begin(example);
+    if (example) return this.openExample(example);
     this.notice.show(say.noSuchExampleMessage(shortName(name)), "session");
     return false;
   }
@@ -155,7 +159,7 @@ export class SessionsController {
   async remove(records) {
     const deletedRecords = await this.trash.remove(records);
     if (deletedRecords.length === 0) return;
-    for (const { id } of deletedRecords) this.openingGuard.forget(id);
+    for (const { id } of deletedRecords) this.openingGuard.clearFlag(id);
     this.notice.show(say.sessionsDeleted(formatNames(deletedRecords)), "undo",
       { word: say.UNDO, act: () => this.restoreSessions(deletedRecords) });
   }
@@ -167,8 +171,8 @@ export class SessionsController {
   }
 
   /**
-   * Opens the first session of the page. It is the target of the address if there is one, or the example whose story is requested.
-   * Otherwise it is the last used session that is not open in another tab, or the first example.
+   * Opens the first session of the page. It is the session or example that the address names, or the example whose story is requested.
+   * Otherwise it is the last used session that is not open in another tab, or the first example. A link is opened after that.
    * @param {string} story the name of the example whose story is requested; "" for none
    */
   async openFirst(story) {
@@ -193,7 +197,7 @@ export class SessionsController {
    */
   async openFromAddress(kind, value) {
     if (kind === "session") return this.open(value);
-    return kind === "example" ? this.beginExampleByName(value) : false;
+    return kind === "example" ? this.openExampleByName(value) : false;
   }
 
   /** @param {boolean} isQuiet true to skip, without a notice, sessions that are open in other tabs */
@@ -205,7 +209,7 @@ export class SessionsController {
       if (await this.open(record.id)) return;
       if (isQuiet) this.notice.hide("session");
     }
-    await this.begin(this.examples[0]);
+    await this.openExample(this.examples[0]);
   }
 
   /**
@@ -231,6 +235,6 @@ export class SessionsController {
     if (kind === "") this.reportUnknownAddress(location.hash);
     else if (kind === "link") await this.calls.openLink(value);
     else if (kind === "session" && !this.isShown(value)) await this.open(value);
-    else if (kind === "example" && session.example !== value) await this.beginExampleByName(value);
+    else if (kind === "example" && session.example !== value) await this.openExampleByName(value);
   }
 }

@@ -21,10 +21,10 @@ import * as say from "../../words/session.js";
  * @property {(id: string) => Promise<boolean>} open Opens the session with this id.
  * @property {(id: string) => Promise<boolean>} copy Copies the session with this id, and opens the copy.
  * @property {(records: SessionRecord[]) => Promise<void>} remove Deletes sessions. Deleted sessions can be restored.
- * @property {() => SessionRecord[]} deleted Returns the sessions that can be restored.
+ * @property {() => SessionRecord[]} deletedSessions Returns the sessions that can be restored.
  * @property {(records: SessionRecord[]) => Promise<void>} restoreSessions Restores deleted sessions.
- * @property {(example: Example) => Promise<boolean>} begin Opens a new session from an example.
- * @property {(example: Example) => Promise<boolean>} beginStory Opens a new session from an example, and shows the example's story.
+ * @property {(example: Example) => Promise<boolean>} openExample Opens a new session from an example.
+ * @property {(example: Example) => Promise<boolean>} openStory Opens a new session from an example, and shows the example's story.
  * @property {(file: File) => Promise<boolean>} openFile Opens a file: a project, a session or a text.
  * @property {(read: () => Promise<import("./folder_files.js").Folder>) => Promise<boolean>} openFolder Opens the project in the folder that
  *   `read` reads.
@@ -124,13 +124,14 @@ export class SessionsView {
 
   /** @param {Example} example */
   makeExampleEntry(example) {
-    const openButton = this.makeButton(example.name, say.newSession(example.name), () => this.runAndClose(() => this.calls.begin(example)));
+    const open = () => this.runAndClose(() => this.calls.openExample(example));
+    const openButton = this.makeButton(example.name, say.newSession(example.name), open);
     openButton.prepend(drawBoardPicture(example.board));
     const hint = Object.entries(TO_DO).find(([name]) => name === example.name);
     const title = element("span", { className: "grow" }, hint ? exampleWords(example.title, hint[1]) : example.title);
     if (!example.story) return element("li", {}, openButton, title);
     const description = say.newStory(example.name);
-    const storyButton = this.makeButton(say.WITH_STORY, description, () => this.runAndClose(() => this.calls.beginStory(example)));
+    const storyButton = this.makeButton(say.WITH_STORY, description, () => this.runAndClose(() => this.calls.openStory(example)));
     return element("li", {}, openButton, title, storyButton);
   }
 
@@ -165,7 +166,10 @@ export class SessionsView {
     input.value = "";
   }
 
-  /** @param {File[]} files the files, which are opened in sequence */
+  /**
+   * Opens files in sequence, or together as a project folder if one of several files is a project file.
+   * @param {File[]} files
+   */
   async openAll(files) {
     const folder = folderFromFiles(files);
     if (folder) return this.openFolder(async () => folder);

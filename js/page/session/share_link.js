@@ -1,5 +1,6 @@
 // A link contains a session's name and texts after the `#` of an address, which browsers do not send to servers. The link begins with its
-// compression method: 1 for deflate, 0 for none. A checksum follows, and then the lines of a project file up to the bytes of the session.
+// compression method: 1 for deflate, 0 for none. After a dot, the data follow in base64url. Decompressed, the data are a checksum and the
+// lines of a project file up to the bytes of the session.
 
 import { fromBase64, toBase64 } from "../../core/session/base64.js";
 import { makeStream, readOutput } from "./byte_streams.js";
@@ -27,7 +28,10 @@ function encodeBase64(bytes) {
   return toBase64(bytes).replace(/\+/g, "-").replace(/\//g, "_").replace(/=+$/, "");
 }
 
-/** @param {string} letters */
+/**
+ * Returns the bytes in the base64 letters of a link. Throws a LinkError if the letters are damaged.
+ * @param {string} letters
+ */
 function decodeBase64(letters) {
   if (!/^[\w-]*$/.test(letters)) throw new LinkError(say.DAMAGED);
   try {
@@ -49,7 +53,11 @@ export async function toLink({ name, boardText, programText, testText, propertie
   return stream ? `1.${encodeBase64(await readOutput(bytes, stream))}` : `0.${encodeBase64(bytes)}`;
 }
 
-/** @param {Uint8Array} bytes */
+/**
+ * Resolves to the decompressed bytes of a link. Rejects with a LinkError if the bytes are damaged or too many, or if the browser cannot
+ * decompress.
+ * @param {Uint8Array} bytes
+ */
 async function decompress(bytes) {
   const stream = makeStream("DecompressionStream");
   if (!stream) {
@@ -63,7 +71,7 @@ async function decompress(bytes) {
 }
 
 /**
- * Resolves to the name and the texts in a link. Rejects with a LinkError if the link is damaged or needs a newer page.
+ * Resolves to the name and the texts in a link. Rejects with a LinkError if the link cannot be opened.
  * @param {string} link
  * @returns {Promise<Texts>}
  */

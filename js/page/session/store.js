@@ -5,23 +5,40 @@ import * as say from "../../words/session.js";
 
 /**
  * A session in the store: its file, its name, and the texts of the editors, which the file does not contain. Records from older versions
- * have no tests text and no properties text. `runs`: true if time is running, so that time resumes after a reload. `revision`: how often
- * the record has been stored. `changed`: the time of the last change, in milliseconds since 1970. `cycles`: the cycle counts that the page
- * shows. `breakpoints`: the breakpoints of the source. `watched`: the watch list. `isTitled`: true if the name is the title
- * in the texts because the user has not named the session. `goal`: the goal of the run in progress. `places`: the positions of dragged
- * parts in the board's picture. `printed`: the codes that were sent to the board's printer. `wired`: the texts of the last boards,
- * beginning with the board in use. `rows`: the arrangement of the rows in the logic analyser.
- * @typedef {{ id: string, name: string, file: Uint8Array, boardText: string, programText: string, testText?: string,
- *   propertiesText?: string, runs: boolean, revision: number, changed: number, cycles?: import("../../core/time/cycles.js").StoredCycles,
- *   isTitled?: boolean, breakpoints?: import("../../core/debug/breakpoints.js").SavedBreakpoint[], watched?: string[],
- *   goal?: import("../../core/debug/goals.js").Goal, places?: [string, import("../../core/board/wiring.js").Point][],
- *   printed?: import("../../core/engine/printer_codes.js").PrintoutData, rows?: import("../../core/waves/wave_rows.js").StoredRows,
- *   wired?: import("../../core/board/wired_board_text.js").WiredText[] }} SessionRecord
- *
- * @typedef {{ isPersistent: boolean, isAtomic: boolean, all: () => Promise<SessionRecord[]>, get: (id: string) => Promise<SessionRecord |
- *   undefined>, put: (record: SessionRecord) => Promise<void>, remove: (id: string) => Promise<void> }} SessionStore `isPersistent`: true
- *   if the sessions outlast the page; `isAtomic`: true if `put` sends all its requests at once, so that they complete even while the page
- *   closes
+ * have no tests text and no properties text.
+ * @typedef {object} SessionRecord
+ * @property {string} id The unique id of the session.
+ * @property {string} name The session's name.
+ * @property {Uint8Array} file The bytes of the session file.
+ * @property {string} boardText The board's text.
+ * @property {string} programText The source.
+ * @property {string} [testText] The text of the Tests tab.
+ * @property {string} [propertiesText] The text of the Properties tab.
+ * @property {boolean} runs True if time is running, so that time resumes after a reload.
+ * @property {number} revision The number of times that the record has been stored.
+ * @property {number} changed The time of the last change, in milliseconds since 1970.
+ * @property {import("../../core/time/cycles.js").StoredCycles} [cycles] The cycle counts that the page shows.
+ * @property {boolean} [isTitled] True if the name is the title in the texts, because the user has not named the session.
+ * @property {import("../../core/debug/breakpoints.js").SavedBreakpoint[]} [breakpoints] The breakpoints of the source.
+ * @property {string[]} [watched] The expressions of the watch list.
+ * @property {import("../../core/debug/goals.js").Goal} [goal] The goal of the run in progress.
+ * @property {[string, import("../../core/board/wiring.js").Point][]} [places] The positions of dragged parts in the board's picture.
+ * @property {import("../../core/engine/printer_codes.js").PrintoutData} [printed] The codes that were sent to the board's printer.
+ * @property {import("../../core/waves/wave_rows.js").StoredRows} [rows] The arrangement of the rows in the logic analyser.
+ * @property {import("../../core/board/wired_board_text.js").WiredText[]} [wired] The texts of the last boards, beginning with the board in
+ *   use.
+ */
+
+/**
+ * A store for sessions.
+ * @typedef {object} SessionStore
+ * @property {boolean} isPersistent True if the sessions outlast the page.
+ * @property {boolean} isAtomic True if `put` sends all its requests at once, so that they complete even while the page closes.
+ * @property {() => Promise<SessionRecord[]>} all Resolves to all sessions.
+ * @property {(id: string) => Promise<SessionRecord | undefined>} get Resolves to the session with this id, or to undefined if there is
+ *   none.
+ * @property {(record: SessionRecord) => Promise<void>} put Stores a session and increments its revision.
+ * @property {(id: string) => Promise<void>} remove Deletes the session with this id.
  */
 
 /** The error that is thrown if a session cannot be saved or read. Its message is meant for the user. */
@@ -175,7 +192,7 @@ export class Store {
 }
 
 /**
- * Returns the message that says why a session could not be saved.
+ * Returns the message that says why a session could not be saved or read.
  * @param {unknown} error
  */
 export function describeStoreError(error) {

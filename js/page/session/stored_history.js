@@ -46,6 +46,7 @@ function isEntry(entry) {
 }
 
 /**
+ * Returns a segment that was read from the storage. Throws an error if it is not a segment of a history.
  * @param {any} storedSegment
  * @returns {StoredSegment}
  */
@@ -68,14 +69,18 @@ export class StoredHistory {
     this.characters = 0;
   }
 
-  /** @param {string} sessionId the id of the opened session */
-  begin(sessionId) {
+  /**
+   * Discards the history, because another session has been opened.
+   * @param {string} sessionId the id of the opened session
+   */
+  openSession(sessionId) {
     this.sessionId = sessionId;
     this.segments = [];
   }
 
   /**
-   * Adds a report's entries to the history.
+   * Adds a report's entries to the history. A report that begins a new past, or that has too many cycles, restarts the history at the
+   * current state.
    * @param {PastChanges} report
    * @param {{ file: Uint8Array, total: number, reset: number }} currentState the session after the report's entries
    */
@@ -107,14 +112,14 @@ export class StoredHistory {
     this.accessStore((store) => store.setItem(STORAGE_KEY, JSON.stringify({ session: this.sessionId, segments })));
   }
 
-  /** Removes the session's history from the storage. Returns the history, or an empty list if the storage has none for this session. */
+  /** Removes the history from the storage. Returns its segments, or an empty list if it is not the history of the current session. */
   takeStoredSegments() {
     /** @type {StoredSegment[]} */
     let segments = [];
     this.accessStore((store) => {
-      const stored = JSON.parse(store.getItem(STORAGE_KEY) || "{}");
+      const history = JSON.parse(store.getItem(STORAGE_KEY) || "{}");
       store.removeItem(STORAGE_KEY);
-      if (stored.session === this.sessionId && Array.isArray(stored.segments)) segments = stored.segments.map(parseSegment);
+      if (history.session === this.sessionId && Array.isArray(history.segments)) segments = history.segments.map(parseSegment);
     });
     return segments;
   }

@@ -100,7 +100,7 @@ export class TextsController {
   }
 
   /**
-   * Loads a file's texts. If the source text is probably not a program, asks the user first.
+   * Loads a file's texts. Asks the user first if the file's kind was guessed and the source text is probably not a program.
    * @param {string} name the name of the file
    * @param {import("../../core/session/opened_file.js").FileTexts} texts
    */
@@ -203,8 +203,8 @@ export class TextsController {
   }
 
   /**
-   * Replaces a text. Returns a list with the entry that can restore the previous text. The list is empty if the text has
-   * not changed or was blank.
+   * Replaces a text. Returns a list with the entry that can restore the previous text. The list is empty if the text has not changed, if
+   * the previous text was blank, or if no session is open.
    * @param {TextName} name
    * @param {string} text
    * @returns {ReplacedText[]}
@@ -221,7 +221,7 @@ export class TextsController {
    * Restores a replaced text with the editor's undo or redo. If the user has edited the text since it was replaced, restores it through a
    * new edit.
    * @param {ReplacedText} replacedText
-   * @returns {ReplacedText[]} entries that can restore the texts just replaced
+   * @returns {ReplacedText[]} entries that can undo this restoration
    */
   restoreText({ name, oldText, newText, undoStep }) {
     const editor = this[name];
@@ -240,7 +240,7 @@ export class TextsController {
   }
 
   /**
-   * Restores texts. Another notice offers to undo this restoration.
+   * Restores texts. Another notice offers to undo this restoration. While another session is open, restores nothing and reports that.
    * @param {OpenSession} session
    * @param {ReplacedText[]} replacedTexts
    * @param {string} message the text of the notice that offered to restore the texts

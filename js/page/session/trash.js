@@ -27,7 +27,7 @@ export class Trash {
     this.showNotice = showNotice;
     this.unsavedTexts = new UnsavedTexts();
     /** @type {SessionRecord[]} the sessions deleted since the page was opened, most recent first */
-    this.deleted = [];
+    this.deletedRecords = [];
   }
 
   /**
@@ -38,11 +38,14 @@ export class Trash {
   async remove(records) {
     const deletedRecords = [];
     for (const record of records) if (await this.removeSession(record)) deletedRecords.push(record);
-    this.deleted = [...deletedRecords, ...this.deleted];
+    this.deletedRecords = [...deletedRecords, ...this.deletedRecords];
     return deletedRecords;
   }
 
-  /** @param {SessionRecord} record */
+  /**
+   * Deletes a session. Resolves to true if it was deleted. Otherwise, reports the reason to the user and resolves to false.
+   * @param {SessionRecord} record
+   */
   async removeSession(record) {
     const release = await this.locks.acquire(record.id);
     if (!release) {
@@ -55,7 +58,7 @@ export class Trash {
       if (newestRecord) Object.assign(record, newestRecord);
       this.unsavedTexts.restore(record);
       await this.store.remove(record.id);
-      this.unsavedTexts.forget(record.id);
+      this.unsavedTexts.removeTexts(record.id);
       return true;
     } catch (error) {
       this.showNotice(say.notDeletedMessage(record.name, describeStoreError(error)));
@@ -70,12 +73,12 @@ export class Trash {
    * @param {SessionRecord[]} records
    */
   async restoreSessions(records) {
-    for (const record of records.filter((candidate) => this.deleted.includes(candidate))) {
+    for (const record of records.filter((candidate) => this.deletedRecords.includes(candidate))) {
       try {
         // The store no longer has a revision of the deleted record, so its revisions begin again at 0.
         record.revision = 0;
         await this.store.put(record);
-        this.deleted = this.deleted.filter((candidate) => candidate !== record);
+        this.deletedRecords = this.deletedRecords.filter((candidate) => candidate !== record);
       } catch (error) {
         this.showNotice(say.notRestoredMessage(record.name, describeStoreError(error)));
       }

@@ -58,7 +58,7 @@ export class UnsavedTexts {
    * Removes the texts of a deleted session from local storage.
    * @param {string} id
    */
-  forget(id) {
+  removeTexts(id) {
     this.accessStore((store) => store.removeItem(KEY_PREFIX + id));
   }
 
@@ -67,7 +67,7 @@ export class UnsavedTexts {
     try {
       if (this.store) action(this.store);
     } catch {
-      // Without local storage, WebKit loses the text that the user typed just before leaving the page.
+      // Without local storage, WebKit loses the text that the user typed immediately before leaving the page.
     }
   }
 }

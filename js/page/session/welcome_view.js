@@ -13,8 +13,8 @@ import * as say from "../../words/example_notes.js";
 /**
  * The callbacks of the welcome cards.
  * @typedef {object} WelcomeCalls
- * @property {() => void} beginTour Starts the tour with the first program.
- * @property {(name: string) => Promise<boolean>} begin Opens a new session from the example with this name. Resolves to true if the
+ * @property {() => void} startTour Starts the tour with the first program.
+ * @property {(name: string) => Promise<boolean>} openExample Opens a new session from the example with this name. Resolves to true if the
  *   session was created.
  * @property {() => void} showWiring Brings the Wiring tab to the front.
  * @property {() => void} storeSeen Stores the fact that the cards were shown.
@@ -58,8 +58,8 @@ export class WelcomeView {
     node.append(picture, element("b", {}, title), element("span", {}, words));
     node.addEventListener("click", () => {
       this.dialog.close();
-      if (!exampleName) this.calls.beginTour();
-      else this.begin(exampleName, name === "draw");
+      if (!exampleName) this.calls.startTour();
+      else this.openExample(exampleName, name === "draw");
     });
     return node;
   }
@@ -68,8 +68,8 @@ export class WelcomeView {
    * @param {string} name the name of an example
    * @param {boolean} showsWiring true to bring the Wiring tab to the front
    */
-  async begin(name, showsWiring) {
-    if ((await this.calls.begin(name)) && showsWiring) this.calls.showWiring();
+  async openExample(name, showsWiring) {
+    if ((await this.calls.openExample(name)) && showsWiring) this.calls.showWiring();
   }
 
   open() {

@@ -75,7 +75,7 @@ export class TestsTab {
     return { ...this.calls.texts(), testText: this.editor.text };
   }
 
-  /** Checks the text. Called when a session has been opened, and when the tab comes to the front. */
+  /** Checks the text. Called when a session has been opened, and when the tab is brought to the front. */
   refresh() {
     this.textTab.refresh();
   }
@@ -87,13 +87,13 @@ export class TestsTab {
   }
 
   /** Clears the results, because another session has been opened. */
-  forget() {
+  discardResults() {
     this.sessionNumber += 1;
     this.clear();
   }
 
   /** Shows the button that inserts a first test, if the opened session has no tests. */
-  begin() {
+  offerFirstText() {
     this.textTab.offerFirstText();
   }
 

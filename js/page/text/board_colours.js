@@ -5,7 +5,7 @@ import { tomlWords } from "../../core/text/toml_words.js";
 /** @typedef {import("./line_colours.js").ColouredRange} ColouredRange */
 
 /**
- * Returns the comment at the end of a line, or an empty list if there is none.
+ * Returns a list with the range of the comment at the end of a line, or an empty list if the line has no comment.
  * @param {string} line
  * @param {number} from the column after the line's last token
  * @returns {ColouredRange[]}

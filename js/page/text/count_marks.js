@@ -9,7 +9,8 @@ import * as say from "../../words/text.js";
  */
 
 /**
- * Returns the text in the margin of a line: its execution count and, for a jump, how often the jump was taken and not taken.
+ * Returns the text in the margin of a line: its execution count, or "never". For a conditional jump, the text also says how often it jumped
+ * and how often it did not.
  * @param {LineCoverage} lineCoverage
  */
 export function formatCount({ count, isJump, jumpCount }) {

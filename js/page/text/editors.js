@@ -89,8 +89,8 @@ export class Editors {
   /** @param {ErrorMessages} errorMessages */
   makeErrorFinder(errorMessages) {
     return new TextErrorFinder({
-      findBoardError: (benchText) => this.bench.call("wiring", [benchText]),
-      findLineErrors: (benchText) => this.bench.call("errors", [benchText]),
+      findBoardError: (benchText) => this.bench.call("findBoardError", [benchText]),
+      findLineErrors: (benchText) => this.bench.call("findLineErrors", [benchText]),
       findRefusal: (benchText) => this.findRefusal("asm", benchText),
       readMap: async (benchText) => (await this.bench.call("checkProgram", [benchText])).map,
       readRomNumbers: () => this.readRomNumbers(),
@@ -238,7 +238,8 @@ export class Editors {
   }
 
   /**
-   * Checks a text before it is sent. Resolves to true if the text has no errors. Otherwise shows the first error.
+   * Checks a text before it is sent. Resolves to true if the text has no errors. Otherwise shows the first error and resolves to false. If
+   * an edit has cancelled the check, resolves to false without a message.
    * @param {"program" | "board"} name
    */
   async hasNoErrors(name) {

@@ -50,10 +50,10 @@ export class ErrorView {
   makeUnderlines({ line, from, to, words }) {
     const length = (this.editor.getLine(line - 1) || "").length;
     // A missing word has an empty range, so underline the character before it.
-    const start = to > from ? from : Math.max(0, Math.min(from, length) - 1);
-    const end = Math.max(to, start + 1);
-    const [begin, stop] = [start, end].map((ch) => this.editor.offset({ line: line - 1, ch }));
-    return begin < stop ? [makeUnderlineMark("fault", words).range(begin, stop)] : [];
+    const startColumn = to > from ? from : Math.max(0, Math.min(from, length) - 1);
+    const endColumn = Math.max(to, startColumn + 1);
+    const [startOffset, endOffset] = [startColumn, endColumn].map((ch) => this.editor.offset({ line: line - 1, ch }));
+    return startOffset < endOffset ? [makeUnderlineMark("fault", words).range(startOffset, endOffset)] : [];
   }
 
   /** @param {TextError} error */

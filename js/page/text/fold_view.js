@@ -33,8 +33,8 @@ function makePlaceholder(count, unfoldRange) {
 }
 
 /**
- * Returns the CodeMirror extensions for code folding.
- * @param {Parts} parts
+ * Returns the CodeMirror extensions for code folding in a kind of text.
+ * @param {Parts} parts the patterns of the text's foldable ranges
  */
 export function makeFolding(parts) {
   return [
@@ -52,8 +52,8 @@ export function makeFolding(parts) {
 }
 
 /**
- * Returns the folding commands for texts in which `parts` finds the foldable ranges.
- * @param {Parts} parts
+ * Returns the folding commands for a kind of text.
+ * @param {Parts} parts the patterns of the text's foldable ranges
  */
 export function makeFoldingActions(parts) {
   return {

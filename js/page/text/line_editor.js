@@ -221,7 +221,7 @@ export class LineEditor {
   }
 
   /**
-   * Starts a new line.
+   * Starts a new line. Returns true, because the key is then handled.
    * @param {string} [indent] the indentation of the new line, by default that of the previous line
    */
   breakLine(indent) {
@@ -236,7 +236,8 @@ export class LineEditor {
   }
 
   /**
-   * Indents or unindents the selected lines. Without a selection, inserts a tab or unindents the caret's line.
+   * Indents or unindents the selected lines. Without a selection, inserts a tab or unindents the caret's line. Returns true if the key is
+   * handled.
    * @param {boolean} shouldUnindent
    */
   indent(shouldUnindent) {
@@ -289,7 +290,7 @@ export class LineEditor {
   }
 
   /**
-   * Converts a position to an offset in the text. A position outside the text is clamped.
+   * Returns the offset of a position in the text. A position outside the text is clamped.
    * @param {Position} position
    */
   offset({ line, ch }) {

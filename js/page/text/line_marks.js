@@ -16,7 +16,7 @@ export class LineMarks {
   }
 
   /** Removes all marks before the editor shows another text. */
-  forget() {
+  clear() {
     for (const gutter of this.usedGutters) this.editor.showMarks(gutter, []);
     this.usedGutters.clear();
     this.showNext(0);

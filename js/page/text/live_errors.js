@@ -10,7 +10,7 @@ const CHECK_DELAY = 300;
 export class LiveErrors {
   /**
    * @param {(isWanted: () => boolean) => Promise<Result | undefined>} find resolves to the errors; resolves to undefined if `isWanted`
-   *   returns false, because a newer check has begun
+   *   returns false, because an edit or a newer check has cancelled the check
    * @param {(result: Result) => void} show
    * @param {(error: unknown) => void} reportFailure
    */

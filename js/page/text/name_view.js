@@ -83,7 +83,7 @@ export class NameView {
     this.textEditor.editor.focus();
   }
 
-  /** Asks the user for a new name and renames the name at the caret. */
+  /** Asks the user for a new name, and then renames all references to the name at the caret. */
   askNewName() {
     const name = this.nameAtCaret();
     if (name === "") return;

@@ -8,7 +8,7 @@ import * as say from "../../words/text.js";
  * @typedef {{ from: number, to: number }} Span a range of offsets in the text
  */
 
-/** The maximum number of matches that are counted. */
+/** The maximum number of matches that the status shows. */
 const MAX_COUNTED_MATCHES = 1000;
 
 export class SearchBar {
@@ -44,7 +44,7 @@ export class SearchBar {
   }
 
   /**
-   * Opens the bar with the selected text as the query, or with the last query.
+   * Opens the bar. The query is the selected text if it is within one line, otherwise the last query.
    * @param {boolean} [showsReplacement] true to show the replacement field
    */
   open(showsReplacement = false) {

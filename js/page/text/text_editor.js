@@ -13,9 +13,9 @@ import * as say from "../../words/text.js";
  * @typedef {import("./line_editor.js").Position} Position
  * @typedef {import("../../core/debug/breakpoints.js").Edit} Edit
  *
- * The options of an editor: its container, its name for screen readers, its syntax colouring, the gutters besides the error gutter, the
- * indentation of a new line, the foldable parts of its text, and its additional key bindings. `isInFront` returns true if no tab hides the
- * editor.
+ * The options of an editor. `label` is its name for screen readers, and `colours` its syntax colouring. `gutters` are its gutters besides
+ * the error gutter. `indent` is the indentation of a new line, by default that of the previous line. `folds` has the patterns of the
+ * foldable parts of its text. `keys` are its additional key bindings. `isInFront` returns true if no tab hides the editor.
  * @typedef {{ container: HTMLElement, label: string, colours: import("./line_colours.js").Colours, gutters: string[], indent?: string,
  *   folds?: import("../../core/text/folding.js").Parts, keys: KeyMap, isInFront: () => boolean, calls: TextCalls }} TextOptions
  *
@@ -49,9 +49,9 @@ export class TextEditor {
     this.onCaretMove = () => {};
     /** The scroll position in pixels. */
     this.top = 0;
-    /** @type {number | null} the scroll position to restore as soon as the text can be measured; null if there is none */
+    /** @type {number | null} the scroll position to restore once the text can be measured; null if there is none */
     this.pendingScrollTop = null;
-    /** The line to reveal as soon as the text can be measured, or 0 for none. */
+    /** The line to reveal once the text can be measured, from 1; 0 for none. */
     this.pendingLine = 0;
     /**
      * True if the Tab key moves the focus out of the editor: after Escape, and after Tab has moved the focus into the editor.
@@ -131,7 +131,7 @@ export class TextEditor {
   }
 
   /**
-   * Scrolls to a position in pixels as soon as the text can be measured.
+   * Scrolls to a position in pixels once the text can be measured.
    * @param {number} top
    */
   scheduleScroll(top) {
@@ -139,7 +139,7 @@ export class TextEditor {
     if (this.container.offsetHeight > 0) this.editor.callAfterLayout(() => this.applyScroll());
   }
 
-  /** Restores the scroll position if the text can be measured now. */
+  /** If the text can be measured now, restores the scroll position and reveals the pending line. */
   applyScroll() {
     if (this.pendingScrollTop === null || this.container.offsetHeight === 0) return;
     this.editor.scrollTo(this.pendingScrollTop);
@@ -166,7 +166,7 @@ export class TextEditor {
   }
 
   /**
-   * Shows a session's text. If the text has not changed since it was last shown, restores its state.
+   * Shows a session's text. If the text has not changed since it was last shown, restores its undo history, caret and scroll position.
    * @param {string} sessionId the session's id
    * @param {string} text
    */
@@ -194,8 +194,8 @@ export class TextEditor {
     const { editor } = this;
     const [first, last] = [editor.getCursor("from").line, editor.getCursor("to").line];
     const lines = indices(last - first + 1).map((index) => editor.getLine(first + index) || "");
-    const end = { line: last, ch: (editor.getLine(last) || "").length };
-    editor.replaceRange(toggleComments(lines, mark).join("\n"), { line: first, ch: 0 }, end);
+    const endPosition = { line: last, ch: (editor.getLine(last) || "").length };
+    editor.replaceRange(toggleComments(lines, mark).join("\n"), { line: first, ch: 0 }, endPosition);
     editor.setSelection({ line: first, ch: 0 }, { line: last, ch: Infinity });
   }
 
@@ -230,7 +230,7 @@ export class TextEditor {
   }
 
   /**
-   * Selects complete lines and scrolls them into view.
+   * Selects complete lines, scrolls them into view and focuses the editor.
    * @param {{ from: number, to: number }} lines the first and last line, from 1
    */
   select({ from, to }) {

@@ -24,19 +24,25 @@ import * as say from "../../words/text.js";
  * @typedef {import("../../core/debug/breakpoints.js").Edit} Edit
  *
  * @typedef {import("../machine/breakpoint_form.js").BreakpointField} BreakpointField
- *
- * The language of a text. `mark` begins a comment. `indent` is the indentation of a new line, by default that of the previous line. `folds`
- * are its foldable parts. `isInstruction` returns true if a word in upper case is an instruction, and is missing for texts without names.
- * `isUnsent` is true if the text is never sent to the bench. `describeWord` describes the word at an offset in a line, both from 0.
- * `valuesAt` returns the current values of that word, and `makeEditable` makes a value editable. `complete` returns the completions for the
- * word.
- * @typedef {{ mark: import("../../core/text/sendable_text.js").CommentMark, colours: import("./line_colours.js").Colours,
- *   gutters: string[], indent?: string,
- *   folds?: import("../../core/text/folding.js").Parts, isInstruction?: (word: string) => boolean,
- *   isUnsent?: boolean,
- *   describeWord: (lines: string[], line: number, offset: number) => string,
- *   valuesAt?: (text: string, offset: number) => Piece[], makeEditable?: import("./meaning_view.js").MakeEditable,
- *   complete: (lines: string[], line: number, offset: number) => Completion }} Language
+ */
+
+/**
+ * The language of a text. Lines and offsets in a line count from 0.
+ * @typedef {object} Language
+ * @property {import("../../core/text/sendable_text.js").CommentMark} mark The character that begins a comment.
+ * @property {import("./line_colours.js").Colours} colours Returns the coloured ranges of a line.
+ * @property {string[]} gutters The names of the gutters besides the error gutter.
+ * @property {string} [indent] The indentation of a new line, by default that of the previous line.
+ * @property {import("../../core/text/folding.js").Parts} [folds] The patterns of the foldable parts of the text.
+ * @property {(word: string) => boolean} [isInstruction] Returns true if a word in upper case is an instruction. Missing for texts without
+ *   names.
+ * @property {boolean} [isUnsent] True if the text is never sent to the bench.
+ * @property {(lines: string[], line: number, offset: number) => string} describeWord Returns the description of the word at an offset in a
+ *   line, or "" if there is none.
+ * @property {(text: string, offset: number) => Piece[]} [valuesAt] Returns the current values of the word at an offset in the line `text`.
+ * @property {import("./meaning_view.js").MakeEditable} [makeEditable] Makes a cell that shows a value editable.
+ * @property {(lines: string[], line: number, offset: number) => Completion} complete Returns the completions for the word at an offset in a
+ *   line.
  */
 
 /**
@@ -118,7 +124,6 @@ export class EditorView {
     const foldingActions = folds ? makeFoldingActions(folds) : {};
     const folding = Object.entries(foldingActions).map(([name, action]) => [name, () => action(this.editor.editor)]);
     return {
-
       find: () => this.search.open(),
       replace: () => this.search.open(true),
       line: () => this.names.goToLine(),
@@ -270,7 +275,7 @@ export class EditorView {
   open(sessionId, text) {
     this.counts.clear();
     this.lineValues.show(new Map());
-    this.marks.forget();
+    this.marks.clear();
     this.showErrors([]);
     this.status.set("");
     this.editor.open(sessionId, text);

@@ -26,7 +26,7 @@ import { COLOURS } from "../../core/text/test_colours.js";
 /**
  * The callbacks that the editors of tests and properties share.
  * @typedef {object} TextCalls
- * @property {() => { boardText: string }} texts Returns the board's text.
+ * @property {() => { boardText: string }} texts Returns an object with the board's text.
  * @property {() => string[]} labels Returns the labels of the program in ROM.
  * @property {() => void} handleEdit Handles an edit of the text.
  * @property {(error: unknown) => void} reportFailure Reports an error that a call threw.
@@ -98,8 +98,8 @@ export class TextTab {
   }
 
   /**
-   * Checks the text. Called when a session has been opened and when the tab comes to the front, because the names that the text uses may
-   * have changed.
+   * Checks the text. Called when a session has been opened and when the tab is brought to the front, because the names that the text uses
+   * may have changed.
    */
   refresh() {
     this.offerFirstText();

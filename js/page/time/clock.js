@@ -1,5 +1,5 @@
 // The clock. At the chip's real speed or below, each animation frame runs the cycles that are due. At full speed, the worker continues on
-// its own. Below full speed, time stands still while the page is hidden, and while the browser or the computer suspends the page. At real
+// its own. Below full speed, no cycles run while the page is hidden, and while the browser or the computer suspends the page. At real
 // speed, a key press does not wait for the next frame. The cycles until that frame are simulated early.
 
 import { CYCLES_PER_SECOND } from "../../core/time/mcs4_time.js";
@@ -18,8 +18,8 @@ import { REAL_TIME_SPEED, canFollowLine, togglesKeys } from "../../core/time/spe
  *   the cycles have run.
  * @property {() => Promise<void>} runInstruction Runs one instruction. Called at the speed of one instruction per second.
  * @property {() => Promise<void>} runFull Starts a run at full speed, which the worker continues on its own.
- * @property {(time: number, wasHidden: boolean) => void} reportStandstill Reports that time stood still for `time` milliseconds. The cycles
- *   of that time are skipped. `wasHidden` is true if the page was hidden.
+ * @property {(time: number, wasHidden: boolean) => void} reportStandstill Reports that no cycles ran for `time` milliseconds. The cycles of
+ *   that time are skipped. `wasHidden` is true if the page was hidden.
  * @property {(error: unknown) => void} reportFailure Reports an error that a call threw.
  */
 
@@ -31,7 +31,7 @@ export class Clock {
     this.speed = REAL_TIME_SPEED;
     /** True while a call is in progress. */
     this.isBusy = false;
-    /** True if a key was pressed since the call in progress began. More cycles then run as soon as that call ends. */
+    /** True if a key was pressed since the call in progress began. More cycles then run when that call ends. */
     this.mustRunAgain = false;
     /** The id of the requested animation frame. */
     this.frameRequest = 0;
@@ -111,7 +111,7 @@ export class Clock {
 
   /**
    * Runs the cycles that are due at a key press, without waiting for the next frame. Returns true if the key was sent with these cycles;
-   * otherwise the caller must send the key. If a call is in progress, more cycles run as soon as that call ends.
+   * otherwise the caller must send the key. If a call is in progress, more cycles run when that call ends.
    * @param {Key} key
    */
   simulateKeyPress(key) {
@@ -120,13 +120,13 @@ export class Clock {
     return this.runFrame(performance.now(), this.maxEarlyTime, key);
   }
 
-  /** The number of milliseconds by which a key press can be simulated early. */
+  /** The maximum time in milliseconds that a key press can be simulated early. */
   get maxEarlyTime() {
     return this.speed === REAL_TIME_SPEED ? MAX_EARLY_MS : 0;
   }
 
   /**
-   * Runs the cycles that are due. Returns true if any cycles are due.
+   * Starts to run the cycles that are due. Returns false if no cycles are due, if the page is hidden, or if a call is in progress.
    * @param {number} now the current time in milliseconds
    * @param {number} [earlyTime] the number of milliseconds to simulate early
    * @param {Key | null} [key] the key to press before the cycles

@@ -1,4 +1,4 @@
-// The cycle counter. It shows the cycles since the last reset, since the last pause, and between two markers.
+// The cycle counter. It shows the cycles since the last reset, in the current or last run, and since a marker or between two markers.
 
 import { Cycles, formatCycles } from "../../core/time/cycles.js";
 import { Cell, block, element, onClick } from "../ui/dom.js";
@@ -21,7 +21,7 @@ export class CyclesView {
     const title = say.MARKS_CYCLE;
     const markButton = element("button", { id: "mark", type: "button", title }, say.MARK);
     onClick(markButton, () => {
-      this.cycles.mark();
+      this.cycles.addMark();
       this.show();
       onMark();
     });
@@ -50,7 +50,7 @@ export class CyclesView {
   update(counts, isRunning) {
     this.cycles.update(counts);
     if (isRunning && performance.now() - this.lastShowTime < SHOW_INTERVAL) return;
-    if (!isRunning) this.cycles.stop();
+    if (!isRunning) this.cycles.recordPause();
     this.show();
   }
 

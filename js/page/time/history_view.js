@@ -15,7 +15,7 @@ import * as say from "../../words/time.js";
  * The callbacks of the bar.
  * @typedef {object} HistoryCalls
  * @property {(goal: Goal) => void} runToGoal Runs until a goal is reached.
- * @property {(goal: BackGoal) => void} goBack Goes back to a goal.
+ * @property {(goal: BackGoal) => void} goBack Goes back in time to a goal.
  * @property {() => void} goForward Returns to the state before the last move back.
  * @property {() => import("../../core/conditions/condition_language.js").Names} names Returns the names that conditions can use.
  * @property {(message: string) => void} showMessage Shows a message in the status line.
@@ -69,7 +69,7 @@ export class HistoryView {
   }
 
   /** Restores the initial contents of the fields when another session is opened. */
-  begin() {
+  resetFields() {
     for (const input of [this.countField, this.placeField]) {
       input.value = input.defaultValue;
       input.removeAttribute("aria-invalid");

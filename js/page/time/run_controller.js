@@ -123,7 +123,7 @@ export class RunController {
     this.storeGoal(goal);
     this.startCycles = calls.cycles();
     calls.handleRunStart();
-    if (!goal) bench.call("drop", []).catch(calls.reportFailure);
+    if (!goal) bench.call("dropGoal", []).catch(calls.reportFailure);
     this.showRunning(true);
     this.showMessage(goal ? runningToGoal(goal) : say.isRunning(currentSession.name, calls.countInvalidBreakpoints()));
     this.clock.start();
@@ -133,8 +133,8 @@ export class RunController {
   }
 
   /**
-   * @param {Goal | null} goal the goal of the run; saved with the session, so that the page can report after a reload that the run was
-   *   interrupted
+   * @param {Goal | null} goal the goal of the run; null if it has none. The goal is saved with the session, so that the page can report
+   *   after a reload that the run was interrupted
    */
   storeGoal(goal) {
     const { session } = this.currentSession;
@@ -143,7 +143,7 @@ export class RunController {
     else delete session.record.goal;
   }
 
-  /** Forgets the goal after a reset, because the subroutine that the goal waits for can no longer return. */
+  /** Forgets the goal after a reset. For example, a subroutine that the goal waits for can no longer return. */
   forgetGoal() {
     this.goal = null;
   }
@@ -151,7 +151,7 @@ export class RunController {
   /** Resumes or pauses time at the user's request. */
   continueOrPause() {
     this.currentSession.markChanged();
-    if (this.clock.isRunning) this.stop();
+    if (this.clock.isRunning) this.pauseRun();
     else this.run();
   }
 
@@ -187,12 +187,12 @@ export class RunController {
   setHidden(isHidden) {
     const { bench, currentSession, calls } = this;
     if (isHidden) this.clock.handlePageHidden();
-    if (this.clock.isFull && this.clock.isRunning) bench.call("pace", [isHidden]).catch(calls.reportFailure);
+    if (this.clock.isFull && this.clock.isRunning) bench.call("setHidden", [isHidden]).catch(calls.reportFailure);
     if (isHidden) currentSession.saveNow();
   }
 
   /**
-   * Reports that time stood still. The message stays for STANDSTILL_MESSAGE_MS. Restarts the measurement of the simulation rate.
+   * Reports that no cycles ran for some time. The message stays for STANDSTILL_MESSAGE_MS. Restarts the measurement of the simulation rate.
    * @param {number} time the duration in milliseconds
    * @param {boolean} wasHidden true if the page was hidden
    */
@@ -233,7 +233,7 @@ export class RunController {
   }
 
   /** Pauses time, shows the current address, and saves the session. */
-  async stop() {
+  async pauseRun() {
     const { currentSession, calls } = this;
     try {
       await this.stopRun();
@@ -251,18 +251,18 @@ export class RunController {
 
   /** Pauses time if it is running. */
   async pause() {
-    if (this.clock.isRunning) await this.stop();
+    if (this.clock.isRunning) await this.pauseRun();
   }
 
   /**
-   * Handles a frame from the worker.
+   * Shows a frame from the worker. Ends the run if time has stopped. Saves the session when a save is due.
    * @param {Frame} frame
    */
   handleFrame(frame) {
     const { currentSession } = this;
     const isNewRate = this.rate.add(frame.cycles, this.clock.simulatedTime);
     if (frame.stop) this.clock.stop();
-    this.sound.playLevels(frame.heard);
+    this.sound.playLevels(frame.buzzerLevels);
     this.calls.showFrame(frame);
     if (frame.stop) {
       this.endRun(this.describeStop(frame.stop));
@@ -271,7 +271,7 @@ export class RunController {
       return;
     }
     if (isNewRate || !this.clock.isRunning) this.showRate();
-    // A key press is saved at once. A hidden page receives one frame per second and saves after each frame.
+    // A key change is saved at once. A hidden page receives one frame per second and saves after each frame.
     if (frame.changesKeys || document.hidden || performance.now() - currentSession.lastSaveTime >= SAVE_INTERVAL) currentSession.save();
   }
 
@@ -291,7 +291,7 @@ export class RunController {
   }
 
   async stepOnce() {
-    if (this.clock.isRunning) await this.stop();
+    if (this.clock.isRunning) await this.pauseRun();
     const answer = await this.calls.step();
     if (answer === null) return;
     const run = readRun(answer);
@@ -301,7 +301,7 @@ export class RunController {
   }
 
   /**
-   * Queues a key change while time is running.
+   * Queues a key change while time is running. Below full speed, a press is simulated at once if cycles are due.
    * @param {"press" | "release" | "forget"} word `forget` discards the queued changes of the key
    * @param {Key} key
    */

@@ -86,7 +86,10 @@ export class Cell {
   }
 }
 
-/** A state of an element that is on or off, for example a class or an attribute. Calls `show` only when the state changes. */
+/**
+ * A state of an element that is on or off, for example a class or an attribute. The constructor calls `show` with false. After that, `show`
+ * is called only when the state changes.
+ */
 export class Switch {
   /** @param {(isOn: boolean) => void} show */
   constructor(show) {

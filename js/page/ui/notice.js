@@ -1,6 +1,6 @@
-// Notices about errors and about actions that can be undone. At most three are visible, regardless of the page's scroll position. For most
-// kinds, only the newest notice is visible. Undoable actions and sessions that were not opened each have their own notice. An error notice
-// disappears when its cause is gone; a success notice disappears after some time. A list shows all past notices.
+// Notices about errors and about actions that can be undone. At most three are visible, and they stay in view while the page scrolls. For
+// most kinds, only the newest notice is visible. Undoable actions and sessions that were not opened each have their own notice. An error
+// notice disappears when its cause is gone; a success notice disappears after some time. A list shows all past notices.
 
 import { block, element } from "./dom.js";
 import { NoticeList } from "./notice_list.js";
@@ -136,8 +136,8 @@ export class Notice {
 
   /** Moves the focus to the next notice, or back to the element that had the focus before a notice received the focus. */
   moveFocusAway() {
-    const next = this.block.querySelector("button") || this.priorFocus;
-    if (next) next.focus();
+    const nextFocus = this.block.querySelector("button") || this.priorFocus;
+    if (nextFocus) nextFocus.focus();
   }
 
   /**

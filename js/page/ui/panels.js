@@ -13,7 +13,8 @@ import * as say from "../../words/workbench.js";
 const MAXIMIZED_KEY = "full";
 
 /**
- * Returns the row at the top of a panel: the panel's row of tabs, or a new row that contains its heading.
+ * Returns the row at the top of a panel: the panel's row of tabs, or a new row that contains its heading. Returns the panel itself if it
+ * has neither.
  * @param {HTMLElement} panel
  */
 function prepareHead(panel) {
@@ -45,7 +46,7 @@ export class Panels {
     this.menu.append(element("ul", {}, ...this.panels.map((panel) => this.makeMenuItem(panel))),
       makeButton(say.RESET_LAYOUT, () => this.reset()));
     this.addListeners();
-    this.setFull(preferences.get(MAXIMIZED_KEY));
+    this.setMaximized(preferences.get(MAXIMIZED_KEY));
     this.updateColumns();
   }
 
@@ -61,21 +62,22 @@ export class Panels {
     openSwitch.set(this.preferences.get(`panel.${id}`) !== "closed");
     checkBox.checked = openSwitch.isOn;
     checkBox.addEventListener("change", () => this.open(id, checkBox.checked));
+    const [maximizeTitle, closeTitle] = [say.fullSize(name), say.closes(name)];
     const tools = element("span", { className: "panel-tools" },
-      makeButton("\u25A1", () => this.toggleFull(id), { "title": say.fullSize(name), "aria-label": say.fullSize(name), "tabIndex": -1 }),
-      makeButton("\u00D7", () => this.open(id, false), { "title": say.closes(name), "aria-label": say.closes(name), "tabIndex": -1 }));
+      makeButton("\u25A1", () => this.toggleMaximized(id), { "title": maximizeTitle, "aria-label": maximizeTitle, "tabIndex": -1 }),
+      makeButton("\u00D7", () => this.open(id, false), { "title": closeTitle, "aria-label": closeTitle, "tabIndex": -1 }));
     prepareHead(node).append(tools);
     return { id, name, node, openSwitch, checkBox };
   }
 
   /** @param {Panel} panel */
   makeMenuItem({ id, name, checkBox }) {
-    const fullButton = makeButton(say.FULL_SIZE, () => {
+    const maximizeButton = makeButton(say.FULL_SIZE, () => {
       this.menuSwitch.set(false);
       this.open(id, true);
-      this.setFull(id);
+      this.setMaximized(id);
     }, { "aria-label": say.fullSize(name) });
-    return element("li", {}, element("label", { className: "check" }, checkBox, ` ${name}`), fullButton);
+    return element("li", {}, element("label", { className: "check" }, checkBox, ` ${name}`), maximizeButton);
   }
 
   addListeners() {
@@ -105,7 +107,7 @@ export class Panels {
   open(id, isOpen) {
     const panel = this.find(id);
     if (!panel) return;
-    if (!isOpen && this.maximizedId === id) this.setFull("");
+    if (!isOpen && this.maximizedId === id) this.setMaximized("");
     panel.openSwitch.set(isOpen);
     panel.checkBox.checked = isOpen;
     this.preferences.set(`panel.${id}`, isOpen ? "" : "closed");
@@ -127,15 +129,15 @@ export class Panels {
   }
 
   /** @param {string} id */
-  toggleFull(id) {
-    this.setFull(this.maximizedId === id ? "" : id);
+  toggleMaximized(id) {
+    this.setMaximized(this.maximizedId === id ? "" : id);
   }
 
   /**
    * Maximises a panel to the size of the window, above all other panels.
    * @param {string} id the panel's id; "" restores the size of the maximised panel
    */
-  setFull(id) {
+  setMaximized(id) {
     this.maximizedId = this.find(id) ? id : "";
     this.preferences.set(MAXIMIZED_KEY, this.maximizedId);
     for (const panel of this.panels) panel.node.classList.toggle("full", panel.id === this.maximizedId);
@@ -145,7 +147,7 @@ export class Panels {
   /** Restores the initial layout. */
   reset() {
     this.menuSwitch.set(false);
-    this.setFull("");
+    this.setMaximized("");
     for (const { id } of this.panels) this.open(id, true);
     this.resetOtherParts();
   }

@@ -3,7 +3,7 @@
 
 const STORAGE_KEY = "fethsaim.choices";
 
-/** @typedef {Pick<Storage, "getItem" | "setItem">} ChoiceStore */
+/** @typedef {Pick<Storage, "getItem" | "setItem">} PreferenceStore */
 
 /** Returns the browser's local storage, or null if the page cannot use it. */
 export function browserStore() {
@@ -15,23 +15,24 @@ export function browserStore() {
 }
 
 /**
- * @param {string | null} text
+ * Returns the stored preferences, by name. Returns no preferences if the text is damaged.
+ * @param {string | null} text the stored text, or null if nothing is stored
  * @returns {Record<string, string>}
  */
-function readChoices(text) {
+function parsePreferences(text) {
   try {
-    const storedChoices = JSON.parse(text || "{}");
-    return Object.fromEntries(Object.entries(storedChoices).filter(([, value]) => typeof value === "string"));
+    const storedValues = JSON.parse(text || "{}");
+    return Object.fromEntries(Object.entries(storedValues).filter(([, value]) => typeof value === "string"));
   } catch {
     return {};
   }
 }
 
 export class Preferences {
-  /** @param {ChoiceStore | null} store null if the browser has no storage */
+  /** @param {PreferenceStore | null} store null if the browser has no storage */
   constructor(store = browserStore()) {
     this.store = store;
-    this.choiceByName = readChoices(this.read());
+    this.valuesByName = parsePreferences(this.read());
   }
 
   read() {
@@ -47,7 +48,7 @@ export class Preferences {
    * @param {string} name
    */
   get(name) {
-    return Object.prototype.hasOwnProperty.call(this.choiceByName, name) ? this.choiceByName[name] : "";
+    return Object.prototype.hasOwnProperty.call(this.valuesByName, name) ? this.valuesByName[name] : "";
   }
 
   /**
@@ -56,9 +57,9 @@ export class Preferences {
    */
   set(name, value) {
     // Another tab may have stored other preferences in the meantime.
-    this.choiceByName = { ...this.choiceByName, ...readChoices(this.read()), [name]: value };
+    this.valuesByName = { ...this.valuesByName, ...parsePreferences(this.read()), [name]: value };
     try {
-      if (this.store) this.store.setItem(STORAGE_KEY, JSON.stringify(this.choiceByName));
+      if (this.store) this.store.setItem(STORAGE_KEY, JSON.stringify(this.valuesByName));
     } catch {
       // Without local storage, the preference lasts only until the page is closed.
     }

@@ -30,14 +30,14 @@ export class ProgressView {
    */
   async show(description, work) {
     const controller = new AbortController();
-    const showTimer = setTimeout(() => this.begin(description, controller), SHOW_DELAY);
+    const showTimer = setTimeout(() => this.open(description, controller), SHOW_DELAY);
     try {
       return await work(controller.signal, (done, total) => {
         if (this.controller === controller) this.bar.value = done / total;
       });
     } finally {
       clearTimeout(showTimer);
-      if (this.controller === controller) this.end();
+      if (this.controller === controller) this.close();
     }
   }
 
@@ -45,14 +45,14 @@ export class ProgressView {
    * @param {string} description
    * @param {AbortController} controller
    */
-  begin(description, controller) {
+  open(description, controller) {
     this.controller = controller;
     this.text.set(description);
     this.bar.removeAttribute("value");
     this.block.hidden = false;
   }
 
-  end() {
+  close() {
     this.controller = null;
     this.block.hidden = true;
   }

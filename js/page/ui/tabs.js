@@ -51,11 +51,11 @@ export class Tabs {
   }
 
   /**
-   * Brings a tab to the front, or the first tab if that tab is hidden.
+   * Brings a tab to the front. If it does not exist, brings the first tab to the front instead.
    * @param {string} name
    */
   show(name) {
-    this.frontTab = this.tabs.find((entry) => entry.name === name && !entry.tab.hidden) || this.tabs[0];
+    this.frontTab = this.tabs.find((entry) => entry.name === name) || this.tabs[0];
     for (const entry of this.tabs) {
       const isFront = entry === this.frontTab;
       entry.tab.setAttribute("aria-selected", String(isFront));
@@ -67,21 +67,10 @@ export class Tabs {
 
   /**
    * @param {string} name
-   * @param {() => void} listener called each time the tab has come to the front, when the size of its contents can be measured
+   * @param {() => void} listener called each time the tab has been brought to the front, when the size of its contents can be measured
    */
   onShown(name, listener) {
     this.find(name).listeners.push(listener);
-  }
-
-  /**
-   * Shows or hides a tab, for example while the tab has no contents.
-   * @param {string} name
-   * @param {boolean} isVisible
-   */
-  offer(name, isVisible = true) {
-    const entry = this.find(name);
-    entry.tab.hidden = !isVisible;
-    if (!isVisible && this.frontTab === entry) this.show(this.tabs[0].name);
   }
 
   /**
@@ -98,13 +87,12 @@ export class Tabs {
 
   /** @param {KeyboardEvent} event */
   handleKey(event) {
-    const visibleTabs = this.tabs.filter((entry) => !entry.tab.hidden);
-    const index = visibleTabs.indexOf(this.frontTab);
+    const index = this.tabs.indexOf(this.frontTab);
     /** @type {Record<string, number>} */
     const targetIndices = { ArrowRight: index + 1, ArrowLeft: index - 1, Home: 0, End: -1 };
     if (!(event.key in targetIndices) || event.ctrlKey || event.altKey || event.metaKey) return;
     event.preventDefault();
-    this.choose(visibleTabs[(targetIndices[event.key] + visibleTabs.length) % visibleTabs.length].name);
+    this.choose(this.tabs[(targetIndices[event.key] + this.tabs.length) % this.tabs.length].name);
     this.frontTab.tab.focus();
   }
 }

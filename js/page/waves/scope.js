@@ -7,7 +7,7 @@ import { findLineByName, findLineNameInEdge } from "../../core/waves/trigger.js"
 import { vcdParts } from "../../core/waves/vcd.js";
 import { WaveChoice } from "./wave_choice.js";
 import { renderPng, toSvg } from "./wave_pictures.js";
-import { find, readSearch } from "../../core/waves/wave_search.js";
+import { findMatch, readSearch } from "../../core/waves/wave_search.js";
 import { WaveView } from "./wave_view.js";
 import { MAX_CYCLES, formatNumber, readCycles, describeRecording } from "../../core/waves/wave_words.js";
 import { Waves } from "../../core/waves/wave_recording.js";
@@ -28,7 +28,7 @@ import * as say from "../../words/waves.js";
  * @property {(cycles: number, isBefore: boolean, values: string[]) => Promise<Recording | null>} record Records the last `cycles` cycles
  *   if `isBefore` is true, otherwise the next `cycles` cycles. `values` are the names of registers and nibbles to
  *   include. Resolves to null after a failure. A failure has already been reported.
- * @property {(setup: { trigger: string } & LiveSetup, values: string[]) => Promise<{ recorded: Recording | null, error: string } | null>}
+ * @property {(setup: { trigger: string } & LiveSetup, values: string[]) => Promise<{ recording: Recording | null, error: string } | null>}
  *   startLive Starts a recording that lasts until `endLive`. Resolves to the first part of the recording or to the error in the trigger's
  *   condition, or to null after a failure.
  * @property {() => Promise<LivePart | null>} endLive Ends the recording. Resolves to its last part, or to null if there is none.
@@ -171,8 +171,8 @@ export class Scope {
   /** @param {Waves} waves */
   show(waves) {
     block("waves").hidden = block("wave-tools").hidden = false;
-    this.view.begin(waves);
-    this.choice.begin(waves);
+    this.view.setRecording(waves);
+    this.choice.setRecording(waves);
   }
 
   // --- live recordings ---
@@ -200,11 +200,11 @@ export class Scope {
     const liveSetup = { trigger, cyclesAfterTrigger: cyclesAfter, stopsMachine: stopsTime };
     const result = await this.calls.startLive(liveSetup, this.choice.valueNames);
     if (!result) return;
-    const { recorded, error } = result;
+    const { recording, error } = result;
     field("trigger").setAttribute("aria-invalid", String(error !== ""));
     if (error) this.status.set(say.triggerNotUnderstood(error));
-    if (!recorded) return;
-    this.liveWaves = new LiveWaves(recorded, settings);
+    if (!recording) return;
+    this.liveWaves = new LiveWaves(recording, settings);
     this.show(this.liveWaves.waves);
     this.showLive(this.liveWaves);
   }
@@ -299,16 +299,16 @@ export class Scope {
     const { name } = waves.lines[search.line];
     if (!this.choice.selectedNames.has(name)) this.choice.select(name, true);
     this.view.selectRowOfLine(search.line);
-    const moment = find(waves, search, view.moment, isForward);
+    const moment = findMatch(waves, search, view.moment, isForward);
     if (moment >= 0) this.view.moveCursor(moment);
     else this.searchStatus.set(say.notFound(text.trim(), isForward, formatNumber(view.moment)));
   }
 
   /** Forgets the recording when another session is opened. */
-  forget() {
+  discardRecording() {
     this.liveWaves = null;
     this.view.waves = null;
-    this.choice.forget();
+    this.choice.discardRecording();
     this.status.set("");
     this.lengthStatus.set("");
     this.recordLabel.set(say.RECORD);
@@ -317,7 +317,7 @@ export class Scope {
   }
 
   /**
-   * The recording to save, or null if no row is visible. In that case, shows a message.
+   * The recording to save, or null if there is no recording or no row is visible. If no row of a recording is visible, shows a message.
    * @returns {Waves | null}
    */
   get wavesToSave() {

@@ -14,10 +14,22 @@ import { tickMoments } from "../../core/waves/wave_window.js";
  * @typedef {{ ink: string, faint: string, grid: string, sheet: string, chosen: string, first: string, second: string, measured: string }
  *   & Record<RowColour, string>} Colours
  * @typedef {{ row: number, from: number, to: number }} RowRange the part of a row between two moments
- * @typedef {{ waves: Waves, rows: WaveRow[], selectedIndex: number, view: WaveWindow, top: number, gutter: number, height: number, trigger:
- *   number, measured: RowRange | null, colours: Colours, font: string }} Picture the picture to draw: `top` is the vertical scroll position
- *   in pixels, `gutter` the width of the gutter in pixels, `trigger` the moment of the trigger (-1 for none), and `measured` the measured
- *   range at the pointer
+ */
+
+/**
+ * The picture to draw.
+ * @typedef {object} Picture
+ * @property {Waves} waves The recording.
+ * @property {WaveRow[]} rows The rows in their order.
+ * @property {number} selectedIndex The index of the selected row, or -1 if there is none.
+ * @property {WaveWindow} view The visible cycles, and the cursors.
+ * @property {number} top The vertical scroll position in pixels.
+ * @property {number} gutter The width in pixels of the gutter with the names.
+ * @property {number} height The height of the picture in pixels.
+ * @property {number} trigger The moment of the trigger, or -1 if there is none.
+ * @property {RowRange | null} measuredRange The measured range at the pointer, or null if there is none.
+ * @property {Colours} colours The colour of each element.
+ * @property {string} font The font of all texts, as a CSS value.
  */
 
 /** The height in pixels of the time axis. */
@@ -114,7 +126,7 @@ function strokeLine(context, ...points) {
  * @param {number} y
  */
 function drawRow(context, picture, row, y) {
-  const { waves, rows, selectedIndex, view, gutter, colours, measured } = picture;
+  const { waves, rows, selectedIndex, view, gutter, colours, measuredRange } = picture;
   const { line, title, colour, group, isFolded } = rows[row];
   if (row === selectedIndex) {
     context.fillStyle = colours.chosen;
@@ -142,7 +154,7 @@ function drawRow(context, picture, row, y) {
     context.strokeStyle = context.fillStyle = ink;
     if (isDrawnAsBoxes(waves.lines[line])) drawTexts(context, picture, line, y);
     else drawLevels(context, picture, line, y);
-    if (measured && measured.row === row) drawMeasured(context, picture, measured, y);
+    if (measuredRange && measuredRange.row === row) drawMeasuredRange(context, picture, measuredRange, y);
   });
 }
 
@@ -150,10 +162,10 @@ function drawRow(context, picture, row, y) {
  * Underlines the measured range of a row.
  * @param {Context} context
  * @param {Picture} picture
- * @param {RowRange} measured
+ * @param {RowRange} measuredRange
  * @param {number} y
  */
-function drawMeasured(context, { view, gutter, colours }, { from, to }, y) {
+function drawMeasuredRange(context, { view, gutter, colours }, { from, to }, y) {
   const [startX, endX] = [from, to].map((moment) => Math.min(Math.max(view.xAt(moment), -2), view.width + 2));
   context.fillStyle = colours.measured;
   context.fillRect(gutter + startX, y + ROW_HEIGHT - 4, Math.max(1, endX - startX), 3);
@@ -189,13 +201,13 @@ function valueInGutter({ waves, view }, line) {
 function drawLevels(context, { waves, view, gutter }, line, y) {
   const changes = waves.changesOf(line);
   const [high, low] = [y + LEVEL_MARGIN + 0.5, y + ROW_HEIGHT - LEVEL_MARGIN - 0.5];
-  const end = Math.min(view.width, view.xAt(waves.cycles));
+  const endX = Math.min(view.width, view.xAt(waves.cycles));
   let level = waves.numberAt(line, Math.floor(view.from));
   let changeIndex = countUpTo(changes, Math.floor(view.from));
   context.lineWidth = 1.5;
   context.beginPath();
   context.moveTo(gutter, level ? high : low);
-  while (changeIndex < changes.length && view.xAt(changes[changeIndex]) < end) {
+  while (changeIndex < changes.length && view.xAt(changes[changeIndex]) < endX) {
     const x = view.xAt(changes[changeIndex]);
     const nextIndex = countUpTo(changes, view.cyclesAt(x + 1));
     if (nextIndex > changeIndex + 1) {
@@ -212,7 +224,7 @@ function drawLevels(context, { waves, view, gutter }, line, y) {
     context.lineTo(gutter + x, level ? high : low);
     changeIndex += 1;
   }
-  context.lineTo(gutter + end, level ? high : low);
+  context.lineTo(gutter + endX, level ? high : low);
   context.stroke();
   context.lineWidth = 1;
 }
@@ -227,17 +239,17 @@ function drawLevels(context, { waves, view, gutter }, line, y) {
 function drawTexts(context, { waves, view, gutter }, line, y) {
   const changes = waves.changesOf(line);
   const [high, low] = [y + LEVEL_MARGIN + 0.5, y + ROW_HEIGHT - LEVEL_MARGIN - 0.5];
-  const end = Math.min(view.width, view.xAt(waves.cycles));
+  const endX = Math.min(view.width, view.xAt(waves.cycles));
   let from = 0;
   let changeIndex = countUpTo(changes, Math.floor(view.from));
-  strokeLine(context, gutter, high, gutter + end, high);
-  strokeLine(context, gutter, low, gutter + end, low);
-  while (from < end) {
-    const change = changeIndex < changes.length ? view.xAt(changes[changeIndex]) : end;
-    const to = Math.min(Math.max(change, from + 1), end);
+  strokeLine(context, gutter, high, gutter + endX, high);
+  strokeLine(context, gutter, low, gutter + endX, low);
+  while (from < endX) {
+    const change = changeIndex < changes.length ? view.xAt(changes[changeIndex]) : endX;
+    const to = Math.min(Math.max(change, from + 1), endX);
     const moment = Math.floor(Math.max(view.from, changeIndex > 0 ? changes[changeIndex - 1] : 0));
     drawValue(context, waves.valueAt(line, moment), gutter + from, gutter + to, y);
-    if (to < end) strokeLine(context, gutter + to, high, gutter + to, low);
+    if (to < endX) strokeLine(context, gutter + to, high, gutter + to, low);
     from = to;
     changeIndex = Math.max(changeIndex + 1, countUpTo(changes, view.cyclesAt(to)));
   }
@@ -264,7 +276,7 @@ function drawValue(context, value, from, to, y) {
  */
 function drawCursor(context, picture, cursor, colour) {
   const { view } = picture;
-  context.lineWidth = view.active === cursor ? 2 : 1;
+  context.lineWidth = view.activeCursor === cursor ? 2 : 1;
   drawMark(context, picture, {
     moment: view.cursors[cursor], letter: cursor === 0 ? "A" : "B", y: cursor === 0 ? 1 : 13, colour, dash: cursor === 0 ? [] : [5, 3],
   });

@@ -43,7 +43,7 @@ export class WaveChoice {
   }
 
   /** @param {Waves} waves a new recording; lines that the user has selected stay selected, by name */
-  begin(waves) {
+  setRecording(waves) {
     this.waves = waves;
     const isLineSelected = waves.lines.some(({ name, kind }) => kind !== "value" && this.selectedNames.has(name));
     if (!isLineSelected) this.isUserSelection = false;
@@ -59,7 +59,7 @@ export class WaveChoice {
   }
 
   /**
-   * Selects the lines that change. Returns true if the selection has changed.
+   * Selects the lines that change, and keeps the selected values. Returns true if the selection has changed.
    * @param {Waves} waves
    */
   selectChangingIn(waves) {
@@ -78,7 +78,7 @@ export class WaveChoice {
   }
 
   /** Forgets the recording and the selection. */
-  forget() {
+  discardRecording() {
     this.waves = null;
     this.selectedNames.clear();
     this.isUserSelection = false;

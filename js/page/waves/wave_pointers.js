@@ -6,7 +6,7 @@
  */
 
 /**
- * The callbacks of the pointer input. Points are in pixels from the top left corner.
+ * The callbacks of the pointer input. Points are in pixels from the top left corner of the waves.
  * @typedef {object} PointerCalls
  * @property {(point: Point, isOtherCursor: boolean) => void} click Moves the active cursor to a point, or the other cursor if
  *   `isOtherCursor` is true (a click with Shift).

@@ -8,7 +8,7 @@ export class WaveValues {
   /** @param {() => void} onToggle called after the table has been opened or closed */
   constructor(onToggle) {
     this.node = byId("wave-values", HTMLDetailsElement);
-    /** @type {number[]} the line of each row */
+    /** @type {number[]} the index of each row's line in the recording */
     this.rows = [];
     /** @type {Cell[][]} */
     this.cells = [];

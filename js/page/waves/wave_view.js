@@ -134,7 +134,7 @@ export class WaveView {
     return waves ? arrangement.sortNames(chosenLines.map((line) => waves.lines[line].name)) : [];
   }
 
-  /** The visible lines, in row order. */
+  /** The indices of the visible lines, in row order. */
   get lines() {
     const { waves, names, chosenLines } = this;
     const linesByName = new Map(waves ? chosenLines.map((line) => [waves.lines[line].name, line]) : []);
@@ -142,7 +142,7 @@ export class WaveView {
   }
 
   /** @param {Waves} waves the recording to show */
-  begin(waves) {
+  setRecording(waves) {
     this.waves = waves;
     this.trigger = -1;
     this.view = new WaveWindow(waves.cycles, waves.from);
@@ -160,7 +160,10 @@ export class WaveView {
     this.requestDrawing();
   }
 
-  /** Shows a finished recording in full. Puts the cursors on the first two edges of the first row that has edges. */
+  /**
+   * Shows the complete recording, unless the user has zoomed in or scrolled away from the end. Puts the cursors on the first two edges of
+   * the first row that has edges. A cursor without an edge goes to the beginning.
+   */
   fit() {
     const { waves, view, rows } = this;
     const row = rows.find(({ line }) => waves !== null && line >= 0 && waves.changesOf(line).length > 0);
@@ -192,7 +195,7 @@ export class WaveView {
 
   /**
    * Arranges the rows again after they have changed or moved.
-   * @param {WaveRow | undefined} selectedRow the row to select
+   * @param {WaveRow | undefined} selectedRow the row to select; if it is no longer shown, the first row is selected
    */
   arrange(selectedRow) {
     const { waves } = this;
@@ -324,7 +327,7 @@ export class WaveView {
 
   // --- user actions ---
 
-  /** @param {() => void} action changes the range of cycles that is visible */
+  /** @param {() => void} action changes the visible range of cycles, or moves a cursor */
   changeView(action) {
     action();
     this.requestDrawing();
@@ -338,7 +341,7 @@ export class WaveView {
   /** @param {number} cursor 0 for cursor A, 1 for cursor B */
   activateCursor(cursor) {
     this.changeView(() => {
-      this.view.active = cursor;
+      this.view.activeCursor = cursor;
       this.view.move(this.view.moment);
     });
   }
@@ -369,7 +372,7 @@ export class WaveView {
     if (this.waves) this.calls.goTo(this.waves.counterAt(this.view.moment));
   }
 
-  /** Handles Enter: folds the selected group, or shows the instruction at the cursor. */
+  /** Handles Enter: folds or unfolds the selected group, or shows the instruction at the active cursor. */
   handleEnter() {
     const row = this.rows[this.selectedIndex];
     if (row && row.line < 0) this.toggleFold(row.group);
@@ -405,7 +408,7 @@ export class WaveView {
     if (this.rows[row]) this.selectRow(row);
     if (this.rows[row] && this.rows[row].line < 0) this.toggleFold(this.rows[row].group);
     if (x < this.gutter) return;
-    if (isOtherCursor) this.view.active = 1 - this.view.active;
+    if (isOtherCursor) this.view.activeCursor = 1 - this.view.activeCursor;
     this.moveCursor(this.view.momentAt(x - this.gutter, this.waves, y >= AXIS_HEIGHT ? this.line : -1));
   }
 
@@ -458,7 +461,7 @@ export class WaveView {
     this.statusCells[0].set(describeCursor("A", view.cursors[0], waves));
     this.statusCells[1].set(describeCursor("B", view.cursors[1], waves));
     this.statusCells[2].set(describeDistance(view.cursorDistance));
-    this.cursorSwitches.forEach((cursorSwitch, cursor) => cursorSwitch.set(view.active === cursor));
+    this.cursorSwitches.forEach((cursorSwitch, cursor) => cursorSwitch.set(view.activeCursor === cursor));
     this.canvas.setAttribute("aria-valuemin", String(view.begin));
     this.canvas.setAttribute("aria-valuemax", String(view.end));
     this.canvas.setAttribute("aria-valuenow", String(view.moment));
@@ -469,9 +472,9 @@ export class WaveView {
 
   /**
    * @param {Waves} waves
-   * @param {Picture["measured"]} measured
+   * @param {Picture["measuredRange"]} measuredRange
    */
-  draw(waves, measured) {
+  draw(waves, measuredRange) {
     const { scroll, canvas, gutter } = this;
     const [width, height] = [scroll.clientWidth, scroll.clientHeight];
     const pixelRatio = devicePixelRatio || 1;
@@ -484,7 +487,7 @@ export class WaveView {
     const context = canvas.getContext("2d");
     if (!context) return;
     context.setTransform(pixelRatio, 0, 0, pixelRatio, 0, 0);
-    drawWaves(context, { ...this.makePicture(waves), top: scroll.scrollTop, height, measured });
+    drawWaves(context, { ...this.makePicture(waves), top: scroll.scrollTop, height, measuredRange });
   }
 
   /**
@@ -498,7 +501,7 @@ export class WaveView {
       [name, style.getPropertyValue(property).trim()])));
     const { rows, selectedIndex, view, gutter, trigger } = this;
     return {
-      waves, rows, selectedIndex, view, top: 0, gutter, height: AXIS_HEIGHT + rows.length * ROW_HEIGHT, trigger, measured: null,
+      waves, rows, selectedIndex, view, top: 0, gutter, height: AXIS_HEIGHT + rows.length * ROW_HEIGHT, trigger, measuredRange: null,
       colours: /** @type {Colours} */ (/** @type {unknown} */ (colours)), font: `12px ${style.fontFamily}`,
     };
   }

@@ -5,6 +5,7 @@ import { makeEarlySender } from "../bench/early_replies.js";
 import { packError } from "../../core/bench/bench_errors.js";
 
 /**
+ * @typedef {import("../../core/bench/protocol.js").CallName} CallName
  * @typedef {import("../../core/bench/protocol.js").Frame} Frame
  * @typedef {import("../../core/bench/protocol.js").Request} Request
  * @typedef {import("../../core/bench/protocol.js").ToPage} ToPage
@@ -16,12 +17,12 @@ import { packError } from "../../core/bench/bench_errors.js";
 /** The interval in milliseconds between progress reports. */
 const PROGRESS_INTERVAL = 100;
 
-/** @type {Record<string, true>} the names of the calls that change the session even while time is running */
-const CHANGING_CALLS = { serve: true, serveTyped: true, goOn: true, goBack: true, goForward: true };
+/** @type {ReadonlySet<CallName>} the names of the calls that change the session even while time is running */
+const CHANGING_CALLS = new Set(["serve", "serveTyped", "runToGoal", "goBack", "goForward"]);
 
 /**
  * Returns true if a call presses a key and runs time. The user is then waiting for the lamps to react.
- * @param {string} call
+ * @param {CallName} call
  * @param {any[]} callArguments
  */
 function pressesKey(call, callArguments) {
@@ -37,11 +38,10 @@ class BenchWorker {
     /** @type {Request[]} */
     this.requests = [];
     /** The number of the request in progress. */
-
     this.currentRequest = 0;
     /** The number of the last request that the page has cancelled. */
     this.cancelledRequest = 0;
-    /** The time of the last progress report, in milliseconds. */
+    /** The time of the last progress report, or of the start of the request if there was no report, in milliseconds. */
     this.lastReportTime = 0;
     this.wake = () => {};
     this.resume = () => {};
@@ -100,7 +100,7 @@ class BenchWorker {
     this.currentRequest = number;
     this.lastReportTime = performance.now();
     // First report the run that preceded the call.
-    if (CHANGING_CALLS[call] && this.calls.bench.fullSpeed.isOn) this.postFrame(this.calls.bench.takeUnreported());
+    if (CHANGING_CALLS.has(call) && this.calls.bench.fullSpeed.isOn) this.postFrame(this.calls.bench.takeUnreported());
     try {
       const result = await (/** @type {any} */ (this.calls))[call](...callArguments);
       if (pressesKey(call, callArguments)) this.sendEarly({ kind: "early", number, result });
@@ -118,7 +118,7 @@ class BenchWorker {
 
   runBatch() {
     try {
-      const frame = this.calls.bench.batch();
+      const frame = this.calls.bench.runBatch();
       if (frame) this.postFrame(frame);
     } catch (error) {
       this.calls.bench.fullSpeed.stop();

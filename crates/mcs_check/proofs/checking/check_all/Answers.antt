@@ -16,7 +16,7 @@ returns-in-Holds c =
     let limits = c.args.limits in
     let layout = c.in_ok-layout.layout.items in
     let property = c.args.property in
-    let key = c.deref-2.result.now in
+    let key = c.deref-3.result.now in
     let saved : c.save.new.key ≡ key_of layout m = c.save.ensures ∙ ap (λ (l : List KeyByte). key_of l m) c.deref.ensures.value in
     let mapped = ap length c.save.ensures ∙ length-map c.deref.result.now (key_byte_value m) in
     let few = c.deref.ensures.len in
@@ -25,7 +25,7 @@ returns-in-Holds c =
     let len : length c.save.new.key ≡ c.in_ok-key.key.len = omega arith in
     let rest = drop (length c.save.new.key) c.in_ok-key.key.items in
     let whole = subst (λ (n : ℕ). take n (c.save.new.key ++ rest) ≡ c.save.new.key) len (take-append_seam c.save.new.key rest) in
-    let cells : key ≡ key_of layout m = c.deref-2.ensures.value ∙ (whole ∙ saved) in
+    let cells : key ≡ key_of layout m = c.deref-3.ensures.value ∙ (whole ∙ saved) in
     let property_holds : meets_none property.never_lists m ≡ true = sym c.keeps.ensures ∙ c.if-not-keeps.false in
     let is = is_key-of_machine_with_highest_keys limits layout property key c.args.replica m c.set_highest_keys.ensures c.show_state_is_valid.ensures.registers c.show_state_is_valid.ensures.bus property_holds cells in
     property_holds-before_keys_set limits layout property key c.in-Holds.states c.args.replica m c.set_highest_keys.ensures is

@@ -1,9 +1,11 @@
 use Rattle.std.proofs.Common.{◌≡◌, ◌∙◌, ℕ, length, refl, sym, ap, subst, arith}
 use Rattle.mcs_model.specs.declared.regs.Regs.{Regs}
 use Rattle.mcs_drive.specs.TrackedMachine.{TrackedMachine, cycled, seen_count_after, condition_holds_at, seen_after_reading}
+use Rattle.mcs_check.specs.declared.reading.InputSource.TheVariants.{Port}
 use Rattle.mcs_check.specs.ReadPoints.{HasRead, with_seen}
 use Rattle.mcs_check.specs.Conditions.{observer_of_property}
 use Rattle.mcs_check.proofs.Keeping.{cycle-keeps, keeps-same}
+use Rattle.mcs_check.proofs.Memory.{cycle-memory, memory-same, reading-writes_no_memory}
 use Rattle.mcs_check.proofs.ValuesRead.{port-read, with_accumulator}
 use Rattle.mcs_check.proofs.replica.SearchMachine.read_port.Goals as goal
 
@@ -26,3 +28,9 @@ pub returns-clause-keeps : goal.returns-clause-keeps
 returns-clause-keeps c =
     let s = c.args.self.now in
     keeps-same s.1 s.1 c.self.inside.rig (cycled (observer_of_property c.args.property.now) s).1 refl (ap (λ (m : TrackedMachine). m.1) (c.self.view_is ∙ c.cycle.ensures)) (cycle-keeps (observer_of_property c.args.property.now) s)
+
+pub returns-clause-memory : goal.returns-clause-memory
+returns-clause-memory c =
+    let s = c.args.self.now in
+    let w = observer_of_property c.args.property.now in
+    memory-same s.1 s.1 c.self.inside.rig (cycled w s).1 refl (ap (λ (m : TrackedMachine). m.1) (c.self.view_is ∙ c.cycle.ensures)) (cycle-memory w s (reading-writes_no_memory s Port c.requires.reads refl))

@@ -1,14 +1,16 @@
-use Rattle.std.proofs.Common.{◌≡◌, ◌∙◌, inl, inr, true, sym, ap}
-use Rattle.mcs_drive.specs.TrackedMachine.{TrackedMachine, without_levels}
+use Rattle.std.proofs.Common.{◌≡◌, ◌∙◌, inl, inr, true, refl, sym, ap}
+use Rattle.std.proofs.lemmas.Option.{IfSome_then}
+use Rattle.mcs_drive.specs.TrackedMachine.{TrackedMachine, cycled, without_levels}
 use Rattle.mcs_check.specs.Conditions.{meets_none, observer_of_property}
 use Rattle.mcs_check.specs.Scopes.{has_all_lists}
 use Rattle.mcs_check.proofs.Going.{walked-none, walked-more, walked-reaches, walked-keeps}
 use Rattle.mcs_check.proofs.Scoping.{meets_none-if_no_mistake, meets_none_without_mistakes-after_cycle, condition_holds-unchanged_by_cycle}
+use Rattle.mcs_check.proofs.Memory.{memory-refl, memory-trans, memory-same, cycle-memory}
 use Rattle.mcs_check.proofs.Spinning.{spun-apart, spun-walked}
 use Rattle.mcs_check.proofs.replica.SearchMachine.run_to_read_point.Goals as goal
 
 pub loop-init : goal.loop-init
-loop-init c = record { walked = walked-none (observer_of_property c.args.property.now) (meets_none c.args.property.now.never_lists) c.args.self.now; known = λ has rest. absurd (cc); opening = λ has rest. absurd (cc) }
+loop-init c = record { walked = walked-none (observer_of_property c.args.property.now) (meets_none c.args.property.now.never_lists) c.args.self.now; known = λ has rest. absurd (cc); memory = λ _. memory-refl c.args.self.now.1; opening = λ has rest. absurd (cc) }
 
 pub property_still_holds-requires : goal.property_still_holds-requires
 property_still_holds-requires c = λ has rest free. meets_none-if_no_mistake c.scope-scope.result c.args.property.now.never_lists c.loop.self (sym c.is_covered_by-has_all_lists.ensures ∙ has) (c.loop.invariant.known has rest) (sym c.next_cycle_facts-next_cycle_facts.ensures.makes_mistake_in_scope ∙ free)
@@ -17,6 +19,7 @@ pub loop-preserved : goal.loop-preserved
 loop-preserved c =
     let scope = c.scope-scope.result in
     let never_lists = c.args.property.now.never_lists in
+    let w = observer_of_property c.args.property.now in
     let s = c.loop.self in
     let t = c.run_step.new.self in
     let property_holds = c.property_still_holds.ensures c.if-not-property_still_holds.false in
@@ -27,6 +30,9 @@ loop-preserved c =
             let same = c.has_changed-changed.ensures rest in
             let seen = same.1 ∙ ap (λ (m : TrackedMachine). m.2.seen) c.self.view_is in
             meets_none_without_mistakes-after_cycle (observer_of_property c.args.property.now) scope never_lists s t (sym c.is_covered_by-has_all_lists.ensures ∙ has) seen (sym c.next_cycle_facts-next_cycle_facts.ensures.changes ∙ same.0) property_holds e;
+        memory = λ keeps.
+            let parts = c.both-keeps_memory.ensures keeps in
+            memory-trans c.args.self.now.1 s.1 t.1 (c.loop.invariant.memory parts.0) (memory-same s.1 s.1 t.1 (cycled w s).1 refl (ap (λ (m : TrackedMachine). m.1) e) (cycle-memory w s (c.next_cycle_facts-next_cycle_facts.ensures.memory parts.1)));
         opening = λ has rest.
             let same = c.has_changed-changed.ensures rest in
             let seen = same.1 ∙ ap (λ (m : TrackedMachine). m.2.seen) c.self.view_is in
@@ -41,6 +47,7 @@ loop-preserved c =
           record {
             walked = spun-walked (observer_of_property c.args.property.now) scope never_lists c.args.self.now s t has rest sound property_holds spun.1 c.loop.invariant.walked;
             known = λ _ _. spun-apart (observer_of_property c.args.property.now) scope never_lists s t has rest sound property_holds spun.1;
+            memory = λ keeps. memory-same c.args.self.now.1 c.args.self.now.1 t.1 s.1 refl (ap (λ (m : TrackedMachine). m.1) spun.1.at) (c.loop.invariant.memory (c.both-keeps_memory.ensures keeps).0);
             opening = λ _ _.
                 let closed = spun.1.spins.still.closed in
                 c.is_open-is_open.ensures ∙ closed (without_levels s) ∙ sym (closed (without_levels t));
@@ -48,7 +55,7 @@ loop-preserved c =
     ]
 
 pub returns-then-left-eq0-clause-reaches : goal.returns-then-left-eq0-clause-reaches
-returns-then-left-eq0-clause-reaches c = λ h. walked-reaches (observer_of_property c.args.property.now) (meets_none c.args.property.now.never_lists) c.args.self.now c.loop.self c.loop.invariant.walked (sym c.keeps.ensures ∙ h)
+returns-then-left-eq0-clause-reaches c = IfSome_then c.outcome.result c.outcome.ensures.holds (λ _ h. walked-reaches (observer_of_property c.args.property.now) (meets_none c.args.property.now.never_lists) c.args.self.now c.loop.self c.loop.invariant.walked h)
 
 pub returns-then-left-eq0-clause-keeps : goal.returns-then-left-eq0-clause-keeps
 returns-then-left-eq0-clause-keeps c = walked-keeps (observer_of_property c.args.property.now) (meets_none c.args.property.now.never_lists) c.args.self.now c.loop.self c.loop.invariant.walked
@@ -57,19 +64,25 @@ pub returns-then-not-property_still_holds-clause-keeps : goal.returns-then-not-p
 returns-then-not-property_still_holds-clause-keeps c = walked-keeps (observer_of_property c.args.property.now) (meets_none c.args.property.now.never_lists) c.args.self.now c.loop.self c.loop.invariant.walked
 
 pub returns-then-next_cycle_facts-clause-reaches : goal.returns-then-next_cycle_facts-clause-reaches
-returns-then-next_cycle_facts-clause-reaches c = λ _. walked-reaches (observer_of_property c.args.property.now) (meets_none c.args.property.now.never_lists) c.args.self.now c.loop.self c.loop.invariant.walked (c.property_still_holds.ensures c.if-not-property_still_holds.false)
+returns-then-next_cycle_facts-clause-reaches c = walked-reaches (observer_of_property c.args.property.now) (meets_none c.args.property.now.never_lists) c.args.self.now c.loop.self c.loop.invariant.walked (c.property_still_holds.ensures c.if-not-property_still_holds.false)
 
 pub returns-then-next_cycle_facts-clause-keeps : goal.returns-then-next_cycle_facts-clause-keeps
 returns-then-next_cycle_facts-clause-keeps c = walked-keeps (observer_of_property c.args.property.now) (meets_none c.args.property.now.never_lists) c.args.self.now c.loop.self c.loop.invariant.walked
 
 pub returns-then-is_back_at_key-clause-reaches : goal.returns-then-is_back_at_key-clause-reaches
-returns-then-is_back_at_key-clause-reaches c = λ _. walked-reaches (observer_of_property c.args.property.now) (meets_none c.args.property.now.never_lists) c.args.self.now c.loop.self c.loop.invariant.walked (c.property_still_holds.ensures c.if-not-property_still_holds.false)
+returns-then-is_back_at_key-clause-reaches c = walked-reaches (observer_of_property c.args.property.now) (meets_none c.args.property.now.never_lists) c.args.self.now c.loop.self c.loop.invariant.walked (c.property_still_holds.ensures c.if-not-property_still_holds.false)
 
 pub returns-then-is_back_at_key-clause-keeps : goal.returns-then-is_back_at_key-clause-keeps
 returns-then-is_back_at_key-clause-keeps c = walked-keeps (observer_of_property c.args.property.now) (meets_none c.args.property.now.never_lists) c.args.self.now c.loop.self c.loop.invariant.walked
 
 pub returns-clause-reaches : goal.returns-clause-reaches
-returns-clause-reaches c = λ h. walked-reaches (observer_of_property c.args.property.now) (meets_none c.args.property.now.never_lists) c.args.self.now c.loop.self c.loop.invariant.walked (sym c.keeps-2.ensures ∙ h)
+returns-clause-reaches c = IfSome_then c.outcome-2.result c.outcome-2.ensures.holds (λ _ h. walked-reaches (observer_of_property c.args.property.now) (meets_none c.args.property.now.never_lists) c.args.self.now c.loop.self c.loop.invariant.walked h)
 
 pub returns-clause-keeps : goal.returns-clause-keeps
 returns-clause-keeps c = walked-keeps (observer_of_property c.args.property.now) (meets_none c.args.property.now.never_lists) c.args.self.now c.loop.self c.loop.invariant.walked
+
+pub returns-then-left-eq0-clause-memory : goal.returns-then-left-eq0-clause-memory
+returns-then-left-eq0-clause-memory c = IfSome_then c.outcome.result c.outcome.ensures.memory (λ keeps e yes. c.loop.invariant.memory (sym e ∙ yes))
+
+pub returns-clause-memory : goal.returns-clause-memory
+returns-clause-memory c = IfSome_then c.outcome-2.result c.outcome-2.ensures.memory (λ keeps e yes. c.loop.invariant.memory (sym e ∙ yes))

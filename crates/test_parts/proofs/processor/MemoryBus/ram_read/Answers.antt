@@ -1,4 +1,4 @@
--- A bus without RAM chips reads 0 at every RAM character.
+-- A bus without RAM chips reads 0 at every main nibble.
 use Rattle.std.proofs.Common.{◌≡◌, ℕ, ◌<◌, ◌+◌, ◌*◌, sym, get_or, replicate, arith}
 use Rattle.std.proofs.lemmas.List.{get_or-replicate}
 use Rattle.mcs_model.specs.Bus.{ram_of, zero_bus}
