@@ -20,8 +20,8 @@ contains_bytes-after_append others before after byte e keeps = λ c k. subst (λ
 contains-appended_byte : (before after : List KeyByte) (byte : KeyByte) → after ≡ before ++ byte ∷ [] → Contains after byte
 contains-appended_byte before after byte e = subst (λ (cs : List KeyByte). Contains cs byte) (sym e) (Contains-append_right before (byte ∷ []) byte (0, omega arith, refl))
 
--- Holds if a layout contains all bytes of `others`. It must also contain the byte of each cell that
--- exists on the board, among the first `n` cells of a list.
+-- Holds if a layout contains all bytes of `others`. The layout must also contain the byte of each
+-- of the first `n` cells of a list, if that cell exists on the board.
 pub record IsFilledTo (b : BoardParts) (list : CellList) (n : ℕ) (others layout : List KeyByte) : Type 0 where
   pub keeps : ContainsBytesOf others layout
   pub has : (k : ℕ) → k < n → board_has_cell b list k ≡ true → Contains layout (key_byte_of list k)

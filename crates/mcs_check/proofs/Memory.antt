@@ -139,12 +139,12 @@ byte-equal s t (Pair list p) is h =
     ap (λ (n : ℕ). n % 16 * 16 + value_at t (second_cell_of list p) % 16) (value-equal s t (first_cell_of list p) is h)
     ∙ ap (λ (n : ℕ). value_at s (first_cell_of list p) % 16 * 16 + n % 16) (value-equal s t (second_cell_of list p) is h)
 
--- a machine's key has the right bytes
+-- each byte of a machine's key has the value of the layout's byte at the same index
 key-has_bytes : (t : TrackedMachine) (layout : List KeyByte) (key : List ℕ) → key ≡ key_of layout t → (k : ℕ) (d : KeyByte) → k < length layout → slice_index key k ≡ key_byte_value t (get_or layout k d)
 key-has_bytes t layout key e k d l = ap (λ (xs : List ℕ). slice_index xs k) e ∙ get_or-map (key_byte_value t) layout k d 0 l
 
--- suppose that the memory's bytes of `key` and of the key of s are equal, and that s and t have the same memory.
--- Then the memory's bytes of `key` are those of the key of t.
+-- Suppose that the memory's bytes of `key` and of the key of s are equal, and that s and t have the
+-- same memory. Then the memory's bytes of `key` are those of the key of t.
 pub has_bytes_from-if_memory_kept : (s t : TrackedMachine) (layout : List KeyByte) (last key : List ℕ) (front : ℕ) → IsMemoryFrom layout front → last ≡ key_of layout s → KeepsMemory s.1 t.1 →
     ((k : ℕ) (d : KeyByte) → k < length layout → is_memory_byte (get_or layout k d) ≡ true → slice_index last k ≡ slice_index key k) → HasBytesFrom t layout key front
 has_bytes_from-if_memory_kept s t layout last key front split e h same = λ k d from l.
@@ -161,6 +161,7 @@ key_of_machine-if_all_bytes t layout key front len first rest =
       | inr from ↦ rest k d from (omega arith)
     ] ∙ sym (get_or-map (key_byte_value t) layout k d 0 (omega arith)))
 
--- a key whose first bytes, in number the length of the layout, are those of the machine's key is the machine's key
+-- if the first `count` bytes of `key` are those of the machine's key, and `count` is the length of
+-- the layout or more, `key` is the machine's key
 pub key_of_machine-if_first_bytes : (t : TrackedMachine) (layout : List KeyByte) (key : List ℕ) (count : ℕ) → length key ≡ length layout → length layout ≤ count → HasFirstBytes t layout key count → key ≡ key_of layout t
 key_of_machine-if_first_bytes t layout key count len all first = key_of_machine-if_all_bytes t layout key count len first (λ k d from l. absurd (omega arith))

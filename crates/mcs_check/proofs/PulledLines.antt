@@ -74,8 +74,8 @@ still-pulls chain keys m chip k row column other_row other_column inside apart h
 
 -- ---- one line after the other
 
--- holds if the keys `fewer` have one key less down if line `k` is pulled, and pull all other lines
--- that the keys pull
+-- Holds if the key levels `fewer` pull every line except `k` that `keys` pull. If `keys` pull line
+-- `k`, `fewer` must have at least one key fewer down.
 record Released (chain keys : List ℕ) (m : KeyMatrix) (chip k : ℕ) (fewer : List ℕ) : Type 0 where
   less : sum fewer + bit_when (is_pulled_by chain keys m chip k) ≤ sum keys
   others : (j : ℕ) → (j ≡ k → ⊥) → is_pulled_by chain keys m chip j ≡ true → is_pulled_by chain fewer m chip j ≡ true

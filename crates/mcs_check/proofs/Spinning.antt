@@ -24,10 +24,11 @@ use Rattle.mcs_check.specs.ReadPoints.{HasSpun, IsObserverIdle, Spins}
 use Rattle.mcs_check.proofs.Going.{RunSoFar, walked-more}
 use Rattle.mcs_check.proofs.Scoping.{AgreesInScope, meets_none_without_mistakes, keeps-same, meets_none_without_mistakes-if_meets_none, meets_none-if_no_mistake, register_unchanged-by_set_outside_scope}
 
--- the machine with `v` in register `r` before a pass (below: between the two cycles of a pass)
+-- the machine with `v` in register `r` before a pass
 abbrev pub before_pass : ℕ → ℕ → TrackedMachine → TrackedMachine
 before_pass r v s = (with_register s.0 r v, s.1, s.2)
 
+-- the machine with `v` in register `r` between the two cycles of a pass
 abbrev pub within_pass : ℕ → ℕ → TrackedMachine → TrackedMachine
 within_pass r v s = (record s.0 { r = slice_set s.0.r r v; owed = 1 }, s.1, s.2)
 

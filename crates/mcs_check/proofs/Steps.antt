@@ -30,11 +30,12 @@ leads-by_read_and_run g key next value m x n ignores complete on is read reaches
     (key-machine-unique g key m a complete on is h)
     (leads_to-by_read_and_run g next value m x n ignores on.bus.board.valid read reaches to)
 
--- `values` covers a key if `values` contains all 16 values (below: every value that the key's
--- machine can read at input levels within the limits)
+-- `values` covers a key if `values` contains all 16 values
 pub covers-if_all_16_values : (g : Setting) (key values : List ℕ) → ((value : ℕ) → value < 16 → Contains values value) → Covers g key values
 covers-if_all_16_values g key values each = λ a h l allowed. each (answer l a) (answer-lt l a allowed.fits)
 
+-- `values` covers a key if `values` contains every value that the key's machine can read at input
+-- levels within the limits
 pub covers-if_all_readable_values : (g : Setting) (key values : List ℕ) (m : TrackedMachine) → IsComplete g.board g.layout → IsOnBoard g.board g.rom g.limits.keys m → key ≡ key_of g.layout m → ((value : ℕ) → value < 16 → CannotRead g.limits value m ⊎ Contains values value) → Covers g key values
 covers-if_all_readable_values g key values m complete on is each = λ a h l allowed.
     elim (subst (λ (b : TrackedMachine). CannotRead g.limits (answer l a) b ⊎ Contains values (answer l a)) (key-machine-unique g key m a complete on is h) (each (answer l a) (answer-lt l a allowed.fits))) [

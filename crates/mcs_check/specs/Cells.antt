@@ -13,9 +13,9 @@ use Rattle.mcs_check.specs.declared.cells.KeyByte.{KeyByte}
 use Rattle.mcs_check.specs.declared.cells.KeyByte.TheVariants.{One, Pair}
 use Rattle.mcs_check.specs.declared.cells.CellList.TheVariants.{RamNibbles, StatusCharacters, RamPorts, RomPorts, BankSrcBytes, Registers, Counters, Chain}
 
--- The counters of a machine. First are the registers other than the index registers, and the SRC
--- byte that the ROMs store. Then follow the number of open calls, the stopwatch's cycles and the
--- number of marks seen. An address takes two bytes and the cycles take three bytes, most significant byte
+-- The counters of a machine, in this order: the registers other than the index registers, the SRC
+-- byte that the ROMs store, the number of open calls, the stopwatch's cycles, and the number of
+-- marks seen. An address takes two bytes and the cycles take three bytes, most significant byte
 -- first.
 abbrev pub counters_of : Regs → ℕ → Counts → List ℕ
 counters_of s src t =
@@ -69,10 +69,11 @@ is_narrow BankSrcBytes = false
 is_narrow Counters = false
 is_narrow _ = true
 
--- the first cell (below: the second cell) of pair `h` in a list, with `h` reduced modulo 1024
+-- the first cell of pair `h` in a list, with `h` reduced modulo 1024
 abbrev pub first_cell_of : CellList → ℕ → Cell
 first_cell_of list h = record { list = list; index = 2 * (h % 1024) }
 
+-- the second cell of pair `h` in a list, with `h` reduced modulo 1024
 abbrev pub second_cell_of : CellList → ℕ → Cell
 second_cell_of list h = record { list = list; index = 2 * (h % 1024) + 1 }
 

@@ -65,8 +65,8 @@ abbrev pub HasBytesFrom : TrackedMachine → List KeyByte → List ℕ → ℕ �
 HasBytesFrom t layout key front =
     (k : ℕ) (d : KeyByte) → front ≤ k → k < length layout → slice_index key k ≡ key_byte_value t (slice_index_or layout k d)
 
--- holds if the memory's bytes come last in a layout, from byte `last.front` on, and `last` is the
--- machine's key if it is current
+-- holds if the memory's bytes come last in a layout, from byte `last.front` on, and `last`, if it
+-- is current, is the machine's key
 pub record IsLastKeyOf (layout : List KeyByte) (last : LastKey) (t : TrackedMachine) : Type 0 where
   pub split : IsMemoryFrom layout last.front
   pub key : last.is_current ≡ true → last.bytes.items ≡ key_of layout t

@@ -23,9 +23,9 @@ pub enum CellList {
     BankSrcBytes,
     /// The index registers.
     Registers,
-    /// All registers except the index registers, and the SRC byte that the ROMs store. Then follow the number of open
-    /// calls, the stopwatch's cycles and the number of marks seen. An address has two bytes, and the cycles have three,
-    /// the most significant byte first.
+    /// The registers other than the index registers, the SRC byte that the ROMs store, the number of open calls, the
+    /// stopwatch's cycles, and the number of marks seen. An address has two bytes and the cycles have three, most
+    /// significant byte first.
     Counters,
     /// The bits of the shift-register chain with this number.
     Chain(u8),

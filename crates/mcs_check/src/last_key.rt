@@ -40,7 +40,7 @@ impl KeyByte {
     }
 }
 
-/// Returns the number of bytes of a layout before its last bytes that all hold cells of the memory.
+/// Returns the number of bytes of a layout before the memory's bytes at its end.
 fn bytes_before_memory(layout: &[KeyByte]) -> usize
     ensures { IsMemoryFrom layout.now result }
 {
@@ -53,7 +53,8 @@ fn bytes_before_memory(layout: &[KeyByte]) -> usize
     front
 }
 
-/// Returns a number of bytes after which two keys of the same length are equal. This is `front` if possible.
+/// Returns a number `n` such that two keys of the same length are equal from byte `n` on: `front` if possible,
+/// otherwise their length.
 pub(crate) fn bytes_that_may_differ(last: &[u8], key: &[u8], front: usize) -> usize
     requires length { length last.now ≡ length key.now }
     requires front { front ≤ length key.now }
@@ -88,7 +89,8 @@ impl LastKey {
         })
     }
 
-    /// Replaces the key by the machine's current key, if their lengths are equal.
+    /// Replaces the key with `key`, the machine's current key, if their lengths are equal. Otherwise, the key is no
+    /// longer current.
     pub(crate) fn remember(&mut self, key: &[u8])
         ensures front { self.new.front ≡ self.old.front }
         ensures key { self.new.is_current ≡ true → self.new.bytes.items ≡ key.now }

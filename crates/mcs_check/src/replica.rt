@@ -181,8 +181,8 @@ impl SearchMachine {
         first * 16 + second
     }
 
-    /// Returns the byte of a key that holds both RAM characters of a pair. This is faster than `join_cells`, because
-    /// it computes the bank only once.
+    /// Returns the byte of a key that holds both RAM nibbles of a pair. This is faster than `join_cells`, because it
+    /// computes the bank only once.
     fn join_characters(&self, pair: u16) -> u8
         ensures { result ≡ key_byte_value self.now (Pair RamNibbles pair) }
     {

@@ -1,7 +1,8 @@
 -- The effects of inputs on a machine. Before each cycle the environment sets the keys and the TEST
 -- pin to any levels. The machine then executes one cycle, as the opcode table defines it. To
--- believe that a property holds for all inputs, a reader must trust only this file, TrackedMachine,
--- Marks, and the definitions that these three use. (Defined by Fethsaim, not by Intel.)
+-- believe that a property holds for all inputs, a reader needs to trust only this file,
+-- TrackedMachine, Marks, and the definitions that these three use. (Defined by Fethsaim, not by
+-- Intel.)
 use Rattle.std.specs.Prelude.{◌<◌, ◌≤◌, ℕ, zero, suc, List, replicate, slice_index, unwrap_or}
 use Rattle.std.specs.List.{sum}
 use Rattle.mcs_model.specs.declared.board.BoardParts.{BoardParts}

@@ -17,8 +17,8 @@ pub record LeadsTo (w : Observer) (p : TrackedMachine → Bool) (a b : TrackedMa
   pub property_holds : (i : ℕ) → i ≤ more → p (after_cycles w (suc i) (with_levels l a)) ≡ true
   pub same : without_levels (after_cycles w (suc more) (with_levels l a)) ≡ without_levels b
 
--- The next instruction of `a` must read the same value at the levels `l` and `m`. A run from `a` to
--- `b` at the levels `m` is then also a run at the levels `l`.
+-- Suppose that the next instruction of `a` reads the same value at the levels `l` and `m`. A run
+-- from `a` to `b` at the levels `m` is then also a run at the levels `l`.
 abbrev pub SameReadGivesSameRun : Type 0
 SameReadGivesSameRun =
     (w : Observer) (p : TrackedMachine → Bool) (a b : TrackedMachine) (l m : Levels) → IgnoresLevels p → board_fault_of a.1.board ≡ None →

@@ -55,7 +55,7 @@ pub latch_value-zero : (mask : List LineMask) → latch_value mask 0 ≡ 0
 unfolding latch_value
 latch_value-zero mask = rw (latch_bit-zero mask 0 refl, latch_bit-zero mask 1 refl, latch_bit-zero mask 2 refl, latch_bit-zero mask 3 refl) refl
 
--- `mask_of` returns a mask option from the character of this mask option
+-- `mask_of` of the character of a mask option is that mask option
 pub mask_of-mask_character : (m : LineMask) → mask_of (mask_character m) ≡ Some m
 mask_of-mask_character Input = refl
 mask_of-mask_character Zero = refl

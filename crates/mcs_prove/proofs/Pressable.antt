@@ -1,4 +1,4 @@
--- The highest levels of the keys of a board, one pressable key after another.
+-- Allowing one more key to be pressed does not change the number of keys of a board.
 use Rattle.std.proofs.Common.{◌≡◌, ℕ, Bool, true, false, cond, List, length, slice_set, refl}
 use Rattle.std.proofs.lemmas.List.{length-set}
 use Rattle.mcs_model.specs.declared.board.BoardParts.{BoardParts}

@@ -19,13 +19,13 @@ pub record AllowedInputs : Type 0 where
 abbrev pub all_inputs : AllowedInputs
 all_inputs = record { is_restricted = false; pressable = []; test_may_change = false; together = None }
 
--- the highest levels of the keys of a board after one more key may be pressed; unchanged if the
--- board does not have the key
+-- the highest levels of the keys of a board, changed to allow one more key to be pressed; unchanged
+-- if the board does not have the key
 abbrev pub with_pressable_key : BoardParts → List ℕ → KeyPosition → List ℕ
 with_pressable_key b levels key =
     if has_key b key.row key.column then slice_set levels (key_index b key.row key.column) 1 else levels
 
--- the highest levels of the keys of a board after more keys may be pressed
+-- the highest levels of the keys of a board, changed to allow more keys to be pressed
 abbrev pub with_pressable_keys : BoardParts → List ℕ → List KeyPosition → List ℕ
 with_pressable_keys b levels [] = levels
 with_pressable_keys b levels (key ∷ keys) = with_pressable_keys b (with_pressable_key b levels key) keys

@@ -26,7 +26,7 @@ pub struct AllowedInputs {
     /// True if only the keys in `pressable` may be pressed, and TEST may be 1 only if `test_may_change` is true. False
     /// if all keys may be pressed and TEST may be 1.
     pub is_restricted: bool,
-    /// The keys that may be pressed if `is_restricted` is true. A key that the board does not have allows nothing.
+    /// The keys that may be pressed if `is_restricted` is true. A key that the board does not have has no effect.
     pub pressable: Vec<KeyPosition>,
     /// True if TEST may be 1 even if `is_restricted` is true.
     pub test_may_change: bool,

@@ -122,7 +122,7 @@ impl Chip {
         self.port
     }
 
-    /// Executes a write to this chip. The write of an SRC byte changes nothing in the chip.
+    /// Performs a write to this chip. A write of an SRC byte does not change the chip.
     #[inline(always)]
     fn store(&mut self, write: BankWrite)
         requires { IsInBank write }
@@ -220,7 +220,7 @@ impl<const CHIPS: usize> Bank<CHIPS> {
         }
     }
 
-    /// Executes a write. Has no effect if the target chip of the write is absent.
+    /// Performs a write. Has no effect if the target chip of the write is absent.
     #[inline(always)]
     pub fn store(&mut self, write: BankWrite)
         requires { IsInBank write }

@@ -24,8 +24,8 @@ abbrev pub IsFollowed : Rules → List (List ℕ) → List ℕ → Type 0
 IsFollowed r keys key =
     (choices : List ℕ) × r.covers key choices × All (LeadsInto r keys key) choices
 
--- A list of `n` keys that includes the start and is closed under all choices. Any number of choices
--- from the start reaches only these states, and the property holds at every step.
+-- A list of `n` keys that includes the start and is closed under all choices. Any sequence of
+-- choices from the start reaches only these states, and the property holds at every step.
 pub record Closure (r : Rules) (start : List ℕ) (n : ℕ) : Type 0 where
   pub keys : List (List ℕ)
   pub count : length keys ≡ n

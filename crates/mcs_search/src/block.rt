@@ -79,7 +79,8 @@ impl KeyBlock {
         ensures width { self.new.width ≡ self.old.width }
         ensures err { OnErr result (self.new ≡ self.old) }
     {
-        // Removes a parent without a key: an earlier call leaves one if it fails after it stored the parent.
+        // Removes the parent that an earlier call has left without a key, if that call failed after it stored the
+        // parent.
         self.parents.truncate(self.len);
         self.parents.push(parent)?;
         self.bytes.extend_from_slice(key)?;

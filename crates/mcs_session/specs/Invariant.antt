@@ -21,8 +21,8 @@ pub record IsRecorded (disk : DiskState) (cycles : ℕ) (s : BenchState) : Type 
   pub represents : Represents (bytes_of disk) s
   pub count : cycles ≡ log_cycles represents.records_represent.commands
 
--- Holds if the buffers have the sizes of the longest record and of the longest snapshot. The cycle
--- count must be within the limit of a log.
+-- Holds if the buffers have the sizes of the longest record and of the longest snapshot, and the
+-- cycle count is within the limit of a log.
 pub record IsReady (cycles : ℕ) (payload snapshot : List ℕ) : Type 0 where
   pub payload_size : length payload ≡ MAX_RECORD_SIZE
   pub snapshot_size : length snapshot ≡ MAX_SNAPSHOT_SIZE

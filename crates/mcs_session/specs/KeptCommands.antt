@@ -30,7 +30,7 @@ pub record RepresentsPrefix
 -- ---- a run
 
 -- The commands that a disk keeps, executed one after another from the state `s`. `done` are the
--- acknowledged commands, each with its moment. `failed` are the commands after `done` that can also
+-- acknowledged commands, each with its moment. `failed` are the commands after `done` that may also
 -- have reached the disk. `reached` is `done` followed by `failed`. (In `KeepsAllCommands`, `failed`
 -- is empty. In `ClosesSession` of mcs_shell, `failed` is the command at which the device failed.)
 pub record KeepsCommands

@@ -101,8 +101,8 @@ impl<D: Disk + Drop> Session<D> {
     }
 
     /// Opens the session that a disk holds. `open` writes nothing to a file of version 2. In a file of
-    /// version 1, a snapshot of version 2 replaces the contents, after all memory was allocated. An
-    /// honest disk represents the same state at every moment.
+    /// version 1, a snapshot of version 2 replaces the contents, after all memory has been allocated. An honest disk
+    /// represents the same state at every moment.
     ///
     /// Fails if memory runs out (refusal 90), or if the size or the first eight bytes are not those
     /// of a session file (refusal 50). Also fails if the file is damaged and represents no state

@@ -28,7 +28,7 @@ IsSittingOn {state_of = state_of} disk (Served run) = IsOpenedOn state_of disk r
 IsSittingOn {state_of = state_of} disk (Refused number left) =
     OpenRefusal (state_of disk) (state_of left) number
 
--- the disk after all calls of a sitting; a stop can have happened before the last of these calls
+-- the disk after all calls of a sitting; a stop may have happened before the last of these calls
 abbrev pub disk_after : {D : Type 0} {state_of : D → DiskState} → Sitting state_of → D
 disk_after (Served run) = run.after.disk
 disk_after (Refused number left) = left
@@ -56,7 +56,7 @@ IsHistory {state_of = state_of} IsFound disk (x ∷ xs) last =
 abbrev pub IsFoundByCut : {D : Type 0} → (D → DiskState) → ℕ → D → D → Type 0
 IsFoundByCut state_of time left found = IsLeftByCut time (state_of left) (state_of found)
 
--- A history: a first run of a shell, and the sittings after it. The session of the first run can
+-- A history: a first run of a shell, and the sittings after it. The session of the first run may
 -- have begun in any way. This run was stopped at clock `time` or later, and the disk `found` was
 -- found after the stop. The other sittings followed on this disk (`came`), and `last` is the disk
 -- found at the end.

@@ -28,8 +28,8 @@ WroteBytes true old new bytes = Appends old new bytes
 WroteBytes false old new bytes = ReceivedProperPrefix old new bytes
 
 -- Holds if the writer received the answers of these exchanges, in order. `s` is the state before
--- the first exchange. If `whole` of an exchange is true, the writer received the answer completely,
--- and otherwise only a proper prefix of the answer.
+-- the first exchange. If the field `whole` of an exchange is true, the writer received the answer
+-- completely, and otherwise only a proper prefix of the answer.
 abbrev pub WroteAnswers : BenchState → List Exchange → KnownBytes → KnownBytes → Type 0
 WroteAnswers s [] old new = new ≡ old
 WroteAnswers s (x ∷ rest) old new =

@@ -71,7 +71,7 @@ acknowledged_commands s i Answered = accepted_commands s (requested_command i)
 acknowledged_commands s i o = []
 
 -- The command that may have reached the disk, as a list of one element. The command was answered
--- `ok` or, if the device failed, `no 53`. The list is empty if no command can have reached the
+-- `ok` or, if the device failed, `no 53`. The list is empty if no command could have reached the
 -- disk.
 unfoldable pub reached_commands : BenchState → Input → Outcome → List Command
 reached_commands s i Answered = accepted_commands s (requested_command i)

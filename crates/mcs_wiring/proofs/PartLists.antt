@@ -66,15 +66,16 @@ first_repeated_from_index {A} ps i p lt is =
     ∙ (ap (λ b. if b then Some i else first_repeated_from (p.number ∷ seen) (i + 1) (drop (i + 1) ps)) (number_in_reversed_numbers p.number (take i ps))
     ∙ ap (λ ns. if list_any (λ q. eqb q.number p.number) (take i ps) then Some i else first_repeated_from ns (i + 1) (drop (i + 1) ps)) (sym more)))
 
--- The search of all parts returns `i` if an earlier part has the number of part `i`. The search
--- that starts at part `i` must return the same as the search of all parts.
+-- Suppose that the search that starts at part `i` returns the same as the search of all parts. If
+-- an earlier part has the number of part `i`, the search of all parts returns `i`.
 pub first_repeated_is_index : {A : Type 0} (ps : List (Numbered A)) (i : ℕ) (p : Numbered A) (any : Bool) → i < length ps → p ≡ get_or ps i p → any ≡ list_any (λ q. eqb q.number (get_or ps i p).number) (take i ps) → any ≡ true
     → first_repeated_from (reversed_numbers [] (take i ps)) i (drop i ps) ≡ first_repeated_from [] 0 ps → Some i ≡ first_repeated_from [] 0 ps
 first_repeated_is_index {A} ps i p any lt is test held inv =
     sym (sym inv ∙ (first_repeated_from_index ps i p lt is ∙ ap (λ b. if b then Some i else first_repeated_from (reversed_numbers [] (take (i + 1) ps)) (i + 1) (drop (i + 1) ps)) (ap (λ (r : Numbered A). list_any (λ q. eqb q.number r.number) (take i ps)) is ∙ (sym test ∙ held))))
 
--- If no earlier part has the number of part `i`, the search that starts at part `i + 1` returns the
--- same as the search of all parts. The search that starts at part `i` must also return the same.
+-- Suppose that the search that starts at part `i` returns the same as the search of all parts. If
+-- no earlier part has the number of part `i`, the search that starts at part `i + 1` also returns
+-- the same.
 pub first_repeated_is_after_index : {A : Type 0} (ps : List (Numbered A)) (i : ℕ) (p : Numbered A) (any : Bool) → i < length ps → p ≡ get_or ps i p → any ≡ list_any (λ q. eqb q.number (get_or ps i p).number) (take i ps) → any ≡ false
     → first_repeated_from (reversed_numbers [] (take i ps)) i (drop i ps) ≡ first_repeated_from [] 0 ps → first_repeated_from (reversed_numbers [] (take (i + 1) ps)) (i + 1) (drop (i + 1) ps) ≡ first_repeated_from [] 0 ps
 first_repeated_is_after_index {A} ps i p any lt is test fails inv =

@@ -1,5 +1,5 @@
 //! A test in which one allocation can fail. `checks/allocations` runs the test once for each allocation, and makes
-//! this allocation fail. In the gate, no allocation fails.
+//! this allocation fail. When `./test gate` runs the test, no allocation fails.
 use crate::checks::{STATES, check_die, expect_holds, lamps_show_only_faces};
 use mcs_check::{Outcome, Property};
 use std::alloc::Global;

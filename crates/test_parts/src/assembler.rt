@@ -94,8 +94,8 @@ fn non_ascii_comments_and_cr_are_accepted(rt: HostRuntime) -> Result<(), Fail> {
     Ok(())
 }
 
-/// Source texts that do not assemble, and their first errors. Each text has a non-ASCII character
-/// or a CR in a wrong location outside a comment.
+/// Source texts that do not assemble, and their first errors. Each text has, outside a comment, a non-ASCII character
+/// or a CR that does not end a line.
 const FIRST_FAULTS: [FaultRow; 4] = [
     ("NOP \u{e4}\n", 1, SourceFault::BadStatement),
     ("\u{e4}:", 1, SourceFault::BadStatement),

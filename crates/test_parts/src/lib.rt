@@ -1,8 +1,8 @@
 //! Tests of the parts on which the bench is built. The expected values for numbers, the opcode
 //! table and the processor were worked out manually from the instruction descriptions in Intel's
 //! manual. Chips are tested alone. Rigs are tested with part counts that differ from the bench's.
-//! Command lines are parsed. The tests of the assembler and the disassembler, and most tests of
-//! wiring, cover cases that no script can reach.
+//! The parser of command lines is tested. The tests of the assembler and the disassembler, and most tests of wiring,
+//! cover cases that no script can reach.
 #![tactic(auto)]
 
 #[cfg(test)]
