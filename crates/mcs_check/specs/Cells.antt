@@ -14,9 +14,9 @@ use Rattle.mcs_check.specs.declared.cells.KeyByte.TheVariants.{One, Pair}
 use Rattle.mcs_check.specs.declared.cells.CellList.TheVariants.{RamNibbles, StatusCharacters, RamPorts, RomPorts, BankSrcBytes, Registers, Counters, Chain}
 
 -- The counters of a machine, in this order: the registers other than the index registers, the SRC
--- byte that the ROMs store, the number of open calls, the stopwatch's cycles, and the number of
--- marks seen. An address takes two bytes and the cycles take three bytes, most significant byte
--- first.
+-- byte that the ROMs store, and the counts. The counts are the number of open calls, the
+-- stopwatch's cycles, and the number of marks seen. An address takes two bytes and the cycles take
+-- three bytes, most significant byte first.
 abbrev pub counters_of : Regs → ℕ → Counts → List ℕ
 counters_of s src t =
     s.acc ∷ s.cy ∷ s.dcl ∷ s.owed ∷ s.pc / 256 ∷ s.pc % 256

@@ -23,9 +23,9 @@ pub enum CellList {
     BankSrcBytes,
     /// The index registers.
     Registers,
-    /// The registers other than the index registers, the SRC byte that the ROMs store, the number of open calls, the
-    /// stopwatch's cycles, and the number of marks seen. An address has two bytes and the cycles have three, most
-    /// significant byte first.
+    /// The registers other than the index registers, the SRC byte that the ROMs store, and the counts. The counts are
+    /// the number of open calls, the stopwatch's cycles, and the number of marks seen. An address has two bytes and the
+    /// cycles have three, most significant byte first.
     Counters,
     /// The bits of the shift-register chain with this number.
     Chain(u8),
