@@ -48,13 +48,13 @@ get-flat_rows n row_width f d xs i k h l =
 pub set-flat_rows : {X : Type 0} (n row_width : ℕ) (f : X → List ℕ) (d : X) (xs : List X) (i k : ℕ) (e : X) (v : ℕ) → i < n → k < row_width → i < length xs → k < length (f (get_or xs i d)) → f e ≡ slice_set (f (get_or xs i d)) k v → flat_rows n row_width f d (slice_set xs i e) ≡ slice_set (flat_rows n row_width f d xs) (i * row_width + k) v
 unfolding flat_rows
 set-flat_rows n row_width f d xs i k e v h l len inner is =
-    let here : slice_index (f (get_or (slice_set xs i e) ((i * row_width + k) / row_width) d)) ((i * row_width + k) % row_width) ≡ v =
+    let value_at_index : slice_index (f (get_or (slice_set xs i e) ((i * row_width + k) / row_width) d)) ((i * row_width + k) % row_width) ≡ v =
     ap (λ j. slice_index (f (get_or (slice_set xs i e) j d)) ((i * row_width + k) % row_width)) (div-mul-add i row_width k l)
     ∙ ap (λ j. slice_index (f (get_or (slice_set xs i e) i d)) j) (mod-mul-add i row_width k l)
     ∙ ap (λ x. slice_index (f x) k) (get_or-set_at xs i i e d refl len)
     ∙ ap (λ ys. slice_index ys k) is
     ∙ get_or-set_same (f (get_or xs i d)) k v 0 inner in
-    sym (set-table_of (n * row_width) _ _ (i * row_width + k) v (flat_index-lt n row_width i k h l) here
+    sym (set-table_of (n * row_width) _ _ (i * row_width + k) v (flat_index-lt n row_width i k h l) value_at_index
     (λ j _ ne.
     elim (cases_eq (j / row_width) i) [
       | inl q ↦

@@ -24,9 +24,9 @@ latch_bit-below_2 mask n k =
       | One ↦ omega arith
     ]
 
-latch_bit-of_latch_bit : (mask : List LineMask) (n kept k : ℕ) → bit_of kept k ≡ latch_bit mask n k → latch_bit mask kept k ≡ latch_bit mask n k
-latch_bit-of_latch_bit mask n kept k =
-    elim (mask_at mask k) as (λ m. bit_of kept k ≡ (if is_input m then 0 else bit_of n k) → (if is_input m then 0 else bit_of kept k) ≡ (if is_input m then 0 else bit_of n k)) [
+latch_bit-of_latch_bit : (mask : List LineMask) (n latch k : ℕ) → bit_of latch k ≡ latch_bit mask n k → latch_bit mask latch k ≡ latch_bit mask n k
+latch_bit-of_latch_bit mask n latch k =
+    elim (mask_at mask k) as (λ m. bit_of latch k ≡ (if is_input m then 0 else bit_of n k) → (if is_input m then 0 else bit_of latch k) ≡ (if is_input m then 0 else bit_of n k)) [
       | Input ↦ λ _. refl
       | Zero ↦ λ e. e
       | One ↦ λ e. e

@@ -27,11 +27,11 @@ unpacked_nibbles-below_16 bytes =
 pub unpacked_nibbles-after_set : (bytes : List ℕ) (at n new : ℕ) → at < 2 * length bytes → half_of new (at % 2) ≡ n → half_of new (1 - at % 2) ≡ half_of (slice_index bytes (at / 2)) (1 - at % 2) → unpacked_nibbles (slice_set bytes (at / 2) new) ≡ slice_set (unpacked_nibbles bytes) at n
 unfolding unpacked_nibbles
 unpacked_nibbles-after_set bytes at n new h is kept =
-    let here = get_or-set_at bytes (at / 2) (at / 2) new 0 refl (omega arith) in
+    let byte_is_new = get_or-set_at bytes (at / 2) (at / 2) new 0 refl (omega arith) in
     let cell = λ (bs : List ℕ) (k : ℕ). half_of (slice_index bs (k / 2)) (k % 2) in
     ap (λ m. table_of (2 * m) (cell (slice_set bytes (at / 2) new))) (length-set bytes (at / 2) new)
     ∙ sym (set-table_of (2 * length bytes) _ (cell (slice_set bytes (at / 2) new)) at n h
-    (ap (λ b. half_of b (at % 2)) here ∙ is)
+    (ap (λ b. half_of b (at % 2)) byte_is_new ∙ is)
     (λ k l ne.
     elim (cases_eq (k / 2) (at / 2)) [
       | inl q ↦

@@ -18,7 +18,7 @@ unfolding keys_of_blocks
 length-keys_of_blocks width n [] all = omega arith
 length-keys_of_blocks width n (b ∷ bs) all =
     let rest = length-keys_of_blocks width n bs (All-tail (IsFullBlock width n) b bs all) in
-    let one = first_block-length width n b bs all in
+    let first_length = first_block-length width n b bs all in
     let sum = length-append b.keys (keys_of_blocks bs) in
     let q = suc-mul (length bs) n in
     omega arith
@@ -76,7 +76,7 @@ pub index-in_last_block : (width len i : ℕ) (bs : List KeyStore) (last : KeySt
 index-in_last_block width len i bs last fits h k =
     let l = length-keys_of_blocks width 65536 bs fits.blocks in
     let sum = length-append (keys_of_blocks bs) last.keys in
-    let few = fits.last_few in
+    let last_not_full = fits.last_few in
     (omega arith, omega arith)
 
 pub arena_key-in_last_block : (width len i : ℕ) (bs : List KeyStore) (last : KeyStore) → ArenaInvariant width len bs last → i < length (keys_of_blocks bs ++ last.keys) → length bs ≤ i / 65536 →
@@ -93,7 +93,7 @@ arena_key-in_last_block width len i bs last fits h k =
 pub arena_invariant-after_push : (width len : ℕ) (bs : List KeyStore) (last new : KeyStore) (key : List ℕ) → ArenaInvariant width len bs last →
     new.width ≡ last.width → new.keys ≡ last.keys ++ key ∷ [] → length new.keys < KEYS_PER_BLOCK → ArenaInvariant width (len + 1) bs new
 arena_invariant-after_push width len bs last new key fits w k few =
-    let more = ap length k ∙ length-append last.keys (key ∷ []) in
+    let longer_by_one = ap length k ∙ length-append last.keys (key ∷ []) in
     let count = fits.count in
     record {
       blocks = fits.blocks;
@@ -111,8 +111,8 @@ arena_invariant-after_block_filled width len bs last new next key fits w k full-
     let more = ap length k ∙ length-append last.keys (key ∷ []) in
     let few = fits.last_few in
     let count = fits.count in
-    let all = ap length (keys_of_blocks-append_block bs new) ∙ length-append (keys_of_blocks bs) new.keys in
-    let none : length next.keys ≡ 0 = ap (λ (s : KeyStore). length s.keys) is in
+    let total_length = ap length (keys_of_blocks-append_block bs new) ∙ length-append (keys_of_blocks bs) new.keys in
+    let next_is_empty : length next.keys ≡ 0 = ap (λ (s : KeyStore). length s.keys) is in
     record {
       blocks = All-push (IsFullBlock width KEYS_PER_BLOCK) bs new fits.blocks (w ∙ fits.last_width, omega arith);
       last_width = ap (λ (s : KeyStore). s.width) is;

@@ -104,9 +104,9 @@ replays_in_version_1 s version_1 [] [] e h = (tt, e)
 replays_in_version_1 s version_1 [] (c ∷ cs) e h = absurd h
 replays_in_version_1 s version_1 (r ∷ rs) [] e h = absurd h
 replays_in_version_1 s version_1 (r ∷ rs) (c ∷ cs) e h =
-    let lifts = command-lifts version_1 c h.0.1 in
-    let rest = replays_in_version_1 (after s c) (after_1 version_1 c) rs cs (ap (λ (x : BenchState). after x c) e ∙ sym lifts.after) (h.2) in
-    ((h.0, sym lifts.refusal ∙ subst (λ (x : BenchState). refusal x c ≡ None) e h.1, rest.0), rest.1)
+    let lifted_command = command-lifts version_1 c h.0.1 in
+    let rest = replays_in_version_1 (after s c) (after_1 version_1 c) rs cs (ap (λ (x : BenchState). after x c) e ∙ sym lifted_command.after) (h.2) in
+    ((h.0, sym lifted_command.refusal ∙ subst (λ (x : BenchState). refusal x c ≡ None) e h.1, rest.0), rest.1)
 
 replays_after_conversion : (version_1 : BenchState1) (rs : List (List ℕ)) (cs : List Command) → ReplaysCommands1 version_1 rs cs → ReplaysCommands One (lift version_1) rs cs × (fold (lift version_1) cs ≡ lift (fold_1 version_1 cs))
 replays_after_conversion version_1 [] [] h = (tt, refl)
@@ -242,7 +242,7 @@ pub opens_session_of_either_version : (v : Version) (old mid new : DiskState) (s
     → (v ≡ Two → OpensSession old mid s → OpensSession old new s) → (v ≡ One → ReplacedContents mid new snap records s) → OpensSession old new s
 opens_session_of_either_version Two old mid new snap records cycles s opened replayed same replaced = same refl (opens_session_of_version_2 old mid snap records cycles s opened replayed)
 opens_session_of_either_version One old mid new snap records cycles s opened replayed same replaced =
-    let now = replaced refl in opens_session_of_version_1 old mid new snap records cycles s opened replayed now.held now.durable
+    let replaced_contents = replaced refl in opens_session_of_version_1 old mid new snap records cycles s opened replayed replaced_contents.held replaced_contents.durable
 
 pub migrates_session_of_either_version : (v : Version) (old mid new : DiskState) (snap : List ℕ) (records : List (List ℕ)) (cycles : ℕ) (s : BenchState) → OpensStore old mid snap records → IsReplayed v snap records cycles s
     → (v ≡ Two → MigratesSession old mid s → MigratesSession old new s) → (v ≡ One → ReplacedContents mid new snap records s) → MigratesSession old new s
@@ -280,9 +280,9 @@ version_1_state_is_kept old new s u moments same each image left = ⊎_elim (λ 
 pub opening_version_1_keeps_state : (old new : DiskState) (s u : BenchState) → DiskRepresentsConverted old s → OpensSession old new u → MigratesSession old new u
     → (u ≡ s) × (HoldsState (bytes_of new) s × DiskRepresentsSince (time_of old) new s)
 opening_version_1_keeps_state old new s u each opens does =
-    let here : RepresentsConverted (bytes_of old) s = each (bytes_of old) (disk_is_lawful old).current in
-    let same : u ≡ s = represented_state_is_unique (bytes_of old) u s opens.represented_before (inr here) in
-    (same, (subst (HoldsState (bytes_of new)) same (does.migrated (subst (RepresentsConverted (bytes_of old)) (sym same) here)), version_1_state_is_kept old new s u does.leaves same each))
+    let represents_converted : RepresentsConverted (bytes_of old) s = each (bytes_of old) (disk_is_lawful old).current in
+    let equal_states : u ≡ s = represented_state_is_unique (bytes_of old) u s opens.represented_before (inr represents_converted) in
+    (equal_states, (subst (HoldsState (bytes_of new)) equal_states (does.migrated (subst (RepresentsConverted (bytes_of old)) (sym equal_states) represents_converted)), version_1_state_is_kept old new s u does.leaves equal_states each))
 
 failed_migration_keeps_state : (old new : DiskState) (s : BenchState) → DiskRepresentsConverted old s → FailsDuringMigration old new → DiskRepresentsSince (time_of old) new s
 failed_migration_keeps_state old new s each fails =

@@ -25,13 +25,13 @@ abbrev acknowledgements_of_both_runs : (d e f : DiskState) (s : BenchState) (cs 
 acknowledgements_of_both_runs d e f s cs ds a b =
     let first = a.kept.acknowledged in
     let later : b.log ≡ log_after_all first.log cs = held_commands_are_unique (bytes_of e) b.log (log_after_all first.log cs) b.held a.holds in
-    let whole : last_moment (time_of d) (first.moments ++ b.moments) ≡ last_moment (time_of e) b.moments = last_moment_of_append (time_of d) first.moments b.moments ∙ ap (λ (c : ℕ). last_moment c b.moments) (sym a.clock) in
+    let last_moment_of_both : last_moment (time_of d) (first.moments ++ b.moments) ≡ last_moment (time_of e) b.moments = last_moment_of_append (time_of d) first.moments b.moments ∙ ap (λ (c : ℕ). last_moment c b.moments) (sym a.clock) in
     record {
       log = first.log;
       held = first.held;
       moments = first.moments ++ b.moments;
       timed = moments_of_two_runs (time_of d) (time_of e) first.log cs ds first.moments b.moments first.timed a.clock (b.timed ∙ ap (λ (log : List Command). moments_of (time_of e) log ds) later);
-      within = omega (arith, whole, b.within);
+      within = omega (arith, last_moment_of_both, b.within);
     }
 
 -- Each image that a power cut since the time `u` can leave represents the state after a prefix. The
@@ -42,16 +42,16 @@ image_represents_prefix_of_both_runs d e f s t cs done ds a same b u image le no
     let ms = a.kept.acknowledged.moments in
     let ns = b.acknowledged.moments in
     let sum = acknowledged-append u ms ns in
-    let few = acknowledged_at_most_all u ms in
+    let at_most_all = acknowledged_at_most_all u ms in
     let count = one_moment_per_command d e cs a.kept.acknowledged in
     elim (cases_lt (time_of e) u) [
-      | inl later ↦ represents_prefix_of_both_lists s t cs ds _ (acknowledged_by u ns) image same (omega (arith, sum, few, count)) (b.each u image (omega (arith, later)) now)
+      | inl later ↦ represents_prefix_of_both_lists s t cs ds _ (acknowledged_by u ns) image same (omega (arith, sum, at_most_all, count)) (b.each u image (omega (arith, later)) now)
       | inr early ↦
-          let none = none_acknowledged_before_run u (time_of e) ns early (rising e f done b.acknowledged) in
-          let first : acknowledged_by u (ms ++ ns) ≡ acknowledged_by u ms = omega (arith, sum, none) in
+          let none_in_second_run = none_acknowledged_before_run u (time_of e) ns early (rising e f done b.acknowledged) in
+          let first : acknowledged_by u (ms ++ ns) ≡ acknowledged_by u ms = omega (arith, sum, none_in_second_run) in
           elim (image_since_before_or_in_stretch e f b.later u image now) [
             | inl old ↦ rw first (represents_prefix_of_longer_list s cs ds (acknowledged_by u ms) image (a.kept.each u image le old))
-            | inr new ↦ represents_prefix_of_both_lists s t cs ds _ (acknowledged_by (time_of e) ns) image same (omega (arith, first, few, count)) (b.each (time_of e) image (omega arith) new)
+            | inr new ↦ represents_prefix_of_both_lists s t cs ds _ (acknowledged_by (time_of e) ns) image same (omega (arith, first, at_most_all, count)) (b.each (time_of e) image (omega arith) new)
           ]
     ]
 
@@ -68,11 +68,11 @@ pub keeps_all_commands_of_both_runs : (d e f : DiskState) (s t : BenchState) (cs
 unfolding keeps_commands_of_both_runs
 keeps_all_commands_of_both_runs d e f s t cs ds a same b =
     let first = a.kept.acknowledged in
-    let then = b.kept.acknowledged in
-    let later : then.log ≡ log_after_all first.log cs = held_commands_are_unique (bytes_of e) then.log (log_after_all first.log cs) then.held a.holds in
+    let second = b.kept.acknowledged in
+    let later : second.log ≡ log_after_all first.log cs = held_commands_are_unique (bytes_of e) second.log (log_after_all first.log cs) second.held a.holds in
     record {
       kept = keeps_commands_of_both_runs d e f s t cs ds ds a same b.kept;
-      clock = b.clock ∙ ap (λ (c : ℕ). last_moment c then.moments) a.clock ∙ sym (last_moment_of_append (time_of d) first.moments then.moments);
+      clock = b.clock ∙ ap (λ (c : ℕ). last_moment c second.moments) a.clock ∙ sym (last_moment_of_append (time_of d) first.moments second.moments);
       holds = subst (LogHolds (bytes_of f)) (ap (λ (log : List Command). log_after_all log ds) later ∙ sym (log_after_all_append first.log cs ds)) b.holds;
     }
 
@@ -80,12 +80,12 @@ keeps_all_commands_of_both_runs d e f s t cs ds a same b =
 pub represented_after_run : (d e : DiskState) (s t : BenchState) (cs : List Command) → t ≡ fold s cs → KeepsAllCommands d e s cs → DiskRepresents e t
 represented_after_run d e s t cs same a image now =
     let ms = a.kept.acknowledged.moments in
-    let rises = rising d e cs a.kept.acknowledged in
-    let behind = clock_at_most_last_moment (time_of d) ms rises in
+    let rising_moments = rising d e cs a.kept.acknowledged in
+    let clock_not_later = clock_at_most_last_moment (time_of d) ms rising_moments in
     let last = a.clock in
-    let all = all_acknowledged_by_last_moment (time_of e) (time_of d) ms (omega (arith, last)) rises in
+    let all = all_acknowledged_by_last_moment (time_of e) (time_of d) ms (omega (arith, last)) rising_moments in
     let count = one_moment_per_command d e cs a.kept.acknowledged in
-    rw same (represents_state_after_all_commands s cs (acknowledged_by (time_of e) ms) image (omega (arith, all, count)) (a.kept.each (time_of e) image (omega (arith, behind, last)) ((disk_is_lawful e).counts_now (time_of e) image now)))
+    rw same (represents_state_after_all_commands s cs (acknowledged_by (time_of e) ms) image (omega (arith, all, count)) (a.kept.each (time_of e) image (omega (arith, clock_not_later, last)) ((disk_is_lawful e).counts_now (time_of e) image now)))
 
 -- ---- runs without commands
 

@@ -65,14 +65,14 @@ has_room_for_decides : (log : List Command) (c : Command) → (HasRoomFor log c 
 has_room_for_decides log c =
     let n = log_bytes log + 3 + length (command_bytes c) + 1 in
     let m = log_cycles (log ++ c ∷ []) in
-    let spent = log_cycles_of_appended_command log c in
+    let total_cycles = log_cycles_of_appended_command log c in
     elim (cases_lt LOG_SIZE n) [
       | inl over ↦ inr (λ room. let fits = room.0 in omega (arith, over, fits), ap (λ (b : Bool). b && nat_le m REPLAY_CYCLES) (lt-leb n LOG_SIZE over))
       | inr fits ↦
-          let yes : has_room_for log c ≡ nat_le m REPLAY_CYCLES = ap (λ (b : Bool). b && nat_le m REPLAY_CYCLES) (le-leb n LOG_SIZE fits) in
+          let room_if_cycles_fit : has_room_for log c ≡ nat_le m REPLAY_CYCLES = ap (λ (b : Bool). b && nat_le m REPLAY_CYCLES) (le-leb n LOG_SIZE fits) in
           elim (cases_lt REPLAY_CYCLES m) [
-            | inl over ↦ inr (λ room. let few = room.1 in omega (arith, over, few, spent), yes ∙ lt-leb m REPLAY_CYCLES over)
-            | inr few ↦ inl ((omega (arith, fits), omega (arith, few, spent)), yes ∙ le-leb m REPLAY_CYCLES few)
+            | inl over ↦ inr (λ room. let few = room.1 in omega (arith, over, few, total_cycles), room_if_cycles_fit ∙ lt-leb m REPLAY_CYCLES over)
+            | inr few ↦ inl ((omega (arith, fits), omega (arith, few, total_cycles)), room_if_cycles_fit ∙ le-leb m REPLAY_CYCLES few)
           ]
     ]
 

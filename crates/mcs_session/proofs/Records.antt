@@ -102,9 +102,9 @@ log_cycles_at_least_those_of_prefix v s (q ∷ rs) (d ∷ cs) [] r c more h spel
 log_cycles_at_least_those_of_prefix v s (q ∷ rs) (d ∷ cs) (e ∷ ds) r c more h spells k =
     let same : e ≡ d = encoded_command_is_unique q e d k.0.0 h.0.0 in
     let rest = log_cycles_at_least_those_of_prefix v (after s d) rs cs ds r c more (h.2) spells (subst (λ (x : Command). ReplaysCommands v (after s x) (rs ++ r ∷ more) ds) same (k.2)) in
-    let one : replay_cycles e ≡ replay_cycles d = ap replay_cycles same in
+    let equal_cycles : replay_cycles e ≡ replay_cycles d = ap replay_cycles same in
     let left = sum_by-cons replay_cycles d cs in
-    let right = sum_by-cons replay_cycles e ds in omega (arith, rest, one, left, right)
+    let right = sum_by-cons replay_cycles e ds in omega (arith, rest, equal_cycles, left, right)
 
 -- if the next command makes the cycle count exceed its limit, the records represent no state
 pub no_state_with_too_many_cycles : (v : Version) (snap : List ℕ) (records : List (List ℕ)) (r : List ℕ) (i cycles : ℕ) (s t : BenchState) (c : Command) → slice_get records i ≡ Some r → IsReplayed v snap (take i records) cycles s

@@ -58,15 +58,15 @@ pub made_room_if_log_has_room : (disk : DiskState) (used bytes more cycles : ℕ
 made_room_if_log_has_room disk used bytes more cycles s c was is room few is_long is_more =
     let log = log_of_file (bytes_of disk) s was.represents in
     let held = file_holds_its_log (bytes_of disk) s was.represents in
-    let framed = frames_length_is_log_bytes disk cycles s was in
+    let frames_length = frames_length_is_log_bytes disk cycles s was in
     let count = was.count in
-    let yes : has_room_for log c ≡ true = has_room_for_is_true log c (omega (arith, is, framed, room, is_long), omega (arith, few, count, is_more)) in
+    let has_room : has_room_for log c ≡ true = has_room_for_is_true log c (omega (arith, is, frames_length, room, is_long), omega (arith, few, count, is_more)) in
     let P : Bool → Type 0 = λ b. LogHolds (bytes_of disk) (if b then log else []) in
     record {
       log = log;
       held = held;
-      ticks = ap (λ (b : Bool). time_of disk + (if b then 4 else 8)) (sym yes);
-      holds = subst P (sym yes) held;
+      ticks = ap (λ (b : Bool). time_of disk + (if b then 4 else 8)) (sym has_room);
+      holds = subst P (sym has_room) held;
       recorded = was;
     }
 
@@ -87,14 +87,14 @@ made_room_by_snapshot (Ok x) old new used used' bytes more cycles cycles' s c wa
     let log = log_of_file (bytes_of old) s was.represents in
     let framed = frames_length_is_log_bytes old cycles s was in
     let count = was.count in
-    let no : has_room_for log c ≡ false = has_room_for_is_false log c (λ room. let fits = room.0 in let few = room.1 in none (omega (arith, fits, is, framed, is_long)) (omega (arith, few, count, is_more))) in
+    let has_no_room : has_room_for log c ≡ false = has_room_for_is_false log c (λ room. let fits = room.0 in let few = room.1 in none (omega (arith, fits, is, framed, is_long)) (omega (arith, few, count, is_more))) in
     let P : Bool → Type 0 = λ b. LogHolds (bytes_of new) (if b then log else []) in
-    let four = changes.ticks in
+    let takes_four_ticks = changes.ticks in
     record {
       log = log;
       held = file_holds_its_log (bytes_of old) s was.represents;
-      ticks = let eight : time_of new + 4 ≡ time_of old + 8 = omega (arith, four) in eight ∙ ap (λ (b : Bool). time_of old + (if b then 4 else 8)) (sym no);
-      holds = subst P (sym no) (log_is_empty_with_only_snapshot (bytes_of new) s changes.after);
+      ticks = let takes_eight_ticks : time_of new + 4 ≡ time_of old + 8 = omega (arith, takes_four_ticks) in takes_eight_ticks ∙ ap (λ (b : Bool). time_of old + (if b then 4 else 8)) (sym has_no_room);
+      holds = subst P (sym has_no_room) (log_is_empty_with_only_snapshot (bytes_of new) s changes.after);
       recorded = recorded_after_snapshot (Ok x) old new used' cycles cycles' s was refl changes empty;
     }
 made_room_by_snapshot (Err e) old new used used' bytes more cycles cycles' s c was is none changes empty is_long is_more = tt
@@ -138,8 +138,8 @@ leaves_either_state_after_append old mid new cycles s c r was spells accepted fe
 pub recorded_after_append : (old new : DiskState) (cycles more : ℕ) (s : BenchState) (c : Command) (r : List ℕ) (was : IsRecorded old cycles s) → Encodes r c → refusal s c ≡ None → more ≡ replay_cycles c
     → cycles + more ≤ REPLAY_CYCLES → IsDurable new → Holds (bytes_of new) was.represents.snap (was.represents.records ++ r ∷ []) → IsRecorded new (cycles + more) (after s c)
 recorded_after_append old new cycles more s c r was spells accepted is few durable held =
-    let so_far : IsReplayed Two was.represents.snap was.represents.records cycles s = record { records_represent = was.represents.records_represent; count = was.count } in
-    let replayed = replayed_with_appended_command Two was.represents.snap r was.represents.records cycles more s c so_far (spells, refl) accepted is few in
+    let replayed_before : IsReplayed Two was.represents.snap was.represents.records cycles s = record { records_represent = was.represents.records_represent; count = was.count } in
+    let replayed = replayed_with_appended_command Two was.represents.snap r was.represents.records cycles more s c replayed_before (spells, refl) accepted is few in
     record { durable = durable; represents = record { snap = was.represents.snap; records = was.represents.records ++ r ∷ []; holds = held; records_represent = replayed.records_represent }; count = replayed.count }
 
 -- once room was made and the record was appended, the command is acknowledged

@@ -202,8 +202,8 @@ pub chain_bits-after_shift : (bits level : ℕ) (old new : List ℕ) → ((i : �
 unfolding chain_bits_of
 chain_bits-after_shift bits level old new moved =
     let len = length-chain_bits_of bits old in
-    let taken : length (take (length (chain_bits_of bits old)) (level ∷ chain_bits_of bits old)) ≡ bits = grind (arith, common_steps) in
-    sym (table_of-unique bits (packed_bit new) (take (length (chain_bits_of bits old)) (level ∷ chain_bits_of bits old)) 0 taken (λ k l.
+    let taken_length : length (take (length (chain_bits_of bits old)) (level ∷ chain_bits_of bits old)) ≡ bits = grind (arith, common_steps) in
+    sym (table_of-unique bits (packed_bit new) (take (length (chain_bits_of bits old)) (level ∷ chain_bits_of bits old)) 0 taken_length (λ k l.
     get_or-take (length (chain_bits_of bits old)) (level ∷ chain_bits_of bits old) k 0 (omega arith) ∙ prepended_level-at_index bits level old k l ∙ sym (moved k l)))
 
 -- ---- ten bits that start at a given bit

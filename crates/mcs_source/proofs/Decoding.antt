@@ -219,5 +219,5 @@ decoded_words_are_spelling first None o e both = elim (word_count_is_one_or_two 
   | inr two ↦ absurd (true≢false (sym (both.1 two)))
 ]
 decoded_words_are_spelling first (Some second) o e both =
-    let two : word_count_of o ≡ 2 = both.0 refl in
-    sym ((decoded_instruction_is_encoding first second o e).1 ∙ rw two refl)
+    let has_two_words : word_count_of o ≡ 2 = both.0 refl in
+    sym ((decoded_instruction_is_encoding first second o e).1 ∙ rw has_two_words refl)

@@ -18,9 +18,9 @@ use Rattle.mcs_model.specs.Options.{◌>>=◌}
 
 range_with_next_number : (i : ℕ) → range_with_len 0 (i + 1) ≡ range_with_len 0 i ++ i ∷ []
 range_with_next_number i =
-    let up : i + 1 ≡ suc i = omega arith in
+    let plus_one : i + 1 ≡ suc i = omega arith in
     let e : 0 + i ≡ i = omega arith in
-    ap (range_with_len 0) up ∙ (range-one-more 0 i ∙ ap (λ (k : ℕ). range_with_len 0 i ++ k ∷ []) e)
+    ap (range_with_len 0) plus_one ∙ (range-one-more 0 i ∙ ap (λ (k : ℕ). range_with_len 0 i ++ k ∷ []) e)
 
 pub address_of_next_line : (lines : List (Option SourceLine)) (i : ℕ) → address_of lines (i + 1) ≡ next_at (ith_line lines i) (address_of lines i)
 unfolding address_of
@@ -60,8 +60,8 @@ no_fault_before_next fault i before here j lt = elim (cases_eq j i) [
 find_is_none_if_test_false : (p : ℕ → Bool) (a n : ℕ) → ((j : ℕ) → j < a + n → p j ≡ false) → find p (range_with_len a n) ≡ None
 find_is_none_if_test_false p a zero h = refl
 find_is_none_if_test_false p a (suc n) h =
-    let here : p a ≡ false = h a (omega arith) in
-    rw here (find_is_none_if_test_false p (a + 1) n (λ j lt. h j (omega (arith, lt))))
+    let false_at_a : p a ≡ false = h a (omega arith) in
+    rw false_at_a (find_is_none_if_test_false p (a + 1) n (λ j lt. h j (omega (arith, lt))))
 
 abbrev fault_and_line_number : (ℕ → Option SourceFault) → ℕ → Option (ℕ × SourceFault)
 fault_and_line_number fault i = fault i >>= λ f. Some (i + 1, f)
@@ -81,7 +81,7 @@ no_fault_if_none_found_in_range fault a zero e j low high = absurd (omega (arith
 no_fault_if_none_found_in_range fault a (suc n) e j low high =
     let Q : Option SourceFault → Type 0 = λ o. fault a ≡ o → (cond (is_some o) (Some a) (find (λ i. is_some (fault i)) (range_with_len (a + 1) n)) >>= fault_and_line_number fault) ≡ None → fault j ≡ None in
     (elim (fault a) as Q [
-      | Some f ↦ λ is h. absurd (let more : Some (a + 1, f) ≡ None = ap (λ (o : Option SourceFault). o >>= λ g. Some (a + 1, g)) (sym is) ∙ h in cc)
+      | Some f ↦ λ is h. absurd (let some_is_none : Some (a + 1, f) ≡ None = ap (λ (o : Option SourceFault). o >>= λ g. Some (a + 1, g)) (sym is) ∙ h in cc)
       | None ↦ λ is h. elim (cases_eq j a) [
         | inl same ↦ rw same is
         | inr other ↦ no_fault_if_none_found_in_range fault (a + 1) n h j (omega (arith, low, other)) (omega (arith, high))
@@ -108,5 +108,5 @@ pub assembles_if_no_fault : (text : List ℕ) (ls : List (List ℕ)) (names : Na
 unfolding assembly_of
 assembles_if_no_fault text ls names is one same two =
     let two' : earliest_second_pass_fault (read ls) (all_names (read ls)) ≡ None = subst (λ (n : Names). earliest_second_pass_fault (read ls) n ≡ None) same two in
-    let whole : assembly_of (read ls) ≡ Ok (pairs_before (read ls) (all_names (read ls)) (length (read ls))) = rw (one, two') refl in
-    ap (λ (l : List (List ℕ)). assembly_of (read l)) (sym is) ∙ (whole ∙ ap (λ (n : Names). Ok (pairs_before (read ls) n (length (read ls)))) (sym same))
+    let assembles : assembly_of (read ls) ≡ Ok (pairs_before (read ls) (all_names (read ls)) (length (read ls))) = rw (one, two') refl in
+    ap (λ (l : List (List ℕ)). assembly_of (read l)) (sym is) ∙ (assembles ∙ ap (λ (n : Names). Ok (pairs_before (read ls) n (length (read ls)))) (sym same))

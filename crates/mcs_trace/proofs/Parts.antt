@@ -43,16 +43,16 @@ instructions_begun_within-sum m zero s =
     let same : m + 0 ≡ m = omega arith in
     ap (λ k. instructions_begun_within k s) same ∙ sym (append-nil (instructions_begun_within m s)) ∙ ap (λ (l : List BegunInstruction). instructions_begun_within m s ++ map (later m) l) (sym (no_instruction_begun-within_0_cycles m (after_cycles m s)))
 instructions_begun_within-sum m (suc n) s =
-    let one : m + suc n ≡ m + n + 1 = omega arith in
-    let more : suc n ≡ n + 1 = omega arith in
+    let plus_one_after_sum : m + suc n ≡ m + n + 1 = omega arith in
+    let suc_is_plus_one : suc n ≡ n + 1 = omega arith in
     let t = after_cycles m s in
     let first = instructions_begun_within m s in
     let second = map (later m) (instructions_begun_within n t) in
-    ap (λ k. instructions_begun_within k s) one ∙ instructions_begun-in_one_more_cycle (m + n) s
+    ap (λ k. instructions_begun_within k s) plus_one_after_sum ∙ instructions_begun-in_one_more_cycle (m + n) s
     ∙ ap (λ (l : List BegunInstruction). l ++ instruction_begun_at s (m + n)) (instructions_begun_within-sum m n s)
     ∙ ap (λ (l : List BegunInstruction). (first ++ second) ++ l) (instruction_begun_at-from_later_start m n s)
     ∙ append_assoc first second (map (later m) (instruction_begun_at t n))
-    ∙ ap (λ (l : List BegunInstruction). first ++ l) (sym (map-append (later m) (instructions_begun_within n t) (instruction_begun_at t n)) ∙ ap (map (later m)) (sym (instructions_begun-in_one_more_cycle n t) ∙ ap (λ k. instructions_begun_within k t) (sym more)))
+    ∙ ap (λ (l : List BegunInstruction). first ++ l) (sym (map-append (later m) (instructions_begun_within n t) (instruction_begun_at t n)) ∙ ap (map (later m)) (sym (instructions_begun-in_one_more_cycle n t) ∙ ap (λ k. instructions_begun_within k t) (sym suc_is_plus_one)))
 
 -- ---- the lengths of the two parts
 
@@ -77,7 +77,7 @@ no_stop_reason-before_end : (stops : StopConditions) (n : ℕ) (s : Machine) →
 no_stop_reason-before_end stops n s e j l =
     none-if_not_some (stop_reason_after stops n s j) (false-before_first_found (λ k. is_some (stop_reason_after stops n s k)) 0 (n + 1) n j (omega arith) (omega arith) (subst (λ k. j < k) (sym e) l))
 
-not_outside-if_no_stop_reason : (out broken changed ended : Bool) → cond out (Some Outside) (cond broken (Some Breakpoint) (cond changed (Some Watched) (cond ended (Some Ended) None))) ≡ None → out ≡ false
+not_outside-if_no_stop_reason : (outside broken changed ended : Bool) → cond outside (Some Outside) (cond broken (Some Breakpoint) (cond changed (Some Watched) (cond ended (Some Ended) None))) ≡ None → outside ≡ false
 not_outside-if_no_stop_reason true broken changed ended e = absurd (cc)
 not_outside-if_no_stop_reason false broken changed ended e = refl
 
@@ -139,9 +139,9 @@ second_part-uninterrupted stops m n s e = record {
 pub begun_instructions-add_up : (stops : StopConditions) (m n : ℕ) (s : Machine) → run_length stops (m + n) s ≡ m + n → instructions_begun_in stops (m + n) s ≡ instructions_begun_in stops m s ++ map (later m) (instructions_begun_in stops n (after_run stops m s))
 begun_instructions-add_up stops m n s e =
     let first : run_length stops m s ≡ m = full_run_length-if_uninterrupted stops m s (first_part-uninterrupted stops m n s (uninterrupted-if_run_length_full stops (m + n) s e)) in
-    let there : after_run stops m s ≡ after_cycles m s = ap (λ k. after_cycles k s) first in
+    let first_part_end : after_run stops m s ≡ after_cycles m s = ap (λ k. after_cycles k s) first in
     let second : run_length stops n (after_cycles m s) ≡ n = full_run_length-if_uninterrupted stops n (after_cycles m s) (second_part-uninterrupted stops m n s e) in
     ap (λ k. instructions_begun_within k s) e ∙ instructions_begun_within-sum m n s
     ∙ ap (λ k. instructions_begun_within k s ++ map (later m) (instructions_begun_within n (after_cycles m s))) (sym first)
     ∙ ap (λ k. instructions_begun_in stops m s ++ map (later m) (instructions_begun_within k (after_cycles m s))) (sym second)
-    ∙ ap (λ (t : Machine). instructions_begun_in stops m s ++ map (later m) (instructions_begun_in stops n t)) (sym there)
+    ∙ ap (λ (t : Machine). instructions_begun_in stops m s ++ map (later m) (instructions_begun_in stops n t)) (sym first_part_end)

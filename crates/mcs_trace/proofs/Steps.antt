@@ -23,8 +23,8 @@ only_owed_changes-after_first_cycle : (left d : ℕ) (t u : Machine) → IsInstr
 only_owed_changes-after_first_cycle left d t u ran zero some l = absurd (omega arith)
 only_owed_changes-after_first_cycle left d t u ran (suc zero) some l = refl
 only_owed_changes-after_first_cycle left d t u ran (suc (suc i)) some l =
-    let ago = only_owed_changes-after_first_cycle left d t u ran (suc i) (omega arith) (omega arith) in
-    let step : after_cycles (suc (suc i)) t ≡ with_owed (after_cycles 1 t) 0 = second_cycle-clears_owed (after_cycles (suc i) t) (ran.between (suc i) (omega arith) (omega arith)) ∙ ap (λ (m : Machine). with_owed m 0) ago in
+    let previous_cycle = only_owed_changes-after_first_cycle left d t u ran (suc i) (omega arith) (omega arith) in
+    let step : after_cycles (suc (suc i)) t ≡ with_owed (after_cycles 1 t) 0 = second_cycle-clears_owed (after_cycles (suc i) t) (ran.between (suc i) (omega arith) (omega arith)) ∙ ap (λ (m : Machine). with_owed m 0) previous_cycle in
     step ∙ ap (with_owed (after_cycles 1 t)) (sym (ap (λ (m : Machine). m.0.owed) step))
 
 pub rests : (left d : ℕ) (t u : Machine) → IsInstructionRun left t u d → 0 < d → u ≡ with_owed (after_cycles 1 t) u.0.owed

@@ -43,7 +43,7 @@ chain-of-small-board-is-short : (b : BoardParts) (n : ℕ) → IsSmall b → (ch
 chain-of-small-board-is-short b n s =
     elim (cases_lt n (length b.chains.items)) [
       | inl lt ↦ (let size : nat_lt 4 (chain_part b n).chips ≡ false = test_false-if_list_any_false (λ (c : ChainPart). nat_lt 4 c.chips) b.chains.items n no_chain s.short lt in grind (arith, nat_tests))
-      | inr ge ↦ (let none : (chain_part b n).chips ≡ 0 = ap (λ (c : ChainPart). c.chips) (get_or_past b.chains.items n no_chain ge) in omega arith)
+      | inr ge ↦ (let no_chips : (chain_part b n).chips ≡ 0 = ap (λ (c : ChainPart). c.chips) (get_or_past b.chains.items n no_chain ge) in omega arith)
     ]
 
 -- ---- lines
@@ -53,7 +53,7 @@ line-in-range-1-on-small-board b s (Rom chip j) there fits = fits
 line-in-range-1-on-small-board b s (Ram bank chip j) there fits = fits
 line-in-range-1-on-small-board b s (Chain n i) there fits =
     let few = s.few in
-    let here : i < 10 * (chain_part b n).chips = ltb-true _ _ (not-false _ there) in
+    let bit_in_chain : i < 10 * (chain_part b n).chips = ltb-true _ _ (not-false _ there) in
     let short = chain-of-small-board-is-short b n s in
     let inside : n < 2 =
     elim (cases_lt n (length b.chains.items)) [
@@ -97,9 +97,9 @@ chain-size-if-chain-size-1 : (c : ChainPart) → not (is_chain_size_1 c) ≡ fal
 chain-size-if-chain-size-1 c x =
     let w = and_parts (nat_lt 0 c.chips) (nat_le c.chips 4) (not-false _ x) in
     let most : c.chips ≤ 4 = leb-true _ _ w.1 in
-    let some : nat_lt 0 c.chips ≡ true = w.0 in
-    let all : nat_le c.chips CHAIN_CHIPS ≡ true = le-leb _ _ (omega arith) in
-    rw (some, all) refl
+    let has_chips : nat_lt 0 c.chips ≡ true = w.0 in
+    let chips_within_limit : nat_le c.chips CHAIN_CHIPS ≡ true = le-leb _ _ (omega arith) in
+    rw (has_chips, chips_within_limit) refl
 
 chain-size-1-if-short : (c : ChainPart) → not (is_chain_size c) ≡ false → nat_lt 4 c.chips ≡ false → not (is_chain_size_1 c) ≡ false
 chain-size-1-if-short c x y =

@@ -67,9 +67,9 @@ rom_line_named_in_range text l e =
     let (p, _, e1) = first_value_of_option_and_then (texts_around_dot text) _ l e in
     let (chip, chip_is, e2) = first_value_of_option_and_then (number_below ROMS p.0) _ l e1 in
     let (k, k_is, e3) = first_value_of_option_and_then (number_below 4 p.1) _ l e2 in
-    let same : line.Rom chip k ≡ l = same_Some (line.Rom chip k) l e3 in
-    let here : boards.in_range (line.Rom chip k) ≡ true = rw (number_in_name_below_limit ROMS p.0 chip chip_is, number_in_name_below_limit 4 p.1 k k_is) refl in
-    ap boards.in_range (sym same) ∙ here
+    let equal_lines : line.Rom chip k ≡ l = same_Some (line.Rom chip k) l e3 in
+    let line_in_range : boards.in_range (line.Rom chip k) ≡ true = rw (number_in_name_below_limit ROMS p.0 chip chip_is, number_in_name_below_limit 4 p.1 k k_is) refl in
+    ap boards.in_range (sym equal_lines) ∙ line_in_range
 
 ram_line_named_in_range : (text : List ℕ) (l : Line) → ram_line_named text ≡ Some l → boards.in_range l ≡ true
 ram_line_named_in_range text l e =
@@ -138,8 +138,8 @@ ram_chips_within_limit d p e =
     let (ms, _, e1) = first_value_of_option_and_then (as_table d) ram_in p e in
     let (bank, _, e2) = first_value_of_option_and_then (number_at (codes "bank") 0 (BANKS - 1) ms) _ p e1 in
     let (chips, chips_is, e3) = first_value_of_option_and_then (number_at (codes "chips") 1 BANK_CHIPS ms) _ p e2 in
-    let made : Numbered ℕ = record { number = bank; part = chips } in
-    let same : made ≡ p = same_Some made p e3 in
+    let numbered_chips : Numbered ℕ = record { number = bank; part = chips } in
+    let same : numbered_chips ≡ p = same_Some numbered_chips p e3 in
     let (low, high) = number_at_key_within_bounds (codes "chips") 1 BANK_CHIPS ms chips chips_is in
     ap (λ (q : Numbered ℕ). exceeds_bank_chips q.part) (sym same) ∙ le-ltb BANK_CHIPS chips high
 
@@ -169,11 +169,11 @@ chain_part_in_range d c e =
     let made : ChainPart = record { clock = clock; data_in = data_in; chips = chips } in
     let same : made ≡ c = same_Some made c e4 in
     let (low, high) = number_at_key_within_bounds (codes "chips") 1 CHAIN_CHIPS ms chips chips_is in
-    let some : ltb 0 chips ≡ true = lt-ltb 0 chips low in
-    let few : leb chips CHAIN_CHIPS ≡ true = le-leb chips CHAIN_CHIPS high in
-    let sized : not (ltb 0 chips && leb chips CHAIN_CHIPS) ≡ false = rw (some, few) refl in
+    let has_chips : ltb 0 chips ≡ true = lt-ltb 0 chips low in
+    let chips_within_limit : leb chips CHAIN_CHIPS ≡ true = le-leb chips CHAIN_CHIPS high in
+    let valid_size : not (ltb 0 chips && leb chips CHAIN_CHIPS) ≡ false = rw (has_chips, chips_within_limit) refl in
     let lines : (is_out_of_range clock || is_out_of_range data_in) ≡ false = rw (line_at_key_in_range (codes "clock") ms clock clock_is, line_at_key_in_range (codes "data") ms data_in data_is) refl in
-    (ap (λ (x : ChainPart). not (boards.is_chain_size x)) (sym same) ∙ sized, ap (λ (x : ChainPart). is_out_of_range x.clock || is_out_of_range x.data_in) (sym same) ∙ lines)
+    (ap (λ (x : ChainPart). not (boards.is_chain_size x)) (sym same) ∙ valid_size, ap (λ (x : ChainPart). is_out_of_range x.clock || is_out_of_range x.data_in) (sym same) ∙ lines)
 
 -- ---- the key matrix
 
@@ -228,12 +228,12 @@ no_bad_columns_in_keys_table (Some d) t h e =
 
 keys_in_range : (ms : Members) → has_malformed_value ms ≡ false → AreKeysInRange (parts_in ms).keys
 keys_in_range ms h =
-    let any = λ (s : Section). list_any (is_malformed s) (section_values s ms) in
+    let any_malformed = λ (s : Section). list_any (is_malformed s) (section_values s ms) in
     let (_, h1) = or_parts (list_any (has_value_that_is_not_array ms) sections) (any_section_entry is_malformed ms) h in
-    let (_, h2) = or_parts (any Rom) (any Ram || (any Chain || (any Keys || (any Lamp || false)))) h1 in
-    let (_, h3) = or_parts (any Ram) (any Chain || (any Keys || (any Lamp || false))) h2 in
-    let (_, h4) = or_parts (any Chain) (any Keys || (any Lamp || false)) h3 in
-    let (h5, _) = or_parts (any Keys) (any Lamp || false) h4 in
+    let (_, h2) = or_parts (any_malformed Rom) (any_malformed Ram || (any_malformed Chain || (any_malformed Keys || (any_malformed Lamp || false)))) h1 in
+    let (_, h3) = or_parts (any_malformed Ram) (any_malformed Chain || (any_malformed Keys || (any_malformed Lamp || false))) h2 in
+    let (_, h4) = or_parts (any_malformed Chain) (any_malformed Keys || (any_malformed Lamp || false)) h3 in
+    let (h5, _) = or_parts (any_malformed Keys) (any_malformed Lamp || false) h4 in
     matrix_in_range_if_present (option_and_then matrix_in (keys_table ms)) (λ m e.
     let (t, t_is, read) = first_value_of_option_and_then (keys_table ms) matrix_in m e in
     matrix_in_range t m read (no_bad_columns_in_keys_table (get_member (codes "keys") ms) t h5 t_is))

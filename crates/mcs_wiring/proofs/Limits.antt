@@ -12,5 +12,5 @@ counts_within_limits a b c d e h = (grind (arith, nat_tests), grind (arith, nat_
 
 pub within_limits_if_not_too_many : (ms : Members) → has_too_many ms ≡ false → IsWithinLimits ms
 within_limits_if_not_too_many ms h =
-    let all = counts_within_limits (length (values_at (codes "rom") ms)) (length (values_at (codes "ram") ms)) (length (values_at (codes "chain") ms)) (length (column_values ms)) (length (values_at (codes "lamp") ms)) h in
-    record { roms = all.0; banks = all.1; chains = all.2; columns = all.3; lamps = all.4 }
+    let limits = counts_within_limits (length (values_at (codes "rom") ms)) (length (values_at (codes "ram") ms)) (length (values_at (codes "chain") ms)) (length (column_values ms)) (length (values_at (codes "lamp") ms)) h in
+    record { roms = limits.0; banks = limits.1; chains = limits.2; columns = limits.3; lamps = limits.4 }

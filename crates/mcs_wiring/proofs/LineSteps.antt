@@ -55,9 +55,9 @@ line_after_of_split_text holds n found before rest line after more cut is =
     ∙ ap (λ (m : List ℕ). line_after holds (n + 1) (if holds m then n + 1 else found) m (slice_split is_line_feed after)) (sym is))
 
 -- the loop invariant remains true after a line for which `holds` is false
-pub line_from_kept_if_test_false : (holds : List ℕ → Bool) (n whole : ℕ) (before rest line after more : List ℕ) (b : Bool) → slice_split is_line_feed rest ≡ line ∷ slice_split is_line_feed after → more ≡ before ++ as_line line → b ≡ holds more → b ≡ false
-    → line_from holds n before (slice_split is_line_feed rest) ≡ whole → line_from holds (n + 1) more (slice_split is_line_feed after) ≡ whole
-line_from_kept_if_test_false holds n whole before rest line after more b cut is test fails inv =
+pub line_from_kept_if_test_false : (holds : List ℕ → Bool) (n result : ℕ) (before rest line after more : List ℕ) (b : Bool) → slice_split is_line_feed rest ≡ line ∷ slice_split is_line_feed after → more ≡ before ++ as_line line → b ≡ holds more → b ≡ false
+    → line_from holds n before (slice_split is_line_feed rest) ≡ result → line_from holds (n + 1) more (slice_split is_line_feed after) ≡ result
+line_from_kept_if_test_false holds n result before rest line after more b cut is test fails inv =
     sym (line_from_of_split_text holds n before rest line after more cut is ∙ ap (λ t. if t then n else line_from holds (n + 1) more (slice_split is_line_feed after)) (sym test ∙ fails)) ∙ inv
 
 pub line_after_kept_if_test_true : (holds : List ℕ → Bool) (n found whole : ℕ) (before rest line after more : List ℕ) (b : Bool) → slice_split is_line_feed rest ≡ line ∷ slice_split is_line_feed after → more ≡ before ++ as_line line → b ≡ holds more → b ≡ true

@@ -61,10 +61,10 @@ board_text_is_texts_of_parts b =
 -- output for the numbers below `n + 1`
 pub append_text_for_next_number : (f : ℕ → List ℕ) (n : ℕ) (start before after piece : List ℕ) → before ≡ start ++ flat_map f (range_with_len 0 n) → after ≡ before ++ piece → piece ≡ f n → after ≡ start ++ flat_map f (range_with_len 0 (n + 1))
 append_text_for_next_number f n start before after piece so_far written is =
-    let done = flat_map f (range_with_len 0 n) in
+    let earlier_texts = flat_map f (range_with_len 0 n) in
     written
     ∙ (ap (λ t. t ++ piece) so_far
-    ∙ (append_assoc start done piece ∙ ap (λ t. start ++ t) (ap (λ p. done ++ p) is ∙ sym (texts_below_next f n))))
+    ∙ (append_assoc start earlier_texts piece ∙ ap (λ t. start ++ t) (ap (λ p. earlier_texts ++ p) is ∙ sym (texts_below_next f n))))
 
 -- if the output has the texts of the first `i` items, appending the text of item `i` gives the
 -- output for the first `i + 1` items

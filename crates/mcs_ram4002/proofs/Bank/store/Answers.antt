@@ -11,10 +11,10 @@ returns-then-chip-self-clause-stored g c =
     let write = c.args.write in
     let fits : i.chip_count ≤ length i.chips = omega (arith, c.self.invariant.0, c.self.told) in
     let at : c.from-chip.result ≡ target_chip write = c.from-chip.ensures ∙ c.chip.ensures.chip in
-    let few : c.from-chip.result < 4 = let f = c.chip.ensures.few c.requires in omega arith in
+    let chip_below_4 : c.from-chip.result < 4 = let f = c.chip.ensures.few c.requires in omega arith in
     rw (← c.self.view_is, lt-ltb (target_chip write) i.chip_count (omega arith))
     (ap (bank_of _ i.chip_count) c.src_after-self-inside.ensures
-    ∙ stored i.chips i.chip_count i.src c.from-chip.result c.index-self-chip.result c.store.new.self write c.requires at few c.if-chip-self.true fits c.store.ensures.sized c.store.ensures.stored)
+    ∙ stored i.chips i.chip_count i.src c.from-chip.result c.index-self-chip.result c.store.new.self write c.requires at chip_below_4 c.if-chip-self.true fits c.store.ensures.sized c.store.ensures.stored)
 
 pub returns-else-chip-self-clause-stored : goal.returns-else-chip-self-clause-stored
 unfolding after_write

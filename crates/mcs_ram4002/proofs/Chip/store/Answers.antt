@@ -25,15 +25,15 @@ returns-in-Status-clause-stored c =
     let len : length status ≡ 8 = search rules in
     let high = c.in-Status.high in
     let k = c.in-Status.k in
-    let small : k < 4 = rw c.in-Status.is at c.requires in
+    let k_below_4 : k < 4 = rw c.in-Status.is at c.requires in
     let at = c.get.result % 4 * 4 + k in
-    let place : at ≡ high % 4 * 4 + k = ap (λ h. h % 4 * 4 + k) c.get.ensures.value in
+    let status_index : at ≡ high % 4 * 4 + k = ap (λ h. h % 4 * 4 + k) c.get.ensures.value in
     let new = c.byte_with_nibble-in-Status.result in
     let old : half_of (slice_index status c.from-i-in-Status.result) (1 - at % 2) ≡ half_of (slice_index status (at / 2)) (1 - at % 2) = ap (λ i. half_of (slice_index status i) (1 - at % 2)) c.from-i-in-Status.ensures in
     let set : unpacked_nibbles (slice_set status c.from-i-in-Status.result new) ≡ slice_set (unpacked_nibbles status) (high % 4 * 4 + k) c.in-Status.n =
     ap (λ i. unpacked_nibbles (slice_set status i new)) c.from-i-in-Status.ensures
     ∙ unpacked_nibbles-after_set status at c.in-Status.n new (omega arith) c.byte_with_nibble-in-Status.ensures.set (c.byte_with_nibble-in-Status.ensures.kept ∙ old)
-    ∙ ap (λ i. slice_set (unpacked_nibbles status) i c.in-Status.n) place in
+    ∙ ap (λ i. slice_set (unpacked_nibbles status) i c.in-Status.n) status_index in
     ap (λ (cells : List ℕ). record (contents_of_chip chip) { status = cells }) set ∙ ap (chip_after (contents_of_chip chip)) (sym c.in-Status.is)
 
 pub returns-in-Status-clause-sized : goal.returns-in-Status-clause-sized

@@ -50,9 +50,9 @@ loop-at-init c = record {
   so_far = replayed_without_records _ _ _ (rw c.in-Ok-Some.field-0-is at c.in-Ok-Some.ensures.some);
 }
 
-accepted_if_check_succeeds : {T : Type 0} (why : Option BenchFault) (checked : Result T BenchFault) → MatchOption why (IsOk checked) (λ fault. checked ≡ Err fault) → is_err checked ≡ false → why ≡ None
-accepted_if_check_succeeds None checked h fine = refl
-accepted_if_check_succeeds (Some fault) checked h fine = let wrong : true ≡ false = ap is_err (sym h) ∙ fine in absurd (cc wrong)
+accepted_if_check_succeeds : {T : Type 0} (refused : Option BenchFault) (check : Result T BenchFault) → MatchOption refused (IsOk check) (λ fault. check ≡ Err fault) → is_err check ≡ false → refused ≡ None
+accepted_if_check_succeeds None check h fine = refl
+accepted_if_check_succeeds (Some fault) check h fine = let true_is_false : true ≡ false = ap is_err (sym h) ∙ fine in absurd (cc true_is_false)
 
 -- one more record was replayed, and the cycle count stays within its limit
 next_record_is_replayed : (c : After-apply-reply) → (c.loop-at.cycles + c.replay_cycles-more.result ≤ REPLAY_CYCLES)

@@ -24,7 +24,7 @@ loop-done-init c =
 
 pub count_instruction-requires-clause-few_runs : goal.count_instruction-requires-clause-few_runs
 count_instruction-requires-clause-few_runs c =
-    let few = tally_number-at_most_cycles c.loop-done.done (machine_of c.args.bench.now) c.loop-done.runs.items (λ a. begins_at_address a) c.regs-before.result.pc (omega arith) c.loop-done.invariant.counting.run_tally in
+    let count_at_most_cycles = tally_number-at_most_cycles c.loop-done.done (machine_of c.args.bench.now) c.loop-done.runs.items (λ a. begins_at_address a) c.regs-before.result.pc (omega arith) c.loop-done.invariant.counting.run_tally in
     omega arith
 
 pub count_instruction-requires-clause-few_jumps : goal.count_instruction-requires-clause-few_jumps
@@ -39,11 +39,11 @@ returns-in-None c =
     let k : ℕ = c.loop-done.done in
     let t : Machine = machine_of c.loop-done.copy in
     let counting = c.loop-done.invariant.counting in
-    let noted = c.in-None.ensures.went in
-    let came = c.counts_of in
-    let stop = came.ensures.stop ∙ ap (λ (x : BenchState). stop_reason (machine_of x) None) noted.1 in
-    counts_of_run-if_tallies (stops_of b) c.args.n s t k came.result (ends (stops_of b) c.args.n k s t None came.result.stop (run-stops-if-no-cycle-possible (stops_of b) c.args.n k s t counting.going noted.0) stop) came.ensures.cycles
-    (tally-of_equal_list s k _ _ (λ a. begins_at_address a) came.ensures.runs counting.run_tally) (tally-of_equal_list s k _ _ (λ a x. begins_at_address a x && jumps x) came.ensures.jumps counting.jump_tally)
+    let run_result = c.in-None.ensures.went in
+    let counts = c.counts_of in
+    let stop = counts.ensures.stop ∙ ap (λ (x : BenchState). stop_reason (machine_of x) None) run_result.1 in
+    counts_of_run-if_tallies (stops_of b) c.args.n s t k counts.result (ends (stops_of b) c.args.n k s t None counts.result.stop (run-stops-if-no-cycle-possible (stops_of b) c.args.n k s t counting.going run_result.0) stop) counts.ensures.cycles
+    (tally-of_equal_list s k _ _ (λ a. begins_at_address a) counts.ensures.runs counting.run_tally) (tally-of_equal_list s k _ _ (λ a x. begins_at_address a x && jumps x) counts.ensures.jumps counting.jump_tally)
 
 pub returns-in-Some-mark : goal.returns-in-Some-mark
 returns-in-Some-mark c =
@@ -55,12 +55,12 @@ returns-in-Some-mark c =
     let u : Machine = machine_of c.continue_run.new.self in
     let w : InstructionResult = c.in-Some.went in
     let counting = c.loop-done.invariant.counting in
-    let went : IsInstructionResult (stops_of b) (n - k) t u w = subst (λ (x : StopConditions). IsInstructionResult x (n - k) t u w) c.loop-done.invariant.stops c.in-Some.ensures.went in
-    let ran = run-stops-after-instruction-result (stops_of b) n k s t u w c.in-Some-mark.why counting.going went c.loop-done-test.true c.in-Some-mark.is in
-    let came = c.counts_of-in-Some-mark in
-    counts_of_run-if_tallies (stops_of b) n s u (k + w.cycles) came.result (ends (stops_of b) n (k + w.cycles) s u w.mark came.result.stop ran (came.ensures.stop ∙ ap (stop_reason u) (sym c.in-Some-mark.is))) came.ensures.cycles
-    (tally-of_equal_list s (k + w.cycles) _ _ (λ a. begins_at_address a) came.ensures.runs (run_tally-after_instruction (n - k) k w.cycles s t u c.regs-before.result c.loop-done.runs.items c.count_instruction.new.runs.items counting.going.at went.ran went.some c.regs-before.ensures.same (omega arith) c.count_instruction.ensures.runs counting.run_tally))
-    (tally-of_equal_list s (k + w.cycles) _ _ (λ a x. begins_at_address a x && jumps x) came.ensures.jumps (jump_tally-after_instruction (n - k) k w.cycles s t u c.regs-before.result c.regs.result c.loop-done.jumps.items c.count_instruction.new.jumps.items counting.going.at went.ran went.some c.regs-before.ensures.same c.regs.ensures.same (omega arith) c.count_instruction.ensures.jumps counting.jump_tally))
+    let instruction_result : IsInstructionResult (stops_of b) (n - k) t u w = subst (λ (x : StopConditions). IsInstructionResult x (n - k) t u w) c.loop-done.invariant.stops c.in-Some.ensures.went in
+    let run_stops = run-stops-after-instruction-result (stops_of b) n k s t u w c.in-Some-mark.why counting.going instruction_result c.loop-done-test.true c.in-Some-mark.is in
+    let counts = c.counts_of-in-Some-mark in
+    counts_of_run-if_tallies (stops_of b) n s u (k + w.cycles) counts.result (ends (stops_of b) n (k + w.cycles) s u w.mark counts.result.stop run_stops (counts.ensures.stop ∙ ap (stop_reason u) (sym c.in-Some-mark.is))) counts.ensures.cycles
+    (tally-of_equal_list s (k + w.cycles) _ _ (λ a. begins_at_address a) counts.ensures.runs (run_tally-after_instruction (n - k) k w.cycles s t u c.regs-before.result c.loop-done.runs.items c.count_instruction.new.runs.items counting.going.at instruction_result.ran instruction_result.some c.regs-before.ensures.same (omega arith) c.count_instruction.ensures.runs counting.run_tally))
+    (tally-of_equal_list s (k + w.cycles) _ _ (λ a x. begins_at_address a x && jumps x) counts.ensures.jumps (jump_tally-after_instruction (n - k) k w.cycles s t u c.regs-before.result c.regs.result c.loop-done.jumps.items c.count_instruction.new.jumps.items counting.going.at instruction_result.ran instruction_result.some c.regs-before.ensures.same c.regs.ensures.same (omega arith) c.count_instruction.ensures.jumps counting.jump_tally))
 
 pub loop-done-preserved : goal.loop-done-preserved
 loop-done-preserved c =
@@ -91,7 +91,7 @@ returns c =
     let t : Machine = machine_of c.loop-done.copy in
     let counting = c.loop-done.invariant.counting in
     let within = counting.going.within in
-    let full : n ≡ k = omega arith in
-    let came = c.counts_of-2 in
-    counts_of_run-if_tallies (stops_of b) n s t k came.result (ends (stops_of b) n k s t None came.result.stop (run-stops-when-cycles-done (stops_of b) n k s t counting.going (sym full)) came.ensures.stop) (came.ensures.cycles ∙ full)
-    (tally-of_equal_list s k _ _ (λ a. begins_at_address a) came.ensures.runs counting.run_tally) (tally-of_equal_list s k _ _ (λ a x. begins_at_address a x && jumps x) came.ensures.jumps counting.jump_tally)
+    let all_cycles_done : n ≡ k = omega arith in
+    let counts = c.counts_of-2 in
+    counts_of_run-if_tallies (stops_of b) n s t k counts.result (ends (stops_of b) n k s t None counts.result.stop (run-stops-when-cycles-done (stops_of b) n k s t counting.going (sym all_cycles_done)) counts.ensures.stop) (counts.ensures.cycles ∙ all_cycles_done)
+    (tally-of_equal_list s k _ _ (λ a. begins_at_address a) counts.ensures.runs counting.run_tally) (tally-of_equal_list s k _ _ (λ a x. begins_at_address a x && jumps x) counts.ensures.jumps counting.jump_tally)

@@ -6,5 +6,5 @@ use Rattle.mcs_wiring.proofs.flawed_part.part_of.Goals as goal
 
 pub part_with_parts_error-requires-clause-within : goal.part_with_parts_error-requires-clause-within
 part_with_parts_error-requires-clause-within c =
-    let kind : IsPartsError c.args.fault = search rules in
-    within_limits_if_parts_error (table_view c.args.table.now) c.args.fault c.requires kind
+    let is_parts_error : IsPartsError c.args.fault = search rules in
+    within_limits_if_parts_error (table_view c.args.table.now) c.args.fault c.requires is_parts_error

@@ -10,8 +10,8 @@ invariant_of-self-2 c =
     let next = c.replace-block.new.dest in
     let n = c.len.ensures in
     let items : c.push_reserved.new.self.items ≡ a.full.items ++ pushed ∷ [] = c.push_reserved.ensures.items ∙ ap (λ (bs : List KeyStore). bs ++ c.replace-block.result ∷ []) c.reserve.ensures.items ∙ ap (λ (b : KeyStore). a.full.items ++ b ∷ []) c.replace-block.ensures.value in
-    let turned = arena_invariant-after_block_filled a.width a.len a.full.items a.last pushed next c.args.key.now c.self.invariant c.push.ensures.width c.in_ok-push.ensures.keys (let t = c.if-len-lt-KEYS_PER_BLOCK.false in omega arith) (c.replace-block.ensures.after ∙ c.new.ensures) in
-    subst (λ (bs : List KeyStore). ArenaInvariant a.width (a.len + 1) bs next) (sym items) turned
+    let filled_block = arena_invariant-after_block_filled a.width a.len a.full.items a.last pushed next c.args.key.now c.self.invariant c.push.ensures.width c.in_ok-push.ensures.keys (let t = c.if-len-lt-KEYS_PER_BLOCK.false in omega arith) (c.replace-block.ensures.after ∙ c.new.ensures) in
+    subst (λ (bs : List KeyStore). ArenaInvariant a.width (a.len + 1) bs next) (sym items) filled_block
 
 pub returns-clause-keys : goal.returns-clause-keys
 returns-clause-keys c =

@@ -13,9 +13,9 @@ returns-then-self-len-2-clause-proved g c =
     let u = subst (IsUnderWay r) (sym c.self.view_is) c.requires.under_way in
     let all : a.followed ≡ length a.visited.keys = (let t = c.if-self-len-2.true in let l = c.len-len.ensures in omega arith) in
     let n : a.followed ≡ c.len-len.result = all ∙ sym c.len-len.ensures in
-    let here = closure r a.visited.keys a.followed c.self.invariant.some all u in
+    let is_closure = closure r a.visited.keys a.followed c.self.invariant.some all u in
     let start : get_or a.visited.keys 0 [] ≡ start_of c.args.self.now = ap (λ (p : SearchProgress). start_of p) c.self.view_is in
-    subst (λ (k : ℕ). Closure r (start_of c.args.self.now) k) n (subst (λ (s : List ℕ). Closure r s a.followed) start here)
+    subst (λ (k : ℕ). Closure r (start_of c.args.self.now) k) n (subst (λ (s : List ℕ). Closure r s a.followed) start is_closure)
 
 pub returns-in_err-follow_choices-clause-under_way : goal.returns-in_err-follow_choices-clause-under_way
 returns-in_err-follow_choices-clause-under_way g c =

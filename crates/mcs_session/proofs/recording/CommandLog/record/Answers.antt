@@ -10,8 +10,8 @@ pub returns-in_err-append-clause-moments : goal.returns-in_err-append-clause-mom
 returns-in_err-append-clause-moments g c = λ honest was.
     let made = c.in_ok-make_room.ensures.made honest was c.args.command.now c.encode_command-count.ensures.count c.replay_cycles-more.ensures in
     let now = made.recorded in
-    let still = c.in_ok-make_room.ensures.counts.honest.1 honest in
-    let changes = c.in_err-append.ensures.appends still now.represents.snap now.represents.records now.represents.holds in
+    let still_honest = c.in_ok-make_room.ensures.counts.honest.1 honest in
+    let changes = c.in_err-append.ensures.appends still_honest now.represents.snap now.represents.records now.represents.holds in
     leaves_either_state_after_append _ _ _ _ _ _ _ now (rw (c.as_slice.ensures.value, c.in_ok-make_room.ensures.payload) c.encode_command-count.ensures.spells) c.requires.accepted (omega (arith, c.in_ok-make_room.ensures.room.1, c.replay_cycles-more.ensures))
     (c.in_ok-make_room.ensures.moments honest was) changes.leaves
 
