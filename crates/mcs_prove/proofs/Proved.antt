@@ -105,10 +105,10 @@ no_marks-if_entries_allowed q false is h some =
 question_proved-if_never_lists_proved : (board program : List ℕ) (limits : BoardParts → InputLimits) (q : QuestionSoFar) (found : Outcome) → is_consistent q ≡ true → 0 < q.max_entries → IsProvedOf board program limits no_observer (meets_none q.never_lists) found →
     IsPropertyProvedOf board program limits (observer_of_question q) q.never_lists q.limit found
 question_proved-if_never_lists_proved board program limits q found posed some h =
-    let both = and_parts (is_stopwatch_complete q) (are_marks_complete q) posed in
-    let parts = no_stopwatch-if_entries_allowed q q.limit both.0 some in
-    let marks = no_marks-if_entries_allowed q (eqb (length q.marks) 0) refl both.1 some in
-    let kept : IsPropertyProvedOf board program limits no_observer q.never_lists None found = record {
+    let complete = and_parts (is_stopwatch_complete q) (are_marks_complete q) posed in
+    let parts = no_stopwatch-if_entries_allowed q q.limit complete.0 some in
+    let marks = no_marks-if_entries_allowed q (eqb (length q.marks) 0) refl complete.1 some in
+    let nevers_proved : IsPropertyProvedOf board program limits no_observer q.never_lists None found = record {
       parts = h.parts;
       loaded = h.loaded;
       accepted = h.accepted;
@@ -118,7 +118,7 @@ question_proved-if_never_lists_proved board program limits q found posed some h 
     (subst (λ (ms : List Mark). IsPropertyProvedOf board program limits (observer_of q.begins q.ends q.opens ms) q.never_lists None found) (sym marks.1)
     (subst (λ (xs : List (List Condition)). IsPropertyProvedOf board program limits (observer_of q.begins q.ends xs []) q.never_lists None found) (sym marks.0)
     (subst (λ (xs : List (List Condition)). IsPropertyProvedOf board program limits (observer_of q.begins xs [] []) q.never_lists None found) (sym parts.1.1)
-    (subst (λ (xs : List (List Condition)). IsPropertyProvedOf board program limits (observer_of xs [] [] []) q.never_lists None found) (sym parts.1.0) kept))))
+    (subst (λ (xs : List (List Condition)). IsPropertyProvedOf board program limits (observer_of xs [] [] []) q.never_lists None found) (sym parts.1.0) nevers_proved))))
 
 -- holds if the promise of an outcome is true for the property and the inputs of a question
 abbrev pub IsQuestionProvedOf : List ℕ → List ℕ → QuestionSoFar → Outcome → Type 0

@@ -32,11 +32,11 @@ false-under-one-guard true c h = h refl
 -- ---- calls
 
 no-fourth-call-if-calls-allow : (op : Op) (calls : ℕ) → CallsAllow op calls → is_fourth_call op calls ≡ false
-no-fourth-call-if-calls-allow (Jms h b) calls fits = let few : calls < 3 = fits in le-ltb 2 calls (omega arith)
+no-fourth-call-if-calls-allow (Jms h b) calls fits = let below_three : calls < 3 = fits in le-ltb 2 calls (omega arith)
 no-fourth-call-if-calls-allow _ calls fits = refl
 
 no-unmatched-return-if-calls-allow : (op : Op) (calls : ℕ) → CallsAllow op calls → is_unmatched_return op calls ≡ false
-no-unmatched-return-if-calls-allow (Bbl d) calls fits = let some : 0 < calls = fits in ne_eqb calls 0 (λ e. omega arith)
+no-unmatched-return-if-calls-allow (Bbl d) calls fits = let above_zero : 0 < calls = fits in ne_eqb calls 0 (λ e. omega arith)
 no-unmatched-return-if-calls-allow _ calls fits = refl
 
 no-call-mistake-if-calls-allow : (mistakes : Mistakes) (op : Op) (s : TrackedMachine) → CallsAllow op s.2.calls → makes_call_mistake mistakes op s ≡ false
@@ -62,10 +62,10 @@ no-absent-ram-selected board e s same is all =
     let n = slice_index s.1.ram_src s.0.dcl in
     let bank_exists = bank.bank_exists in
     let set = slice_index e.sets (18 + s.0.dcl) in
-    let inside : has set (n / 16) ≡ true = subst (λ (x : ℕ). has set x ≡ true) (value_at-of-bank-src-byte s (18 + s.0.dcl) s.0.dcl refl) (is.locations (18 + s.0.dcl) (omega arith)) in
-    let chip : n / 64 < slice_index board.banks s.0.dcl = chip-below-from-upper-nibble n (slice_index board.banks s.0.dcl) (bank.chips (n / 16) inside) in
-    let there : n / 64 < slice_index s.1.board.banks s.0.dcl = subst (λ (b : BoardParts). n / 64 < slice_index b.banks s.0.dcl) (sym same) chip in
-    not_from_true _ (lt-ltb (n / 64) (slice_index s.1.board.banks s.0.dcl) there)
+    let in_set : has set (n / 16) ≡ true = subst (λ (x : ℕ). has set x ≡ true) (value_at-of-bank-src-byte s (18 + s.0.dcl) s.0.dcl refl) (is.locations (18 + s.0.dcl) (omega arith)) in
+    let chip : n / 64 < slice_index board.banks s.0.dcl = chip-below-from-upper-nibble n (slice_index board.banks s.0.dcl) (bank.chips (n / 16) in_set) in
+    let chip_present : n / 64 < slice_index s.1.board.banks s.0.dcl = subst (λ (b : BoardParts). n / 64 < slice_index b.banks s.0.dcl) (sym same) chip in
+    not_from_true _ (lt-ltb (n / 64) (slice_index s.1.board.banks s.0.dcl) chip_present)
 
 -- ---- ROM
 
@@ -87,8 +87,8 @@ no-absent-rom-read board e op s is here next =
     let first = member-below-16 (slice_index e.sets 0) (slice_index s.0.r 0) (is.locations 0 (omega arith)) in
     let second = member-below-16 (slice_index e.sets 1) (slice_index s.0.r 1) (is.locations 1 (omega arith)) in
     let at : lacks_rom board s.0.pc ≡ false = subst (λ (a : ℕ). lacks_rom board a ≡ false) (sym is.at) here in
-    let behind : reads_next_address op ≡ true → lacks_rom board ((s.0.pc + 1) % 4096) ≡ false = subst (λ (a : ℕ). reads_next_address op ≡ true → lacks_rom board ((a + 1) % 4096) ≡ false) (sym is.at) next in
-    or_from _ _ at (rom-at-last_address_read board op s.0 first second at behind)
+    let at_next : reads_next_address op ≡ true → lacks_rom board ((s.0.pc + 1) % 4096) ≡ false = subst (λ (a : ℕ). reads_next_address op ≡ true → lacks_rom board ((a + 1) % 4096) ≡ false) (sym is.at) next in
+    or_from _ _ at (rom-at-last_address_read board op s.0 first second at at_next)
 
 -- ---- all mistakes
 

@@ -114,17 +114,17 @@ pair-write-equals-stand-in-write : (l q : List ℕ) (k a b x y : ℕ) → length
 pair-write-equals-stand-in-write l q k a b x y len small e f =
     let low : 2 * k < 16 = omega arith in
     let high : 2 * k + 1 < 16 = omega arith in
-    let lt : nat_lt (2 * k) 16 ≡ true = lt-ltb (2 * k) 16 low in
-    let gt : nat_lt (2 * k + 1) 16 ≡ true = lt-ltb (2 * k + 1) 16 high in
+    let low_in_range : nat_lt (2 * k) 16 ≡ true = lt-ltb (2 * k) 16 low in
+    let high_in_range : nat_lt (2 * k + 1) 16 ≡ true = lt-ltb (2 * k + 1) 16 high in
     let set = slice_set q (2 * k) x in
-    let same : length set ≡ length q = length-set q (2 * k) x in
+    let equal_lengths : length set ≡ length q = length-set q (2 * k) x in
     let there : 2 * k < length q = omega arith in
     let here : 2 * k + 1 < length set = omega arith in
-    let apart : 2 * k ≢ 2 * k + 1 = λ z. omega arith in
+    let different_indices : 2 * k ≢ 2 * k + 1 = λ z. omega arith in
     let upper : cond (nat_lt (2 * k) 16) (slice_index (slice_set set (2 * k + 1) y) (2 * k)) 0 ≡ x =
-    rw lt (get_or-set_other set (2 * k + 1) (2 * k) y 0 apart ∙ get_or-set_same q (2 * k) x 0 there) in
+    rw low_in_range (get_or-set_other set (2 * k + 1) (2 * k) y 0 different_indices ∙ get_or-set_same q (2 * k) x 0 there) in
     let lower : cond (nat_lt (2 * k + 1) 16) (slice_index (slice_set set (2 * k + 1) y) (2 * k + 1)) 0 ≡ y =
-    rw gt (get_or-set_same set (2 * k + 1) y 0 here) in
+    rw high_in_range (get_or-set_same set (2 * k + 1) y 0 here) in
     ap (λ (z : ℕ). slice_set (slice_set l (2 * k) z) (2 * k + 1) b) (e ∙ sym upper)
     ∙ ap (λ (z : ℕ). slice_set (slice_set l (2 * k) (cond (nat_lt (2 * k) 16) (slice_index (slice_set set (2 * k + 1) y) (2 * k)) 0)) (2 * k + 1) z) (f ∙ sym lower)
 
@@ -137,14 +137,14 @@ bus_with_src_byte b m bank byte = cond b (record m { rom_src = byte; ram_src = s
 ram_src-nibble-after-src : (b : Bool) (m : BusState) (bank byte k : ℕ) → length m.ram_src ≡ 8 → bank < 8 → 18 ≤ k → k < 26 →
     slice_index (bus_with_src_byte b m bank byte).ram_src (k - 18) / 16 ≡ cond (eqb k (cond b (18 + bank) 26)) (byte / 16) (slice_index m.ram_src (k - 18) / 16)
 ram_src-nibble-after-src false m bank byte k len small low high =
-    let no : eqb k 26 ≡ false = ne_eqb k 26 (λ e. omega arith) in rw no refl
+    let not_26 : eqb k 26 ≡ false = ne_eqb k 26 (λ e. omega arith) in rw not_26 refl
 ram_src-nibble-after-src true m bank byte k len small low high =
     elim (cases_eq k (18 + bank)) [
       | inl e ↦
-          let yes : eqb k (18 + bank) ≡ true = eq-eqb k (18 + bank) e in
-          let place : k - 18 ≡ bank = omega arith in
+          let is_bank_location : eqb k (18 + bank) ≡ true = eq-eqb k (18 + bank) e in
+          let bank_index : k - 18 ≡ bank = omega arith in
           let there : bank < length m.ram_src = omega arith in
-          rw yes (ap (λ (j : ℕ). slice_index (slice_set m.ram_src bank byte) j / 16) place ∙ ap (λ (n : ℕ). n / 16) (get_or-set_same m.ram_src bank byte 0 there))
+          rw is_bank_location (ap (λ (j : ℕ). slice_index (slice_set m.ram_src bank byte) j / 16) bank_index ∙ ap (λ (n : ℕ). n / 16) (get_or-set_same m.ram_src bank byte 0 there))
       | inr ne ↦
           let no : eqb k (18 + bank) ≡ false = ne_eqb k (18 + bank) ne in
           let apart : k - 18 ≢ bank = λ e. ne (omega arith) in
@@ -174,22 +174,22 @@ locations-after-src b s t byte v o upper bus bank regs first first_value second 
           elim (cases_lt k 16) [
             | inl low ↦
                 let lt : nat_lt k 16 ≡ true = lt-ltb k 16 low in
-                let near : k < 18 = omega arith in
+                let below_18 : k < 18 = omega arith in
                 let f : eqb k o.first_location ≡ false = ne_eqb k o.first_location (λ e. omega arith) in
-                let g : eqb k o.second_location ≡ false = ap (eqb k) second ∙ not-second-location-below-18 b s.0.dcl k near in
+                let g : eqb k o.second_location ≡ false = ap (eqb k) second ∙ not-second-location-below-18 b s.0.dcl k below_18 in
                 rw (is, lt, f, g) (ap (λ (l : List ℕ). slice_index l k) regs)
             | inr high ↦
                 let lt : nat_lt k 16 ≡ false = le-ltb k 16 high in
                 elim (cases_eq k 17) [
                   | inl e ↦
-                      let seventeen : eqb k 17 ≡ true = eq-eqb k 17 e in
-                      let f : eqb k o.first_location ≡ true = ap (eqb k) first ∙ seventeen in
-                      rw (is, lt, f, seventeen) (ap (λ (m : BusState). m.rom_src / 16) bus ∙ ap (λ (n : ℕ). n / 16) (rom_src-after-src b s.1 s.0.dcl byte) ∙ upper ∙ sym first_value)
+                      let is_17 : eqb k 17 ≡ true = eq-eqb k 17 e in
+                      let f : eqb k o.first_location ≡ true = ap (eqb k) first ∙ is_17 in
+                      rw (is, lt, f, is_17) (ap (λ (m : BusState). m.rom_src / 16) bus ∙ ap (λ (n : ℕ). n / 16) (rom_src-after-src b s.1 s.0.dcl byte) ∙ upper ∙ sym first_value)
                   | inr other ↦
-                      let seventeen : eqb k 17 ≡ false = ne_eqb k 17 other in
-                      let f : eqb k o.first_location ≡ false = ap (eqb k) first ∙ seventeen in
-                      let far : 18 ≤ k = omega arith in
-                      rw (is, lt, f, seventeen) (ap (λ (m : BusState). slice_index m.ram_src (k - 18) / 16) bus ∙ ram_src-nibble-after-src b s.1 s.0.dcl byte k len small far h
+                      let is_17 : eqb k 17 ≡ false = ne_eqb k 17 other in
+                      let f : eqb k o.first_location ≡ false = ap (eqb k) first ∙ is_17 in
+                      let at_least_18 : 18 ≤ k = omega arith in
+                      rw (is, lt, f, is_17) (ap (λ (m : BusState). slice_index m.ram_src (k - 18) / 16) bus ∙ ram_src-nibble-after-src b s.1 s.0.dcl byte k len small at_least_18 h
                       ∙ ap (λ (n : ℕ). cond (eqb k (cond b (18 + s.0.dcl) 26)) n (slice_index s.1.ram_src (k - 18) / 16)) (upper ∙ sym second_value)
                       ∙ ap (λ (n : ℕ). cond (eqb k n) o.second_value (slice_index s.1.ram_src (k - 18) / 16)) (sym second))
                 ]
@@ -199,7 +199,7 @@ locations-after-src b s t byte v o upper bus bank regs first first_value second 
 landing-of-src-is-correct : (k : ℕ) (s : TrackedMachine) (m : BusState) (ret : List ℕ) → StandInFits (Src k) s m ret → LandingDescribes s (machine_after (Src k) s) (landing (Src k) s.0.pc ret s.2.calls m (choice_of (Src k) s))
 unfolding after_src
 landing-of-src-is-correct k s m ret fit =
-    let small = fit.valid in
+    let valid_op = fit.valid in
     let high : 2 * k + 1 < 16 = omega arith in
     let v = register_of s.0 (2 * k) in
     let w = register_of s.0 (2 * k + 1) in
@@ -290,10 +290,10 @@ landing-is-correct (Jin k) s m ret fit =
     let small = fit.valid in
     let a = register_of s.0 (2 * k) in
     let b = register_of s.0 (2 * k + 1) in
-    let other : 2 * k ≡ 2 * k + 1 → ⊥ = λ e. omega arith in
+    let different_registers : 2 * k ≡ 2 * k + 1 → ⊥ = λ e. omega arith in
     let low : 2 * k < 16 = omega arith in
     let high : 2 * k + 1 < 16 = omega arith in
-    let upper : slice_index (slice_set (replicate 16 a) (2 * k + 1) b) (2 * k) ≡ a = get_or-set_other (replicate 16 a) (2 * k + 1) (2 * k) b 0 other ∙ stand-in-register-value a (2 * k) low in
+    let upper : slice_index (slice_set (replicate 16 a) (2 * k + 1) b) (2 * k) ≡ a = get_or-set_other (replicate 16 a) (2 * k + 1) (2 * k) b 0 different_registers ∙ stand-in-register-value a (2 * k) low in
     let lower : slice_index (slice_set (replicate 16 a) (2 * k + 1) b) (2 * k + 1) ≡ b = get_or-set_same (replicate 16 a) (2 * k + 1) b 0 high in
     landing-correct-if-no-register-changes (Jin k) s m ret fit (record { rom = refl; ram = refl })
     (record {
@@ -385,8 +385,8 @@ landing-is-correct (Isz r w) s m ret fit =
     (e.3 ∙ ap (slice_set s.0.r r) (same ∙ sym value)) refl refl
 landing-is-correct (Src k) s m ret fit = landing-of-src-is-correct k s m ret fit
 landing-is-correct Wrm s m ret fit =
-    let kept = src-bytes-unchanged-by-after_ram s.1 s.0.dcl s.0.acc in
-    landing-correct-if-no-register-changes Wrm s m ret fit (record { rom = kept.0; ram = kept.1 }) (record { pc = refl; calls = refl; ret = fit.ret; dcl = refl; cy = refl; acc = refl }) refl refl refl
+    let same_src = src-bytes-unchanged-by-after_ram s.1 s.0.dcl s.0.acc in
+    landing-correct-if-no-register-changes Wrm s m ret fit (record { rom = same_src.0; ram = same_src.1 }) (record { pc = refl; calls = refl; ret = fit.ret; dcl = refl; cy = refl; acc = refl }) refl refl refl
 landing-is-correct Wmp s m ret fit =
     let kept = src-bytes-unchanged-by-ram_port-write s.1 s.0.dcl s.0.acc in
     landing-correct-if-no-register-changes Wmp s m ret fit (record { rom = kept.0; ram = kept.1 }) (record { pc = refl; calls = refl; ret = fit.ret; dcl = refl; cy = refl; acc = refl }) refl refl refl

@@ -25,9 +25,9 @@ locations-agree-from-registers s t o bank src srcs regs beyond k h =
             | inl low ↦ let lt : nat_lt k 16 ≡ true = lt-ltb k 16 low in rw (is, lt) (regs k low)
             | inr high ↦
                 let lt : nat_lt k 16 ≡ false = le-ltb k 16 high in
-                let up : 16 < k = omega arith in
-                let f : eqb k o.first_location ≡ false = ne_eqb k o.first_location (beyond k up h).0 in
-                let g : eqb k o.second_location ≡ false = ne_eqb k o.second_location (beyond k up h).1 in
+                let above_16 : 16 < k = omega arith in
+                let f : eqb k o.first_location ≡ false = ne_eqb k o.first_location (beyond k above_16 h).0 in
+                let g : eqb k o.second_location ≡ false = ne_eqb k o.second_location (beyond k above_16 h).1 in
                 rw (is, lt, f, g, src, srcs)
           ]
     ]
@@ -51,15 +51,15 @@ locations-agree-if-one-register-changes s t o i small len bank src srcs r first 
     locations-agree-from-registers s t o bank src srcs
     (λ k low.
     let g : eqb k o.second_location ≡ false = ne_eqb k o.second_location (λ e. omega arith) in
-    let moved : slice_index t.0.r k ≡ slice_index (slice_set s.0.r i o.first_value) k = ap (λ (l : List ℕ). slice_index l k) r in
+    let register_after : slice_index t.0.r k ≡ slice_index (slice_set s.0.r i o.first_value) k = ap (λ (l : List ℕ). slice_index l k) r in
     elim (cases_eq k i) [
       | inl e ↦
           let f : eqb k o.first_location ≡ true = eq-eqb k o.first_location (e ∙ sym first) in
           let there : i < length s.0.r = omega arith in
-          rw f (moved ∙ ap (slice_index (slice_set s.0.r i o.first_value)) e ∙ get_or-set_same s.0.r i o.first_value 0 there)
+          rw f (register_after ∙ ap (slice_index (slice_set s.0.r i o.first_value)) e ∙ get_or-set_same s.0.r i o.first_value 0 there)
       | inr ne ↦
           let f : eqb k o.first_location ≡ false = ne_eqb k o.first_location (λ e. ne (e ∙ first)) in
-          rw (f, g) (moved ∙ get_or-set_other s.0.r i k o.first_value 0 ne)
+          rw (f, g) (register_after ∙ get_or-set_other s.0.r i k o.first_value 0 ne)
     ])
     (λ k up below. (λ e. omega arith, λ e. omega arith))
 

@@ -19,7 +19,7 @@ instruction_at-is-op_at s m = refl
 
 pub cycle_of-is-effect : (op : Op) (s : Regs) (m : BusState) → s.owed ≡ 0 → op_at m.rom s.pc ≡ Some op → cycle_of s m ≡ Some (effect op s m)
 unfolding cycle_of fetch_of
-cycle_of-is-effect op s m free there = let works : eqb s.owed 1 ≡ false = ap (λ n. eqb n 1) free in rw (works, there) refl
+cycle_of-is-effect op s m free there = let not_owed : eqb s.owed 1 ≡ false = ap (λ n. eqb n 1) free in rw (not_owed, there) refl
 
 -- holds if two buses have the same ROM and the same board
 pub record SameProgram (m n : BusState) : Type 0 where

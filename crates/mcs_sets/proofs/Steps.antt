@@ -58,7 +58,7 @@ level-set-has-each-level n h = agree_below_at (has 3) (λ _. true) 2 n refl h
 element-below-16 : (l : List ℕ) (k : ℕ) → All (λ n. n < 16) l → slice_index l k < 16
 element-below-16 l k h = elim (cases_lt k (length l)) [
   | inl inside ↦ h k 0 inside
-  | inr past ↦ let none : slice_index l k ≡ 0 = get_or_past l k 0 past in omega arith
+  | inr past ↦ let zero_past_end : slice_index l k ≡ 0 = get_or_past l k 0 past in omega arith
 ]
 
 ram_of-below-16 : (m : BusState) (bank : ℕ) → All (λ n. n < 16) m.ram → ram_of m bank < 16
@@ -115,9 +115,9 @@ calls_after-if-not-owed b o op n e f = rw (e, f) refl
 pub cycled-is-machine_after : (op : Op) (s : TrackedMachine) → eqb s.0.owed 1 ≡ false → instruction_at s.0 s.1 ≡ Some op → cycled no_observer s ≡ machine_after op s
 unfolding cycle_of
 cycled-is-machine_after op s free next =
-    let work = cycle-result-if-not-owed (eqb s.0.owed 1) (instruction_at s.0 s.1) op s free next in
+    let cycle_result = cycle-result-if-not-owed (eqb s.0.owed 1) (instruction_at s.0 s.1) op s free next in
     let opened = calls_after-if-not-owed (eqb s.0.owed 1) (instruction_at s.0 s.1) op s.2.calls free next in
-    ap (λ (m : Regs × BusState). (m.0, m.1, counts_after no_observer s)) work
+    ap (λ (m : Regs × BusState). (m.0, m.1, counts_after no_observer s)) cycle_result
     ∙ ap (λ (n : ℕ). ((effect op s.0 s.1).0, (effect op s.0 s.1).1, record s.2 { calls = n; elapsed = elapsed_after no_observer s; seen = seen_after no_observer s })) opened
 
 -- a machine after the second cycle of an instruction, which does no work
@@ -153,15 +153,15 @@ choice_of-is-choice_at op s small carry =
 
 own-choice-covered : (board : BoardParts) (rom : List ℕ) (entries : List Entry) (op : Op) (e : Entry) (s : TrackedMachine) → IsValidOp op → IsBusOf board rom s.1 → Covers e s → AllChoicesCovered rom board entries e op → IsChoiceCovered rom board entries e op (choice_of op s)
 own-choice-covered board rom entries op e s valid of is all =
-    let own = own-choice-allowed board rom op e s valid of is in
-    let small = member-below-16 (acc_values_of e s.0.cy) s.0.acc own.acc in
+    let allowed = own-choice-allowed board rom op e s valid of is in
+    let small = member-below-16 (acc_values_of e s.0.cy) s.0.acc allowed.acc in
     let carry = is.carry in
     let same = choice_of-is-choice_at op s small carry in
-    let bank = member-below-16 (slice_index e.sets 16) s.0.dcl own.bank in
-    let first = member-below-16 (first_operand_set op e) (first_operand_of op s.0 s.1) own.first_operand in
-    let second = member-below-16 (second_operand_set op e) (second_operand_of op s.0 s.1) own.second_operand in
+    let bank = member-below-16 (slice_index e.sets 16) s.0.dcl allowed.bank in
+    let first = member-below-16 (first_operand_set op e) (first_operand_of op s.0 s.1) allowed.first_operand in
+    let second = member-below-16 (second_operand_set op e) (second_operand_of op s.0 s.1) allowed.second_operand in
     subst (IsChoiceCovered rom board entries e op) (sym same)
-    (all (s.0.acc + 16 * s.0.cy) s.0.dcl (first_operand_of op s.0 s.1) (second_operand_of op s.0 s.1) (omega arith) bank first second (subst (AllowsChoice e op) same own))
+    (all (s.0.acc + 16 * s.0.cy) s.0.dcl (first_operand_of op s.0 s.1) (second_operand_of op s.0 s.1) (omega arith) bank first second (subst (AllowsChoice e op) same allowed))
 
 stand-in-fits-machine : (board : BoardParts) (rom : List ℕ) (op : Op) (e : Entry) (s : TrackedMachine) (bus : BusState) → IsValidOp op → CallsAllow op e.calls → IsBusOf board rom s.1 → Covers e s → s.0.dcl < 8 → bus.rom ≡ rom → bus.board ≡ board → StandInFits op s bus e.ret
 stand-in-fits-machine board rom op e s bus valid calls of is few same_rom same_board = record {
@@ -179,14 +179,14 @@ stand-in-fits-machine board rom op e s bus valid calls of is few same_rom same_b
 
 pub covered-after-instruction : (board : BoardParts) (rom : List ℕ) (entries : List Entry) (op : Op) (e : Entry) (s : TrackedMachine) → IsValidOp op → CallsAllow op e.calls → op_at rom e.at ≡ Some op → IsBusOf board rom s.1 → Covers e s → eqb s.0.owed 1 ≡ false → AllChoicesCovered rom board entries e op → IsCovered entries (cycled no_observer s)
 covered-after-instruction board rom entries op e s valid calls there of is free all =
-    let by = own-choice-covered board rom entries op e s valid of is all in
+    let covered_choice = own-choice-covered board rom entries op e s valid of is all in
     let next : instruction_at s.0 s.1 ≡ Some op = instruction_at-is-op_at s.0 s.1 ∙ ap (λ (l : List ℕ). op_at l s.0.pc) of.rom ∙ ap (op_at rom) is.at ∙ there in
-    let fit = stand-in-fits-machine board rom op e s by.bus valid calls of is by.bank_exists by.same_rom by.same_board in
-    let l : LandingDescribes s (machine_after op s) (landing op e.at e.ret e.calls by.bus (choice_of op s)) =
-    subst (λ (n : ℕ). LandingDescribes s (machine_after op s) (landing op e.at e.ret n by.bus (choice_of op s))) is.calls
-    (subst (λ (n : ℕ). LandingDescribes s (machine_after op s) (landing op n e.ret s.2.calls by.bus (choice_of op s))) is.at (landing-is-correct op s by.bus e.ret fit)) in
+    let fit = stand-in-fits-machine board rom op e s covered_choice.bus valid calls of is covered_choice.bank_exists covered_choice.same_rom covered_choice.same_board in
+    let l : LandingDescribes s (machine_after op s) (landing op e.at e.ret e.calls covered_choice.bus (choice_of op s)) =
+    subst (λ (n : ℕ). LandingDescribes s (machine_after op s) (landing op e.at e.ret n covered_choice.bus (choice_of op s))) is.calls
+    (subst (λ (n : ℕ). LandingDescribes s (machine_after op s) (landing op n e.ret s.2.calls covered_choice.bus (choice_of op s))) is.at (landing-is-correct op s covered_choice.bus e.ret fit)) in
     subst (IsCovered entries) (sym (cycled-is-machine_after op s free next))
-    (by.covered.target, by.covered.target_is_entry, covers-machine-after-landing e by.covered.target s (machine_after op s) (landing op e.at e.ret e.calls by.bus (choice_of op s)) is l by.covered.covers_landing)
+    (covered_choice.covered.target, covered_choice.covered.target_is_entry, covers-machine-after-landing e covered_choice.covered.target s (machine_after op s) (landing op e.at e.ret e.calls covered_choice.bus (choice_of op s)) is l covered_choice.covered.covers_landing)
 
 pub landings-suffice : LandingsSuffice
 landings-suffice board rom entries op e valid calls there all = λ s of is among.

@@ -74,14 +74,14 @@ pub ok_command_answered : (r : Reply) (live : Bool) (s : BenchState) (d : DiskSt
 unfolding answer acknowledged_commands reached_commands IsPossibleOutcome
 ok_command_answered r false s d b c response h k = absurd (h.applied)
 ok_command_answered r true s d b c response h k =
-    let yes : refusal s c ≡ None = h.applied.0 in
+    let not_refused : refusal s c ≡ None = h.applied.0 in
     let P : List Command → Type 0 = λ cs. LeavesSession IsIntact false (session_state_from true s d) b cs cs in
     record {
       is_possible = inr refl;
-      answer_is = k ∙ ap (λ v. ok_text v b.state) (h.applied.1) ∙ ap (ok_text (reply s c)) (h.applied.2) ∙ sym (answer_if_accepted s c yes);
-      leaves = subst P (sym (accepted_commands_if_accepted s c yes)) (record {
+      answer_is = k ∙ ap (λ v. ok_text v b.state) (h.applied.1) ∙ ap (ok_text (reply s c)) (h.applied.2) ∙ sym (answer_if_accepted s c not_refused);
+      leaves = subst P (sym (accepted_commands_if_accepted s c not_refused)) (record {
         live = h.closes.0;
-        accepted = (yes, tt);
+        accepted = (not_refused, tt);
         state = h.applied.2;
         counts = counts_no_fault d b.disk h.start h.honest h.closes.1;
         untouched = λ none. absurd (cc none);
@@ -93,12 +93,12 @@ refused_command_answered : (f : BenchFault) (live : Bool) (s : BenchState) (d : 
 unfolding answer acknowledged_commands reached_commands IsPossibleOutcome
 refused_command_answered f false s d b c response h k = absurd (h.applied)
 refused_command_answered f true s d b c response h k =
-    let no : refusal s c ≡ Some f = h.applied.0 in
+    let refused : refusal s c ≡ Some f = h.applied.0 in
     let P : List Command → Type 0 = λ cs. LeavesSession IsIntact false (session_state_from true s d) b cs cs in
     record {
       is_possible = inr refl;
-      answer_is = k ∙ sym (answer_if_refused s c f no);
-      leaves = subst P (sym (no_accepted_commands_if_refused s c f no)) (record {
+      answer_is = k ∙ sym (answer_if_refused s c f refused);
+      leaves = subst P (sym (no_accepted_commands_if_refused s c f refused)) (record {
         live = h.closes.0;
         accepted = tt;
         state = h.applied.1;
@@ -112,12 +112,12 @@ command_answered_at_device_fault : (live : Bool) (s : BenchState) (d : DiskState
 unfolding answer acknowledged_commands reached_commands IsPossibleOutcome
 command_answered_at_device_fault false s d b c response h k = absurd (h.applied)
 command_answered_at_device_fault true s d b c response h k =
-    let alone : accepted_commands s (Some c) ≡ c ∷ [] = accepted_commands_if_accepted s c (h.applied.0) in
+    let only_command : accepted_commands s (Some c) ≡ c ∷ [] = accepted_commands_if_accepted s c (h.applied.0) in
     let P : List Command → Type 0 = λ cs. LeavesSession IsIntact true (session_state_from true s d) b [] cs in
     record {
-      is_possible = (λ none. let x : c ∷ [] ≡ [] = sym alone ∙ none in absurd (cc x), refl);
+      is_possible = (λ none. let x : c ∷ [] ≡ [] = sym only_command ∙ none in absurd (cc x), refl);
       answer_is = k;
-      leaves = subst P (sym alone) (record {
+      leaves = subst P (sym only_command) (record {
         closed = h.closes.0;
         failed = c;
         reached_are = refl;

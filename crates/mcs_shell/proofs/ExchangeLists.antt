@@ -106,8 +106,8 @@ is_possible-append live s [] ys none h k = k
 is_possible-append live s (x ∷ xs) ys none h k =
     let t = fold s (acknowledged_commands s x.input x.outcome) in
     let both = both_none_if_option_or_none (end_caused_by x.whole x.outcome) (end_caused_by_exchanges xs) none in
-    let then : ArePossibleExchanges live (state_after_exchanges t xs) ys = subst (λ (u : BenchState). ArePossibleExchanges live u ys) (fold-append s (acknowledged_commands s x.input x.outcome) (results_in_order acknowledged_commands t xs)) k in
-    (h.0, λ more. both.0, is_possible-append live t xs ys both.1 h.2 then)
+    let possible_later : ArePossibleExchanges live (state_after_exchanges t xs) ys = subst (λ (u : BenchState). ArePossibleExchanges live u ys) (fold-append s (acknowledged_commands s x.input x.outcome) (results_in_order acknowledged_commands t xs)) k in
+    (h.0, λ more. both.0, is_possible-append live t xs ys both.1 h.2 possible_later)
 
 pub WroteAnswers-append : (s : BenchState) (xs ys : List Exchange) (a b c : KnownBytes) → WroteAnswers s xs a b → WroteAnswers (state_after_exchanges s xs) ys b c → WroteAnswers s (xs ++ ys) a c
 WroteAnswers-append s [] ys a b c h k = subst (λ (v : KnownBytes). WroteAnswers s ys v c) h k

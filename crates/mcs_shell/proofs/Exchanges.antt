@@ -53,17 +53,17 @@ pub serves_exchanges_append : (a b c : ShellState) (xs ys : List Exchange) → e
 serves_exchanges_append a b c xs ys none x y =
     let s = a.session.state in
     let t = b.session.state in
-    let carries = records_commands_if_not_halted IsIntact a.session b.session s xs none x.leaves in
-    let state : t ≡ state_after_exchanges s xs = carries.state in
+    let recorded = records_commands_if_not_halted IsIntact a.session b.session s xs none x.leaves in
+    let state : t ≡ state_after_exchanges s xs = recorded.state in
     record {
-      is_possible = is_possible-append a.session.live s xs ys none x.is_possible (subst (λ (live : Bool). ArePossibleExchanges live (state_after_exchanges s xs) ys) carries.live (subst (λ (u : BenchState). ArePossibleExchanges b.session.live u ys) state y.is_possible));
+      is_possible = is_possible-append a.session.live s xs ys none x.is_possible (subst (λ (live : Bool). ArePossibleExchanges live (state_after_exchanges s xs) ys) recorded.live (subst (λ (u : BenchState). ArePossibleExchanges b.session.live u ys) state y.is_possible));
       wrote = WroteAnswers-append s xs ys a.out b.out c.out x.wrote (subst (λ (u : BenchState). WroteAnswers u ys b.out c.out) state y.wrote);
       leaves = leaves_session_with_equal_lists IsIntact (has_device_fault (xs ++ ys)) (has_device_fault ys) a.session c.session
           (results_in_order acknowledged_commands s (xs ++ ys)) (results_in_order acknowledged_commands s xs ++ results_in_order acknowledged_commands t ys)
           (results_in_order reached_commands s (xs ++ ys)) (results_in_order acknowledged_commands s xs ++ results_in_order reached_commands t ys)
           (has_device_fault-append xs ys none) (results_in_order-append acknowledged_commands s t xs ys state)
           (results_in_order-append reached_commands s t xs ys state ∙ ap (λ rs. rs ++ results_in_order reached_commands t ys) (all_reached_equal_acknowledged s xs (no_device_fault_if_no_end_caused xs none)))
-          (leaves_session_append (has_device_fault ys) a.session b.session c.session (results_in_order acknowledged_commands s xs) (results_in_order acknowledged_commands t ys) (results_in_order reached_commands t ys) carries y.leaves);
+          (leaves_session_append (has_device_fault ys) a.session b.session c.session (results_in_order acknowledged_commands s xs) (results_in_order acknowledged_commands t ys) (results_in_order reached_commands t ys) recorded y.leaves);
     }
 
 -- ---- the bytes that form the inputs
@@ -149,10 +149,10 @@ pub serves_feed_after_text_line : (a : ShellState) (p q : UnfinishedInputView) (
     → AppendsLineToText p.mode p.line q → ServesBytes a a p q (10 ∷ []) None
 serves_feed_after_text_line a p q line kind text f is e dot h =
     let g : AppendsLineToText (InText kind text) p.line q = subst (λ m. AppendsLineToText m p.line q) is h in
-    let kept : AppendsLine text line g.0 = subst (λ l. AppendsLine text l g.0) (sym e) g.1 in
+    let appends_line : AppendsLine text line g.0 = subst (λ l. AppendsLine text l g.0) (sym e) g.1 in
     serves_bytes_without_inputs a p q (10 ∷ []) (subst (λ (x : UnfinishedInputView). HasNoFeed x.line) (sym g.2) tt)
     (λ more whole. inputs_after-line_feed p (InText kind text) line more whole f is e ∙ inputs_in_mode-text_line whole kind text line (lines more whole) dot
-    ∙ same_inputs-stored_text whole kind text line g.0 (lines more whole) kept ∙ ap (λ (x : UnfinishedInputView). inputs_after x more whole) (sym g.2))
+    ∙ same_inputs-stored_text whole kind text line g.0 (lines more whole) appends_line ∙ ap (λ (x : UnfinishedInputView). inputs_after x more whole) (sym g.2))
 
 -- ---- a chunk, line by line
 

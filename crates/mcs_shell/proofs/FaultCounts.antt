@@ -22,8 +22,8 @@ use Rattle.mcs_shell.proofs.ExchangeLists.{has_device_fault}
 -- ---- an exchange that ends the shell is not a failed read
 
 no_read_fault_by_exchange : (whole : Bool) (o : Outcome) (end : ShellEnd) (faults : KnownFaults) → end_caused_by whole o ≡ Some end → read_faults_after end faults ≡ faults
-no_read_fault_by_exchange false o end faults e = let is : WriteFault ≡ end = cc e in subst (λ (v : ShellEnd). read_faults_after v faults ≡ faults) is refl
-no_read_fault_by_exchange true Device end faults e = let is : DeviceFault ≡ end = cc e in subst (λ (v : ShellEnd). read_faults_after v faults ≡ faults) is refl
+no_read_fault_by_exchange false o end faults e = let end_is : WriteFault ≡ end = cc e in subst (λ (v : ShellEnd). read_faults_after v faults ≡ faults) end_is refl
+no_read_fault_by_exchange true Device end faults e = let end_is : DeviceFault ≡ end = cc e in subst (λ (v : ShellEnd). read_faults_after v faults ≡ faults) end_is refl
 no_read_fault_by_exchange true o end faults e = absurd (cc e)
 
 pub no_read_fault_by_exchanges : (xs : List Exchange) (end : ShellEnd) (faults : KnownFaults) → end_caused_by_exchanges xs ≡ Some end → read_faults_after end faults ≡ faults
@@ -37,7 +37,7 @@ no_read_fault_by_exchanges (x ∷ xs) end faults e = elim (either_is_some_if_opt
 
 not_one_more_without_fault : (old new : KnownFaults) → HasNotFailed old new → new ≡ one_more_fault old → ⊥
 not_one_more_without_fault None new h e = h
-not_one_more_without_fault (Some n) new h e = let same : n ≡ min (n + 1) max_fault_count = cc (sym h.0 ∙ e) in omega (arith, same, h.1)
+not_one_more_without_fault (Some n) new h e = let count_unchanged : n ≡ min (n + 1) max_fault_count = cc (sym h.0 ∙ e) in omega (arith, count_unchanged, h.1)
 
 is_device_fault_if_end_is : (whole : Bool) (o : Outcome) → end_caused_by whole o ≡ Some DeviceFault → is_device_fault o ≡ true
 is_device_fault_if_end_is false o e = absurd (cc e)
@@ -91,11 +91,11 @@ all_input_served_without_fault state_of run h =
     let s = run.before.state in
     let exchanges = run.ran.served.exchanges in
     let end = ends_without_fault run.end run.reader run.reader' a b run.ran h.read h.read' h.written h.written' h.counts_match_end h.reader h.writer h.device h.memory in
-    let none = no_fault_at_end_or_limit run.end end in
+    let no_fault = no_fault_at_end_or_limit run.end end in
     let t : AnswersInOrder run.end run.ran.read a b exchanges = answers_of_run run.end run.reader run.reader' a b run.ran in
     let P : List ℕ → Type 0 = λ v. Appends run.out run.out' v in
     record {
       end = end;
-      all_served = t.spelled ∙ ap (λ v. inputs_in exchanges ++ v) (t.all_served none.0 none.1 none.2) ∙ append-nil (inputs_in exchanges);
-      all_sent = subst P (sym (append-nil t.response) ∙ ap (λ v. t.response ++ v) (sym (t.all_sent none.0 none.2)) ∙ t.parts) t.written;
+      all_served = t.spelled ∙ ap (λ v. inputs_in exchanges ++ v) (t.all_served no_fault.0 no_fault.1 no_fault.2) ∙ append-nil (inputs_in exchanges);
+      all_sent = subst P (sym (append-nil t.response) ∙ ap (λ v. t.response ++ v) (sym (t.all_sent no_fault.0 no_fault.2)) ∙ t.parts) t.written;
     }

@@ -52,18 +52,18 @@ prefix_kept_from_run : {D : Type 0} (state_of : D → DiskState) (run : ShellRun
     → RepresentsPrefix run.before.state (reached_commands_of_run run) (acknowledged_by u a.acknowledged.moments) (bytes_of found)
     → (kept : List Command) × AreKeptFromRun state_of run t s kept × DurablyRepresents found (fold s kept)
 prefix_kept_from_run state_of run t u s same given a fewer found honest durable h =
-    let may : List Command = reached_commands_of_run run in
+    let reached : List Command = reached_commands_of_run run in
     let least = h.after.at_least in
     let most = h.after.at_most in
-    let long : length (take h.after.count may) ≡ h.after.count = length_of_prefix may h.after.count most in
-    let is : h.state ≡ fold s (take h.after.count may) = h.after.state ∙ ap (λ (v : BenchState). fold v (take h.after.count may)) same in (
-      take h.after.count may,
+    let kept_length : length (take h.after.count reached) ≡ h.after.count = length_of_prefix reached h.after.count most in
+    let is : h.state ≡ fold s (take h.after.count reached) = h.after.state ∙ ap (λ (v : BenchState). fold v (take h.after.count reached)) same in (
+      take h.after.count reached,
       record {
         began = same;
         answered = a;
-        lost = drop h.after.count may;
-        parts = sym (take-append-drop h.after.count may);
-        holds = omega (arith, fewer, least, long);
+        lost = drop h.after.count reached;
+        parts = sym (take-append-drop h.after.count reached);
+        holds = omega (arith, fewer, least, kept_length);
       },
       record { honest = honest; durable = durable; represents = inl (subst (Represents (bytes_of found)) is h.represents) },
     )
@@ -155,12 +155,12 @@ durably_represented_after_refusal : {D : Type 0} (state_of : D → DiskState) �
     → time_of (state_of disk) ≤ t → ((state_of left).honest → IsLeftByCut t (state_of left) (state_of found)) → DurablyRepresents (state_of found) s
 durably_represented_after_refusal state_of disk left found number t s here refused late stopped =
     let honest = refused.counts.honest.1 here.honest in
-    let cut = stopped honest in
+    let left_by_cut = stopped honest in
     let image : List ℕ = bytes_of (state_of found) in
     record {
-      honest = cut.honest;
-      durable = cut.durable;
-      represents = represented_after_failed_open refused.fault (state_of disk) (state_of left) image s here (refused.refuses here.honest).1 ((disk_is_lawful (state_of left)).longer (time_of (state_of disk)) t image late cut.found);
+      honest = left_by_cut.honest;
+      durable = left_by_cut.durable;
+      represents = represented_after_failed_open refused.fault (state_of disk) (state_of left) image s here (refused.refuses here.honest).1 ((disk_is_lawful (state_of left)).longer (time_of (state_of disk)) t image late left_by_cut.found);
     }
 
 -- ---- all sittings
@@ -174,11 +174,11 @@ kept_from_sittings : {D : Type 0} (state_of : D → DiskState) (IsFound : ℕ �
     → (kept : List Command) × AreKeptFromSittings state_of xs s kept × DurablyRepresents (state_of last) (fold s kept)
 kept_from_sittings {D = D} state_of IsFound cuts disk [] last s here came = ([], refl, subst (λ (d : D). DurablyRepresents (state_of d) s) (sym came) here)
 kept_from_sittings state_of IsFound cuts disk (x ∷ xs) last s here came =
-    let one = kept_from_sitting state_of disk x.found x.sitting x.time s here came.0 came.1 (λ honest. cuts x.time (disk_after x.sitting) x.found honest came.2) in
-    let others = kept_from_sittings state_of IsFound cuts x.found xs last (fold s one.0) one.2 came.3 in (
-      one.0 ++ others.0,
-      (one.0, others.0, refl, one.1, others.1),
-      subst (DurablyRepresents (state_of last)) (sym (fold-append s one.0 others.0)) others.2,
+    let first_kept = kept_from_sitting state_of disk x.found x.sitting x.time s here came.0 came.1 (λ honest. cuts x.time (disk_after x.sitting) x.found honest came.2) in
+    let later_kept = kept_from_sittings state_of IsFound cuts x.found xs last (fold s first_kept.0) first_kept.2 came.3 in (
+      first_kept.0 ++ later_kept.0,
+      (first_kept.0, later_kept.0, refl, first_kept.1, later_kept.1),
+      subst (DurablyRepresents (state_of last)) (sym (fold-append s first_kept.0 later_kept.0)) later_kept.2,
     )
 
 -- ---- the session opened at the end
@@ -189,12 +189,12 @@ survives_history state_of IsFound cuts history given =
     let s : BenchState = history.first.before.state in
     let first = kept_if_stopped_after_opening state_of history.first history.time s history.found refl given history.since (cuts history.time history.first.after.disk history.found (disk_honest_after_run state_of history.first given.1) history.stopped) in
     let others = kept_from_sittings state_of IsFound cuts history.found history.others history.last (fold s first.0) first.2 history.came in
-    let here = others.2 in
+    let durable_state = others.2 in
     record {
       kept = first.0 ++ others.0;
       of_each = (first.0, others.0, refl, first.1, others.1);
       reopened = λ session begun.
-          represented_state_is_unique (bytes_of (state_of history.last)) session.state (fold (fold s first.0) others.0) (begun.opens here.honest).represented_before here.represents ∙ sym (fold-append s first.0 others.0);
+          represented_state_is_unique (bytes_of (state_of history.last)) session.state (fold (fold s first.0) others.0) (begun.opens durable_state.honest).represented_before durable_state.represents ∙ sym (fold-append s first.0 others.0);
       not_refused = λ number refused.
-          refusal_number_is_53_or_90 state_of history.last refused.0 number (fold (fold s first.0) others.0) here refused.1;
+          refusal_number_is_53_or_90 state_of history.last refused.0 number (fold (fold s first.0) others.0) durable_state refused.1;
     }

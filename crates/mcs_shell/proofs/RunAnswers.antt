@@ -79,17 +79,17 @@ answers_if_first_line_whole end r r' a b ran whole uncut none =
 answers_if_first_line_cut_off : (end : ShellEnd) (r r' : KnownBytes) (a b : ShellState) (ran : RanShell end r r' a b) → ran.began.whole ≡ false → ran.served.exchanges ≡ [] → (end ≢ WriteFault → end ≢ NoMemory → ⊥) → AnswersInOrder end ran.read a b ran.served.exchanges
 answers_if_first_line_cut_off end r r' a b ran cut none by =
     let s = a.session.state in
-    let some : WroteBytes false a.out ran.began.started (session_text s) = subst (λ (v : Bool). WroteBytes v a.out ran.began.started (session_text s)) cut ran.began.wrote in
-    let then : b.out ≡ ran.began.started = subst (λ (v : List Exchange). WroteAnswers s v ran.began.started b.out) none ran.served.serves.wrote in
+    let wrote_prefix : WroteBytes false a.out ran.began.started (session_text s) = subst (λ (v : Bool). WroteBytes v a.out ran.began.started (session_text s)) cut ran.began.wrote in
+    let nothing_more : b.out ≡ ran.began.started = subst (λ (v : List Exchange). WroteAnswers s v ran.began.started b.out) none ran.served.serves.wrote in
     record {
       not_served = ran.served.not_served;
       spelled = ran.served.spelled;
       all_served = λ x y z. absurd (by x z);
       is_possible = ran.served.serves.is_possible;
-      response = take some.count (session_text s);
-      left_out = drop some.count (session_text s);
-      written = subst (λ (v : KnownBytes). Appends a.out v (take some.count (session_text s))) (sym then) some.received;
-      parts = take-append-drop some.count (session_text s) ∙ sym (append-nil (session_text s)) ∙ ap (λ (v : List Exchange). session_text s ++ results_in_order answer s v) (sym none);
+      response = take wrote_prefix.count (session_text s);
+      left_out = drop wrote_prefix.count (session_text s);
+      written = subst (λ (v : KnownBytes). Appends a.out v (take wrote_prefix.count (session_text s))) (sym nothing_more) wrote_prefix.received;
+      parts = take-append-drop wrote_prefix.count (session_text s) ∙ sym (append-nil (session_text s)) ∙ ap (λ (v : List Exchange). session_text s ++ results_in_order answer s v) (sym none);
       all_sent = λ x z. absurd (by x z);
     }
 

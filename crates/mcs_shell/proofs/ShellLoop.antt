@@ -174,9 +174,9 @@ ran_shell_until_end_of_input end r r' r'' a b c line chunk total max_count halte
     loop_run_is_shell_run end r r'' a c halted (record { bytes = x.bytes; consumed = consumed_after_empty_read r r' r'' max_count x.bytes chunk x.consumed y; within = omega (arith, below); ended = true; input_ended = λ e. (below, y.at_end refl) })
     (serves_all_inputs true a b c line x.bytes halted x.fed m) (reads_nothing_ahead a b line x.bytes x.fed m.exchanges) ends
 
-ends_by_exchange : (going : Bool) (o : Outcome) (end : ShellEnd) (bytes : List ℕ) (whole : Bool) (exchanges : List Exchange) → end_caused_by going o ≡ Some end → EndsBy end true bytes whole exchanges (Some end)
-ends_by_exchange false o end bytes whole exchanges e = let is : WriteFault ≡ end = cc e in subst (λ (v : ShellEnd). EndsBy v true bytes whole exchanges (Some v)) is (inl (refl, refl))
-ends_by_exchange true Device end bytes whole exchanges e = let is : DeviceFault ≡ end = cc e in subst (λ (v : ShellEnd). EndsBy v true bytes whole exchanges (Some v)) is (refl, refl)
+ends_by_exchange : (whole_answer : Bool) (o : Outcome) (end : ShellEnd) (bytes : List ℕ) (whole : Bool) (exchanges : List Exchange) → end_caused_by whole_answer o ≡ Some end → EndsBy end true bytes whole exchanges (Some end)
+ends_by_exchange false o end bytes whole exchanges e = let end_is : WriteFault ≡ end = cc e in subst (λ (v : ShellEnd). EndsBy v true bytes whole exchanges (Some v)) end_is (inl (refl, refl))
+ends_by_exchange true Device end bytes whole exchanges e = let end_is : DeviceFault ≡ end = cc e in subst (λ (v : ShellEnd). EndsBy v true bytes whole exchanges (Some v)) end_is (refl, refl)
 ends_by_exchange true o end bytes whole exchanges e = absurd (cc e)
 
 pub either_is_some_if_option_or_is : (h k : Option ShellEnd) (end : ShellEnd) → option_or h k ≡ Some end → (h ≡ Some end) ⊎ (k ≡ Some end)

@@ -10,15 +10,15 @@ use Rattle.mcs_prove.proofs.answer.outcome_of.Goals as goal
 pub returns-then-max_entries-gt0 : goal.returns-then-max_entries-gt0
 returns-then-max_entries-gt0 c =
     let q = c.in_ok-question.question in
-    let own = sym c.question.view_is in
+    let equal_view = sym c.question.view_is in
     let in_text = c.in-Some-Some-Some-true-true in
     let board : q.board ≡ Some c.as_str.result.now =
-    ap (λ (a : QuestionSoFar). a.board) own ∙ ap (option_map string_bytes) in_text.is-0 ∙ ap Some (sym c.as_str.ensures.value) in
+    ap (λ (a : QuestionSoFar). a.board) equal_view ∙ ap (option_map string_bytes) in_text.is-0 ∙ ap Some (sym c.as_str.ensures.value) in
     let program : q.program ≡ Some c.as_str-then-max_entries-gt0.result.now =
-    ap (λ (a : QuestionSoFar). a.program) own ∙ ap (option_map string_bytes) in_text.is-1 ∙ ap Some (sym c.as_str-then-max_entries-gt0.ensures.value) in
+    ap (λ (a : QuestionSoFar). a.program) equal_view ∙ ap (option_map string_bytes) in_text.is-1 ∙ ap Some (sym c.as_str-then-max_entries-gt0.ensures.value) in
     let never_lists = ap (map (λ (n : Vec Condition Global). n.items)) c.deref.ensures.value ∙ ap (λ (a : QuestionSoFar). a.never_lists) c.question.view_is in
     is_answer-if_never_lists_proved c.args.text.now c.as_str.result.now c.as_str-then-max_entries-gt0.result.now q _ c.prove_by_sets.result
-    c.in_ok-question.ensures (ap (λ (a : QuestionSoFar). a.has_prove_line) own ∙ in_text.is-3) (sym in_text.ensures') board program
+    c.in_ok-question.ensures (ap (λ (a : QuestionSoFar). a.has_prove_line) equal_view ∙ in_text.is-3) (sym in_text.ensures') board program
     (subst (λ (a : QuestionSoFar). 0 < a.max_entries) c.question.view_is c.if-max_entries-gt0.true) never_lists c.prove_by_sets.ensures
 
 pub returns : goal.returns

@@ -30,9 +30,9 @@ returns c =
     let proved : IsProved (limits c.in_ok-rig.rig.board) w (meets_none never_lists) c.of.result found =
     subst (λ (l : InputLimits). IsProved l w (meets_none never_lists) c.of.result found) on_board
     (subst (λ (a : PropertyConditions). IsProved c.in_ok-limits.limits (observer_of_property a) (meets_none a.never_lists) c.of.result found) property c.in_ok-check_all.ensures) in
-    let same : (s : TrackedMachine) → meets_none never_lists s ≡ kept s = λ s.
+    let equal_properties : (s : TrackedMachine) → meets_none never_lists s ≡ kept s = λ s.
     c.in_ok-never_lists.ensures s
     ∙ ap (λ (o : List (List Condition)). keeps_property (observer_of [] [] o marks) (lists c.args.goal.never_lists) c.args.goal.limit s) (c.deref.ensures.value ∙ c.in_ok-opens.ensures) in
     proved_of_texts-if_proved_of_rig c.args.board.now c.args.program.now limits w (meets_none never_lists) kept c.new.result c.in_ok-rig.rig found
-    c.in_ok-rig.ensures c.new.ensures same
+    c.in_ok-rig.ensures c.new.ensures equal_properties
     (subst (λ (s : TrackedMachine). IsProved (limits c.in_ok-rig.rig.board) w (meets_none never_lists) s found) c.of.ensures proved)

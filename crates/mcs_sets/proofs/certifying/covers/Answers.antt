@@ -3,10 +3,10 @@ use Rattle.mcs_sets.proofs.certifying.covers.Goals as goal
 
 pub returns : goal.returns
 returns c = λ h.
-    let placed = c.is_at_entry.ensures c.if-not-is_at_entry.false in
-    let none = placed.calls in
+    let at_entry = c.is_at_entry.ensures c.if-not-is_at_entry.false in
+    let none = at_entry.calls in
     record {
-      at = placed.at;
+      at = at_entry.at;
       calls = sym none;
       ret = λ k few inside. absurd (omega arith);
       acc = sym c.allows_acc.ensures ∙ c.if-not-allows_acc.false;

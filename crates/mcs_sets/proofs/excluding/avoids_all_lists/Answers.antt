@@ -11,8 +11,8 @@ loop-i-preserved c = λ s of is.
     let v = c.index-never_lists-i.result in
     let conjunction-unmet : are_met s v.items ≡ false = ap (are_met s) (sym c.as_slice.ensures.value) ∙ c.excludes_conjunction.ensures c.if-not-excludes_conjunction.false s of is in
     let element : v ≡ get_or vs i v = c.index-never_lists-i.is in
-    let one : are_met s (get_or vs i v).items ≡ false = ap (λ (x : Vec Condition Global). are_met s x.items) (sym element) ∙ conjunction-unmet in
-    sym (ap (λ b. not b && meets_none (map (λ n. n.items) (drop (i + 1) vs)) s) one)
+    let list_unmet : are_met s (get_or vs i v).items ≡ false = ap (λ (x : Vec Condition Global). are_met s x.items) (sym element) ∙ conjunction-unmet in
+    sym (ap (λ b. not b && meets_none (map (λ n. n.items) (drop (i + 1) vs)) s) list_unmet)
     ∙ sym (at_drop_more (λ (xs : List (Vec Condition Global)). meets_none (map (λ n. n.items) xs) s) vs i v c.loop-i-test.true) ∙ c.loop-i.invariant s of is
 
 pub returns : goal.returns

@@ -8,8 +8,8 @@ pub returns-clause-ran : goal.returns-clause-ran
 returns-clause-ran c =
     let op = c.args.op.now in
     let m : BusState = record c.args.rig.now { test = c.args.level } in
-    let did = ran op c.processor-cpu.result c.args.regs.now c.set_test.new.self m (c.cycle-cycle.new.cpu, c.cycle-cycle.new.rig) c.cycle-cycle.ensures.state c.processor-cpu.ensures c.set_test.ensures c.requires.not_owed c.requires.instruction in
-    c.regs.ensures.same ∙ ap (λ (x : Regs × BusState). x.0) did
+    let state_after = ran op c.processor-cpu.result c.args.regs.now c.set_test.new.self m (c.cycle-cycle.new.cpu, c.cycle-cycle.new.rig) c.cycle-cycle.ensures.state c.processor-cpu.ensures c.set_test.ensures c.requires.not_owed c.requires.instruction in
+    c.regs.ensures.same ∙ ap (λ (x : Regs × BusState). x.0) state_after
 
 pub returns-clause-rom : goal.returns-clause-rom
 returns-clause-rom c =

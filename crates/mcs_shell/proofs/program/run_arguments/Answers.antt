@@ -33,13 +33,13 @@ status_is_not_two_after_begin (Ok before) None status streams streams' P served 
 status_is_not_two_after_begin (Err refusal) session status streams streams' P served refused two =
     let e : 3 ≡ 2 = sym refused ∙ two in absurd (cc e)
 
-served_chosen_session_if_begun : {F : Type 0} (entered : Option (List ℕ × List ℕ)) (choice : Choice) (begun : Result (SessionView FileDisk) F)
+served_chosen_session_if_begun : {F : Type 0} (parsed : Option (List ℕ × List ℕ)) (choice : Choice) (begun : Result (SessionView FileDisk) F)
     (session : Option (SessionView FileDisk)) (status : ℕ) (streams streams' : StreamsView)
-    → entered ≡ Some (arguments_of_choice choice)
+    → parsed ≡ Some (arguments_of_choice choice)
     → IfOk begun (λ before. (disk : FileDisk) × HasNoCalls (as_disk disk) × IsBegunOn as_disk choice disk before)
     → ServesIfBegun begun session status streams streams' → OnErr begun (session ≡ None)
-    → IfSome session (λ after. ServedChosenSession as_disk entered status streams streams' after)
-served_chosen_session_if_begun entered choice (Ok before) (Some after) status streams streams' is found served none =
+    → IfSome session (λ after. ServedChosenSession as_disk parsed status streams streams' after)
+served_chosen_session_if_begun parsed choice (Ok before) (Some after) status streams streams' is found served none =
     record {
       choice = choice;
       chosen_is = is;
@@ -49,9 +49,9 @@ served_chosen_session_if_begun entered choice (Ok before) (Some after) status st
       begun = found.2;
       served = served;
     }
-served_chosen_session_if_begun entered choice (Ok before) None status streams streams' is found served none = tt
-served_chosen_session_if_begun entered choice (Err refusal) (Some after) status streams streams' is found served none = absurd (cc none)
-served_chosen_session_if_begun entered choice (Err refusal) None status streams streams' is found served none = tt
+served_chosen_session_if_begun parsed choice (Ok before) None status streams streams' is found served none = tt
+served_chosen_session_if_begun parsed choice (Err refusal) (Some after) status streams streams' is found served none = absurd (cc none)
+served_chosen_session_if_begun parsed choice (Err refusal) None status streams streams' is found served none = tt
 
 status_if_not_served : {F : Type 0} (begun : Result (SessionView FileDisk) F) (session : Option (SessionView FileDisk)) (status : ℕ)
     (streams streams' : StreamsView) → ServesIfBegun begun session status streams streams' → OnErr begun (status ≡ 3)

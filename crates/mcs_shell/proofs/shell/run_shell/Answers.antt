@@ -15,8 +15,8 @@ pub returns-in-Err-clause-ran : goal.returns-in-Err-clause-ran
 returns-in-Err-clause-ran g c =
     let response : c.set_number.new.self ≡ session_text (c.args.session.now.state) = search rules in
     let a = session_state g.D.Disk.state c.args.session.now in
-    let settled : IsOpenOnHonestDisk a → IsIntact a = λ honest. record { honest = honest; represents = c.bench.ensures.represents honest.0 honest.1 } in
-    ran_shell_without_first_line WriteFault _ (shell_state g.D.Disk.state c.args.session.now (g.W.AnswerSink.contents c.args.writer.now)) _ (session_text a.state) settled (rw response at c.in-Err.ensures.err) (λ is. absurd (cc is)) (inr (refl, refl, refl))
+    let intact : IsOpenOnHonestDisk a → IsIntact a = λ honest. record { honest = honest; represents = c.bench.ensures.represents honest.0 honest.1 } in
+    ran_shell_without_first_line WriteFault _ (shell_state g.D.Disk.state c.args.session.now (g.W.AnswerSink.contents c.args.writer.now)) _ (session_text a.state) intact (rw response at c.in-Err.ensures.err) (λ is. absurd (cc is)) (inr (refl, refl, refl))
 
 pub returns-clause-ran : goal.returns-clause-ran
 returns-clause-ran g c =

@@ -25,12 +25,12 @@ returns-then-room-len-clause-refused c = record {
 
 pub returns-clause-served : goal.returns-clause-served
 returns-clause-served c =
-    let whole : IsAllServed c.run_shell-end.result = search rules in
+    let all_served : IsAllServed c.run_shell-end.result = search rules in
     let resumed = c.in-Ok.ensures.resumed in
-    let size = disk_size_unchanged_if_all_served _ _ _ _ _ whole c.run_shell-end.ensures.ran in
-    let stays_open = live_unchanged_if_all_served _ _ _ _ _ whole c.run_shell-end.ensures.ran in
+    let size = disk_size_unchanged_if_all_served _ _ _ _ _ all_served c.run_shell-end.ensures.ran in
+    let stays_open = live_unchanged_if_all_served _ _ _ _ _ all_served c.run_shell-end.ensures.ran in
     record {
-      whole = whole;
+      whole = all_served;
       run_on_file = record {
         session = c.in-Ok.session;
         resumes = resumed;
