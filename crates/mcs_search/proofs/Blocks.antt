@@ -29,17 +29,17 @@ pub key-in_full_block : (width n q r : ℕ) (bs : List KeyStore) (ys : List (Lis
 unfolding keys_of_blocks
 key-in_full_block width n q r [] ys d all h k = absurd (omega arith)
 key-in_full_block width n zero r (b ∷ bs) ys d all h k =
-    let one = first_block-length width n b bs all in
+    let first_length = first_block-length width n b bs all in
     let at : zero * n + r ≡ r = omega arith in
     ap (λ i. get_or ((b.keys ++ keys_of_blocks bs) ++ ys) i []) at
     ∙ ap (λ ks. get_or ks r []) (append_assoc b.keys (keys_of_blocks bs) ys)
     ∙ get_or_append_left b.keys (keys_of_blocks bs ++ ys) [] r (omega arith)
 key-in_full_block width n (suc q) r (b ∷ bs) ys d all h k =
-    let one = first_block-length width n b bs all in
+    let first_length = first_block-length width n b bs all in
     let m = suc-mul q n in
     let at : suc q * n + r - n ≡ q * n + r = omega arith in
     ap (λ ks. get_or ks (suc q * n + r) []) (append_assoc b.keys (keys_of_blocks bs) ys)
-    ∙ get_or-append_right b.keys (keys_of_blocks bs ++ ys) n (suc q * n + r) [] one (omega arith)
+    ∙ get_or-append_right b.keys (keys_of_blocks bs ++ ys) n (suc q * n + r) [] first_length (omega arith)
     ∙ ap (λ i. get_or (keys_of_blocks bs ++ ys) i []) at
     ∙ key-in_full_block width n q r bs ys d (All-tail (IsFullBlock width n) b bs all) (omega arith) k
 
@@ -108,8 +108,8 @@ pub arena_invariant-after_block_filled : (width len : ℕ) (bs : List KeyStore) 
     new.width ≡ last.width → new.keys ≡ last.keys ++ key ∷ [] → KEYS_PER_BLOCK ≤ length new.keys → next ≡ record { width = width; keys = [] } →
     ArenaInvariant width (len + 1) (bs ++ new ∷ []) next
 arena_invariant-after_block_filled width len bs last new next key fits w k full-now is =
-    let more = ap length k ∙ length-append last.keys (key ∷ []) in
-    let few = fits.last_few in
+    let longer_by_one = ap length k ∙ length-append last.keys (key ∷ []) in
+    let last_not_full = fits.last_few in
     let count = fits.count in
     let total_length = ap length (keys_of_blocks-append_block bs new) ∙ length-append (keys_of_blocks bs) new.keys in
     let next_is_empty : length next.keys ≡ 0 = ap (λ (s : KeyStore). length s.keys) is in
@@ -136,8 +136,8 @@ arena_keys-after_block_filled width bs last new next key k is =
 pub arena_invariant-of_empty_arena : (width : ℕ) (bs : List KeyStore) (last : KeyStore) → bs ≡ [] → last ≡ record { width = width; keys = [] } → ArenaInvariant width 0 bs last
 unfolding keys_of_blocks
 arena_invariant-of_empty_arena width bs last empty is =
-    let none : length last.keys ≡ 0 = ap (λ (s : KeyStore). length s.keys) is in
-    let all : length (keys_of_blocks bs) ≡ 0 = ap (λ xs. length (keys_of_blocks xs)) empty in
+    let last_is_empty : length last.keys ≡ 0 = ap (λ (s : KeyStore). length s.keys) is in
+    let no_full_blocks : length (keys_of_blocks bs) ≡ 0 = ap (λ xs. length (keys_of_blocks xs)) empty in
     record {
       blocks = All-same (IsFullBlock width KEYS_PER_BLOCK) bs [] empty (All-nil (IsFullBlock width KEYS_PER_BLOCK));
       last_width = ap (λ (s : KeyStore). s.width) is;

@@ -36,8 +36,8 @@ keys_in_bytes-append_key width (suc n) bytes key e w =
     let width_fits : width ≤ length bytes = omega arith in
     let d = length-drop width bytes in
     let rest : length (drop width bytes) ≡ n * width = omega arith in
-    let one : suc n + 1 ≡ suc (n + 1) = omega arith in
-    ap (λ m. keys_in_bytes width m (bytes ++ key)) one
+    let suc_is_plus_one : suc n + 1 ≡ suc (n + 1) = omega arith in
+    ap (λ m. keys_in_bytes width m (bytes ++ key)) suc_is_plus_one
     ∙ ap (λ k. k ∷ keys_in_bytes width (n + 1) (drop width (bytes ++ key))) (take-append-le width bytes key width_fits)
     ∙ ap (λ ds. take width bytes ∷ keys_in_bytes width (n + 1) ds) (drop-append-le width bytes key width_fits)
     ∙ ap (λ ks. take width bytes ∷ ks) (keys_in_bytes-append_key width n (drop width bytes) key rest w)

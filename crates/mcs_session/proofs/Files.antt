@@ -66,8 +66,8 @@ creates_session old new snap s spells is made =
 
 pub recorded_after_open : (old new : DiskState) (snap : List ℕ) (records : List (List ℕ)) (cycles : ℕ) (s : BenchState) → OpensStore old new snap records → IsReplayed Two snap records cycles s → IsRecorded new cycles s
 recorded_after_open old new snap records cycles s opened replayed =
-    let held : Holds (bytes_of new) snap records = subst (λ (f : List ℕ). Holds f snap records) (sym (bytes_unchanged_without_new_image old new opened.adds_no_image)) opened.holds in
-    record { durable = opened.durable; represents = record { snap = snap; records = records; holds = held; records_represent = replayed.records_represent }; count = replayed.count }
+    let same_contents : Holds (bytes_of new) snap records = subst (λ (f : List ℕ). Holds f snap records) (sym (bytes_unchanged_without_new_image old new opened.adds_no_image)) opened.holds in
+    record { durable = opened.durable; represents = record { snap = snap; records = records; holds = same_contents; records_represent = replayed.records_represent }; count = replayed.count }
 
 -- after a successful `open` of the store, the disk holds the same contents as before
 pub opened_store_keeps_contents : (old new : DiskState) (snap : List ℕ) (records : List (List ℕ)) → OpensStore old new snap records → Holds (bytes_of new) snap records
@@ -248,7 +248,7 @@ pub migrates_session_of_either_version : (v : Version) (old mid new : DiskState)
     → (v ≡ Two → MigratesSession old mid s → MigratesSession old new s) → (v ≡ One → ReplacedContents mid new snap records s) → MigratesSession old new s
 migrates_session_of_either_version Two old mid new snap records cycles s opened replayed same replaced = same refl (migrates_session_of_version_2 old mid snap records cycles s opened replayed)
 migrates_session_of_either_version One old mid new snap records cycles s opened replayed same replaced =
-    let now = replaced refl in migrates_session_of_version_1 old mid new snap records cycles s opened replayed now.leaves now.held
+    let replaced_contents = replaced refl in migrates_session_of_version_1 old mid new snap records cycles s opened replayed replaced_contents.leaves replaced_contents.held
 
 pub fails_migrating_if_version_1 : (v : Version) (old mid new : DiskState) (snap : List ℕ) (records : List (List ℕ)) (cycles : ℕ) (s : BenchState) → v ≡ One → OpensStore old mid snap records → IsReplayed v snap records cycles s
     → MayReplaceContents mid new snap records s → FailsDuringMigration old new
@@ -286,8 +286,8 @@ opening_version_1_keeps_state old new s u each opens does =
 
 failed_migration_keeps_state : (old new : DiskState) (s : BenchState) → DiskRepresentsConverted old s → FailsDuringMigration old new → DiskRepresentsSince (time_of old) new s
 failed_migration_keeps_state old new s each fails =
-    let here : RepresentsConverted (bytes_of old) s = each (bytes_of old) (disk_is_lawful old).current in
-    version_1_state_is_kept old new s fails.state fails.leaves (version_1_state_is_unique (bytes_of old) fails.state s fails.represents here) each
+    let represents_converted : RepresentsConverted (bytes_of old) s = each (bytes_of old) (disk_is_lawful old).current in
+    version_1_state_is_kept old new s fails.state fails.leaves (version_1_state_is_unique (bytes_of old) fails.state s fails.represents represents_converted) each
 
 -- reads and syncs of a disk of version 1 leave only images that represent its converted state
 version_1_state_kept_if_no_image_added : (old new : DiskState) (s : BenchState) → DiskRepresentsConverted old s → AddsNoImage old new → DiskRepresentsSince (time_of old) new s

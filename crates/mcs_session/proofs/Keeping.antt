@@ -83,9 +83,9 @@ represented_after_run d e s t cs same a image now =
     let rising_moments = rising d e cs a.kept.acknowledged in
     let clock_not_later = clock_at_most_last_moment (time_of d) ms rising_moments in
     let last = a.clock in
-    let all = all_acknowledged_by_last_moment (time_of e) (time_of d) ms (omega (arith, last)) rising_moments in
+    let all_acknowledged = all_acknowledged_by_last_moment (time_of e) (time_of d) ms (omega (arith, last)) rising_moments in
     let count = one_moment_per_command d e cs a.kept.acknowledged in
-    rw same (represents_state_after_all_commands s cs (acknowledged_by (time_of e) ms) image (omega (arith, all, count)) (a.kept.each (time_of e) image (omega (arith, clock_not_later, last)) ((disk_is_lawful e).counts_now (time_of e) image now)))
+    rw same (represents_state_after_all_commands s cs (acknowledged_by (time_of e) ms) image (omega (arith, all_acknowledged, count)) (a.kept.each (time_of e) image (omega (arith, clock_not_later, last)) ((disk_is_lawful e).counts_now (time_of e) image now)))
 
 -- ---- runs without commands
 
@@ -139,9 +139,9 @@ keeps_acknowledged_command d e s c a = record {
     };
     each = λ u image le now. elim (cases_lt u (time_of e)) [
       | inl early ↦
-          let none : acknowledged_by u (time_of e ∷ []) ≡ 0 = none_acknowledged_before_moment u (time_of e) early in
+          let none_acknowledged : acknowledged_by u (time_of e ∷ []) ≡ 0 = none_acknowledged_before_moment u (time_of e) early in
           ⊎_elim
-          (λ (old : Represents image s). rw none (represents_empty_prefix s (c ∷ []) image old))
+          (λ (old : Represents image s). rw none_acknowledged (represents_empty_prefix s (c ∷ []) image old))
           (λ (new : Represents image (after s c)). represents_prefix_of_one_command s (after s c) c _ image refl (acknowledged_at_most_all u (time_of e ∷ [])) new)
           (a.leaves.each image ((disk_is_lawful e).longer (time_of d) u image le now))
       | inr late ↦ represents_prefix_of_one_command s (after s c) c _ image refl (acknowledged_at_most_all u (time_of e ∷ [])) (a.represents image ((disk_is_lawful e).only_now image ((disk_is_lawful e).longer (time_of e) u image late now)))

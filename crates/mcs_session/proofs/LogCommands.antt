@@ -89,11 +89,11 @@ pub log_holds_appended_command : (mid new : DiskState) (cycles : ℕ) (s : Bench
 unfolding records_represent_appended_command
 log_holds_appended_command mid new cycles s c r was spells accepted few held log holds =
     let count = was.count in
-    let same : log ≡ log_of_file (bytes_of mid) s was.represents = held_commands_are_unique (bytes_of mid) log (log_of_file (bytes_of mid) s was.represents) holds (file_holds_its_log (bytes_of mid) s was.represents) in
+    let equal_logs : log ≡ log_of_file (bytes_of mid) s was.represents = held_commands_are_unique (bytes_of mid) log (log_of_file (bytes_of mid) s was.represents) holds (file_holds_its_log (bytes_of mid) s was.represents) in
     record {
       state = after s c;
       represents = record { snap = was.represents.snap; records = was.represents.records ++ r ∷ []; holds = held; records_represent = records_represent_appended_command Two was.represents.snap r was.represents.records s c was.represents.records_represent (spells, refl) accepted (omega (arith, count, few)) };
-      commands = ap (λ (cs : List Command). cs ++ c ∷ []) same;
+      commands = ap (λ (cs : List Command). cs ++ c ∷ []) equal_logs;
     }
 
 -- ---- moments of acknowledgement
@@ -135,6 +135,6 @@ moments_of_append clock log (c ∷ cs) ds = ap (λ (ms : List ℕ). (clock + rec
 pub moments_of_two_runs : (clock mid : ℕ) (log : List Command) (cs ds : List Command) (ms ns : List ℕ) → ms ≡ moments_of clock log cs → mid ≡ last_moment clock ms → ns ≡ moments_of mid (log_after_all log cs) ds
     → ms ++ ns ≡ moments_of clock log (cs ++ ds)
 moments_of_two_runs clock mid log cs ds ms ns first at second =
-    let behind : List ℕ → List ℕ = λ ks. moments_of (last_moment clock ks) (log_after_all log cs) ds in
-    let later : ns ≡ behind (moments_of clock log cs) = second ∙ ap (λ (t : ℕ). moments_of t (log_after_all log cs) ds) at ∙ ap behind first in
-    ap (λ (ks : List ℕ). ms ++ ks) later ∙ ap (λ (ks : List ℕ). ks ++ behind (moments_of clock log cs)) first ∙ sym (moments_of_append clock log cs ds)
+    let later_moments : List ℕ → List ℕ = λ ks. moments_of (last_moment clock ks) (log_after_all log cs) ds in
+    let later : ns ≡ later_moments (moments_of clock log cs) = second ∙ ap (λ (t : ℕ). moments_of t (log_after_all log cs) ds) at ∙ ap later_moments first in
+    ap (λ (ks : List ℕ). ms ++ ks) later ∙ ap (λ (ks : List ℕ). ks ++ later_moments (moments_of clock log cs)) first ∙ sym (moments_of_append clock log cs ds)

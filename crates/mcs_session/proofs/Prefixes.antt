@@ -46,11 +46,11 @@ acknowledged_at_most_all t ms = count_by-le-length (λ m. nat_le m t) ms
 pub none_acknowledged_before_run : (t clock : ℕ) (ms : List ℕ) → t ≤ clock → AreRising clock ms → acknowledged_by t ms ≡ 0
 none_acknowledged_before_run t clock [] le h = refl
 none_acknowledged_before_run t clock (m ∷ ms) le h =
-    let rises = h.0 in
-    let later : t < m = omega (arith, rises, le) in
+    let first_is_later = h.0 in
+    let later : t < m = omega (arith, first_is_later, le) in
     let first = zero_if_moment_is_later t m later in
     let rest = none_acknowledged_before_run t m ms (omega (arith, later)) h.1 in
-    let whole = acknowledged-cons t m ms in omega (arith, first, rest, whole)
+    let count_with_first = acknowledged-cons t m ms in omega (arith, first, rest, count_with_first)
 
 pub none_acknowledged_before_moment : (t m : ℕ) → t < m → acknowledged_by t (m ∷ []) ≡ 0
 none_acknowledged_before_moment t m h = acknowledged-cons t m [] ∙ ap (λ (n : ℕ). n + 0) (zero_if_moment_is_later t m h)
@@ -59,26 +59,26 @@ none_acknowledged_before_moment t m h = acknowledged-cons t m [] ∙ ap (λ (n :
 pub all_acknowledged_by_last_moment : (t clock : ℕ) (ms : List ℕ) → last_moment clock ms ≤ t → AreRising clock ms → acknowledged_by t ms ≡ length ms
 all_acknowledged_by_last_moment t clock [] le h = refl
 all_acknowledged_by_last_moment t clock (m ∷ ms) le h =
-    let behind = clock_at_most_last_moment m ms h.1 in
-    let first = one_if_moment_is_past t m (omega (arith, le, behind)) in
+    let not_later_than_last = clock_at_most_last_moment m ms h.1 in
+    let first = one_if_moment_is_past t m (omega (arith, le, not_later_than_last)) in
     let rest = all_acknowledged_by_last_moment t m ms le h.1 in
-    let whole = acknowledged-cons t m ms in omega (arith, first, rest, whole)
+    let count_with_first = acknowledged-cons t m ms in omega (arith, first, rest, count_with_first)
 
 -- by the moment with index `j`, at least `j + 1` commands were acknowledged
 pub acknowledged_by_moment_at_index : (clock : ℕ) (ms : List ℕ) (j m : ℕ) → slice_get ms j ≡ Some m → AreRising clock ms → (clock ≤ m) × (j + 1 ≤ acknowledged_by m ms)
 acknowledged_by_moment_at_index clock [] j m e h = absurd (cc e)
 acknowledged_by_moment_at_index clock (n ∷ ms) zero m e h =
-    let same : n ≡ m = cc e in
-    let first = one_if_moment_is_past m n (omega (arith, same)) in
-    let whole = acknowledged-cons m n ms in
-    let rises = h.0 in
-    (omega (arith, rises, same), omega (arith, first, whole))
+    let equal_moments : n ≡ m = cc e in
+    let first = one_if_moment_is_past m n (omega (arith, equal_moments)) in
+    let count_with_first = acknowledged-cons m n ms in
+    let first_is_later = h.0 in
+    (omega (arith, first_is_later, equal_moments), omega (arith, first, count_with_first))
 acknowledged_by_moment_at_index clock (n ∷ ms) (suc j) m e h =
     let rest = acknowledged_by_moment_at_index n ms j m e h.1 in
     let first = one_if_moment_is_past m n rest.0 in
-    let whole = acknowledged-cons m n ms in
-    let rises = h.0 in
-    (omega (arith, rises, rest.0), omega (arith, first, whole, rest.1))
+    let count_with_first = acknowledged-cons m n ms in
+    let first_is_later = h.0 in
+    (omega (arith, first_is_later, rest.0), omega (arith, first, count_with_first, rest.1))
 
 -- ---- prefixes
 
@@ -121,8 +121,8 @@ represents_prefix_with_lower_minimum s cs i j file le h = record { state = h.sta
 -- if the prefix must have at least as many commands as the list, the prefix is the whole list
 pub represents_state_after_all_commands : (s : BenchState) (cs : List Command) (j : ℕ) (file : List ℕ) → length cs ≤ j → RepresentsPrefix s cs j file → Represents file (fold s cs)
 represents_state_after_all_commands s cs j file all h =
-    let same : h.state ≡ fold s cs = h.after.state ∙ ap (fold s) (take_all h.after.count cs (omega (arith, all, h.after.at_least))) in
-    rw (← same) h.represents
+    let equal_states : h.state ≡ fold s cs = h.after.state ∙ ap (fold s) (take_all h.after.count cs (omega (arith, all, h.after.at_least))) in
+    rw (← equal_states) h.represents
 
 -- the empty prefix leaves the state unchanged
 pub represents_empty_prefix : (s : BenchState) (cs : List Command) (file : List ℕ) → Represents file s → RepresentsPrefix s cs 0 file

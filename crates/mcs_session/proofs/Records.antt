@@ -37,8 +37,8 @@ no_replay_with_rejected_record v s [] (c ∷ cs) ds r more h none k = h
 no_replay_with_rejected_record v s (q ∷ rs) [] ds r more h none k = h
 no_replay_with_rejected_record v s (q ∷ rs) (c ∷ cs) [] r more h none k = k
 no_replay_with_rejected_record v s (q ∷ rs) (c ∷ cs) (d ∷ ds) r more h none k =
-    let same : d ≡ c = encoded_command_is_unique q d c k.0.0 h.0.0 in
-    no_replay_with_rejected_record v (after s c) rs cs ds r more (h.2) none (subst (λ (x : Command). ReplaysCommands v (after s x) (rs ++ r ∷ more) ds) same (k.2))
+    let equal_commands : d ≡ c = encoded_command_is_unique q d c k.0.0 h.0.0 in
+    no_replay_with_rejected_record v (after s c) rs cs ds r more (h.2) none (subst (λ (x : Command). ReplaysCommands v (after s x) (rs ++ r ∷ more) ds) equal_commands (k.2))
 
 -- records encode at most one list of commands
 pub replayed_commands_are_unique : (v : Version) (s : BenchState) (rs : List (List ℕ)) (cs ds : List Command) → ReplaysCommands v s rs cs → ReplaysCommands v s rs ds → cs ≡ ds
@@ -48,9 +48,9 @@ replayed_commands_are_unique v s [] (c ∷ cs) ds h k = absurd h
 replayed_commands_are_unique v s (q ∷ rs) [] ds h k = absurd h
 replayed_commands_are_unique v s (q ∷ rs) (c ∷ cs) [] h k = absurd k
 replayed_commands_are_unique v s (q ∷ rs) (c ∷ cs) (d ∷ ds) h k =
-    let same : d ≡ c = encoded_command_is_unique q d c k.0.0 h.0.0 in
-    let rest : cs ≡ ds = replayed_commands_are_unique v (after s c) rs cs ds (h.2) (subst (λ (x : Command). ReplaysCommands v (after s x) rs ds) same (k.2)) in
-    rw (same, rest) refl
+    let equal_commands : d ≡ c = encoded_command_is_unique q d c k.0.0 h.0.0 in
+    let rest : cs ≡ ds = replayed_commands_are_unique v (after s c) rs cs ds (h.2) (subst (λ (x : Command). ReplaysCommands v (after s x) rs ds) equal_commands (k.2)) in
+    rw (equal_commands, rest) refl
 
 -- equal snapshots and records have the same start state and the same commands
 pub start_and_commands_are_unique : (v : Version) (snap other : List ℕ) (records more : List (List ℕ)) (s t : BenchState) → snap ≡ other → records ≡ more → (a : RecordsRepresent v snap records s) (b : RecordsRepresent v other more t)
@@ -63,8 +63,8 @@ start_and_commands_are_unique v snap other records more s t e f a b =
 -- equal snapshots and records represent the same state
 pub state_of_records_is_unique : (v : Version) (snap other : List ℕ) (records more : List (List ℕ)) (s t : BenchState) → snap ≡ other → records ≡ more → RecordsRepresent v snap records s → RecordsRepresent v other more t → s ≡ t
 state_of_records_is_unique v snap other records more s t e f a b =
-    let same = start_and_commands_are_unique v snap other records more s t e f a b in
-    a.state ∙ ap (fold a.start) same.1 ∙ ap (λ (x : BenchState). fold x b.commands) same.0 ∙ sym b.state
+    let equal_start_and_commands = start_and_commands_are_unique v snap other records more s t e f a b in
+    a.state ∙ ap (fold a.start) equal_start_and_commands.1 ∙ ap (λ (x : BenchState). fold x b.commands) equal_start_and_commands.0 ∙ sym b.state
 
 -- a list split into the items before index `i`, the item at index `i`, and the items after this
 -- item
@@ -83,9 +83,9 @@ no_state_with_rejected_record v snap records r i s t e a none b =
     let start = snapshot_state_is_unique v snap b.start a.start b.snapshot a.snapshot in
     let replays : ReplaysCommands v a.start records b.commands = subst (λ (x : BenchState). ReplaysCommands v x records b.commands) start b.replays in
     let split = split_at_index records r i e in
-    let whole : ReplaysCommands v a.start (take i records ++ r ∷ split.0) b.commands = subst (λ (x : List (List ℕ)). ReplaysCommands v a.start x b.commands) split.1 replays in
+    let replays_all : ReplaysCommands v a.start (take i records ++ r ∷ split.0) b.commands = subst (λ (x : List (List ℕ)). ReplaysCommands v a.start x b.commands) split.1 replays in
     no_replay_with_rejected_record v a.start (take i records) a.commands b.commands r (split.0) a.replays
-    (λ c spells accepted. none c spells (subst (λ (x : BenchState). refusal x c ≡ None) (sym a.state) accepted)) whole
+    (λ c spells accepted. none c spells (subst (λ (x : BenchState). refusal x c ≡ None) (sym a.state) accepted)) replays_all
 
 -- ---- the cycle count of a log
 
@@ -94,15 +94,15 @@ log_cycles_at_least_those_of_prefix : (v : Version) (s : BenchState) (rs : List 
     → log_cycles cs + replay_cycles c ≤ log_cycles ds
 log_cycles_at_least_those_of_prefix v s [] [] [] r c more h spells k = absurd k
 log_cycles_at_least_those_of_prefix v s [] [] (d ∷ ds) r c more h spells k =
-    let same : replay_cycles d ≡ replay_cycles c = ap replay_cycles (encoded_command_is_unique r d c k.0.0 spells.0) in
-    let whole = sum_by-cons replay_cycles d ds in omega (arith, same, whole)
+    let equal_cycles : replay_cycles d ≡ replay_cycles c = ap replay_cycles (encoded_command_is_unique r d c k.0.0 spells.0) in
+    let total_cycles = sum_by-cons replay_cycles d ds in omega (arith, equal_cycles, total_cycles)
 log_cycles_at_least_those_of_prefix v s [] (d ∷ cs) ds r c more h spells k = absurd h
 log_cycles_at_least_those_of_prefix v s (q ∷ rs) [] ds r c more h spells k = absurd h
 log_cycles_at_least_those_of_prefix v s (q ∷ rs) (d ∷ cs) [] r c more h spells k = absurd k
 log_cycles_at_least_those_of_prefix v s (q ∷ rs) (d ∷ cs) (e ∷ ds) r c more h spells k =
-    let same : e ≡ d = encoded_command_is_unique q e d k.0.0 h.0.0 in
-    let rest = log_cycles_at_least_those_of_prefix v (after s d) rs cs ds r c more (h.2) spells (subst (λ (x : Command). ReplaysCommands v (after s x) (rs ++ r ∷ more) ds) same (k.2)) in
-    let equal_cycles : replay_cycles e ≡ replay_cycles d = ap replay_cycles same in
+    let equal_commands : e ≡ d = encoded_command_is_unique q e d k.0.0 h.0.0 in
+    let rest = log_cycles_at_least_those_of_prefix v (after s d) rs cs ds r c more (h.2) spells (subst (λ (x : Command). ReplaysCommands v (after s x) (rs ++ r ∷ more) ds) equal_commands (k.2)) in
+    let equal_cycles : replay_cycles e ≡ replay_cycles d = ap replay_cycles equal_commands in
     let left = sum_by-cons replay_cycles d cs in
     let right = sum_by-cons replay_cycles e ds in omega (arith, rest, equal_cycles, left, right)
 
@@ -113,8 +113,8 @@ no_state_with_too_many_cycles v snap records r i cycles s t c e a spells over b 
     let start = snapshot_state_is_unique v snap b.start a.records_represent.start b.snapshot a.records_represent.snapshot in
     let replays : ReplaysCommands v a.records_represent.start records b.commands = subst (λ (x : BenchState). ReplaysCommands v x records b.commands) start b.replays in
     let split = split_at_index records r i e in
-    let whole : ReplaysCommands v a.records_represent.start (take i records ++ r ∷ split.0) b.commands = subst (λ (x : List (List ℕ)). ReplaysCommands v a.records_represent.start x b.commands) split.1 replays in
-    let least = log_cycles_at_least_those_of_prefix v a.records_represent.start (take i records) a.records_represent.commands b.commands r c (split.0) a.records_represent.replays spells whole in
+    let replays_all : ReplaysCommands v a.records_represent.start (take i records ++ r ∷ split.0) b.commands = subst (λ (x : List (List ℕ)). ReplaysCommands v a.records_represent.start x b.commands) split.1 replays in
+    let least = log_cycles_at_least_those_of_prefix v a.records_represent.start (take i records) a.records_represent.commands b.commands r c (split.0) a.records_represent.replays spells replays_all in
     let count = a.count in
     let bounded = b.bounded in
     let none : ⊥ = omega (arith, least, count, bounded, over) in none
@@ -128,7 +128,7 @@ records_represent_appended_command v snap r records s c p spells accepted room =
   snapshot = p.snapshot;
   commands = p.commands ++ c ∷ [];
   replays = replays_appended_command v p.start records p.commands r c p.replays spells (subst (λ (t : BenchState). refusal t c ≡ None) p.state accepted);
-  bounded = let whole = sum_by_push replay_cycles p.commands c in omega (arith, whole, room);
+  bounded = let total_cycles = sum_by_push replay_cycles p.commands c in omega (arith, total_cycles, room);
   state = ap (λ (t : BenchState). after t c) p.state ∙ sym (fold-append p.start p.commands (c ∷ []));
 }
 
@@ -139,7 +139,7 @@ replayed_with_appended_command v snap r records cycles more s c p spells accepte
     let count = p.count in
     record {
       records_represent = records_represent_appended_command v snap r records s c p.records_represent spells accepted (omega (arith, count, is, room));
-      count = let whole = sum_by_push replay_cycles p.records_represent.commands c in omega (arith, whole, count, is);
+      count = let total_cycles = sum_by_push replay_cycles p.records_represent.commands c in omega (arith, total_cycles, count, is);
     }
 
 -- a snapshot without records represents the state that it encodes, with a cycle count of 0

@@ -32,7 +32,7 @@ open_error_is_device_or_memory NotBlank disk s represents h = absurd h
 pub error_after_cut_is_device_or_memory : (t : ℕ) (old new found : DiskState) (s : BenchState) (done reached : List Command) (fault : StoreFault) → KeepsCommands old new s done reached → time_of old ≤ t
     → IsLeftByCut t new found → SessionErrorImplies fault found → (fault ≡ Device) ⊎ (fault ≡ NoMemory)
 error_after_cut_is_device_or_memory t old new found s done reached fault kept le cut h =
-    let there = kept.each t (bytes_of found) le cut.found in open_error_is_device_or_memory fault found there.state there.represents h
+    let represented_prefix = kept.each t (bytes_of found) le cut.found in open_error_is_device_or_memory fault found represented_prefix.state represented_prefix.represents h
 
 pub image_since_moment_represents_prefix : (old new : DiskState) (s : BenchState) (done reached : List Command) (kept : KeepsCommands old new s done reached) (j moment : ℕ) (image : List ℕ)
     → slice_get kept.acknowledged.moments j ≡ Some moment → images_since moment new image → RepresentsPrefix s reached (j + 1) image
@@ -42,13 +42,13 @@ image_since_moment_represents_prefix old new s done reached kept j moment image 
 
 pub image_at_end_represents_prefix : (old new : DiskState) (s : BenchState) (done reached : List Command) (image : List ℕ) → KeepsCommands old new s done reached → images_of new image → RepresentsPrefix s reached (length done) image
 image_at_end_represents_prefix old new s done reached image kept now =
-    let rises = rising old new done kept.acknowledged in
-    let behind = clock_at_most_last_moment (time_of old) kept.acknowledged.moments rises in
+    let rising_moments = rising old new done kept.acknowledged in
+    let clock_not_later = clock_at_most_last_moment (time_of old) kept.acknowledged.moments rising_moments in
     let within = kept.acknowledged.within in
     let count = one_moment_per_command old new done kept.acknowledged in
-    let all = all_acknowledged_by_last_moment (time_of new) (time_of old) kept.acknowledged.moments within rises in
-    represents_prefix_with_lower_minimum s reached (length done) (acknowledged_by (time_of new) kept.acknowledged.moments) image (omega (arith, all, count))
-    (kept.each (time_of new) image (omega (arith, behind, within)) ((disk_is_lawful new).counts_now (time_of new) image now))
+    let all_acknowledged = all_acknowledged_by_last_moment (time_of new) (time_of old) kept.acknowledged.moments within rising_moments in
+    represents_prefix_with_lower_minimum s reached (length done) (acknowledged_by (time_of new) kept.acknowledged.moments) image (omega (arith, all_acknowledged, count))
+    (kept.each (time_of new) image (omega (arith, clock_not_later, within)) ((disk_is_lawful new).counts_now (time_of new) image now))
 
 pub image_at_end_represents_final_state : (old new : DiskState) (s : BenchState) (cs : List Command) (image : List ℕ) → KeepsCommands old new s cs cs → images_of new image → Represents image (fold s cs)
 image_at_end_represents_final_state old new s cs image kept now = represents_state_after_all_commands s cs (length cs) image (omega arith) (image_at_end_represents_prefix old new s cs cs image kept now)

@@ -57,16 +57,16 @@ pub made_room_if_log_has_room : (disk : DiskState) (used bytes more cycles : ℕ
     → HasRoom used bytes → cycles + more ≤ REPLAY_CYCLES → bytes ≡ length (command_bytes c) → more ≡ replay_cycles c → HasMadeRoom disk disk c cycles s
 made_room_if_log_has_room disk used bytes more cycles s c was is room few is_long is_more =
     let log = log_of_file (bytes_of disk) s was.represents in
-    let held = file_holds_its_log (bytes_of disk) s was.represents in
+    let holds_log = file_holds_its_log (bytes_of disk) s was.represents in
     let frames_length = frames_length_is_log_bytes disk cycles s was in
     let count = was.count in
     let has_room : has_room_for log c ≡ true = has_room_for_is_true log c (omega (arith, is, frames_length, room, is_long), omega (arith, few, count, is_more)) in
     let P : Bool → Type 0 = λ b. LogHolds (bytes_of disk) (if b then log else []) in
     record {
       log = log;
-      held = held;
+      held = holds_log;
       ticks = ap (λ (b : Bool). time_of disk + (if b then 4 else 8)) (sym has_room);
-      holds = subst P (sym has_room) held;
+      holds = subst P (sym has_room) holds_log;
       recorded = was;
     }
 
@@ -129,10 +129,10 @@ pub leaves_either_state_after_append : (old mid new : DiskState) (cycles : ℕ) 
     → LeavesOnly mid new (SatisfiesEither (λ f. Holds f was.represents.snap was.represents.records) (λ f. Holds f was.represents.snap (was.represents.records ++ r ∷ []))) → LeavesEitherState old new s (after s c)
 leaves_either_state_after_append old mid new cycles s c r was spells accepted few first moments =
     let count = was.count in
-    let more = records_represent_appended_command Two was.represents.snap r was.represents.records s c was.represents.records_represent (spells, refl) accepted (omega (arith, count, few)) in
+    let records_represent_more = records_represent_appended_command Two was.represents.snap r was.represents.records s c was.represents.records_represent (spells, refl) accepted (omega (arith, count, few)) in
     leaves_only_in_two_stretches old mid new (SatisfiesEither (λ file. Represents file s) (λ file. Represents file (after s c))) (leaves_either_state_before_append old mid s (after s c) first)
     (leaves_only_weaker_property mid new (SatisfiesEither (λ f. Holds f was.represents.snap was.represents.records) (λ f. Holds f was.represents.snap (was.represents.records ++ r ∷ []))) (SatisfiesEither (λ file. Represents file s) (λ file. Represents file (after s c)))
-    (λ f. ⊎_elim (λ there. inl (represents_from_records was.represents.snap was.represents.records s was.represents.records_represent f there)) (λ here. inr (represents_from_records was.represents.snap (was.represents.records ++ r ∷ []) (after s c) more f here))) moments)
+    (λ f. ⊎_elim (λ there. inl (represents_from_records was.represents.snap was.represents.records s was.represents.records_represent f there)) (λ here. inr (represents_from_records was.represents.snap (was.represents.records ++ r ∷ []) (after s c) records_represent_more f here))) moments)
 
 -- after the record was appended, the disk has recorded the state after the command
 pub recorded_after_append : (old new : DiskState) (cycles more : ℕ) (s : BenchState) (c : Command) (r : List ℕ) (was : IsRecorded old cycles s) → Encodes r c → refusal s c ≡ None → more ≡ replay_cycles c

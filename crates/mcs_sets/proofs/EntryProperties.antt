@@ -13,10 +13,10 @@ bus-valid-at-every-moment : (entries : List Entry) (s : TrackedMachine) → IsBu
     (f : ℕ → Levels) → ((k : ℕ) → FitsBoard s.1.board (f k)) → (k : ℕ) → IsBusOf s.1.board s.1.rom (driven no_observer f k s).1
 bus-valid-at-every-moment entries s of stays f fit zero = of
 bus-valid-at-every-moment entries s of stays f fit (suc k) =
-    let was = bus-valid-at-every-moment entries s of stays f fit k in
+    let bus_valid = bus-valid-at-every-moment entries s of stays f fit k in
     let among = stays f fit k in
     cycle-of_board s.1.board s.1.rom (with_levels (f k) (driven no_observer f k s)) (member-below-16 (acc_values_of among.0 (driven no_observer f k s).0.cy) (driven no_observer f k s).0.acc among.2.acc)
-    (record { board = was.board; rom = was.rom; ram = was.ram; status = was.status; test = (fit k).test })
+    (record { board = bus_valid.board; rom = bus_valid.rom; ram = bus_valid.ram; status = bus_valid.status; test = (fit k).test })
 
 pub entries-suffice : EntriesSuffice
 entries-suffice p entries s each of stays = λ limits f allowed k.

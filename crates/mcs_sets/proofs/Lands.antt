@@ -118,13 +118,13 @@ pair-write-equals-stand-in-write l q k a b x y len small e f =
     let high_in_range : nat_lt (2 * k + 1) 16 ≡ true = lt-ltb (2 * k + 1) 16 high in
     let set = slice_set q (2 * k) x in
     let equal_lengths : length set ≡ length q = length-set q (2 * k) x in
-    let there : 2 * k < length q = omega arith in
-    let here : 2 * k + 1 < length set = omega arith in
+    let low_in_list : 2 * k < length q = omega arith in
+    let high_in_list : 2 * k + 1 < length set = omega arith in
     let different_indices : 2 * k ≢ 2 * k + 1 = λ z. omega arith in
     let upper : cond (nat_lt (2 * k) 16) (slice_index (slice_set set (2 * k + 1) y) (2 * k)) 0 ≡ x =
-    rw low_in_range (get_or-set_other set (2 * k + 1) (2 * k) y 0 different_indices ∙ get_or-set_same q (2 * k) x 0 there) in
+    rw low_in_range (get_or-set_other set (2 * k + 1) (2 * k) y 0 different_indices ∙ get_or-set_same q (2 * k) x 0 low_in_list) in
     let lower : cond (nat_lt (2 * k + 1) 16) (slice_index (slice_set set (2 * k + 1) y) (2 * k + 1)) 0 ≡ y =
-    rw high_in_range (get_or-set_same set (2 * k + 1) y 0 here) in
+    rw high_in_range (get_or-set_same set (2 * k + 1) y 0 high_in_list) in
     ap (λ (z : ℕ). slice_set (slice_set l (2 * k) z) (2 * k + 1) b) (e ∙ sym upper)
     ∙ ap (λ (z : ℕ). slice_set (slice_set l (2 * k) (cond (nat_lt (2 * k) 16) (slice_index (slice_set set (2 * k + 1) y) (2 * k)) 0)) (2 * k + 1) z) (f ∙ sym lower)
 
@@ -143,12 +143,12 @@ ram_src-nibble-after-src true m bank byte k len small low high =
       | inl e ↦
           let is_bank_location : eqb k (18 + bank) ≡ true = eq-eqb k (18 + bank) e in
           let bank_index : k - 18 ≡ bank = omega arith in
-          let there : bank < length m.ram_src = omega arith in
-          rw is_bank_location (ap (λ (j : ℕ). slice_index (slice_set m.ram_src bank byte) j / 16) bank_index ∙ ap (λ (n : ℕ). n / 16) (get_or-set_same m.ram_src bank byte 0 there))
+          let bank_in_list : bank < length m.ram_src = omega arith in
+          rw is_bank_location (ap (λ (j : ℕ). slice_index (slice_set m.ram_src bank byte) j / 16) bank_index ∙ ap (λ (n : ℕ). n / 16) (get_or-set_same m.ram_src bank byte 0 bank_in_list))
       | inr ne ↦
-          let no : eqb k (18 + bank) ≡ false = ne_eqb k (18 + bank) ne in
-          let apart : k - 18 ≢ bank = λ e. ne (omega arith) in
-          rw no (ap (λ (n : ℕ). n / 16) (get_or-set_other m.ram_src bank (k - 18) byte 0 apart))
+          let not_bank_location : eqb k (18 + bank) ≡ false = ne_eqb k (18 + bank) ne in
+          let other_bank : k - 18 ≢ bank = λ e. ne (omega arith) in
+          rw not_bank_location (ap (λ (n : ℕ). n / 16) (get_or-set_other m.ram_src bank (k - 18) byte 0 other_bank))
     ]
 
 rom_src-after-src : (b : Bool) (m : BusState) (bank byte : ℕ) → (bus_with_src_byte b m bank byte).rom_src ≡ byte
@@ -168,28 +168,28 @@ locations-after-src : (b : Bool) (s t : TrackedMachine) (byte v : ℕ) (o : Land
     (k : ℕ) → k < 26 → value_at t k ≡ value_after o k (value_at s k)
 locations-after-src b s t byte v o upper bus bank regs first first_value second second_value small len k h =
     elim (cases_eq k 16) [
-      | inl e ↦ let is : eqb k 16 ≡ true = eq-eqb k 16 e in rw is bank
+      | inl e ↦ let is_16 : eqb k 16 ≡ true = eq-eqb k 16 e in rw is_16 bank
       | inr ne ↦
-          let is : eqb k 16 ≡ false = ne_eqb k 16 ne in
+          let is_16 : eqb k 16 ≡ false = ne_eqb k 16 ne in
           elim (cases_lt k 16) [
             | inl low ↦
                 let lt : nat_lt k 16 ≡ true = lt-ltb k 16 low in
                 let below_18 : k < 18 = omega arith in
                 let f : eqb k o.first_location ≡ false = ne_eqb k o.first_location (λ e. omega arith) in
                 let g : eqb k o.second_location ≡ false = ap (eqb k) second ∙ not-second-location-below-18 b s.0.dcl k below_18 in
-                rw (is, lt, f, g) (ap (λ (l : List ℕ). slice_index l k) regs)
+                rw (is_16, lt, f, g) (ap (λ (l : List ℕ). slice_index l k) regs)
             | inr high ↦
                 let lt : nat_lt k 16 ≡ false = le-ltb k 16 high in
                 elim (cases_eq k 17) [
                   | inl e ↦
                       let is_17 : eqb k 17 ≡ true = eq-eqb k 17 e in
                       let f : eqb k o.first_location ≡ true = ap (eqb k) first ∙ is_17 in
-                      rw (is, lt, f, is_17) (ap (λ (m : BusState). m.rom_src / 16) bus ∙ ap (λ (n : ℕ). n / 16) (rom_src-after-src b s.1 s.0.dcl byte) ∙ upper ∙ sym first_value)
+                      rw (is_16, lt, f, is_17) (ap (λ (m : BusState). m.rom_src / 16) bus ∙ ap (λ (n : ℕ). n / 16) (rom_src-after-src b s.1 s.0.dcl byte) ∙ upper ∙ sym first_value)
                   | inr other ↦
                       let is_17 : eqb k 17 ≡ false = ne_eqb k 17 other in
                       let f : eqb k o.first_location ≡ false = ap (eqb k) first ∙ is_17 in
                       let at_least_18 : 18 ≤ k = omega arith in
-                      rw (is, lt, f, is_17) (ap (λ (m : BusState). slice_index m.ram_src (k - 18) / 16) bus ∙ ram_src-nibble-after-src b s.1 s.0.dcl byte k len small at_least_18 h
+                      rw (is_16, lt, f, is_17) (ap (λ (m : BusState). slice_index m.ram_src (k - 18) / 16) bus ∙ ram_src-nibble-after-src b s.1 s.0.dcl byte k len small at_least_18 h
                       ∙ ap (λ (n : ℕ). cond (eqb k (cond b (18 + s.0.dcl) 26)) n (slice_index s.1.ram_src (k - 18) / 16)) (upper ∙ sym second_value)
                       ∙ ap (λ (n : ℕ). cond (eqb k n) o.second_value (slice_index s.1.ram_src (k - 18) / 16)) (sym second))
                 ]
@@ -230,7 +230,7 @@ landing-correct-if-no-register-changes op s m ret fit src agrees r first second 
 pub landing-is-correct : LandingIsCorrect
 unfolding fetch_of ram_of status_of
 landing-is-correct (Jcn c w) s m ret fit =
-    let level : s.1.test % 2 ≡ s.1.test = let small = fit.test in omega arith in
+    let level : s.1.test % 2 ≡ s.1.test = let valid_test = fit.test in omega arith in
     let x = after_fetch (Jcn c w) s.0 in
     let y = after_fetch (Jcn c w) (stand_in_before (Jcn c w) s.0.pc ret (choice_of (Jcn c w) s)) in
     let e = registers-after-conditional-jump (is_taken c x s.1.test) x w in
@@ -287,7 +287,7 @@ landing-is-correct (Ld r) s m ret fit =
     (record { pc = refl; calls = refl; ret = fit.ret; dcl = refl; cy = refl; acc = sym (stand-in-register-value (register_of s.0 r) r fit.valid) })
     refl refl refl
 landing-is-correct (Jin k) s m ret fit =
-    let small = fit.valid in
+    let valid_op = fit.valid in
     let a = register_of s.0 (2 * k) in
     let b = register_of s.0 (2 * k + 1) in
     let different_registers : 2 * k ≡ 2 * k + 1 → ⊥ = λ e. omega arith in
@@ -306,8 +306,8 @@ landing-is-correct (Jin k) s m ret fit =
     })
     refl refl refl
 landing-is-correct (Jms h b) s m ret fit =
-    let few = fit.calls in
-    let opened : calls_after (Some (Jms h b)) s.2.calls ≡ s.2.calls + 1 = let lt : nat_lt s.2.calls 3 ≡ true = lt-ltb s.2.calls 3 few in rw lt refl in
+    let calls_below_three = fit.calls in
+    let opened : calls_after (Some (Jms h b)) s.2.calls ≡ s.2.calls + 1 = let lt : nat_lt s.2.calls 3 ≡ true = lt-ltb s.2.calls 3 calls_below_three in rw lt refl in
     landing-correct-if-no-register-changes (Jms h b) s m ret fit (record { rom = refl; ram = refl })
     (record {
       pc = refl;
@@ -319,10 +319,10 @@ landing-is-correct (Jms h b) s m ret fit =
     })
     refl refl refl
 landing-is-correct (Bbl d) s m ret fit =
-    let some = fit.calls in
+    let calls_above_zero = fit.calls in
     landing-correct-if-no-register-changes (Bbl d) s m ret fit (record { rom = refl; ram = refl })
     (record {
-      pc = fit.ret 0 (omega arith) some;
+      pc = fit.ret 0 (omega arith) calls_above_zero;
       calls = refl;
       dcl = refl;
       cy = refl;
@@ -331,50 +331,50 @@ landing-is-correct (Bbl d) s m ret fit =
     })
     refl refl refl
 landing-is-correct (Fim k b) s m ret fit =
-    let small = fit.valid in
+    let valid_op = fit.valid in
     let low : 2 * k < 16 = omega arith in
     let high : 2 * k + 1 < 16 = omega arith in
-    landing-describes-if-pair-changes s (machine_after (Fim k b) s) (landing (Fim k b) s.0.pc ret s.2.calls m (choice_of (Fim k b) s)) k small fit.registers fit.banks
+    landing-describes-if-pair-changes s (machine_after (Fim k b) s) (landing (Fim k b) s.0.pc ret s.2.calls m (choice_of (Fim k b) s)) k valid_op fit.registers fit.banks
     (record { pc = refl; calls = refl; ret = fit.ret; dcl = refl; cy = refl; acc = refl }) (record { rom = refl; ram = refl })
-    (pair-write-equals-stand-in-write s.0.r (replicate 16 0) k (b / 16) (b % 16) (b / 16) (b % 16) refl small refl refl) refl refl
+    (pair-write-equals-stand-in-write s.0.r (replicate 16 0) k (b / 16) (b % 16) (b / 16) (b % 16) refl valid_op refl refl) refl refl
 landing-is-correct (Fin k) s m ret fit =
-    let small = fit.valid in
+    let valid_op = fit.valid in
     let a = register_of s.0 0 in
     let b = register_of s.0 1 in
     let from = address_on_page_of ((s.0.pc + 1) % 4096) (a * 16 + b) in
     let byte = slice_index s.1.rom from in
-    let other = slice_index m.rom from in
-    let same : byte ≡ other = ap (λ (xs : List ℕ). slice_index xs from) (sym fit.rom) in
-    landing-describes-if-pair-changes s (machine_after (Fin k) s) (landing (Fin k) s.0.pc ret s.2.calls m (choice_of (Fin k) s)) k small fit.registers fit.banks
+    let byte_in_rom = slice_index m.rom from in
+    let equal_bytes : byte ≡ byte_in_rom = ap (λ (xs : List ℕ). slice_index xs from) (sym fit.rom) in
+    landing-describes-if-pair-changes s (machine_after (Fin k) s) (landing (Fin k) s.0.pc ret s.2.calls m (choice_of (Fin k) s)) k valid_op fit.registers fit.banks
     (record { pc = refl; calls = refl; ret = fit.ret; dcl = refl; cy = refl; acc = refl }) (record { rom = refl; ram = refl })
-    (pair-write-equals-stand-in-write s.0.r (slice_set (replicate 16 a) 1 b) k (byte / 16) (byte % 16) (other / 16) (other % 16) refl small (ap (λ (x : ℕ). x / 16) same) (ap (λ (x : ℕ). x % 16) same)) refl refl
+    (pair-write-equals-stand-in-write s.0.r (slice_set (replicate 16 a) 1 b) k (byte / 16) (byte % 16) (byte_in_rom / 16) (byte_in_rom % 16) refl valid_op (ap (λ (x : ℕ). x / 16) equal_bytes) (ap (λ (x : ℕ). x % 16) equal_bytes)) refl refl
 landing-is-correct (Inc r) s m ret fit =
-    let small = fit.valid in
+    let valid_op = fit.valid in
     let v = register_of s.0 r in
-    landing-describes-if-one-register-changes s (machine_after (Inc r) s) (landing (Inc r) s.0.pc ret s.2.calls m (choice_of (Inc r) s)) r small fit.registers fit.banks
+    landing-describes-if-one-register-changes s (machine_after (Inc r) s) (landing (Inc r) s.0.pc ret s.2.calls m (choice_of (Inc r) s)) r valid_op fit.registers fit.banks
     (record { pc = refl; calls = refl; ret = fit.ret; dcl = refl; cy = refl; acc = refl }) (record { rom = refl; ram = refl })
-    (ap (slice_set s.0.r r) (ap (λ (x : ℕ). (x + 1) % 16) (sym (stand-in-register-value v r small)) ∙ sym (stand-in-register-after-set v r ((slice_index (replicate 16 v) r + 1) % 16) small))) refl refl
+    (ap (slice_set s.0.r r) (ap (λ (x : ℕ). (x + 1) % 16) (sym (stand-in-register-value v r valid_op)) ∙ sym (stand-in-register-after-set v r ((slice_index (replicate 16 v) r + 1) % 16) valid_op))) refl refl
 landing-is-correct (Xch r) s m ret fit =
-    let small = fit.valid in
+    let valid_op = fit.valid in
     let v = register_of s.0 r in
-    landing-describes-if-one-register-changes s (machine_after (Xch r) s) (landing (Xch r) s.0.pc ret s.2.calls m (choice_of (Xch r) s)) r small fit.registers fit.banks
-    (record { pc = refl; calls = refl; ret = fit.ret; dcl = refl; cy = refl; acc = sym (stand-in-register-value v r small) }) (record { rom = refl; ram = refl })
-    (ap (slice_set s.0.r r) (sym (stand-in-register-after-set v r s.0.acc small))) refl refl
+    landing-describes-if-one-register-changes s (machine_after (Xch r) s) (landing (Xch r) s.0.pc ret s.2.calls m (choice_of (Xch r) s)) r valid_op fit.registers fit.banks
+    (record { pc = refl; calls = refl; ret = fit.ret; dcl = refl; cy = refl; acc = sym (stand-in-register-value v r valid_op) }) (record { rom = refl; ram = refl })
+    (ap (slice_set s.0.r r) (sym (stand-in-register-after-set v r s.0.acc valid_op))) refl refl
 landing-is-correct (Isz r w) s m ret fit =
-    let small = fit.valid in
+    let valid_op = fit.valid in
     let v = register_of s.0 r in
     let x = after_fetch (Isz r w) s.0 in
     let y = after_fetch (Isz r w) (stand_in_before (Isz r w) s.0.pc ret (choice_of (Isz r w) s)) in
     let n = (v + 1) % 16 in
     let i = (slice_index (replicate 16 v) r + 1) % 16 in
-    let same : n ≡ i = ap (λ (z : ℕ). (z + 1) % 16) (sym (stand-in-register-value v r small)) in
+    let equal_values : n ≡ i = ap (λ (z : ℕ). (z + 1) % 16) (sym (stand-in-register-value v r valid_op)) in
     let e = registers-after-isz-jump (eqb n 0) (with_register x r n) w in
     let f = registers-after-isz-jump (eqb i 0) (with_register y r i) w in
     let o = landing (Isz r w) s.0.pc ret s.2.calls m (choice_of (Isz r w) s) in
-    let value : o.first_value ≡ i = ap (λ (xs : List ℕ). cond (nat_lt r 16) (slice_index xs r) 0) f.3 ∙ stand-in-register-after-set v r i small in
-    landing-describes-if-one-register-changes s (machine_after (Isz r w) s) o r small fit.registers fit.banks
+    let value : o.first_value ≡ i = ap (λ (xs : List ℕ). cond (nat_lt r 16) (slice_index xs r) 0) f.3 ∙ stand-in-register-after-set v r i valid_op in
+    landing-describes-if-one-register-changes s (machine_after (Isz r w) s) o r valid_op fit.registers fit.banks
     (record {
-      pc = e.5 ∙ ap (λ (z : ℕ). cond (eqb z 0) x.pc (address_on_page_of x.pc w)) same ∙ sym f.5;
+      pc = e.5 ∙ ap (λ (z : ℕ). cond (eqb z 0) x.pc (address_on_page_of x.pc w)) equal_values ∙ sym f.5;
       calls = refl;
       ret = λ k h l. ap (λ (xs : List ℕ). slice_index xs k) e.4 ∙ fit.ret k h l ∙ ap (λ (xs : List ℕ). slice_index xs k) (sym f.4);
       acc = e.0 ∙ sym f.0;
@@ -382,27 +382,27 @@ landing-is-correct (Isz r w) s m ret fit =
       dcl = e.2 ∙ sym f.2;
     })
     (record { rom = refl; ram = refl })
-    (e.3 ∙ ap (slice_set s.0.r r) (same ∙ sym value)) refl refl
+    (e.3 ∙ ap (slice_set s.0.r r) (equal_values ∙ sym value)) refl refl
 landing-is-correct (Src k) s m ret fit = landing-of-src-is-correct k s m ret fit
 landing-is-correct Wrm s m ret fit =
     let same_src = src-bytes-unchanged-by-after_ram s.1 s.0.dcl s.0.acc in
     landing-correct-if-no-register-changes Wrm s m ret fit (record { rom = same_src.0; ram = same_src.1 }) (record { pc = refl; calls = refl; ret = fit.ret; dcl = refl; cy = refl; acc = refl }) refl refl refl
 landing-is-correct Wmp s m ret fit =
-    let kept = src-bytes-unchanged-by-ram_port-write s.1 s.0.dcl s.0.acc in
-    landing-correct-if-no-register-changes Wmp s m ret fit (record { rom = kept.0; ram = kept.1 }) (record { pc = refl; calls = refl; ret = fit.ret; dcl = refl; cy = refl; acc = refl }) refl refl refl
+    let same_src = src-bytes-unchanged-by-ram_port-write s.1 s.0.dcl s.0.acc in
+    landing-correct-if-no-register-changes Wmp s m ret fit (record { rom = same_src.0; ram = same_src.1 }) (record { pc = refl; calls = refl; ret = fit.ret; dcl = refl; cy = refl; acc = refl }) refl refl refl
 landing-is-correct Wrr s m ret fit =
-    let kept = src-bytes-unchanged-by-rom_port-write s.1 s.0.acc in
-    landing-correct-if-no-register-changes Wrr s m ret fit (record { rom = kept.0; ram = kept.1 }) (record { pc = refl; calls = refl; ret = fit.ret; dcl = refl; cy = refl; acc = refl }) refl refl refl
+    let same_src = src-bytes-unchanged-by-rom_port-write s.1 s.0.acc in
+    landing-correct-if-no-register-changes Wrr s m ret fit (record { rom = same_src.0; ram = same_src.1 }) (record { pc = refl; calls = refl; ret = fit.ret; dcl = refl; cy = refl; acc = refl }) refl refl refl
 landing-is-correct Wr0 s m ret fit =
-    let kept = src-bytes-unchanged-by-after_status s.1 s.0.dcl 0 s.0.acc in
-    landing-correct-if-no-register-changes Wr0 s m ret fit (record { rom = kept.0; ram = kept.1 }) (record { pc = refl; calls = refl; ret = fit.ret; dcl = refl; cy = refl; acc = refl }) refl refl refl
+    let same_src = src-bytes-unchanged-by-after_status s.1 s.0.dcl 0 s.0.acc in
+    landing-correct-if-no-register-changes Wr0 s m ret fit (record { rom = same_src.0; ram = same_src.1 }) (record { pc = refl; calls = refl; ret = fit.ret; dcl = refl; cy = refl; acc = refl }) refl refl refl
 landing-is-correct Wr1 s m ret fit =
-    let kept = src-bytes-unchanged-by-after_status s.1 s.0.dcl 1 s.0.acc in
-    landing-correct-if-no-register-changes Wr1 s m ret fit (record { rom = kept.0; ram = kept.1 }) (record { pc = refl; calls = refl; ret = fit.ret; dcl = refl; cy = refl; acc = refl }) refl refl refl
+    let same_src = src-bytes-unchanged-by-after_status s.1 s.0.dcl 1 s.0.acc in
+    landing-correct-if-no-register-changes Wr1 s m ret fit (record { rom = same_src.0; ram = same_src.1 }) (record { pc = refl; calls = refl; ret = fit.ret; dcl = refl; cy = refl; acc = refl }) refl refl refl
 landing-is-correct Wr2 s m ret fit =
-    let kept = src-bytes-unchanged-by-after_status s.1 s.0.dcl 2 s.0.acc in
-    landing-correct-if-no-register-changes Wr2 s m ret fit (record { rom = kept.0; ram = kept.1 }) (record { pc = refl; calls = refl; ret = fit.ret; dcl = refl; cy = refl; acc = refl }) refl refl refl
+    let same_src = src-bytes-unchanged-by-after_status s.1 s.0.dcl 2 s.0.acc in
+    landing-correct-if-no-register-changes Wr2 s m ret fit (record { rom = same_src.0; ram = same_src.1 }) (record { pc = refl; calls = refl; ret = fit.ret; dcl = refl; cy = refl; acc = refl }) refl refl refl
 landing-is-correct Wr3 s m ret fit =
-    let kept = src-bytes-unchanged-by-after_status s.1 s.0.dcl 3 s.0.acc in
-    landing-correct-if-no-register-changes Wr3 s m ret fit (record { rom = kept.0; ram = kept.1 }) (record { pc = refl; calls = refl; ret = fit.ret; dcl = refl; cy = refl; acc = refl }) refl refl refl
+    let same_src = src-bytes-unchanged-by-after_status s.1 s.0.dcl 3 s.0.acc in
+    landing-correct-if-no-register-changes Wr3 s m ret fit (record { rom = same_src.0; ram = same_src.1 }) (record { pc = refl; calls = refl; ret = fit.ret; dcl = refl; cy = refl; acc = refl }) refl refl refl
 landing-is-correct op s m ret fit = landing-correct-if-no-register-changes op s m ret fit (record { rom = refl; ram = refl }) (record { pc = refl; calls = refl; ret = fit.ret; dcl = refl; cy = refl; acc = refl }) refl refl refl

@@ -18,17 +18,17 @@ pub locations-agree-from-registers : (s t : TrackedMachine) (o : Landing) → t.
     (k : ℕ) → k < 26 → value_at t k ≡ value_after o k (value_at s k)
 locations-agree-from-registers s t o bank src srcs regs beyond k h =
     elim (cases_eq k 16) [
-      | inl e ↦ let is : eqb k 16 ≡ true = eq-eqb k 16 e in rw is bank
+      | inl e ↦ let is_16 : eqb k 16 ≡ true = eq-eqb k 16 e in rw is_16 bank
       | inr ne ↦
-          let is : eqb k 16 ≡ false = ne_eqb k 16 ne in
+          let is_16 : eqb k 16 ≡ false = ne_eqb k 16 ne in
           elim (cases_lt k 16) [
-            | inl low ↦ let lt : nat_lt k 16 ≡ true = lt-ltb k 16 low in rw (is, lt) (regs k low)
+            | inl low ↦ let lt : nat_lt k 16 ≡ true = lt-ltb k 16 low in rw (is_16, lt) (regs k low)
             | inr high ↦
                 let lt : nat_lt k 16 ≡ false = le-ltb k 16 high in
                 let above_16 : 16 < k = omega arith in
                 let f : eqb k o.first_location ≡ false = ne_eqb k o.first_location (beyond k above_16 h).0 in
                 let g : eqb k o.second_location ≡ false = ne_eqb k o.second_location (beyond k above_16 h).1 in
-                rw (is, lt, f, g, src, srcs)
+                rw (is_16, lt, f, g, src, srcs)
           ]
     ]
 
@@ -55,8 +55,8 @@ locations-agree-if-one-register-changes s t o i small len bank src srcs r first 
     elim (cases_eq k i) [
       | inl e ↦
           let f : eqb k o.first_location ≡ true = eq-eqb k o.first_location (e ∙ sym first) in
-          let there : i < length s.0.r = omega arith in
-          rw f (register_after ∙ ap (slice_index (slice_set s.0.r i o.first_value)) e ∙ get_or-set_same s.0.r i o.first_value 0 there)
+          let i_in_list : i < length s.0.r = omega arith in
+          rw f (register_after ∙ ap (slice_index (slice_set s.0.r i o.first_value)) e ∙ get_or-set_same s.0.r i o.first_value 0 i_in_list)
       | inr ne ↦
           let f : eqb k o.first_location ≡ false = ne_eqb k o.first_location (λ e. ne (e ∙ first)) in
           rw (f, g) (register_after ∙ get_or-set_other s.0.r i k o.first_value 0 ne)
@@ -71,22 +71,22 @@ locations-agree-if-pair-changes s t o i small len bank src srcs r first second =
     let upper = slice_set s.0.r (2 * i) o.first_value in
     locations-agree-from-registers s t o bank src srcs
     (λ k low.
-    let moved : slice_index t.0.r k ≡ slice_index (slice_set upper (2 * i + 1) o.second_value) k = ap (λ (l : List ℕ). slice_index l k) r in
+    let register_after : slice_index t.0.r k ≡ slice_index (slice_set upper (2 * i + 1) o.second_value) k = ap (λ (l : List ℕ). slice_index l k) r in
     elim (cases_eq k (2 * i + 1)) [
       | inl e ↦
           let f : eqb k o.first_location ≡ false = ne_eqb k o.first_location (λ x. omega arith) in
           let g : eqb k o.second_location ≡ true = eq-eqb k o.second_location (e ∙ sym second) in
-          let same : length upper ≡ length s.0.r = length-set s.0.r (2 * i) o.first_value in
-          let there : 2 * i + 1 < length upper = omega arith in
-          rw (f, g) (moved ∙ ap (slice_index (slice_set upper (2 * i + 1) o.second_value)) e ∙ get_or-set_same upper (2 * i + 1) o.second_value 0 there)
+          let equal_lengths : length upper ≡ length s.0.r = length-set s.0.r (2 * i) o.first_value in
+          let high_in_list : 2 * i + 1 < length upper = omega arith in
+          rw (f, g) (register_after ∙ ap (slice_index (slice_set upper (2 * i + 1) o.second_value)) e ∙ get_or-set_same upper (2 * i + 1) o.second_value 0 high_in_list)
       | inr ne ↦
           let g : eqb k o.second_location ≡ false = ne_eqb k o.second_location (λ e. ne (e ∙ second)) in
-          let low_kept : slice_index t.0.r k ≡ slice_index upper k = moved ∙ get_or-set_other upper (2 * i + 1) k o.second_value 0 ne in
+          let low_kept : slice_index t.0.r k ≡ slice_index upper k = register_after ∙ get_or-set_other upper (2 * i + 1) k o.second_value 0 ne in
           elim (cases_eq k (2 * i)) [
             | inl e ↦
                 let f : eqb k o.first_location ≡ true = eq-eqb k o.first_location (e ∙ sym first) in
-                let there : 2 * i < length s.0.r = omega arith in
-                rw f (low_kept ∙ ap (slice_index upper) e ∙ get_or-set_same s.0.r (2 * i) o.first_value 0 there)
+                let high_in_list : 2 * i < length s.0.r = omega arith in
+                rw f (low_kept ∙ ap (slice_index upper) e ∙ get_or-set_same s.0.r (2 * i) o.first_value 0 high_in_list)
             | inr other ↦
                 let f : eqb k o.first_location ≡ false = ne_eqb k o.first_location (λ e. other (e ∙ first)) in
                 rw (f, g) (low_kept ∙ get_or-set_other s.0.r (2 * i) k o.first_value 0 other)

@@ -42,11 +42,11 @@ covers-machine-after-landing e to s t o is l k = record {
 
 register-value-allowed : (e : Entry) (s : TrackedMachine) (r : ℕ) → r < 16 → Covers e s → has (slice_index e.sets r) (register_of s.0 r) ≡ true
 register-value-allowed e s r small is =
-    let far : r ≢ 16 = λ z. omega arith in
-    let no : eqb r 16 ≡ false = ne_eqb r 16 far in
+    let not_16 : r ≢ 16 = λ z. omega arith in
+    let is_not_16 : eqb r 16 ≡ false = ne_eqb r 16 not_16 in
     let lt : nat_lt r 16 ≡ true = lt-ltb r 16 small in
     let below : r < 26 = omega arith in
-    let place : value_at s r ≡ register_of s.0 r = rw (no, lt) refl in
+    let place : value_at s r ≡ register_of s.0 r = rw (is_not_16, lt) refl in
     ap (has (slice_index e.sets r)) (sym place) ∙ is.locations r below
 
 full-set-has-each-nibble : (n : ℕ) → n < 16 → has 65535 n ≡ true
@@ -154,14 +154,14 @@ choice_of-is-choice_at op s small carry =
 own-choice-covered : (board : BoardParts) (rom : List ℕ) (entries : List Entry) (op : Op) (e : Entry) (s : TrackedMachine) → IsValidOp op → IsBusOf board rom s.1 → Covers e s → AllChoicesCovered rom board entries e op → IsChoiceCovered rom board entries e op (choice_of op s)
 own-choice-covered board rom entries op e s valid of is all =
     let allowed = own-choice-allowed board rom op e s valid of is in
-    let small = member-below-16 (acc_values_of e s.0.cy) s.0.acc allowed.acc in
+    let acc_below_16 = member-below-16 (acc_values_of e s.0.cy) s.0.acc allowed.acc in
     let carry = is.carry in
-    let same = choice_of-is-choice_at op s small carry in
+    let equal_choices = choice_of-is-choice_at op s acc_below_16 carry in
     let bank = member-below-16 (slice_index e.sets 16) s.0.dcl allowed.bank in
     let first = member-below-16 (first_operand_set op e) (first_operand_of op s.0 s.1) allowed.first_operand in
     let second = member-below-16 (second_operand_set op e) (second_operand_of op s.0 s.1) allowed.second_operand in
-    subst (IsChoiceCovered rom board entries e op) (sym same)
-    (all (s.0.acc + 16 * s.0.cy) s.0.dcl (first_operand_of op s.0 s.1) (second_operand_of op s.0 s.1) (omega arith) bank first second (subst (AllowsChoice e op) same allowed))
+    subst (IsChoiceCovered rom board entries e op) (sym equal_choices)
+    (all (s.0.acc + 16 * s.0.cy) s.0.dcl (first_operand_of op s.0 s.1) (second_operand_of op s.0 s.1) (omega arith) bank first second (subst (AllowsChoice e op) equal_choices allowed))
 
 stand-in-fits-machine : (board : BoardParts) (rom : List ℕ) (op : Op) (e : Entry) (s : TrackedMachine) (bus : BusState) → IsValidOp op → CallsAllow op e.calls → IsBusOf board rom s.1 → Covers e s → s.0.dcl < 8 → bus.rom ≡ rom → bus.board ≡ board → StandInFits op s bus e.ret
 stand-in-fits-machine board rom op e s bus valid calls of is few same_rom same_board = record {

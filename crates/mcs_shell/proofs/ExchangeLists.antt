@@ -113,5 +113,5 @@ pub WroteAnswers-append : (s : BenchState) (xs ys : List Exchange) (a b c : Know
 WroteAnswers-append s [] ys a b c h k = subst (λ (v : KnownBytes). WroteAnswers s ys v c) h k
 WroteAnswers-append s (x ∷ xs) ys a b c h k =
     let t = fold s (acknowledged_commands s x.input x.outcome) in
-    let then : WroteAnswers (state_after_exchanges t xs) ys b c = subst (λ (u : BenchState). WroteAnswers u ys b c) (fold-append s (acknowledged_commands s x.input x.outcome) (results_in_order acknowledged_commands t xs)) k in
-    (h.0, h.1, WroteAnswers-append t xs ys h.0 b c h.2 then)
+    let wrote_later : WroteAnswers (state_after_exchanges t xs) ys b c = subst (λ (u : BenchState). WroteAnswers u ys b c) (fold-append s (acknowledged_commands s x.input x.outcome) (results_in_order acknowledged_commands t xs)) k in
+    (h.0, h.1, WroteAnswers-append t xs ys h.0 b c h.2 wrote_later)

@@ -56,7 +56,7 @@ prefix_kept_from_run state_of run t u s same given a fewer found honest durable 
     let least = h.after.at_least in
     let most = h.after.at_most in
     let kept_length : length (take h.after.count reached) ≡ h.after.count = length_of_prefix reached h.after.count most in
-    let is : h.state ≡ fold s (take h.after.count reached) = h.after.state ∙ ap (λ (v : BenchState). fold v (take h.after.count reached)) same in (
+    let state_is : h.state ≡ fold s (take h.after.count reached) = h.after.state ∙ ap (λ (v : BenchState). fold v (take h.after.count reached)) same in (
       take h.after.count reached,
       record {
         began = same;
@@ -65,7 +65,7 @@ prefix_kept_from_run state_of run t u s same given a fewer found honest durable 
         parts = sym (take-append-drop h.after.count reached);
         holds = omega (arith, fewer, least, kept_length);
       },
-      record { honest = honest; durable = durable; represents = inl (subst (Represents (bytes_of found)) is h.represents) },
+      record { honest = honest; durable = durable; represents = inl (subst (Represents (bytes_of found)) state_is h.represents) },
     )
 
 -- A run that was stopped after its session had opened: some commands are kept, and the disk found
@@ -74,8 +74,8 @@ kept_if_stopped_after_opening : {D : Type 0} (state_of : D → DiskState) → (r
     → time_of (state_of run.before.disk) ≤ t → IsLeftByCut t (state_of run.after.disk) (state_of found)
     → (kept : List Command) × AreKeptFromRun state_of run t s kept × DurablyRepresents (state_of found) (fold s kept)
 kept_if_stopped_after_opening state_of run t s found same given late cut =
-    let kept = keeps_commands_of_run state_of run given in
-    prefix_kept_from_run state_of run t t s same given (answers_and_acknowledges_run state_of run kept) (omega arith) (state_of found) cut.honest cut.durable (kept.each t (bytes_of (state_of found)) late cut.found)
+    let kept_commands = keeps_commands_of_run state_of run given in
+    prefix_kept_from_run state_of run t t s same given (answers_and_acknowledges_run state_of run kept_commands) (omega arith) (state_of found) cut.honest cut.durable (kept_commands.each t (bytes_of (state_of found)) late cut.found)
 
 -- A run that was stopped while its session was being opened, or at the end of the opening. Some
 -- commands (perhaps none) are kept, and the disk found represents the state after these commands.
@@ -85,21 +85,21 @@ kept_if_stopped_while_opening : {D : Type 0} (state_of : D → DiskState) → (d
 kept_if_stopped_while_opening state_of disk run t s found here same given migrates late early cut =
     let before : DiskState = state_of run.before.disk in
     let image : List ℕ = bytes_of (state_of found) in
-    let kept = keeps_commands_of_run state_of run given in
+    let kept_commands = keeps_commands_of_run state_of run given in
     let done : List Command = acknowledged_commands_of_run run in
-    let none : acknowledged_by t kept.acknowledged.moments ≡ 0 = none_acknowledged_before_run t (time_of before) kept.acknowledged.moments early (rising before (state_of run.after.disk) done kept.acknowledged) in
-    elim (image_since_before_or_in_stretch before (state_of run.after.disk) kept.later t image cut.found) [
+    let none_acknowledged : acknowledged_by t kept_commands.acknowledged.moments ≡ 0 = none_acknowledged_before_run t (time_of before) kept_commands.acknowledged.moments early (rising before (state_of run.after.disk) done kept_commands.acknowledged) in
+    elim (image_since_before_or_in_stretch before (state_of run.after.disk) kept_commands.later t image cut.found) [
       | inl left ↦
-          let then : RepresentsInEitherVersion image s = ⊎_elim
+          let image_represents : RepresentsInEitherVersion image s = ⊎_elim
           (λ (old : images_of (state_of disk) image). subst (λ (file : List ℕ). RepresentsInEitherVersion file s) (sym (here.durable image old)) here.represents)
           (λ (new : RepresentsInEitherVersion image run.before.state). subst (RepresentsInEitherVersion image) same new)
           (migrates.leaves.each image ((disk_is_lawful before).longer (time_of (state_of disk)) t image late left)) in (
             [],
-            record { began = same; answered = answers_and_acknowledges_run state_of run kept; lost = reached_commands_of_run run; parts = refl; holds = omega (arith, none) },
-            record { honest = cut.honest; durable = cut.durable; represents = then },
+            record { began = same; answered = answers_and_acknowledges_run state_of run kept_commands; lost = reached_commands_of_run run; parts = refl; holds = omega (arith, none_acknowledged) },
+            record { honest = cut.honest; durable = cut.durable; represents = image_represents },
           )
       | inr now ↦
-          prefix_kept_from_run state_of run t (time_of before) s same given (answers_and_acknowledges_run state_of run kept) (omega (arith, none)) (state_of found) cut.honest cut.durable (kept.each (time_of before) image (omega arith) now)
+          prefix_kept_from_run state_of run t (time_of before) s same given (answers_and_acknowledges_run state_of run kept_commands) (omega (arith, none_acknowledged)) (state_of found) cut.honest cut.durable (kept_commands.each (time_of before) image (omega arith) now)
     ]
 
 kept_from_served_run : {D : Type 0} (state_of : D → DiskState) → (disk : D) (run : ShellRun state_of) (t : ℕ) (s : BenchState) (found : D) → DurablyRepresents (state_of disk) s
@@ -107,12 +107,12 @@ kept_from_served_run : {D : Type 0} (state_of : D → DiskState) → (disk : D) 
     → (kept : List Command) × AreKeptFromRun state_of run t s kept × DurablyRepresents (state_of found) (fold s kept)
 kept_from_served_run state_of disk run t s found here began late cut =
     let opens = began.opens here.honest in
-    let same : run.before.state ≡ s = represented_state_is_unique (bytes_of (state_of disk)) run.before.state s opens.represented_before here.represents in
-    let given : IsOpenOnHonestDisk (session_state state_of run.before) = (began.is_open, began.counts.honest.1 here.honest) in
-    let left = cut (disk_honest_after_run state_of run given.1) in
+    let equal_states : run.before.state ≡ s = represented_state_is_unique (bytes_of (state_of disk)) run.before.state s opens.represented_before here.represents in
+    let open_on_honest_disk : IsOpenOnHonestDisk (session_state state_of run.before) = (began.is_open, began.counts.honest.1 here.honest) in
+    let left = cut (disk_honest_after_run state_of run open_on_honest_disk.1) in
     elim (cases_lt t (time_of (state_of run.before.disk))) [
-      | inl early ↦ kept_if_stopped_while_opening state_of disk run t s found here same given (began.migrates here.honest) late (omega (arith, early)) left
-      | inr since ↦ kept_if_stopped_after_opening state_of run t s found same given since left
+      | inl early ↦ kept_if_stopped_while_opening state_of disk run t s found here equal_states open_on_honest_disk (began.migrates here.honest) late (omega (arith, early)) left
+      | inr since ↦ kept_if_stopped_after_opening state_of run t s found equal_states open_on_honest_disk since left
     ]
 
 -- ---- an `open` that began no session
@@ -133,10 +133,10 @@ represented_without_new_image disk left image s here rests now = subst (λ (file
 
 represented_after_failed_migration : (disk left : DiskState) (image : List ℕ) (s : BenchState) → DurablyRepresents disk s → FailsDuringMigration disk left → images_since (time_of disk) left image → RepresentsInEitherVersion image s
 represented_after_failed_migration disk left image s here fails now =
-    let same : fails.state ≡ s = represented_state_is_unique (bytes_of disk) fails.state s (inr fails.represents) here.represents in
+    let equal_states : fails.state ≡ s = represented_state_is_unique (bytes_of disk) fails.state s (inr fails.represents) here.represents in
     ⊎_elim
     (λ (old : images_of disk image). subst (λ (file : List ℕ). RepresentsInEitherVersion file s) (sym (here.durable image old)) here.represents)
-    (λ (new : RepresentsInEitherVersion image fails.state). subst (RepresentsInEitherVersion image) same new)
+    (λ (new : RepresentsInEitherVersion image fails.state). subst (RepresentsInEitherVersion image) equal_states new)
     (fails.leaves.each image now)
 
 represented_after_failed_open : (fault : StoreFault) (disk left : DiskState) (image : List ℕ) (s : BenchState) → DurablyRepresents disk s → FailedOpenEffect fault disk left → images_since (time_of disk) left image → RepresentsInEitherVersion image s

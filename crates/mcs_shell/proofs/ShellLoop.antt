@@ -158,8 +158,8 @@ ran_shell_until_read_fault r r' r'' a b line total x small keeps =
 
 pub ran_shell_until_input_limit : (r r' : KnownBytes) (a b : ShellState) (line : UnfinishedInputView) (total : ℕ) → LoopProgress r r' a b line total → total ≡ INPUT_BYTES → RanShellGiven IsIntact [] InputLimit r r' a b
 ran_shell_until_input_limit r r' a b line total x e =
-    let all : length x.bytes ≡ INPUT_BYTES = x.count ∙ e in
-    loop_run_is_shell_run InputLimit r r' a b None (input_read_until_cut r r' x.bytes x.consumed (omega (arith, all))) (serves_inputs_until_cut a b line x.bytes x.fed) (reads_nothing_ahead a b line x.bytes x.fed []) (refl, refl, refl, all)
+    let read_limit : length x.bytes ≡ INPUT_BYTES = x.count ∙ e in
+    loop_run_is_shell_run InputLimit r r' a b None (input_read_until_cut r r' x.bytes x.consumed (omega (arith, read_limit))) (serves_inputs_until_cut a b line x.bytes x.fed) (reads_nothing_ahead a b line x.bytes x.fed []) (refl, refl, refl, read_limit)
 
 -- ---- the end of input, or a halt of the shell
 
@@ -200,10 +200,10 @@ pub ran_shell_halted_in_chunk : (end : ShellEnd) (r r' r'' : KnownBytes) (a b c 
     → LoopProgress r r' a b line total → total + max_count ≤ INPUT_BYTES → max_count ≤ CHUNK_BYTES → ReadBytes n max_count r' r'' chunk → ServesBytes b c line new_line chunk (Some end) → RanShellGiven IsIntact [] end r r'' a c
 ran_shell_halted_in_chunk end r r' r'' a b c line new_line chunk total n max_count x small little y z =
     let bytes = x.bytes ++ chunk in
-    let all = serves_bytes_append a b c no_unfinished_input line new_line x.bytes chunk (Some end) x.fed z in
+    let serves_both = serves_bytes_append a b c no_unfinished_input line new_line x.bytes chunk (Some end) x.fed z in
     let within : length bytes ≤ INPUT_BYTES = rw (length-append x.bytes chunk) (omega (arith, x.count, y.count, y.within, small)) in
     loop_run_is_shell_run end r r'' a c (Some end) (input_read_until_cut r r'' bytes (Consumes-trans r r' r'' x.bytes chunk x.consumed y.consumed) within)
-    (serves_equal_inputs IsIntact (inputs bytes false) (inputs_after no_unfinished_input (bytes ++ []) false) a c (Some end) (inputs_from_start bytes false) (serves_halted_bytes false a c no_unfinished_input new_line bytes end all))
+    (serves_equal_inputs IsIntact (inputs bytes false) (inputs_after no_unfinished_input (bytes ++ []) false) a c (Some end) (inputs_from_start bytes false) (serves_halted_bytes false a c no_unfinished_input new_line bytes end serves_both))
     (reads_little_ahead_in_chunk a b line x.bytes chunk x.fed z.exchanges (omega (arith, y.count, y.within, little))) (ends_by_exchanges z.exchanges end bytes false (x.fed.exchanges ++ z.exchanges) z.halts)
 
 -- ---- the premise that callers see

@@ -38,12 +38,12 @@ run_answers_and_survives state_of found_of run given =
     let old = state_of run.before.disk in
     let new = state_of run.after.disk in
     let s = run.before.state in
-    let kept = keeps_commands_of_run state_of run given in
+    let kept_commands = keeps_commands_of_run state_of run given in
     record {
-      answered = answers_and_acknowledges_run state_of run kept;
+      answered = answers_and_acknowledges_run state_of run kept_commands;
       survives = record {
-        reopened = λ time found opened state late cut opens. reopened time old new (found_of found) (found_of opened) s state (acknowledged_commands_of_run run) (reached_commands_of_run run) kept late cut opens;
-        not_refused = λ time found fault late cut h. error_after_cut_is_device_or_memory time old new (found_of found) s (acknowledged_commands_of_run run) (reached_commands_of_run run) fault kept late cut h;
+        reopened = λ time found opened state late cut opens. reopened time old new (found_of found) (found_of opened) s state (acknowledged_commands_of_run run) (reached_commands_of_run run) kept_commands late cut opens;
+        not_refused = λ time found fault late cut h. error_after_cut_is_device_or_memory time old new (found_of found) s (acknowledged_commands_of_run run) (reached_commands_of_run run) fault kept_commands late cut h;
       };
     }
 

@@ -25,8 +25,8 @@ range_with_next_number i =
 pub address_of_next_line : (lines : List (Option SourceLine)) (i : ℕ) → address_of lines (i + 1) ≡ next_at (ith_line lines i) (address_of lines i)
 unfolding address_of
 address_of_next_line lines i =
-    let up : i + 1 ≡ suc i = omega arith in
-    ap (address_of lines) up
+    let plus_one : i + 1 ≡ suc i = omega arith in
+    ap (address_of lines) plus_one
 
 pub names_before_next_line : (lines : List (Option SourceLine)) (i : ℕ) → names_before lines (i + 1) ≡ names_before lines i ++ cons_option (definition (ith_line lines i) (address_of lines i)) []
 unfolding names_before

@@ -78,8 +78,8 @@ spaced_line_of_comment b bytes e = rw e refl
 spaced_line_of_byte_before_others : (b : ℕ) (bytes : List ℕ) → eqb b 59 ≡ false → spaced_line (b ∷ bytes) ≡ with_symbol_spaced b ++ spaced_line bytes
 spaced_line_of_byte_before_others b bytes e =
     let n : ℕ = prefix_len (λ x. not (eqb x 59)) bytes in
-    let up : 1 + n ≡ suc n = omega arith in
-    rw (e, up) refl
+    let plus_one : 1 + n ≡ suc n = omega arith in
+    rw (e, plus_one) refl
 
 tokens_of_spaced_symbol : (b : ℕ) (rest : List ℕ) → is_word_byte b ≡ false → is_blank b ≡ false → map token_of (words_of (32 ∷ b ∷ 32 ∷ rest)) ≡ symbol b ∷ map token_of (words_of rest)
 tokens_of_spaced_symbol b rest w k =
@@ -93,9 +93,9 @@ tokens_of_word_before_spaced_line word (b ∷ bytes) all =
     let Q : Bool → Bool → Bool → Type 0 = λ c w k. eqb b 59 ≡ c → is_word_byte b ≡ w → is_blank b ≡ k → map token_of (words_of (word ++ spaced_line (b ∷ bytes))) ≡ cond w (tokens_after (word ++ b ∷ []) bytes) (word_token_before word (cond k (tokens_after [] bytes) (cond c [] (symbol b ∷ tokens_after [] bytes)))) in
     (elim (eqb b 59) as (λ c. Q c (is_word_byte b) (is_blank b)) [
       | true ↦ λ ec ew ek.
-          let same : b ≡ 59 = eqb-true b 59 ec in
+          let is_semicolon : b ≡ 59 = eqb-true b 59 ec in
           ap (λ v. map token_of (words_of (word ++ v))) (spaced_line_of_comment b bytes ec) ∙ tokens_of_ended_word word [] all tt
-          ∙ ap (λ ws. word_token_before word (map token_of ws)) no_words ∙ rw same refl
+          ∙ ap (λ ws. word_token_before word (map token_of ws)) no_words ∙ rw is_semicolon refl
       | false ↦ λ ec. (elim (is_word_byte b) as (λ w. is_word_byte b ≡ w → is_blank b ≡ is_blank b → map token_of (words_of (word ++ spaced_line (b ∷ bytes))) ≡ cond w (tokens_after (word ++ b ∷ []) bytes) (word_token_before word (cond (is_blank b) (tokens_after [] bytes) (symbol b ∷ tokens_after [] bytes)))) [
         | true ↦ λ ew ek.
             ap (λ v. map token_of (words_of (word ++ v))) (spaced_line_of_byte_before_others b bytes ec ∙ ap (λ v. v ++ spaced_line bytes) (ap (λ v. cond (v || is_blank b) (b ∷ []) (32 ∷ b ∷ 32 ∷ [])) ew))

@@ -40,8 +40,8 @@ no_instruction_begun-within_0_cycles m s = refl
 
 pub instructions_begun_within-sum : (m n : ℕ) (s : Machine) → instructions_begun_within (m + n) s ≡ instructions_begun_within m s ++ map (later m) (instructions_begun_within n (after_cycles m s))
 instructions_begun_within-sum m zero s =
-    let same : m + 0 ≡ m = omega arith in
-    ap (λ k. instructions_begun_within k s) same ∙ sym (append-nil (instructions_begun_within m s)) ∙ ap (λ (l : List BegunInstruction). instructions_begun_within m s ++ map (later m) l) (sym (no_instruction_begun-within_0_cycles m (after_cycles m s)))
+    let plus_zero : m + 0 ≡ m = omega arith in
+    ap (λ k. instructions_begun_within k s) plus_zero ∙ sym (append-nil (instructions_begun_within m s)) ∙ ap (λ (l : List BegunInstruction). instructions_begun_within m s ++ map (later m) l) (sym (no_instruction_begun-within_0_cycles m (after_cycles m s)))
 instructions_begun_within-sum m (suc n) s =
     let plus_one_after_sum : m + suc n ≡ m + n + 1 = omega arith in
     let suc_is_plus_one : suc n ≡ n + 1 = omega arith in

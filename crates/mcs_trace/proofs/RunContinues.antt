@@ -10,9 +10,9 @@ use Rattle.mcs_probe.specs.Forecast.{early_stop_reason}
 -- execute a cycle
 pub no_stop_reason-at_start : (stops : StopConditions) (n : ℕ) (s : Machine) → 0 < n → is_outside_table s ≡ false → stop_reason_at stops n 0 s s ≡ None
 no_stop_reason-at_start stops n s l inside =
-    let same = no-watch-changed-if-ram-equal stops.watches s s refl in
+    let no_watch_changed = no-watch-changed-if-ram-equal stops.watches s s refl in
     let ended : eqb 0 n ≡ false = grind (arith, nat_tests) in
-    rw (inside, same, ended) refl
+    rw (inside, no_watch_changed, ended) refl
 
 stop_reason-if_not_ended : (out broken changed ended : Bool) → ended ≡ false → cond out (Some Outside) (cond broken (Some Breakpoint) (cond changed (Some Watched) (cond ended (Some Ended) None))) ≡ cond out (Some Outside) (cond broken (Some Breakpoint) (cond changed (Some Watched) None))
 stop_reason-if_not_ended out broken changed true e = absurd (cc)

@@ -33,7 +33,7 @@ rests left d t u ran some =
 
 -- one cycle after `k` cycles gives the machine after `k + 1` cycles
 pub after_cycles-next : (k : ℕ) (s t : Machine) → t ≡ after_cycles k s → after_cycles 1 t ≡ after_cycles (k + 1) s
-after_cycles-next k s t e = ap (after_cycles 1) e ∙ (let one : suc k ≡ k + 1 = omega arith in ap (λ j. after_cycles j s) one)
+after_cycles-next k s t e = ap (after_cycles 1) e ∙ (let suc_is_plus_one : suc k ≡ k + 1 = omega arith in ap (λ j. after_cycles j s) suc_is_plus_one)
 
 no_instruction_begun-if_owed : (k : ℕ) (s : Machine) → (after_cycles k s).0.owed ≡ 1 → instruction_begun_at s k ≡ []
 no_instruction_begun-if_owed k s e = rw e refl

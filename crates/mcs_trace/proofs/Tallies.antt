@@ -21,8 +21,8 @@ instruction_begun_at s k = cond (begins (cycle_at s k)) (cycle_at s k ∷ []) []
 pub instructions_begun-in_one_more_cycle : (k : ℕ) (s : Machine) → instructions_begun_within (k + 1) s ≡ instructions_begun_within k s ++ instruction_begun_at s k
 unfolding instructions_begun_within
 instructions_begun-in_one_more_cycle k s =
-    let more : range_with_len 0 (k + 1) ≡ range_with_len 0 k ++ k ∷ [] = (let one : k + 1 ≡ suc k = omega arith in let same : 0 + k ≡ k = omega arith in ap (range_with_len 0) one ∙ range-one-more 0 k ∙ ap (λ (j : ℕ). range_with_len 0 k ++ j ∷ []) same) in
-    ap (λ l. filter begins (map (cycle_at s) l)) more
+    let longer_range : range_with_len 0 (k + 1) ≡ range_with_len 0 k ++ k ∷ [] = (let suc_is_plus_one : k + 1 ≡ suc k = omega arith in let zero_plus : 0 + k ≡ k = omega arith in ap (range_with_len 0) suc_is_plus_one ∙ range-one-more 0 k ∙ ap (λ (j : ℕ). range_with_len 0 k ++ j ∷ []) zero_plus) in
+    ap (λ l. filter begins (map (cycle_at s) l)) longer_range
     ∙ ap (filter begins) (map-append (cycle_at s) (range_with_len 0 k) (k ∷ []))
     ∙ filter-append begins (map (cycle_at s) (range_with_len 0 k)) (cycle_at s k ∷ [])
 

@@ -52,13 +52,13 @@ line-in-range-1-on-small-board : (b : BoardParts) → IsSmall b → (line : Line
 line-in-range-1-on-small-board b s (Rom chip j) there fits = fits
 line-in-range-1-on-small-board b s (Ram bank chip j) there fits = fits
 line-in-range-1-on-small-board b s (Chain n i) there fits =
-    let few = s.few in
+    let few_chains = s.few in
     let bit_in_chain : i < 10 * (chain_part b n).chips = ltb-true _ _ (not-false _ there) in
-    let short = chain-of-small-board-is-short b n s in
+    let short_chain = chain-of-small-board-is-short b n s in
     let inside : n < 2 =
     elim (cases_lt n (length b.chains.items)) [
       | inl lt ↦ omega arith
-      | inr ge ↦ absurd (let none : (chain_part b n).chips ≡ 0 = ap (λ (c : ChainPart). c.chips) (get_or_past b.chains.items n no_chain ge) in omega arith)
+      | inr ge ↦ absurd (let no_chips : (chain_part b n).chips ≡ 0 = ap (λ (c : ChainPart). c.chips) (get_or_past b.chains.items n no_chain ge) in omega arith)
     ] in
     let a : nat_lt n 2 ≡ true = lt-ltb _ _ inside in
     let c : nat_lt i 40 ≡ true = lt-ltb _ _ (omega arith) in
@@ -104,10 +104,10 @@ chain-size-if-chain-size-1 c x =
 chain-size-1-if-short : (c : ChainPart) → not (is_chain_size c) ≡ false → nat_lt 4 c.chips ≡ false → not (is_chain_size_1 c) ≡ false
 chain-size-1-if-short c x y =
     let w = and_parts (nat_lt 0 c.chips) (nat_le c.chips CHAIN_CHIPS) (not-false _ x) in
-    let short : c.chips ≤ 4 = grind (arith, nat_tests) in
-    let some : nat_lt 0 c.chips ≡ true = w.0 in
-    let all : nat_le c.chips 4 ≡ true = le-leb _ _ short in
-    rw (some, all) refl
+    let short_chain : c.chips ≤ 4 = grind (arith, nat_tests) in
+    let has_chips : nat_lt 0 c.chips ≡ true = w.0 in
+    let chips_within_limit : nat_le c.chips 4 ≡ true = le-leb _ _ short_chain in
+    rw (has_chips, chips_within_limit) refl
 
 chain-is-short-if-chain-size-1 : (c : ChainPart) → not (is_chain_size_1 c) ≡ false → nat_lt 4 c.chips ≡ false
 chain-is-short-if-chain-size-1 c x =
@@ -149,8 +149,8 @@ matrix-size-1-on-small-board b s None there h = refl
 matrix-size-1-on-small-board b s (Some m) there h =
     let w = matrix-has-sizes CHAINS CHAIN_BITS m (not-false _ h) in
     let t = or_parts (nat_le (chain_count b) m.chain) (nat_lt (chain_bits b m.chain) (m.first + m.rows)) there in
-    let few = s.few in
-    let short = chain-of-small-board-is-short b m.chain s in
+    let few_chains = s.few in
+    let short_chain = chain-of-small-board-is-short b m.chain s in
     let rows : 0 < m.rows = ltb-true _ _ w.some in
     let x : m.chain < chain_count b = (let none = t.0 in grind (arith, nat_tests)) in
     let y : m.first + m.rows ≤ chain_bits b m.chain = (let none = t.1 in grind (arith, nat_tests)) in
@@ -169,11 +169,11 @@ valid-board-if-valid-in-version-1 b h =
     let v1 = or_parts (large || chains || has_bad_matrix_1 b) lines w.0 in
     let v2 = or_parts (large || chains) (has_bad_matrix_1 b) v1.0 in
     let v3 = or_parts large chains v2.0 in
-    let sized = list_any-false-if-others-false (λ (c : ChainPart). not (is_chain_size_1 c)) (λ (c : ChainPart). not (is_chain_size_1 c)) (λ (c : ChainPart). not (is_chain_size c)) (λ c x y. chain-size-if-chain-size-1 c x) b.chains.items v3.1 v3.1 in
+    let valid_sizes = list_any-false-if-others-false (λ (c : ChainPart). not (is_chain_size_1 c)) (λ (c : ChainPart). not (is_chain_size_1 c)) (λ (c : ChainPart). not (is_chain_size c)) (λ c x y. chain-size-if-chain-size-1 c x) b.chains.items v3.1 v3.1 in
     let matrix = matrix-size-if-matrix-size-1 b.keys v2.1 in
     let in_ranges = any_line-false-if-others-false (λ line. not (in_range_1 line)) (λ line. not (in_range_1 line)) (λ line. not (in_range line)) (λ line x y. line-in-range-if-in-range-1 line x) b v1.1 v1.1 in
-    let good : has_bad_value b ≡ false = or_from _ _ (or_from _ _ (or_from _ _ v3.0 sized) matrix) in_ranges in
-    record { sized = h.sized; valid = rw (good, w.1, w.2) refl }
+    let no_bad_value : has_bad_value b ≡ false = or_from _ _ (or_from _ _ (or_from _ _ v3.0 valid_sizes) matrix) in_ranges in
+    record { sized = h.sized; valid = rw (no_bad_value, w.1, w.2) refl }
 
 pub small-board-if-valid-in-version-1 : (b : BoardParts) → IsValidBoard1 b → fits_version_1 b ≡ true
 small-board-if-valid-in-version-1 b h =
@@ -183,17 +183,17 @@ small-board-if-valid-in-version-1 b h =
     let v1 = or_parts (large || chains || has_bad_matrix_1 b) (any_line (λ line. not (in_range_1 line)) b) w.0 in
     let v2 = or_parts (large || chains) (has_bad_matrix_1 b) v1.0 in
     let v3 = or_parts large chains v2.0 in
-    let few : nat_le (length b.chains.items) 2 ≡ true = le-leb _ _ h.few in
-    let short : list_any (λ (c : ChainPart). nat_lt 4 c.chips) b.chains.items ≡ false = list_any-false-if-others-false (λ (c : ChainPart). not (is_chain_size_1 c)) (λ (c : ChainPart). not (is_chain_size_1 c)) (λ (c : ChainPart). nat_lt 4 c.chips) (λ c x y. chain-is-short-if-chain-size-1 c x) b.chains.items v3.1 v3.1 in
-    rw (few, short) refl
+    let few_chains : nat_le (length b.chains.items) 2 ≡ true = le-leb _ _ h.few in
+    let no_long_chain : list_any (λ (c : ChainPart). nat_lt 4 c.chips) b.chains.items ≡ false = list_any-false-if-others-false (λ (c : ChainPart). not (is_chain_size_1 c)) (λ (c : ChainPart). not (is_chain_size_1 c)) (λ (c : ChainPart). nat_lt 4 c.chips) (λ c x y. chain-is-short-if-chain-size-1 c x) b.chains.items v3.1 v3.1 in
+    rw (few_chains, no_long_chain) refl
 
 pub valid-in-version-1-if-small : (b : BoardParts) → IsValidBoard b → fits_version_1 b ≡ true → IsValidBoard1 b
 valid-in-version-1-if-small b h e =
     let s = board-is-small b e in
-    let now = sound b h.valid in
-    let sized = list_any-false-if-others-false (λ (c : ChainPart). not (is_chain_size c)) (λ (c : ChainPart). nat_lt 4 c.chips) (λ (c : ChainPart). not (is_chain_size_1 c)) (λ c x y. chain-size-1-if-short c x y) b.chains.items now.values.chains s.short in
-    let matrix = matrix-size-1-on-small-board b s b.keys now.rows now.values.matrix in
-    let in_ranges = any_line-false-if-others-false (λ line. not (is_on_board b line)) (λ line. not (in_range line)) (λ line. not (in_range_1 line)) (λ line x y. line-in-range-1-on-small-board b s line x y) b now.lines now.values.lines in
-    let good : has_bad_value_1 b ≡ false = or_from _ _ (or_from _ _ (or_from _ _ now.values.banks sized) matrix) in_ranges in
-    let lacks : lacks_line b ≡ false = or_from _ _ now.lines now.rows in
-    record { sized = h.sized; few = s.few; valid = rw (good, lacks, now.directions) refl }
+    let sound_parts = sound b h.valid in
+    let valid_sizes = list_any-false-if-others-false (λ (c : ChainPart). not (is_chain_size c)) (λ (c : ChainPart). nat_lt 4 c.chips) (λ (c : ChainPart). not (is_chain_size_1 c)) (λ c x y. chain-size-1-if-short c x y) b.chains.items sound_parts.values.chains s.short in
+    let matrix = matrix-size-1-on-small-board b s b.keys sound_parts.rows sound_parts.values.matrix in
+    let in_ranges = any_line-false-if-others-false (λ line. not (is_on_board b line)) (λ line. not (in_range line)) (λ line. not (in_range_1 line)) (λ line x y. line-in-range-1-on-small-board b s line x y) b sound_parts.lines sound_parts.values.lines in
+    let no_bad_value : has_bad_value_1 b ≡ false = or_from _ _ (or_from _ _ (or_from _ _ sound_parts.values.banks valid_sizes) matrix) in_ranges in
+    let lacks : lacks_line b ≡ false = or_from _ _ sound_parts.lines sound_parts.rows in
+    record { sized = h.sized; few = s.few; valid = rw (no_bad_value, lacks, sound_parts.directions) refl }

@@ -78,18 +78,18 @@ ram_line_named_in_range text l e =
     let (bank, bank_is, e3) = first_value_of_option_and_then (number_below BANKS p.0) _ l e2 in
     let (chip, chip_is, e4) = first_value_of_option_and_then (number_below BANK_CHIPS q.0) _ l e3 in
     let (k, k_is, e5) = first_value_of_option_and_then (number_below 4 q.1) _ l e4 in
-    let same : line.Ram bank chip k ≡ l = same_Some (line.Ram bank chip k) l e5 in
-    let here : boards.in_range (line.Ram bank chip k) ≡ true = rw (number_in_name_below_limit BANKS p.0 bank bank_is, number_in_name_below_limit BANK_CHIPS q.0 chip chip_is, number_in_name_below_limit 4 q.1 k k_is) refl in
-    ap boards.in_range (sym same) ∙ here
+    let equal_lines : line.Ram bank chip k ≡ l = same_Some (line.Ram bank chip k) l e5 in
+    let line_in_range : boards.in_range (line.Ram bank chip k) ≡ true = rw (number_in_name_below_limit BANKS p.0 bank bank_is, number_in_name_below_limit BANK_CHIPS q.0 chip chip_is, number_in_name_below_limit 4 q.1 k k_is) refl in
+    ap boards.in_range (sym equal_lines) ∙ line_in_range
 
 chain_line_named_in_range : (text : List ℕ) (l : Line) → chain_line_named text ≡ Some l → boards.in_range l ≡ true
 chain_line_named_in_range text l e =
     let (p, _, e1) = first_value_of_option_and_then (texts_around_dot text) _ l e in
     let (n, n_is, e2) = first_value_of_option_and_then (number_below CHAINS p.0) _ l e1 in
     let (i, i_is, e3) = first_value_of_option_and_then (number_below CHAIN_BITS p.1) _ l e2 in
-    let same : line.Chain n i ≡ l = same_Some (line.Chain n i) l e3 in
-    let here : boards.in_range (line.Chain n i) ≡ true = rw (number_in_name_below_limit CHAINS p.0 n n_is, number_in_name_below_limit CHAIN_BITS p.1 i i_is) refl in
-    ap boards.in_range (sym same) ∙ here
+    let equal_lines : line.Chain n i ≡ l = same_Some (line.Chain n i) l e3 in
+    let line_in_range : boards.in_range (line.Chain n i) ≡ true = rw (number_in_name_below_limit CHAINS p.0 n n_is, number_in_name_below_limit CHAIN_BITS p.1 i i_is) refl in
+    ap boards.in_range (sym equal_lines) ∙ line_in_range
 
 line_of_any_prefix_in_range : (a b c : Option (List ℕ)) (l : Line)
     → (elim a [ Some rest ↦ rom_line_named rest | None ↦ elim b [ Some rest ↦ ram_line_named rest | None ↦ option_and_then chain_line_named c ] ]) ≡ Some l → boards.in_range l ≡ true
@@ -139,9 +139,9 @@ ram_chips_within_limit d p e =
     let (bank, _, e2) = first_value_of_option_and_then (number_at (codes "bank") 0 (BANKS - 1) ms) _ p e1 in
     let (chips, chips_is, e3) = first_value_of_option_and_then (number_at (codes "chips") 1 BANK_CHIPS ms) _ p e2 in
     let numbered_chips : Numbered ℕ = record { number = bank; part = chips } in
-    let same : numbered_chips ≡ p = same_Some numbered_chips p e3 in
+    let equal_parts : numbered_chips ≡ p = same_Some numbered_chips p e3 in
     let (low, high) = number_at_key_within_bounds (codes "chips") 1 BANK_CHIPS ms chips chips_is in
-    ap (λ (q : Numbered ℕ). exceeds_bank_chips q.part) (sym same) ∙ le-ltb BANK_CHIPS chips high
+    ap (λ (q : Numbered ℕ). exceeds_bank_chips q.part) (sym equal_parts) ∙ le-ltb BANK_CHIPS chips high
 
 chosen_count_within_limit : (b : Bool) (x y : ℕ) → exceeds_bank_chips x ≡ false → exceeds_bank_chips y ≡ false → exceeds_bank_chips (if b then x else y) ≡ false
 chosen_count_within_limit true x y h k = h
@@ -166,14 +166,14 @@ chain_part_in_range d c e =
     let (clock, clock_is, e2) = first_value_of_option_and_then (line_at (codes "clock") ms) _ c e1 in
     let (data_in, data_is, e3) = first_value_of_option_and_then (line_at (codes "data") ms) _ c e2 in
     let (chips, chips_is, e4) = first_value_of_option_and_then (number_at (codes "chips") 1 CHAIN_CHIPS ms) _ c e3 in
-    let made : ChainPart = record { clock = clock; data_in = data_in; chips = chips } in
-    let same : made ≡ c = same_Some made c e4 in
+    let chain_part : ChainPart = record { clock = clock; data_in = data_in; chips = chips } in
+    let equal_parts : chain_part ≡ c = same_Some chain_part c e4 in
     let (low, high) = number_at_key_within_bounds (codes "chips") 1 CHAIN_CHIPS ms chips chips_is in
     let has_chips : ltb 0 chips ≡ true = lt-ltb 0 chips low in
     let chips_within_limit : leb chips CHAIN_CHIPS ≡ true = le-leb chips CHAIN_CHIPS high in
     let valid_size : not (ltb 0 chips && leb chips CHAIN_CHIPS) ≡ false = rw (has_chips, chips_within_limit) refl in
     let lines : (is_out_of_range clock || is_out_of_range data_in) ≡ false = rw (line_at_key_in_range (codes "clock") ms clock clock_is, line_at_key_in_range (codes "data") ms data_in data_is) refl in
-    (ap (λ (x : ChainPart). not (boards.is_chain_size x)) (sym same) ∙ valid_size, ap (λ (x : ChainPart). is_out_of_range x.clock || is_out_of_range x.data_in) (sym same) ∙ lines)
+    (ap (λ (x : ChainPart). not (boards.is_chain_size x)) (sym equal_parts) ∙ valid_size, ap (λ (x : ChainPart). is_out_of_range x.clock || is_out_of_range x.data_in) (sym equal_parts) ∙ lines)
 
 -- ---- the key matrix
 
@@ -196,8 +196,8 @@ matrix_in_range t m e good =
     let (first, first_is, e2) = first_value_of_option_and_then (number_at (codes "first") 0 (CHAIN_BITS - 1) t) _ m e1 in
     let (rows, rows_is, e3) = first_value_of_option_and_then (number_at (codes "rows") 1 KEY_ROWS t) _ m e2 in
     let values = values_at (codes "columns") t in
-    let made : KeyMatrix = record { chain = chain; first = first; rows = rows; columns = record { items = filter_map line_in values } } in
-    let same : made ≡ m = same_Some made m e3 in
+    let matrix : KeyMatrix = record { chain = chain; first = first; rows = rows; columns = record { items = filter_map line_in values } } in
+    let equal_matrices : matrix ≡ m = same_Some matrix m e3 in
     let (_, chain_high) = number_at_key_within_bounds (codes "chain") 0 (CHAINS - 1) t chain chain_text_from_pieces in
     let (_, first_high) = number_at_key_within_bounds (codes "first") 0 (CHAIN_BITS - 1) t first first_is in
     let (rows_low, rows_high) = number_at_key_within_bounds (codes "rows") 1 KEY_ROWS t rows rows_is in
@@ -206,9 +206,9 @@ matrix_in_range t m e good =
     let c : ltb 0 rows ≡ true = lt-ltb 0 rows rows_low in
     let d : leb rows KEY_ROWS ≡ true = le-leb rows KEY_ROWS rows_high in
     let f : ltb 0 (length (filter_map line_in values)) ≡ true = lt-ltb 0 _ (columns_are_not_empty values good) in
-    let sized : not (boards.is_matrix_size made) ≡ false = rw (a, b, c, d, f) refl in
-    let lines : list_any is_out_of_range made.columns.items ≡ false = test_false_for_filter_map is_out_of_range line_in named_line_in_range values in
-    (ap (λ (x : KeyMatrix). not (boards.is_matrix_size x)) (sym same) ∙ sized, ap (λ (x : KeyMatrix). list_any is_out_of_range x.columns.items) (sym same) ∙ lines)
+    let valid_size : not (boards.is_matrix_size matrix) ≡ false = rw (a, b, c, d, f) refl in
+    let lines : list_any is_out_of_range matrix.columns.items ≡ false = test_false_for_filter_map is_out_of_range line_in named_line_in_range values in
+    (ap (λ (x : KeyMatrix). not (boards.is_matrix_size x)) (sym equal_matrices) ∙ valid_size, ap (λ (x : KeyMatrix). list_any is_out_of_range x.columns.items) (sym equal_matrices) ∙ lines)
 
 abbrev AreKeysInRange : Option KeyMatrix → Type 0
 AreKeysInRange k =

@@ -45,18 +45,18 @@ test_true_for_each_in_range : (p : ℕ → Bool) (a n k : ℕ) → list_all p (r
 test_true_for_each_in_range p a zero k h lt = absurd (omega arith)
 test_true_for_each_in_range p a (suc n) zero h lt =
     let (here, _) = and_parts (p a) (list_all p (range_with_len (a + 1) n)) h in
-    let same : a + 0 ≡ a = omega arith in
-    ap p same ∙ here
+    let plus_zero : a + 0 ≡ a = omega arith in
+    ap p plus_zero ∙ here
 test_true_for_each_in_range p a (suc n) (suc k) h lt =
     let (_, later) = and_parts (p a) (list_all p (range_with_len (a + 1) n)) h in
-    let same : a + suc k ≡ (a + 1) + k = omega arith in
-    ap p same ∙ test_true_for_each_in_range p (a + 1) n k later (omega arith)
+    let plus_suc : a + suc k ≡ (a + 1) + k = omega arith in
+    ap p plus_suc ∙ test_true_for_each_in_range p (a + 1) n k later (omega arith)
 
 test_true_if_below_limit : (p : ℕ → Bool) (n k : ℕ) → list_all p (range_with_len 0 n) ≡ true → ltb k n ≡ true → p k ≡ true
 test_true_if_below_limit p n k h below =
     let lt : k < n = ltb-true k n below in
-    let same : k ≡ 0 + k = omega arith in
-    ap p same ∙ test_true_for_each_in_range p 0 n k h lt
+    let zero_plus : k ≡ 0 + k = omega arith in
+    ap p zero_plus ∙ test_true_for_each_in_range p 0 n k h lt
 
 same_line_is_equal : (o : Option Line) (l : Line) → same_line o l ≡ true → o ≡ Some l
 same_line_is_equal None (Rom c d) h = absurd (false≢true h)

@@ -59,12 +59,12 @@ pub first_repeated_from_index : {A : Type 0} (ps : List (Numbered A)) (i : ℕ) 
     → first_repeated_from (reversed_numbers [] (take i ps)) i (drop i ps) ≡ (if list_any (λ q. eqb q.number p.number) (take i ps) then Some i else first_repeated_from (reversed_numbers [] (take (i + 1) ps)) (i + 1) (drop (i + 1) ps))
 first_repeated_from_index {A} ps i p lt is =
     let seen : List ℕ = reversed_numbers [] (take i ps) in
-    let more : reversed_numbers [] (take (i + 1) ps) ≡ p.number ∷ seen =
+    let one_more_number : reversed_numbers [] (take (i + 1) ps) ≡ p.number ∷ seen =
     ap (reversed_numbers []) (take_more ps i p lt) ∙ (reversed_numbers_append [] (take i ps) (get_or ps i p) ∙ ap (λ (x : Numbered A). x.number ∷ seen) (sym is)) in
     ap (first_repeated_from seen i) (drop_more ps i p lt)
     ∙ (ap (λ (x : Numbered A). first_repeated_from seen i (x ∷ drop (i + 1) ps)) (sym is)
     ∙ (ap (λ b. if b then Some i else first_repeated_from (p.number ∷ seen) (i + 1) (drop (i + 1) ps)) (number_in_reversed_numbers p.number (take i ps))
-    ∙ ap (λ ns. if list_any (λ q. eqb q.number p.number) (take i ps) then Some i else first_repeated_from ns (i + 1) (drop (i + 1) ps)) (sym more)))
+    ∙ ap (λ ns. if list_any (λ q. eqb q.number p.number) (take i ps) then Some i else first_repeated_from ns (i + 1) (drop (i + 1) ps)) (sym one_more_number)))
 
 -- Suppose that the search that starts at part `i` returns the same as the search of all parts. If
 -- an earlier part has the number of part `i`, the search of all parts returns `i`.

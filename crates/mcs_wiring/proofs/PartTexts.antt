@@ -24,9 +24,9 @@ use Rattle.mcs_model.proofs.ListLemmas.{range-one-more}
 pub texts_below_next : (f : ℕ → List ℕ) (n : ℕ) → flat_map f (range_with_len 0 (n + 1)) ≡ flat_map f (range_with_len 0 n) ++ f n
 texts_below_next f n =
     let next : n + 1 ≡ suc n = omega arith in
-    let here : 0 + n ≡ n = omega arith in
+    let zero_plus : 0 + n ≡ n = omega arith in
     ap (λ k. flat_map f (range_with_len 0 k)) next
-    ∙ (ap (flat_map f) (range-one-more 0 n ∙ ap (λ k. range_with_len 0 n ++ k ∷ []) here)
+    ∙ (ap (flat_map f) (range-one-more 0 n ∙ ap (λ k. range_with_len 0 n ++ k ∷ []) zero_plus)
     ∙ (flat_map-append f (range_with_len 0 n) (n ∷ []) ∙ ap (λ t. flat_map f (range_with_len 0 n) ++ t) (append-nil (f n))))
 
 -- the text of the lines of all items is the concatenation of the items' texts

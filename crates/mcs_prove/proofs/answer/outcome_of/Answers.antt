@@ -24,17 +24,17 @@ returns-then-max_entries-gt0 c =
 pub returns : goal.returns
 returns c =
     let q = c.in_ok-question.question in
-    let own = sym c.question.view_is in
+    let equal_view = sym c.question.view_is in
     let in_text = c.in-Some-Some-Some-true-true in
     let board : q.board ≡ Some c.as_str-2.result.now =
-    ap (λ (a : QuestionSoFar). a.board) own ∙ ap (option_map string_bytes) in_text.is-0 ∙ ap Some (sym c.as_str-2.ensures.value) in
+    ap (λ (a : QuestionSoFar). a.board) equal_view ∙ ap (option_map string_bytes) in_text.is-0 ∙ ap Some (sym c.as_str-2.ensures.value) in
     let program : q.program ≡ Some c.as_str-3.result.now =
-    ap (λ (a : QuestionSoFar). a.program) own ∙ ap (option_map string_bytes) in_text.is-1 ∙ ap Some (sym c.as_str-3.ensures.value) in
+    ap (λ (a : QuestionSoFar). a.program) equal_view ∙ ap (option_map string_bytes) in_text.is-1 ∙ ap Some (sym c.as_str-3.ensures.value) in
     let a = c.question.inside in
     let lists : Vec (Vec Condition Global) Global → List (List Condition) = λ v. map (λ (n : Vec Condition Global). n.items) v.items in
     let for_marks =
     subst (λ (marks : List Mark). IfOk c.prove.result (IsPropertyProvedOf c.as_str-2.result.now c.as_str-3.result.now (limits_of a.inputs) (observer_of (lists a.begins) (lists a.ends) (lists a.opens) marks) (lists a.never_lists) a.limit))
     in_text.ensures.value c.prove.ensures in
     is_answer-if_question_proved c.args.text.now c.as_str-2.result.now c.as_str-3.result.now q c.prove.result
-    c.in_ok-question.ensures (ap (λ (a : QuestionSoFar). a.has_prove_line) own ∙ in_text.is-3) (sym in_text.ensures') board program
+    c.in_ok-question.ensures (ap (λ (a : QuestionSoFar). a.has_prove_line) equal_view ∙ in_text.is-3) (sym in_text.ensures') board program
     (subst (λ (b : QuestionSoFar). IfOk c.prove.result (IsQuestionProvedOf c.as_str-2.result.now c.as_str-3.result.now b)) c.question.view_is for_marks)

@@ -18,7 +18,7 @@ returns c =
     let opens = lists c.args.goal.opens in
     let marks = c.args.goal.marks in
     let w = observer_of begins ends opens marks in
-    let kept = keeps_property w (lists c.args.goal.never_lists) c.args.goal.limit in
+    let property_kept = keeps_property w (lists c.args.goal.never_lists) c.args.goal.limit in
     let found = c.in_ok-check_all.field-0 in
     let property : c.of-2.result ≡ record { never_lists = never_lists; begins = begins; ends = ends; opens = opens; marks = marks } =
     c.of-2.ensures
@@ -30,9 +30,9 @@ returns c =
     let proved : IsProved (limits c.in_ok-rig.rig.board) w (meets_none never_lists) c.of.result found =
     subst (λ (l : InputLimits). IsProved l w (meets_none never_lists) c.of.result found) on_board
     (subst (λ (a : PropertyConditions). IsProved c.in_ok-limits.limits (observer_of_property a) (meets_none a.never_lists) c.of.result found) property c.in_ok-check_all.ensures) in
-    let equal_properties : (s : TrackedMachine) → meets_none never_lists s ≡ kept s = λ s.
+    let equal_properties : (s : TrackedMachine) → meets_none never_lists s ≡ property_kept s = λ s.
     c.in_ok-never_lists.ensures s
     ∙ ap (λ (o : List (List Condition)). keeps_property (observer_of [] [] o marks) (lists c.args.goal.never_lists) c.args.goal.limit s) (c.deref.ensures.value ∙ c.in_ok-opens.ensures) in
-    proved_of_texts-if_proved_of_rig c.args.board.now c.args.program.now limits w (meets_none never_lists) kept c.new.result c.in_ok-rig.rig found
+    proved_of_texts-if_proved_of_rig c.args.board.now c.args.program.now limits w (meets_none never_lists) property_kept c.new.result c.in_ok-rig.rig found
     c.in_ok-rig.ensures c.new.ensures equal_properties
     (subst (λ (s : TrackedMachine). IsProved (limits c.in_ok-rig.rig.board) w (meets_none never_lists) s found) c.of.ensures proved)

@@ -20,26 +20,26 @@ pub returns-then-is_err-clause-none : goal.returns-then-is_err-clause-none
 returns-then-is_err-clause-none c = λ v s pair.
     no_state_with_rejected_record _ _ _ _ c.loop-at.at _ s c.get.ensures c.loop-at.invariant.so_far.records_represent
     (λ d spells accepted.
-    let same = encoded_command_is_unique _ d c.in-Ok-Some-command_of.command spells.0 (rw c.in-Ok-Some-command_of.field-0-is at c.in-Ok-Some-command_of.ensures.some) in
-    let was : refusal c.loop-at.bench c.in-Ok-Some-command_of.command ≡ None = subst (λ (x : Command). refusal c.loop-at.bench x ≡ None) same accepted in
+    let equal_commands = encoded_command_is_unique _ d c.in-Ok-Some-command_of.command spells.0 (rw c.in-Ok-Some-command_of.field-0-is at c.in-Ok-Some-command_of.ensures.some) in
+    let not_refused : refusal c.loop-at.bench c.in-Ok-Some-command_of.command ≡ None = subst (λ (x : Command). refusal c.loop-at.bench x ≡ None) equal_commands accepted in
     search rules)
     (records_have_version_of_snapshot v _ _ _ _ s c.loop-at.invariant.so_far.records_represent.snapshot pair)
 
 pub returns-then-more-cycles-clause-none : goal.returns-then-more-cycles-clause-none
 returns-then-more-cycles-clause-none c = λ v s pair.
     let bounded = c.loop-at.invariant.bounded in
-    let over = c.if-more-cycles.true in
+    let too_many_cycles = c.if-more-cycles.true in
     let more = c.replay_cycles-more.ensures in
-    no_state_with_too_many_cycles _ _ _ _ c.loop-at.at _ _ s _ c.get.ensures c.loop-at.invariant.so_far (rw c.in-Ok-Some-command_of.field-0-is at c.in-Ok-Some-command_of.ensures.some, sym c.has.ensures ∙ c.if-not-has.false) (omega (arith, bounded, over, more)) (records_have_version_of_snapshot v _ _ _ _ s c.loop-at.invariant.so_far.records_represent.snapshot pair)
+    no_state_with_too_many_cycles _ _ _ _ c.loop-at.at _ _ s _ c.get.ensures c.loop-at.invariant.so_far (rw c.in-Ok-Some-command_of.field-0-is at c.in-Ok-Some-command_of.ensures.some, sym c.has.ensures ∙ c.if-not-has.false) (omega (arith, bounded, too_many_cycles, more)) (records_have_version_of_snapshot v _ _ _ _ s c.loop-at.invariant.so_far.records_represent.snapshot pair)
 
 pub returns-then-not-has-clause-none : goal.returns-then-not-has-clause-none
 returns-then-not-has-clause-none c = λ v s pair.
     no_state_with_rejected_record _ _ _ _ c.loop-at.at _ s c.get.ensures c.loop-at.invariant.so_far.records_represent
     (λ d spells accepted.
-    let same : d ≡ c.in-Ok-Some-command_of.command = encoded_command_is_unique _ d c.in-Ok-Some-command_of.command spells.0 (rw c.in-Ok-Some-command_of.field-0-is at c.in-Ok-Some-command_of.ensures.some) in
+    let equal_commands : d ≡ c.in-Ok-Some-command_of.command = encoded_command_is_unique _ d c.in-Ok-Some-command_of.command spells.0 (rw c.in-Ok-Some-command_of.field-0-is at c.in-Ok-Some-command_of.ensures.some) in
     let version : Version = c.in-Ok-Some.read.0 in
-    let yes : version_has_command version c.in-Ok-Some-command_of.command ≡ true = ap (λ (x : Command). version_has_command version x) (sym same) ∙ spells.1 in
-    let no : version_has_command version c.in-Ok-Some-command_of.command ≡ false = sym c.has.ensures ∙ c.if-not-has.true in
+    let has_command : version_has_command version c.in-Ok-Some-command_of.command ≡ true = ap (λ (x : Command). version_has_command version x) (sym equal_commands) ∙ spells.1 in
+    let lacks_command : version_has_command version c.in-Ok-Some-command_of.command ≡ false = sym c.has.ensures ∙ c.if-not-has.true in
     cc)
     (records_have_version_of_snapshot v _ _ _ _ s c.loop-at.invariant.so_far.records_represent.snapshot pair)
 
@@ -59,25 +59,25 @@ next_record_is_replayed : (c : After-apply-reply) → (c.loop-at.cycles + c.repl
     × IsReplayed c.in-Ok-Some.read.0 c.args.snap.now (take (c.loop-at.at + 1) c.args.records.now) (c.loop-at.cycles + c.replay_cycles-more.result) c.apply-reply.new.self
 next_record_is_replayed c =
     let bounded = c.loop-at.invariant.bounded in
-    let over = c.if-more-cycles.false in
-    let few : c.loop-at.cycles + c.replay_cycles-more.result ≤ REPLAY_CYCLES = omega (arith, bounded, over) in
+    let not_too_many = c.if-more-cycles.false in
+    let cycles_fit : c.loop-at.cycles + c.replay_cycles-more.result ≤ REPLAY_CYCLES = omega (arith, bounded, not_too_many) in
     let accepted : refusal c.loop-at.bench c.in-Ok-Some-command_of.command ≡ None = accepted_if_check_succeeds _ _ c.check.ensures (sym c.is_err.ensures.value ∙ c.if-is_err.false) in (
-      few,
+      cycles_fit,
       rw (take_with_next_element _ _ c.loop-at.at c.get.ensures, c.apply-reply.ensures.state)
-          (replayed_with_appended_command _ _ _ _ _ _ _ _ c.loop-at.invariant.so_far (rw c.in-Ok-Some-command_of.field-0-is at c.in-Ok-Some-command_of.ensures.some, sym c.has.ensures ∙ c.if-not-has.false) accepted c.replay_cycles-more.ensures few),
+          (replayed_with_appended_command _ _ _ _ _ _ _ _ c.loop-at.invariant.so_far (rw c.in-Ok-Some-command_of.field-0-is at c.in-Ok-Some-command_of.ensures.some, sym c.has.ensures ∙ c.if-not-has.false) accepted c.replay_cycles-more.ensures cycles_fit),
     )
 
 pub loop-at-preserved : goal.loop-at-preserved
 loop-at-preserved c =
-    let more = next_record_is_replayed (goal.at.loop-at-preserved c).After-apply-reply in
-    record { within = omega (arith, c.loop-at-test.true, c.len.ensures); bounded = more.0; so_far = more.1 }
+    let next_replayed = next_record_is_replayed (goal.at.loop-at-preserved c).After-apply-reply in
+    record { within = omega (arith, c.loop-at-test.true, c.len.ensures); bounded = next_replayed.0; so_far = next_replayed.1 }
 
 pub loop-at-preserved-else-more-cycles : goal.loop-at-preserved-else-more-cycles
 loop-at-preserved-else-more-cycles c =
-    let more = next_record_is_replayed (goal.at.loop-at-preserved-else-more-cycles c).After-apply-reply in
-    record { within = omega (arith, c.loop-at-test.true, c.len.ensures); bounded = more.0; so_far = more.1 }
+    let next_replayed = next_record_is_replayed (goal.at.loop-at-preserved-else-more-cycles c).After-apply-reply in
+    record { within = omega (arith, c.loop-at-test.true, c.len.ensures); bounded = next_replayed.0; so_far = next_replayed.1 }
 
 pub returns-clause-some : goal.returns-clause-some
 returns-clause-some c =
-    let whole : length c.args.records.now ≤ c.loop-at.at = omega (arith, c.loop-at-test.false, c.len.ensures) in
-    subst (λ (rs : List (List ℕ)). IsReplayed c.in-Ok-Some.read.0 c.args.snap.now rs c.loop-at.cycles c.loop-at.bench) (take_all c.loop-at.at c.args.records.now whole) c.loop-at.invariant.so_far
+    let all_read : length c.args.records.now ≤ c.loop-at.at = omega (arith, c.loop-at-test.false, c.len.ensures) in
+    subst (λ (rs : List (List ℕ)). IsReplayed c.in-Ok-Some.read.0 c.args.snap.now rs c.loop-at.cycles c.loop-at.bench) (take_all c.loop-at.at c.args.records.now all_read) c.loop-at.invariant.so_far

@@ -7,16 +7,16 @@ use Rattle.mcs_session.proofs.session.start_session.Goals as goal
 
 pub invariant_of-result : goal.invariant_of-result
 invariant_of-result g c =
-    let two : c.args.replayed.version ≡ Two = search (rules, c.eq.ensures, c.if-eq.true) in
-    record { ready = c.requires.ready; recorded = λ alive honest. c.requires.recorded two honest }
+    let is_version_two : c.args.replayed.version ≡ Two = search (rules, c.eq.ensures, c.if-eq.true) in
+    record { ready = c.requires.ready; recorded = λ alive honest. c.requires.recorded is_version_two honest }
 
 pub invariant_of-result-in-Ok : goal.invariant_of-result-in-Ok
 invariant_of-result-in-Ok g c = record {
   ready = c.in-Ok.ensures.ready;
   recorded = λ alive honest.
-      let was = c.in-Ok.ensures.counts.honest.0 honest in
-      let held = c.requires.held was in
-      let changes = c.in-Ok.ensures.replaces was held.snap held.records held.holds in
+      let honest_before = c.in-Ok.ensures.counts.honest.0 honest in
+      let held_before = c.requires.held honest_before in
+      let changes = c.in-Ok.ensures.replaces honest_before held_before.snap held_before.records held_before.holds in
       subst (λ n. IsRecorded (g.D.Disk.state c.checkpoint.new.self.store.disk) n c.args.replayed.bench) (sym c.in-Ok.ensures.used.1) (recorded_with_only_snapshot (g.D.Disk.state c.checkpoint.new.self.store.disk) changes.after.snap c.args.replayed.bench changes.after.spells changes.after.holds changes.durable);
 }
 

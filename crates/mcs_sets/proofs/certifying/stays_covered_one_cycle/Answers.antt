@@ -9,5 +9,5 @@ are_all_covered-requires c = record { instruction = sym (instruction_at-is-op_at
 
 pub returns-then-calls_allow-clause-stays_covered_one_cycle : goal.returns-then-calls_allow-clause-stays_covered_one_cycle
 returns-then-calls_allow-clause-stays_covered_one_cycle c = λ h.
-    let there : op_at c.args.rig.now.rom c.args.entry.now.at ≡ Some c.in-Some.op = sym (instruction_at-is-op_at (record c.new.result { pc = c.args.entry.now.at }) c.args.rig.now) ∙ sym c.in-Some.ensures in
-    landings-suffice c.args.rig.now.board c.args.rig.now.rom c.args.entries.now c.in-Some.op c.args.entry.now c.op_is_valid.ensures (c.calls_allow.ensures c.if-calls_allow.true) there (c.are_all_covered.ensures.covered h)
+    let op_in_rom : op_at c.args.rig.now.rom c.args.entry.now.at ≡ Some c.in-Some.op = sym (instruction_at-is-op_at (record c.new.result { pc = c.args.entry.now.at }) c.args.rig.now) ∙ sym c.in-Some.ensures in
+    landings-suffice c.args.rig.now.board c.args.rig.now.rom c.args.entries.now c.in-Some.op c.args.entry.now c.op_is_valid.ensures (c.calls_allow.ensures c.if-calls_allow.true) op_in_rom (c.are_all_covered.ensures.covered h)

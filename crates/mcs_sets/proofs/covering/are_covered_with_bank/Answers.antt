@@ -13,9 +13,9 @@ loop-byte-preserved c =
     let rom = c.loop-byte.rig.rom in
     let board = c.loop-byte.rig.board in
     let byte = c.loop-byte.byte in
-    let few = c.loop-byte-test.true in
+    let byte_below_limit = c.loop-byte-test.true in
     let was = c.loop-byte.invariant in
-    let now = c.is_choice_covered.ensures in
+    let choice_covered = c.is_choice_covered.ensures in
     record {
       covered = λ first second small inside ok.
           elim (cases_lt (first * 16 + second) byte) [
@@ -25,10 +25,10 @@ loop-byte-preserved c =
                 let lower = c.low_of-in-loop-byte-3.ensures in
                 let v : c.low_of-in-loop-byte-2.result ≡ first = omega arith in
                 let w : c.low_of-in-loop-byte-3.result ≡ second = omega arith in
-                let same = choice-is-choice_at c.low_of.result c.low_of-in-loop-byte.result c.args.bank c.low_of-in-loop-byte-2.result c.low_of-in-loop-byte-3.result c.args.flags first second c.low_of.ensures c.low_of-in-loop-byte.ensures v w in
+                let equal_choices = choice-is-choice_at c.low_of.result c.low_of-in-loop-byte.result c.args.bank c.low_of-in-loop-byte-2.result c.low_of-in-loop-byte-3.result c.args.flags first second c.low_of.ensures c.low_of-in-loop-byte.ensures v w in
                 choice-covered-for-equal-program rom c.args.rig.now.rom board c.args.rig.now.board es e op (choice_at c.args.flags c.args.bank first second) was.rom was.board
-                (subst (λ (x : Choice). AllowsChoice e op x → IsChoiceCovered rom board es e op x) same (now.covered c.if-not-is_choice_covered.false) ok)
+                (subst (λ (x : Choice). AllowsChoice e op x → IsChoiceCovered rom board es e op x) equal_choices (choice_covered.covered c.if-not-is_choice_covered.false) ok)
           ];
-      rom = now.rom ∙ was.rom;
-      board = now.board ∙ was.board;
+      rom = choice_covered.rom ∙ was.rom;
+      board = choice_covered.board ∙ was.board;
     }

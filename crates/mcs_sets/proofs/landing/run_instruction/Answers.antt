@@ -15,12 +15,12 @@ pub returns-clause-rom : goal.returns-clause-rom
 returns-clause-rom c =
     let op = c.args.op.now in
     let m : BusState = record c.args.rig.now { test = c.args.level } in
-    let did = ran op c.processor-cpu.result c.args.regs.now c.set_test.new.self m (c.cycle-cycle.new.cpu, c.cycle-cycle.new.rig) c.cycle-cycle.ensures.state c.processor-cpu.ensures c.set_test.ensures c.requires.not_owed c.requires.instruction in
-    ap (λ (x : Regs × BusState). x.1.rom) did ∙ (program-unchanged-by-bus_after op c.args.regs.now m).rom
+    let state_after = ran op c.processor-cpu.result c.args.regs.now c.set_test.new.self m (c.cycle-cycle.new.cpu, c.cycle-cycle.new.rig) c.cycle-cycle.ensures.state c.processor-cpu.ensures c.set_test.ensures c.requires.not_owed c.requires.instruction in
+    ap (λ (x : Regs × BusState). x.1.rom) state_after ∙ (program-unchanged-by-bus_after op c.args.regs.now m).rom
 
 pub returns-clause-board : goal.returns-clause-board
 returns-clause-board c =
     let op = c.args.op.now in
     let m : BusState = record c.args.rig.now { test = c.args.level } in
-    let did = ran op c.processor-cpu.result c.args.regs.now c.set_test.new.self m (c.cycle-cycle.new.cpu, c.cycle-cycle.new.rig) c.cycle-cycle.ensures.state c.processor-cpu.ensures c.set_test.ensures c.requires.not_owed c.requires.instruction in
-    ap (λ (x : Regs × BusState). x.1.board) did ∙ (program-unchanged-by-bus_after op c.args.regs.now m).board
+    let state_after = ran op c.processor-cpu.result c.args.regs.now c.set_test.new.self m (c.cycle-cycle.new.cpu, c.cycle-cycle.new.rig) c.cycle-cycle.ensures.state c.processor-cpu.ensures c.set_test.ensures c.requires.not_owed c.requires.instruction in
+    ap (λ (x : Regs × BusState). x.1.board) state_after ∙ (program-unchanged-by-bus_after op c.args.regs.now m).board

@@ -8,14 +8,14 @@ loop-front-init g c = record { served = served_part_start _ _ _ c.requires; coun
 
 pub returns-in-Err-clause-fed : goal.returns-in-Err-clause-fed
 returns-in-Err-clause-fed g c =
-    let cut : HasNoFeed c.in-Some.front.now × (c.loop-front.rest.now ≡ c.in-Some.front.now ++ 10 ∷ c.in-Some.back.now) = c.in-Some.ensures in
-    serves_chunk_if_line_halts c.in-Err.end _ _ _ _ _ _ _ _ _ _ _ c.loop-front.invariant.served cut c.append_to_line.ensures c.in-Err.ensures.fed
+    let split_at_feed : HasNoFeed c.in-Some.front.now × (c.loop-front.rest.now ≡ c.in-Some.front.now ++ 10 ∷ c.in-Some.back.now) = c.in-Some.ensures in
+    serves_chunk_if_line_halts c.in-Err.end _ _ _ _ _ _ _ _ _ _ _ c.loop-front.invariant.served split_at_feed c.append_to_line.ensures c.in-Err.ensures.fed
 
 pub loop-front-preserved : goal.loop-front-preserved
 loop-front-preserved g c =
-    let cut : HasNoFeed c.in-Some.front.now × (c.loop-front.rest.now ≡ c.in-Some.front.now ++ 10 ∷ c.in-Some.back.now) = c.in-Some.ensures in
+    let split_at_feed : HasNoFeed c.in-Some.front.now × (c.loop-front.rest.now ≡ c.in-Some.front.now ++ 10 ∷ c.in-Some.back.now) = c.in-Some.ensures in
     record {
-      served = served_part_after_line _ _ _ _ _ _ _ _ _ _ _ c.loop-front.invariant.served cut c.append_to_line.ensures c.in-Ok.ensures.fed;
+      served = served_part_after_line _ _ _ _ _ _ _ _ _ _ _ c.loop-front.invariant.served split_at_feed c.append_to_line.ensures c.in-Ok.ensures.fed;
       counted = search rules;
     }
 

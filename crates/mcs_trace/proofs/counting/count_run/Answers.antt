@@ -29,7 +29,7 @@ count_instruction-requires-clause-few_runs c =
 
 pub count_instruction-requires-clause-few_jumps : goal.count_instruction-requires-clause-few_jumps
 count_instruction-requires-clause-few_jumps c =
-    let few = tally_number-at_most_cycles c.loop-done.done (machine_of c.args.bench.now) c.loop-done.jumps.items (λ a x. begins_at_address a x && jumps x) c.regs-before.result.pc (omega arith) c.loop-done.invariant.counting.jump_tally in
+    let count_at_most_cycles = tally_number-at_most_cycles c.loop-done.done (machine_of c.args.bench.now) c.loop-done.jumps.items (λ a x. begins_at_address a x && jumps x) c.regs-before.result.pc (omega arith) c.loop-done.invariant.counting.jump_tally in
     omega arith
 
 pub returns-in-None : goal.returns-in-None
@@ -72,12 +72,12 @@ loop-done-preserved c =
     let u : Machine = machine_of c.continue_run.new.self in
     let w : InstructionResult = c.in-Some.went in
     let counting = c.loop-done.invariant.counting in
-    let went : IsInstructionResult (stops_of b) (n - k) t u w = subst (λ (x : StopConditions). IsInstructionResult x (n - k) t u w) c.loop-done.invariant.stops c.in-Some.ensures.went in
+    let instruction_result : IsInstructionResult (stops_of b) (n - k) t u w = subst (λ (x : StopConditions). IsInstructionResult x (n - k) t u w) c.loop-done.invariant.stops c.in-Some.ensures.went in
     record {
       counting = record {
-        going = run-continues-after-instruction-result (stops_of b) n k s t u w counting.going went c.loop-done-test.true c.in_default.is;
-        run_tally = run_tally-after_instruction (n - k) k w.cycles s t u c.regs-before.result c.loop-done.runs.items c.count_instruction.new.runs.items counting.going.at went.ran went.some c.regs-before.ensures.same (omega arith) c.count_instruction.ensures.runs counting.run_tally;
-        jump_tally = jump_tally-after_instruction (n - k) k w.cycles s t u c.regs-before.result c.regs.result c.loop-done.jumps.items c.count_instruction.new.jumps.items counting.going.at went.ran went.some c.regs-before.ensures.same c.regs.ensures.same (omega arith) c.count_instruction.ensures.jumps counting.jump_tally;
+        going = run-continues-after-instruction-result (stops_of b) n k s t u w counting.going instruction_result c.loop-done-test.true c.in_default.is;
+        run_tally = run_tally-after_instruction (n - k) k w.cycles s t u c.regs-before.result c.loop-done.runs.items c.count_instruction.new.runs.items counting.going.at instruction_result.ran instruction_result.some c.regs-before.ensures.same (omega arith) c.count_instruction.ensures.runs counting.run_tally;
+        jump_tally = jump_tally-after_instruction (n - k) k w.cycles s t u c.regs-before.result c.regs.result c.loop-done.jumps.items c.count_instruction.new.jumps.items counting.going.at instruction_result.ran instruction_result.some c.regs-before.ensures.same c.regs.ensures.same (omega arith) c.count_instruction.ensures.jumps counting.jump_tally;
       };
       stops = ap stops_of c.continue_run.ensures.rest ∙ c.loop-done.invariant.stops;
     }

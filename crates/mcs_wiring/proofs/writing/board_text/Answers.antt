@@ -9,10 +9,10 @@ use Rattle.mcs_wiring.proofs.writing.board_text.Goals as goal
 
 pub returns : goal.returns
 returns c =
-    let same = c.parts-parts.ensures.same in
-    let chains = c.as_slice.ensures.value ∙ ap (λ (b : BoardParts). b.chains.items) same in
-    let lamps = c.as_slice-2.ensures.value ∙ ap (λ (b : BoardParts). b.lamps.items) same in
+    let equal_boards = c.parts-parts.ensures.same in
+    let chains = c.as_slice.ensures.value ∙ ap (λ (b : BoardParts). b.chains.items) equal_boards in
+    let lamps = c.as_slice-2.ensures.value ∙ ap (λ (b : BoardParts). b.lamps.items) equal_boards in
     board_text_from_pieces c.args.board.now _ _ _ _ _ _ c.new-out.ensures.bytes c.in_ok-push_roms.ensures c.in_ok-push_rams.ensures
     (c.in_ok-push_chains.ensures ∙ ap (λ cs. string_bytes c.push_rams.new.out ++ flat_map (λ x. text_of (chain_lines x)) cs) chains)
-    (c.in_ok-push_keys.ensures ∙ ap (λ (b : BoardParts). string_bytes c.push_chains.new.out ++ text_of (option_map_or matrix_lines b.keys [])) same)
+    (c.in_ok-push_keys.ensures ∙ ap (λ (b : BoardParts). string_bytes c.push_chains.new.out ++ text_of (option_map_or matrix_lines b.keys [])) equal_boards)
     (c.in_ok-push_lamps.ensures ∙ ap (λ ls. string_bytes c.push_keys.new.out ++ flat_map (λ x. text_of (lamp_lines x)) ls) lamps)

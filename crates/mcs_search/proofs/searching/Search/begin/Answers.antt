@@ -6,7 +6,7 @@ use Rattle.mcs_search.proofs.searching.Search.begin.Goals as goal
 pub invariant_of-result : goal.invariant_of-result
 invariant_of-result c =
     let keys = keys-after_first_add c.args.start.now c.in_ok-visited.visited c.add.new.self c.in_ok-add.field-0 (ap (λ (s : KeyStore). s.keys) c.in_ok-visited.ensures) c.add.ensures.adds c.in_ok-add.ensures.added in
-    let one : length c.add.new.self.keys ≡ 1 = ap length keys in
+    let one_key : length c.add.new.self.keys ≡ 1 = ap length keys in
     let width : c.add.new.self.width ≡ length c.args.start.now = c.add.ensures.adds.width ∙ ap (λ (s : KeyStore). s.width) c.in_ok-visited.ensures in
     let max_states = c.requires in
     record {

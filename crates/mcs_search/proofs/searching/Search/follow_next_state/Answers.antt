@@ -11,9 +11,9 @@ returns-then-self-len-2-clause-proved g c =
     let a = c.self.inside in
     let r = g.S.System.rules (g.S.System.setting c.args.system.now) in
     let u = subst (IsUnderWay r) (sym c.self.view_is) c.requires.under_way in
-    let all : a.followed ≡ length a.visited.keys = (let t = c.if-self-len-2.true in let l = c.len-len.ensures in omega arith) in
-    let n : a.followed ≡ c.len-len.result = all ∙ sym c.len-len.ensures in
-    let is_closure = closure r a.visited.keys a.followed c.self.invariant.some all u in
+    let all_followed : a.followed ≡ length a.visited.keys = (let t = c.if-self-len-2.true in let l = c.len-len.ensures in omega arith) in
+    let n : a.followed ≡ c.len-len.result = all_followed ∙ sym c.len-len.ensures in
+    let is_closure = closure r a.visited.keys a.followed c.self.invariant.some all_followed u in
     let start : get_or a.visited.keys 0 [] ≡ start_of c.args.self.now = ap (λ (p : SearchProgress). start_of p) c.self.view_is in
     subst (λ (k : ℕ). Closure r (start_of c.args.self.now) k) n (subst (λ (s : List ℕ). Closure r s a.followed) start is_closure)
 
@@ -78,8 +78,8 @@ returns-in-All-clause-under_way g c =
     let stored : c.copy_from_slice.new.self.items ≡ key = c.copy_from_slice.ensures.items ∙ c.key.ensures.key in
     let covers = subst (λ (k : List ℕ). r.covers k choices) (c.deref.ensures.value ∙ stored) c.in_ok-choices.ensures.covers in
     let outcome = subst (λ (f : FollowOutcome). IsFollowOutcome (g.S.System.rules (g.S.System.setting c.choices.new.self)) keys c.deref-2.result.now c.deref-3.result.now f) c.in-All.is c.in_ok-follow_choices.ensures.outcome in
-    let here = subst (λ s. All (LeadsInto (g.S.System.rules s) keys c.deref-2.result.now) c.deref-3.result.now) c.choices.ensures.setting outcome in
-    let at = subst (λ (k : List ℕ). All (LeadsInto r keys k) c.deref-3.result.now) (c.deref-2.ensures.value ∙ stored) here in
+    let choices_followed = subst (λ s. All (LeadsInto (g.S.System.rules s) keys c.deref-2.result.now) c.deref-3.result.now) c.choices.ensures.setting outcome in
+    let at = subst (λ (k : List ℕ). All (LeadsInto r keys k) c.deref-3.result.now) (c.deref-2.ensures.value ∙ stored) choices_followed in
     let leads = subst (λ (cs : List ℕ). All (LeadsInto r keys key) cs) c.deref-3.ensures.value at in
     let within : a.followed < length a.visited.keys = (let t = c.if-self-len-2.false in let l = c.len-len.ensures in let w = c.self.invariant.within in omega arith) in
     under_way-after_next_key_followed r a.followed c.follow_choices.ensures.grows within states u (choices, covers, leads)

@@ -9,8 +9,8 @@ use Rattle.mcs_session.proofs.recording.CommandLog.make_room.Goals.{else-has_roo
 pub returns-then-more-self-clause-made : goal.returns-then-more-self-clause-made
 returns-then-more-self-clause-made g c = λ honest was command is_long is_more.
     let room : HasRoom c.args.self.now.store.used c.args.count = search rules in
-    let few : c.args.self.now.cycles + c.args.more ≤ REPLAY_CYCLES = omega (arith, c.if-more-self.true, c.requires.ready.within) in
-    made_room_if_log_has_room _ _ _ _ _ _ command was (c.has_room.ensures.used c.requires.live honest was.represents.snap was.represents.records was.represents.holds) room few is_long is_more
+    let cycles_fit : c.args.self.now.cycles + c.args.more ≤ REPLAY_CYCLES = omega (arith, c.if-more-self.true, c.requires.ready.within) in
+    made_room_if_log_has_room _ _ _ _ _ _ command was (c.has_room.ensures.used c.requires.live honest was.represents.snap was.represents.records was.represents.holds) room cycles_fit is_long is_more
 
 pub returns-clause-moments : goal.returns-clause-moments
 returns-clause-moments g c = λ honest was.

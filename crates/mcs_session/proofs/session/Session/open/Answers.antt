@@ -6,13 +6,13 @@ use Rattle.mcs_session.proofs.session.Session.open.Goals as goal
 
 pub start_session-requires-clause-recorded : goal.start_session-requires-clause-recorded
 start_session-requires-clause-recorded g c = λ last honest.
-    let was = c.in-Ok-open.ensures.counts.honest.0 honest in
-    recorded_after_open_if_version_2 _ _ _ _ _ _ _ last (c.in-Ok-open.ensures.opened was) (rw (c.bytes.ensures, c.in-Ok-Some.field-0-is) at c.in-Ok-Some.ensures.some)
+    let honest_before = c.in-Ok-open.ensures.counts.honest.0 honest in
+    recorded_after_open_if_version_2 _ _ _ _ _ _ _ last (c.in-Ok-open.ensures.opened honest_before) (rw (c.bytes.ensures, c.in-Ok-Some.field-0-is) at c.in-Ok-Some.ensures.some)
 
 pub start_session-requires-clause-held : goal.start_session-requires-clause-held
 start_session-requires-clause-held g c = λ honest.
-    let was = c.in-Ok-open.ensures.counts.honest.0 honest in
-    record { snap = _; records = _; holds = opened_store_keeps_contents _ _ _ _ (c.in-Ok-open.ensures.opened was) }
+    let honest_before = c.in-Ok-open.ensures.counts.honest.0 honest in
+    record { snap = _; records = _; holds = opened_store_keeps_contents _ _ _ _ (c.in-Ok-open.ensures.opened honest_before) }
 
 pub returns-in-Ok-start_session-clause-counts : goal.returns-in-Ok-start_session-clause-counts
 returns-in-Ok-start_session-clause-counts g c = counts_fault_of_two_stretches _ _ _ ⊥ ⊥ (λ no. no) c.in-Ok-open.ensures.counts c.in-Ok-start_session.ensures.counts
@@ -20,31 +20,31 @@ returns-in-Ok-start_session-clause-counts g c = counts_fault_of_two_stretches _ 
 pub returns-in-Ok-start_session-clause-opened : goal.returns-in-Ok-start_session-clause-opened
 returns-in-Ok-start_session-clause-opened g c = λ honest.
     let opened = c.in-Ok-open.ensures.opened honest in
-    let now = c.in-Ok-open.ensures.counts.honest.1 honest in
+    let honest_after = c.in-Ok-open.ensures.counts.honest.1 honest in
     let replayed = rw (c.bytes.ensures, c.in-Ok-Some.field-0-is) at c.in-Ok-Some.ensures.some in
     rw c.in-Ok-start_session.ensures.open.1 (
     opens_session_of_either_version _ _ _ _ _ _ _ _ opened replayed
     (λ last o. rw (c.in-Ok-start_session.ensures.same last) o)
-    (λ version_1. c.in-Ok-start_session.ensures.version_1 version_1 now _ _ (opened_store_keeps_contents _ _ _ _ opened)))
+    (λ version_1. c.in-Ok-start_session.ensures.version_1 version_1 honest_after _ _ (opened_store_keeps_contents _ _ _ _ opened)))
 
 pub returns-in-Ok-start_session-clause-migrated : goal.returns-in-Ok-start_session-clause-migrated
 returns-in-Ok-start_session-clause-migrated g c = λ honest.
     let opened = c.in-Ok-open.ensures.opened honest in
-    let now = c.in-Ok-open.ensures.counts.honest.1 honest in
+    let honest_after = c.in-Ok-open.ensures.counts.honest.1 honest in
     let replayed = rw (c.bytes.ensures, c.in-Ok-Some.field-0-is) at c.in-Ok-Some.ensures.some in
     rw c.in-Ok-start_session.ensures.open.1 (
     migrates_session_of_either_version _ _ _ _ _ _ _ _ opened replayed
     (λ last o. rw (c.in-Ok-start_session.ensures.same last) o)
-    (λ version_1. c.in-Ok-start_session.ensures.version_1 version_1 now _ _ (opened_store_keeps_contents _ _ _ _ opened)))
+    (λ version_1. c.in-Ok-start_session.ensures.version_1 version_1 honest_after _ _ (opened_store_keeps_contents _ _ _ _ opened)))
 
 pub returns-in-Ok-Some-clause-refused : goal.returns-in-Ok-Some-clause-refused
 returns-in-Ok-Some-clause-refused g c = λ honest.
     let opened = c.in-Ok-open.ensures.opened honest in
-    let now = c.in-Ok-open.ensures.counts.honest.1 honest in
+    let honest_after = c.in-Ok-open.ensures.counts.honest.1 honest in
     let replayed = rw (c.bytes.ensures, c.in-Ok-Some.field-0-is) at c.in-Ok-Some.ensures.some in
-    let why = c.in-Err-start_session.ensures.refused in
-    device_error_if_migration_fails _ _ _ why.0 (fails_migrating_if_version_1 _ _ _ _ _ _ _ _ why.1.0 opened replayed
-    (c.in-Err-start_session.ensures.failed now _ _ (opened_store_keeps_contents _ _ _ _ opened)))
+    let refusal = c.in-Err-start_session.ensures.refused in
+    device_error_if_migration_fails _ _ _ refusal.0 (fails_migrating_if_version_1 _ _ _ _ _ _ _ _ refusal.1.0 opened replayed
+    (c.in-Err-start_session.ensures.failed honest_after _ _ (opened_store_keeps_contents _ _ _ _ opened)))
 
 pub returns-in-Ok-None-clause-error_counts_fault : goal.returns-in-Ok-None-clause-error_counts_fault
 returns-in-Ok-None-clause-error_counts_fault g c = rw c.into_disk.ensures (record {

@@ -11,22 +11,22 @@ invariant_of-self g c =
       ready = c.checkpoint.ensures.ready;
       recorded = λ alive h.
           let honest = c.checkpoint.ensures.counts.honest.0 h in
-          let was = c.self.invariant.recorded live honest in
-          recorded_after_snapshot _ _ _ _ _ _ _ was (rw c.checkpoint.ensures.live at alive) (c.checkpoint.ensures.replaces honest was.represents.snap was.represents.records was.represents.holds) c.checkpoint.ensures.used;
+          let is_recorded = c.self.invariant.recorded live honest in
+          recorded_after_snapshot _ _ _ _ _ _ _ is_recorded (rw c.checkpoint.ensures.live at alive) (c.checkpoint.ensures.replaces honest is_recorded.represents.snap is_recorded.represents.records is_recorded.represents.holds) c.checkpoint.ensures.used;
     }
 
 pub returns-clause-settles : goal.returns-clause-settles
 returns-clause-settles g c = λ h.
     let live : IsTrue c.self.inside.log.store.live = search rules in
     let honest = rw (← c.self.view_is) at h in
-    let was = c.self.invariant.recorded live honest in
+    let is_recorded = c.self.invariant.recorded live honest in
     elim c.match-checkpoint.branch [
       | in-Ok w ↦
-          let changes = w.in-Ok.ensures.replaces honest was.represents.snap was.represents.records was.represents.holds in
-          rw (w.result-is, ← c.self.view_is) (settles_session_by_snapshot _ _ _ _ was changes.leaves changes.after changes.durable changes.ticks)
+          let changes = w.in-Ok.ensures.replaces honest is_recorded.represents.snap is_recorded.represents.records is_recorded.represents.holds in
+          rw (w.result-is, ← c.self.view_is) (settles_session_by_snapshot _ _ _ _ is_recorded changes.leaves changes.after changes.durable changes.ticks)
       | in-Err w ↦
-          let changes = w.in-Err.ensures.replaces honest was.represents.snap was.represents.records was.represents.holds in
-          rw (w.result-is, ← c.self.view_is) (was.represents, leaves_state_while_records_are_replaced _ _ _ _ was changes.leaves)
+          let changes = w.in-Err.ensures.replaces honest is_recorded.represents.snap is_recorded.represents.records is_recorded.represents.holds in
+          rw (w.result-is, ← c.self.view_is) (is_recorded.represents, leaves_state_while_records_are_replaced _ _ _ _ is_recorded changes.leaves)
     ]
 
 pub returns-then-not-is_open-clause-one_unsynced : goal.returns-then-not-is_open-clause-one_unsynced
