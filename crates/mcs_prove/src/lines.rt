@@ -214,25 +214,25 @@ fn comparison_of(
 fn with_mistake(mistakes: Mistakes, word: &[u8]) -> Option<Mistakes>
     ensures { result ≡ with_mistake mistakes word.now }
 {
-    let mut more = mistakes;
+    let mut extended = mistakes;
     if equals(word, b"code") {
-        more.invalid_opcode = true;
+        extended.invalid_opcode = true;
     } else if equals(word, b"call") {
-        more.fourth_call = true;
+        extended.fourth_call = true;
     } else if equals(word, b"return") {
-        more.unmatched_return = true;
+        extended.unmatched_return = true;
     } else if equals(word, b"ram") {
-        more.absent_ram = true;
+        extended.absent_ram = true;
     } else if equals(word, b"rom") {
-        more.absent_rom = true;
+        extended.absent_rom = true;
     } else if equals(word, b"rdr") {
-        more.port_without_inputs = true;
+        extended.port_without_inputs = true;
     } else if equals(word, b"wrr") {
-        more.port_without_outputs = true;
+        extended.port_without_outputs = true;
     } else {
         return None;
     }
-    Some(more)
+    Some(extended)
 }
 
 /// Parses words that name kinds of mistake. Returns `None` if a word names no kind.

@@ -37,8 +37,8 @@ fn program_refusal(fault: AsmFault) -> Refusal {
 fn rig_of(alloc: Global, board: &str, program: &str) -> Result<BenchRig, Refusal>
     ensures { IfOk result (IsRigOfTexts board.now program.now) }
 {
-    let wired = match board_of(alloc, board) {
-        Ok(wired) => wired,
+    let board_with_parts = match board_of(alloc, board) {
+        Ok(board_with_parts) => board_with_parts,
         Err(WiringFault::NoMemory) => return Err(Refusal::NoMemory),
         Err(fault) => return Err(Refusal::Wiring(fault)),
     };
@@ -46,7 +46,7 @@ fn rig_of(alloc: Global, board: &str, program: &str) -> Result<BenchRig, Refusal
         Ok(image) => image,
         Err(fault) => return Err(program_refusal(fault)),
     };
-    match rig_with_program(alloc, &wired, &image)? {
+    match rig_with_program(alloc, &board_with_parts, &image)? {
         None => Err(Refusal::NoRom),
         Some(rig) => Ok(rig),
     }

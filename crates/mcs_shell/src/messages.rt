@@ -33,7 +33,7 @@ pub fn print_streams_refusal(rt: &HostRuntime, refused: StreamsError) {
     if refused.unusable.errors {
         return;
     }
-    let words = match refused.fault {
+    let reason = match refused.fault {
         StreamsFault::IntoSession => {
             "standard output goes into a session file; send it elsewhere"
         }
@@ -44,7 +44,7 @@ pub fn print_streams_refusal(rt: &HostRuntime, refused: StreamsError) {
             "standard input, output or error is closed, and /dev/null cannot be opened in its place"
         }
     };
-    let _ = eprintln!(rt; "mcs4: {words}");
+    let _ = eprintln!(rt; "mcs4: {reason}");
 }
 
 /// Prints a warning if a file was opened but its folder was not synced. A power cut can then remove the name of a new

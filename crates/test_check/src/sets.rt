@@ -69,8 +69,15 @@ fn no_mistake_is_missed(rt: HostRuntime) {
 
 #[test]
 fn limits_stop_the_search(rt: HostRuntime) {
-    let few = check_program(rt.alloc(), &rt, &DIE_PROGRAM, ALL_MISTAKES, 1, MEMORY);
-    assert!(rt; matches!(&few, Outcome::TooMany));
-    let little = check_program(rt.alloc(), &rt, &DIE_PROGRAM, ALL_MISTAKES, ENTRIES, 300);
-    assert!(rt; matches!(&little, Outcome::NoMemory(1)));
+    let with_few_entries = check_program(rt.alloc(), &rt, &DIE_PROGRAM, ALL_MISTAKES, 1, MEMORY);
+    assert!(rt; matches!(&with_few_entries, Outcome::TooMany));
+    let with_little_memory = check_program(
+        rt.alloc(),
+        &rt,
+        &DIE_PROGRAM,
+        ALL_MISTAKES,
+        ENTRIES,
+        300,
+    );
+    assert!(rt; matches!(&with_little_memory, Outcome::NoMemory(1)));
 }

@@ -10,10 +10,10 @@ fn eighteen_opcodes_are_undefined(rt: HostRuntime) {
         let named = !matches!(code, 0x01..=0x0F | 0xE3 | 0xFE | 0xFF);
         assert_eq!(rt; decode(code, 0).is_some(), named, "at {code}");
     }
-    let outside = (0..=255u8)
+    let undefined = (0..=255u8)
         .filter(|code| decode(*code, 0).is_none())
         .count();
-    expect_equal(&rt, outside, 18);
+    expect_equal(&rt, undefined, 18);
 }
 
 #[test]

@@ -80,18 +80,18 @@ impl BankModel {
         }
     }
 
-    fn has(&self, chip: u8) -> bool {
+    fn has_chip(&self, chip: u8) -> bool {
         usize::from(chip) < self.wired
     }
 
     fn set_src(&mut self, byte: u8) {
-        if self.has(0) {
+        if self.has_chip(0) {
             self.src = byte;
         }
     }
 
     fn set_at(&mut self, src: u8, n: Nibble) {
-        if self.has(src / 64) {
+        if self.has_chip(src / 64) {
             self.main[usize::from(src)] = n.get();
         }
     }
@@ -100,7 +100,7 @@ impl BankModel {
         requires { k < 4 }
     {
         let register = high.get();
-        if self.has(register / 4) {
+        if self.has_chip(register / 4) {
             self.status[usize::from(register * 4 + k)] = n.get();
         }
     }
@@ -108,7 +108,7 @@ impl BankModel {
     fn set_port(&mut self, chip: u8, n: Nibble)
         requires { chip < 4 }
     {
-        if self.has(chip) {
+        if self.has_chip(chip) {
             self.ports[usize::from(chip)] = n.get();
         }
     }
@@ -117,73 +117,73 @@ impl BankModel {
 /// Makes one random call on a bank, and the same change in the bank's model.
 fn call_bank<const CHIPS: usize>(
     bank: &mut Bank<CHIPS>,
-    plain: &mut BankModel,
+    model: &mut BankModel,
     numbers: &mut RandomNumbers,
 ) {
     let byte = byte(numbers);
     let n = nibble(numbers);
     let k = numbers.below(4);
-    let src = plain.src;
+    let src = model.src;
     match numbers.below(7) {
         0 => {
             bank.src(byte);
-            plain.set_src(byte);
+            model.set_src(byte);
         }
         1 => {
             bank.set_at(byte, n);
-            plain.set_at(byte, n);
+            model.set_at(byte, n);
         }
         2 => {
             bank.set_status_at(Nibble::low_of(byte), k, n);
-            plain.set_status(Nibble::low_of(byte), k, n);
+            model.set_status(Nibble::low_of(byte), k, n);
         }
         3 => {
             bank.store(BankWrite::Port(k, n));
-            plain.set_port(k, n);
+            model.set_port(k, n);
         }
         4 => {
             bank.write(n);
-            plain.set_at(src, n);
+            model.set_at(src, n);
         }
         5 => {
             bank.write_status(k, n);
-            plain.set_status(Nibble::high_of(src), k, n);
+            model.set_status(Nibble::high_of(src), k, n);
         }
         _ => {
             bank.write_port(n);
-            plain.set_port(src / 64, n);
+            model.set_port(src / 64, n);
         }
     }
 }
 
 /// Compares all values that can be read from a bank with the bank's model.
-fn compare_bank<const CHIPS: usize>(rt: &impl Abort, bank: &Bank<CHIPS>, plain: &BankModel) {
+fn compare_bank<const CHIPS: usize>(rt: &impl Abort, bank: &Bank<CHIPS>, model: &BankModel) {
     for src in 0..=255u8 {
         assert_eq!(rt;
             bank.at(src).get(),
-            plain.main[usize::from(src)],
+            model.main[usize::from(src)],
             "at {src}"
         );
     }
-    for place in 0..64u8 {
-        let n = bank.status_at(Nibble::low_of(place / 4), place % 4);
-        assert_eq!(rt; n.get(), plain.status[usize::from(place)], "status {place}");
+    for index in 0..64u8 {
+        let n = bank.status_at(Nibble::low_of(index / 4), index % 4);
+        assert_eq!(rt; n.get(), model.status[usize::from(index)], "status {index}");
     }
     for chip in 0..4u8 {
         assert_eq!(rt;
             bank.port(chip).get(),
-            plain.ports[usize::from(chip)],
+            model.ports[usize::from(chip)],
             "port {chip}"
         );
     }
-    let src = plain.src;
+    let src = model.src;
     expect_equal(rt, bank.last_src(), src);
-    expect_equal(rt, bank.read().get(), plain.main[usize::from(src)]);
+    expect_equal(rt, bank.read().get(), model.main[usize::from(src)]);
     for k in 0..4u8 {
         expect_equal(
             rt,
             bank.read_status(k).get(),
-            plain.status[usize::from(src / 16 * 4 + k)],
+            model.status[usize::from(src / 16 * 4 + k)],
         );
     }
 }
@@ -193,12 +193,12 @@ fn compare_bank<const CHIPS: usize>(rt: &impl Abort, bank: &Bank<CHIPS>, plain: 
 fn run_bank<const CHIPS: usize>(rt: &impl Abort, bank: &mut Bank<CHIPS>, wired: usize) {
     let mut numbers = RandomNumbers::new(4002);
     for _ in 0..2 {
-        let mut plain = BankModel::new(wired);
+        let mut model = BankModel::new(wired);
         for _ in 0..50 {
             for _ in 0..30 {
-                call_bank(bank, &mut plain, &mut numbers);
+                call_bank(bank, &mut model, &mut numbers);
             }
-            compare_bank(rt, bank, &plain);
+            compare_bank(rt, bank, &model);
         }
         bank.clear();
         compare_bank(rt, bank, &BankModel::new(wired));
@@ -234,13 +234,13 @@ impl ChainModel {
     fn ten_bits_from(&self, first: usize) -> u16
         requires { first ≤ 80 }
     {
-        let mut ten: u16 = 0;
+        let mut value: u16 = 0;
         for j in 0..10 {
             if self.list[first + j] == 1 {
-                ten |= 1 << j;
+                value |= 1 << j;
             }
         }
-        ten
+        value
     }
 
     /// Shifts the first `bits` bits of the chain one index up. `level` becomes bit 0.
@@ -258,7 +258,7 @@ impl ChainModel {
 /// Makes one random call on a chain, and the same change in the chain's model.
 fn call_chain<const MAX: usize>(
     chain: &mut Chain<MAX>,
-    plain: &mut ChainModel,
+    model: &mut ChainModel,
     numbers: &mut RandomNumbers,
 ) {
     let bits = chain.bits();
@@ -269,24 +269,24 @@ fn call_chain<const MAX: usize>(
     }
     if numbers.below(4) > 0 {
         chain.shift(level);
-        plain.shift(bits, level);
+        model.shift(bits, level);
     } else if i < bits {
         chain.set_bit(i, level);
-        plain.list[i] = level.get();
+        model.list[i] = level.get();
     }
 }
 
 /// Compares all bits that can be read from a chain with the chain's model.
-fn compare_chain<const MAX: usize>(rt: &impl Abort, chain: &Chain<MAX>, plain: &ChainModel) {
+fn compare_chain<const MAX: usize>(rt: &impl Abort, chain: &Chain<MAX>, model: &ChainModel) {
     let bits = chain.bits();
     if bits > 80 {
         return;
     }
     for i in 0..bits {
-        assert_eq!(rt; chain.bit(i), Bit::of(plain.list[i]), "bit {i} of {bits}");
+        assert_eq!(rt; chain.bit(i), Bit::of(model.list[i]), "bit {i} of {bits}");
         assert_eq!(rt;
             chain.ten_bits_from(i),
-            plain.ten_bits_from(i),
+            model.ten_bits_from(i),
             "from {i} of {bits}"
         );
     }
@@ -299,13 +299,13 @@ fn compare_chain<const MAX: usize>(rt: &impl Abort, chain: &Chain<MAX>, plain: &
 fn run_chain<const MAX: usize>(rt: &impl Abort, chain: &mut Chain<MAX>) {
     let mut numbers = RandomNumbers::new(4003);
     for _ in 0..20 {
-        let mut plain = ChainModel { list: [0; 96] };
+        let mut model = ChainModel { list: [0; 96] };
         chain.clear();
         for _ in 0..20 {
             for _ in 0..5 {
-                call_chain(chain, &mut plain, &mut numbers);
+                call_chain(chain, &mut model, &mut numbers);
             }
-            compare_chain(rt, chain, &plain);
+            compare_chain(rt, chain, &model);
         }
     }
 }

@@ -67,9 +67,13 @@ fn counterexamples_are_shortest(rt: HostRuntime) {
 
 #[test]
 fn search_keeps_to_its_limit(rt: HostRuntime) {
-    let mut one = Wheels::new(1, 1);
-    expect_too_many(&rt, &search_wheels(rt.alloc(), &rt, &mut one, 0));
-    expect_holds(&rt, &search_wheels(rt.alloc(), &rt, &mut one, 1), 1);
+    let mut single_wheel = Wheels::new(1, 1);
+    expect_too_many(&rt, &search_wheels(rt.alloc(), &rt, &mut single_wheel, 0));
+    expect_holds(
+        &rt,
+        &search_wheels(rt.alloc(), &rt, &mut single_wheel, 1),
+        1,
+    );
     let mut wheels = Wheels::new(3, 5);
     expect_too_many(&rt, &search_wheels(rt.alloc(), &rt, &mut wheels, 1));
     expect_too_many(&rt, &search_wheels(rt.alloc(), &rt, &mut wheels, 124));

@@ -34,9 +34,9 @@ fn created_store(alloc: Global, rt: &impl Abort) -> Store<MemDisk> {
 
 /// Checks that the disk has the given bytes at an offset.
 fn expect_bytes(rt: &impl Abort, disk: &mut MemDisk, at: usize, want: &[u8]) {
-    let mut got = [0u8; 16];
+    let mut buffer = [0u8; 16];
     assert!(rt; want.len() <= 16 && at <= disk.size() && want.len() <= disk.size() - at);
-    let found = &mut got[..want.len()];
+    let found = &mut buffer[..want.len()];
     disk.read(at, found).expect(rt, "a read");
     assert_eq!(rt; &*found, want, "at {at}");
 }
@@ -226,16 +226,16 @@ fn rejects_damaged_disks(rt: HostRuntime) {
         damage(&rt, &mut disk, at, left);
         expect_refusal(alloc, &rt, disk, fault);
     }
-    let short = MemDisk::new(alloc, FILE_SIZE - 1).expect(&rt, "memory");
-    expect_refusal(alloc, &rt, short, StoreFault::NotASession);
+    let short_disk = MemDisk::new(alloc, FILE_SIZE - 1).expect(&rt, "memory");
+    expect_refusal(alloc, &rt, short_disk, StoreFault::NotASession);
 }
 
 #[test]
 fn creates_a_store_only_on_a_blank_disk(rt: HostRuntime) {
     let alloc = rt.alloc();
-    let short = MemDisk::new(alloc, FILE_SIZE - 1).expect(&rt, "memory");
-    let used = created_store(alloc, &rt).into_disk();
-    for disk in [short, used] {
+    let short_disk = MemDisk::new(alloc, FILE_SIZE - 1).expect(&rt, "memory");
+    let used_disk = created_store(alloc, &rt).into_disk();
+    for disk in [short_disk, used_disk] {
         match Store::create(alloc, disk, &SNAPSHOT) {
             Ok(_) => panic!(rt; "a disk that is not blank was taken"),
             Err((fault, _)) => expect_equal(&rt, fault, StoreFault::NotBlank),

@@ -81,9 +81,9 @@ fn keeps_a_pending_cycle(rt: HostRuntime) {
     let (bytes, count) = encoded_state(&bench);
     assert!(rt; count <= STATE_BYTES);
     let found = bench_of(alloc, &bytes[..count]).expect(&rt, "memory");
-    let again = found.expect(&rt, "a state");
-    expect_equal(&rt, again.seq(), 3);
-    expect_equal(&rt, again.regs(), bench.regs());
-    let (found, length) = encoded_state(&again);
+    let decoded = found.expect(&rt, "a state");
+    expect_equal(&rt, decoded.seq(), 3);
+    expect_equal(&rt, decoded.regs(), bench.regs());
+    let (found, length) = encoded_state(&decoded);
     assert!(rt; length == count && found[..count] == bytes[..count]);
 }

@@ -14,9 +14,9 @@ use std::process::Abort;
 /// Fills the log of a session with 9,361 records of seven bytes and one record of eight bytes. One
 /// byte of the log remains: a commit byte of 0.
 fn fill_log<D: Disk + Drop>(rt: &impl Abort, session: &mut Session<D>) {
-    let one = poke(rt, 0, 1);
+    let command = poke(rt, 0, 1);
     for _ in 0..9_361 {
-        expect_done(rt, session, &one);
+        expect_done(rt, session, &command);
     }
     run(rt, session, 1);
 }

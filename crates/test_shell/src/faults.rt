@@ -55,8 +55,8 @@ fn expect_cut_writing(rt: &impl Abort, alloc: Global, left: usize, failures: usi
     expect_equal(rt, end, ShellEnd::WriteFault);
     expect_equal(rt, status(end), 1);
     expect_equal(rt, Some(writer.accepted_bytes()), ANSWERS.get(..left));
-    let again = open_or_panic(alloc, rt, disk_of_session(session));
-    expect_equal(rt, seq_of(&again) == 1, 10 <= left);
+    let reopened = open_or_panic(alloc, rt, disk_of_session(session));
+    expect_equal(rt, seq_of(&reopened) == 1, 10 <= left);
 }
 
 #[test]

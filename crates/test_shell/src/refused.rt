@@ -18,13 +18,13 @@ use std::process::Abort;
 /// A writer that stores its output in a fixed buffer and allocates nothing.
 #[derive(Drop)]
 struct FixedWriter {
-    held: ArrayVec<u8, 1_024>,
+    bytes: ArrayVec<u8, 1_024>,
 }
 
 impl Write for FixedWriter {
     fn write(&mut self, buf: &[u8]) -> io::Result<usize> {
         for byte in buf {
-            let _ = self.held.try_push(*byte);
+            let _ = self.bytes.try_push(*byte);
         }
         Ok(buf.len())
     }
@@ -143,10 +143,10 @@ fn run_script(alloc: Global, rt: &impl Abort, session: &mut Session<MemDisk>) ->
     let script = script();
     let mut reader = script.as_slice();
     let mut writer = FixedWriter {
-        held: ArrayVec::new(),
+        bytes: ArrayVec::new(),
     };
     let end = serve(alloc, &mut reader, &mut writer, session);
-    let output = writer.held.as_slice();
+    let output = writer.bytes.as_slice();
     match end {
         ShellEnd::NoMemory => {
             assert!(rt; output.is_empty() && seq_of(session) == 0);

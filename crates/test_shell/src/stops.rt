@@ -19,13 +19,13 @@ use std::process::Abort;
 const FIRST_LINE: &[u8] = b"session 0\n";
 
 /// Returns the expected output of a new session: its first line, the answers to the first `done` commands, and
-/// `then`.
-fn answers_to(alloc: Global, rt: &impl Abort, done: usize, then: &[u8]) -> Vec<u8> {
+/// `ending`.
+fn answers_to(alloc: Global, rt: &impl Abort, done: usize, ending: &[u8]) -> Vec<u8> {
     let mut answers = concatenate(alloc, &[FIRST_LINE]).expect(rt, "memory");
     for answer in ANSWERS.iter().take(done) {
         answers.extend_from_slice(answer).expect(rt, "memory");
     }
-    answers.extend_from_slice(then).expect(rt, "memory");
+    answers.extend_from_slice(ending).expect(rt, "memory");
     answers
 }
 
@@ -144,9 +144,9 @@ fn is_stopped_opening(alloc: Global, rt: &impl Abort, file: &[u8], calls: usize)
 fn calls_of_open(alloc: Global, rt: &impl Abort, file: &[u8]) -> usize {
     let mut calls = 0usize;
     for bit in 0..16u32 {
-        let more = calls.saturating_add(32_768 >> bit);
-        if is_stopped_opening(alloc, rt, file, more.saturating_sub(1)) {
-            calls = more;
+        let longer = calls.saturating_add(32_768 >> bit);
+        if is_stopped_opening(alloc, rt, file, longer.saturating_sub(1)) {
+            calls = longer;
         }
     }
     calls
@@ -157,9 +157,9 @@ fn calls_of_open(alloc: Global, rt: &impl Abort, file: &[u8]) -> usize {
 fn expect_stop_in_checkpoint(alloc: Global, rt: &impl Abort, file: &[u8], accepted: &[u8]) {
     let mut session = open_in_memory(alloc, rt, file);
     let states = states_after_commands(alloc, rt, &mut session, &[POKE]);
-    let opening = calls_of_open(alloc, rt, file);
+    let calls_to_open = calls_of_open(alloc, rt, file);
     for calls in 0..9usize {
-        let disk = failing_disk_of(alloc, rt, file, opening.saturating_add(calls));
+        let disk = failing_disk_of(alloc, rt, file, calls_to_open.saturating_add(calls));
         let (wanted, answer): (ShellEnd, &[u8]) = if calls < 8 {
             (ShellEnd::DeviceFault, b"\nno 53\n")
         } else {
@@ -191,19 +191,19 @@ fn bytes_after_poke(
 #[test]
 fn a_stop_at_each_call_of_a_checkpoint(rt: HostRuntime) {
     let alloc = rt.alloc();
-    let full = file_of(alloc, &rt, &[], 9_361, b"run 1\n");
-    expect_stop_in_checkpoint(alloc, &rt, full.as_slice(), b"\nok 9363\n");
-    let full = file_of(alloc, &rt, &INPUTS, POKES, b"");
-    expect_stop_in_checkpoint(alloc, &rt, full.as_slice(), b"\nok 9270\n");
+    let full_log = file_of(alloc, &rt, &[], 9_361, b"run 1\n");
+    expect_stop_in_checkpoint(alloc, &rt, full_log.as_slice(), b"\nok 9363\n");
+    let full_log = file_of(alloc, &rt, &INPUTS, POKES, b"");
+    expect_stop_in_checkpoint(alloc, &rt, full_log.as_slice(), b"\nok 9270\n");
 }
 
 #[test]
 fn a_stop_at_each_call_of_opening(rt: HostRuntime) {
     let alloc = rt.alloc();
     let file = file_of(alloc, &rt, &INPUTS, 0, b"");
-    let opening = calls_of_open(alloc, &rt, file.as_slice());
-    assert!(rt; 1 < opening && opening < 64, "{opening}");
-    for calls in 0..opening {
+    let calls_to_open = calls_of_open(alloc, &rt, file.as_slice());
+    assert!(rt; 1 < calls_to_open && calls_to_open < 64, "{calls_to_open}");
+    for calls in 0..calls_to_open {
         expect(
             &rt,
             is_stopped_opening(alloc, &rt, file.as_slice(), calls),

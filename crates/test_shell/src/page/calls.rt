@@ -3,7 +3,7 @@
 use crate::checks::expect_equal;
 use crate::page::files::{
     CALLS, CONVERTED_ANSWERS, Call, answers, copy, expect_answers, expect_answers_by,
-    file_of_version_1, new_file, served, settled,
+    file_of_version_1, make_call, new_file, settle_file,
 };
 use crate::sessions::overwrite;
 use mcs_disk::{Disk, MemDisk};
@@ -68,8 +68,8 @@ fn one_session_over_two_calls(rt: HostRuntime) {
     for row in [(FIRST_INPUT, FIRST_ANSWERS), (SECOND_INPUT, SECOND_ANSWERS)] {
         expect_answers(alloc, &rt, file.as_mut_slice(), row);
     }
-    let whole = file_of_one_session(alloc, &rt);
-    assert!(rt; file.as_slice() == whole.as_slice());
+    let expected = file_of_one_session(alloc, &rt);
+    assert!(rt; file.as_slice() == expected.as_slice());
     expect_answers(alloc, &rt, file.as_mut_slice(), (b"", b"session 4\n"));
 }
 
@@ -87,7 +87,7 @@ fn commit_byte(file: &[u8]) -> Option<u8> {
 /// Settles a file, and checks that the file then has no records. Then serves the input in `row` on the file, and
 /// checks the answers.
 fn expect_settled(alloc: Global, rt: &impl Abort, file: &mut [u8], row: (&[u8], &[u8])) {
-    expect_equal(rt, settled(alloc, file), Ok(()));
+    expect_equal(rt, settle_file(alloc, file), Ok(()));
     expect_equal(rt, commit_byte(file), Some(0));
     expect_answers(alloc, rt, file, row);
 }
@@ -135,18 +135,18 @@ fn a_file_of_version_1_is_converted(rt: HostRuntime) {
 fn settling_converts_a_file_of_version_1(rt: HostRuntime) {
     let alloc = rt.alloc();
     let mut file = file_of_version_1(alloc, &rt);
-    expect_equal(&rt, settled(alloc, file.as_mut_slice()), Ok(()));
+    expect_equal(&rt, settle_file(alloc, file.as_mut_slice()), Ok(()));
     expect_converted(alloc, &rt, file.as_mut_slice());
 }
 
 /// Checks that a single call can serve an input and settle the file. It must give the same answers, and leave the same
 /// bytes in the file, as two separate calls.
 fn expect_serve_and_settle(alloc: Global, rt: &impl Abort, file: &mut [u8], row: (&[u8], &[u8])) {
-    let mut other = copy(alloc, rt, file);
-    expect_answers(alloc, rt, other.as_mut_slice(), row);
-    expect_equal(rt, settled(alloc, other.as_mut_slice()), Ok(()));
+    let mut second_file = copy(alloc, rt, file);
+    expect_answers(alloc, rt, second_file.as_mut_slice(), row);
+    expect_equal(rt, settle_file(alloc, second_file.as_mut_slice()), Ok(()));
     expect_answers_by(alloc, rt, Call::ServeAndSettle, file, row);
-    assert!(rt; other.as_slice() == file);
+    assert!(rt; second_file.as_slice() == file);
 }
 
 #[test]
@@ -192,24 +192,24 @@ fn questions_do_not_change_the_file(rt: HostRuntime) {
 
 /// Checks that every kind of call rejects a file with the given error, and leaves the file unchanged.
 fn expect_refused(alloc: Global, rt: &impl Abort, file: &[u8], fault: StoreFault) {
-    let mut kept = copy(alloc, rt, file);
+    let mut file_copy = copy(alloc, rt, file);
     for call in CALLS {
-        let why = answers(alloc, rt, call, kept.as_mut_slice(), SECOND_INPUT).err();
-        expect_equal(rt, why, Some(ServeFault::Refused(fault)));
+        let error = answers(alloc, rt, call, file_copy.as_mut_slice(), SECOND_INPUT).err();
+        expect_equal(rt, error, Some(ServeFault::Refused(fault)));
     }
-    expect_equal(rt, settled(alloc, kept.as_mut_slice()), Err(fault));
-    assert!(rt; kept.as_slice() == file);
+    expect_equal(rt, settle_file(alloc, file_copy.as_mut_slice()), Err(fault));
+    assert!(rt; file_copy.as_slice() == file);
 }
 
 #[test]
 fn files_of_another_size(rt: HostRuntime) {
     let alloc = rt.alloc();
-    let mut made = new_file(alloc, &rt);
-    made.push(0).expect(&rt, "memory");
+    let mut bytes = new_file(alloc, &rt);
+    bytes.push(0).expect(&rt, "memory");
     // one byte too many, one byte too few, eight bytes, no bytes
     for size in [FILE_SIZE + 1, FILE_SIZE - 1, 8, 0] {
-        made.truncate(size);
-        expect_refused(alloc, &rt, made.as_slice(), StoreFault::NotASession);
+        bytes.truncate(size);
+        expect_refused(alloc, &rt, bytes.as_slice(), StoreFault::NotASession);
     }
 }
 
@@ -250,7 +250,7 @@ fn expect_no_room(alloc: Global, rt: &impl Abort, file: &mut [u8], room: usize) 
         panic!(rt; "a short buffer");
     };
     for call in CALLS {
-        let why = served(alloc, call, file, FIRST_INPUT, short).err();
+        let why = make_call(alloc, call, file, FIRST_INPUT, short).err();
         expect_equal(rt, why, Some(ServeFault::NoRoom(FIRST_ANSWERS.len())));
     }
     expect_equal(rt, buffer, [b'#'; 128]);
@@ -261,7 +261,7 @@ fn expect_no_room(alloc: Global, rt: &impl Abort, file: &mut [u8], room: usize) 
 fn expect_room(alloc: Global, rt: &impl Abort, file: &mut [u8]) {
     let count = FIRST_ANSWERS.len();
     let mut buffer = [b'#'; 128];
-    let Ok(served) = served(alloc, Call::Serve, file, FIRST_INPUT, &mut buffer) else {
+    let Ok(served) = make_call(alloc, Call::Serve, file, FIRST_INPUT, &mut buffer) else {
         panic!(rt; "not served");
     };
     expect_equal(rt, served.count, count);

@@ -53,7 +53,7 @@ pub(crate) enum Call {
 pub(crate) const CALLS: [Call; 3] = [Call::Serve, Call::ServeAndSettle, Call::Ask];
 
 /// Makes a call of the given kind that answers an input on a file, and writes the answers into a buffer.
-pub(crate) fn served(
+pub(crate) fn make_call(
     alloc: Global,
     call: Call,
     file: &mut [u8],
@@ -68,7 +68,7 @@ pub(crate) fn served(
 }
 
 /// Settles a file: replaces its records with a snapshot of the state.
-pub(crate) fn settled(alloc: Global, file: &mut [u8]) -> Result<(), StoreFault> {
+pub(crate) fn settle_file(alloc: Global, file: &mut [u8]) -> Result<(), StoreFault> {
     settle(alloc, file)
 }
 
@@ -82,7 +82,7 @@ pub(crate) fn answers(
     input: &[u8],
 ) -> Result<Vec<u8>, ServeFault> {
     let mut buffer = vec![in alloc; 0u8; 65_536].expect(rt, "memory");
-    let served = served(alloc, call, file, input, buffer.as_mut_slice())?;
+    let served = make_call(alloc, call, file, input, buffer.as_mut_slice())?;
     expect_equal(rt, served.end, ShellEnd::End);
     buffer.truncate(served.count);
     Ok(buffer)

@@ -2,7 +2,9 @@
 //! and makes that allocation fail. In an ordinary run, no allocation fails. A call that runs out of memory leaves the
 //! file and the buffer unchanged, and succeeds if it is repeated.
 use crate::checks::expect_equal;
-use crate::page::files::{CONVERTED_ANSWERS, Call, overwrite_with_version_1, served, settled};
+use crate::page::files::{
+    CONVERTED_ANSWERS, Call, make_call, overwrite_with_version_1, settle_file,
+};
 use crate::sessions::overwrite;
 use mcs_journal::{FILE_SIZE, StoreFault};
 use mcs_shell::ends::ShellEnd;
@@ -81,10 +83,10 @@ impl PageFixture {
     /// Settles the file. Returns true if the call had to be repeated.
     fn settle(&mut self, alloc: Global, rt: &impl Abort) -> bool {
         self.prepare(rt);
-        if let Err(fault) = settled(alloc, self.file.as_mut_slice()) {
+        if let Err(fault) = settle_file(alloc, self.file.as_mut_slice()) {
             expect_equal(rt, fault, StoreFault::NoMemory);
             self.expect_untouched(rt);
-            expect_equal(rt, settled(alloc, self.file.as_mut_slice()), Ok(()));
+            expect_equal(rt, settle_file(alloc, self.file.as_mut_slice()), Ok(()));
             return true;
         }
         false
@@ -99,7 +101,7 @@ impl PageFixture {
         room: usize,
     ) -> Result<ServedInput, ServeFault> {
         match self.buffer.get_mut(..room) {
-            Some(answers) => served(alloc, call, self.file.as_mut_slice(), input, answers),
+            Some(answers) => make_call(alloc, call, self.file.as_mut_slice(), input, answers),
             None => Err(ServeFault::NoRoom(0)),
         }
     }
@@ -254,10 +256,10 @@ struct MemoryFailure {
 }
 
 impl MemoryFailure {
-    fn note(&mut self, rt: &impl Abort, is_refused: bool, what: &'static str) {
+    fn record(&mut self, rt: &impl Abort, is_refused: bool, part: &'static str) {
         if is_refused {
             expect_equal(rt, self.report, "nothing");
-            self.report = what;
+            self.report = part;
         }
     }
 }
@@ -272,10 +274,10 @@ fn expect_too_long_answers(
 ) {
     let report = fixture.serve(alloc, rt, FIRST_INPUT, 8);
     fixture.expect_untouched(rt);
-    failure.note(rt, report.is_repeated, "the input without room");
+    failure.record(rt, report.is_repeated, "the input without room");
     for row in EXPECTED_ANSWERS.iter() {
         if report.count == Err(row.first.len()) {
-            failure.note(rt, row.failed_part != "nothing", "an answer without room");
+            failure.record(rt, row.failed_part != "nothing", "an answer without room");
             return;
         }
     }
@@ -290,10 +292,10 @@ fn serve_first(
     failure: &mut MemoryFailure,
 ) -> &'static [u8] {
     let report = fixture.serve(alloc, rt, FIRST_INPUT, 128);
-    failure.note(rt, report.is_repeated, "the input");
+    failure.record(rt, report.is_repeated, "the input");
     for row in EXPECTED_ANSWERS.iter() {
         if fixture.has_answers(rt, &report, row.first) {
-            failure.note(rt, row.failed_part != "nothing", row.failed_part);
+            failure.record(rt, row.failed_part != "nothing", row.failed_part);
             return row.second;
         }
     }
@@ -309,9 +311,9 @@ fn serve_second(
     wanted: &[u8],
 ) {
     let report = fixture.serve(alloc, rt, SECOND_INPUT, 128);
-    failure.note(rt, report.is_repeated, "the second input");
+    failure.record(rt, report.is_repeated, "the second input");
     if !fixture.has_answers(rt, &report, wanted) {
-        failure.note(rt, true, "the second listing");
+        failure.record(rt, true, "the second listing");
         assert!(rt; fixture.has_answers(rt, &report, SECOND_WITHOUT_LISTING));
     }
 }
@@ -325,10 +327,10 @@ fn ask_and_settle(
     failure: &mut MemoryFailure,
 ) {
     let asked = fixture.call(alloc, rt, Call::Ask, (b"seq\n", 128));
-    failure.note(rt, asked.is_repeated, "the question");
+    failure.record(rt, asked.is_repeated, "the question");
     let answers = fixture.buffer;
     let settled = fixture.call(alloc, rt, Call::ServeAndSettle, (b"seq\n", 128));
-    failure.note(rt, settled.is_repeated, "the input settled");
+    failure.record(rt, settled.is_repeated, "the input settled");
     // the length of the lines `session N` and `seq N` with their line feeds
     expect_equal(rt, asked.count, Ok(16));
     expect_equal(rt, settled.count, Ok(16));
@@ -342,10 +344,10 @@ fn begin_and_serve(alloc: Global, rt: &impl Abort) -> &'static str {
         return "a file";
     };
     let mut failure = MemoryFailure { report: "nothing" };
-    failure.note(rt, fixture.begin(alloc, rt), "the file begun");
+    failure.record(rt, fixture.begin(alloc, rt), "the file begun");
     expect_too_long_answers(alloc, rt, &mut fixture, &mut failure);
     let second = serve_first(alloc, rt, &mut fixture, &mut failure);
-    failure.note(rt, fixture.settle(alloc, rt), "the file settled");
+    failure.record(rt, fixture.settle(alloc, rt), "the file settled");
     serve_second(alloc, rt, &mut fixture, &mut failure, second);
     ask_and_settle(alloc, rt, &mut fixture, &mut failure);
     failure.report
@@ -365,10 +367,10 @@ fn convert_version_1(alloc: Global, rt: &impl Abort) -> &'static str {
     };
     let mut failure = MemoryFailure { report: "nothing" };
     overwrite_with_version_1(rt, fixture.file.as_mut_slice());
-    failure.note(rt, fixture.settle(alloc, rt), "the file settled");
+    failure.record(rt, fixture.settle(alloc, rt), "the file settled");
     overwrite_with_version_1(rt, fixture.file.as_mut_slice());
     let report = fixture.serve(alloc, rt, b"regs\n", 128);
-    failure.note(rt, report.is_repeated, "the input");
+    failure.record(rt, report.is_repeated, "the input");
     assert!(rt; fixture.has_answers(rt, &report, CONVERTED_ANSWERS));
     failure.report
 }
