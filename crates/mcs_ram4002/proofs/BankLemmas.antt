@@ -76,27 +76,27 @@ cells-after_cell_write width f chips chip_count i k p n x d h l at there fits le
 
 -- If `d` is chip `i` after a write to chip `i`, the bank with `d` in place of chip `i` is the bank
 -- after the write.
-pub stored : (chips : List Chip) (chip_count src i : ℕ) (x d : Chip) (write : BankWrite) → IsInBank write → i ≡ target_chip write → i < 4 → i < chip_count → chip_count ≤ length chips → IsSizedChip (get_or chips i x) → contents_of_chip d ≡ chip_after (contents_of_chip (get_or chips i x)) write → bank_of (slice_set chips i d) chip_count (src_after write src) ≡ with_write (bank_of chips chip_count src) write
-stored chips chip_count src i x d (Character at n) place is h there fits sized new =
+pub bank_of-after_chip_write : (chips : List Chip) (chip_count src i : ℕ) (x d : Chip) (write : BankWrite) → IsInBank write → i ≡ target_chip write → i < 4 → i < chip_count → chip_count ≤ length chips → IsSizedChip (get_or chips i x) → contents_of_chip d ≡ chip_after (contents_of_chip (get_or chips i x)) write → bank_of (slice_set chips i d) chip_count (src_after write src) ≡ with_write (bank_of chips chip_count src) write
+bank_of-after_chip_write chips chip_count src i x d (Character at n) place is h there fits sized new =
     rw (cells-after_cell_write 64 main_cells_of chips chip_count i (at % 64) at n x d h (omega arith) (omega arith) there fits sized.main (ap (λ (c : ChipState). c.main) new), cells-unchanged_by_set_chip 16 status_cells_of chips chip_count i x d there fits (ap (λ (c : ChipState). c.status) new), ports-unchanged_by_set_chip chips chip_count i x d there fits (ap (λ (c : ChipState). c.port) new)) refl
-stored chips chip_count src i x d (Status high k n) place is h there fits sized new =
+bank_of-after_chip_write chips chip_count src i x d (Status high k n) place is h there fits sized new =
     rw (cells-unchanged_by_set_chip 64 main_cells_of chips chip_count i x d there fits (ap (λ (c : ChipState). c.main) new), cells-after_cell_write 16 status_cells_of chips chip_count i (high % 4 * 4 + k) (status_cell_index high k) n x d h (omega arith) (omega arith) there fits sized.status (ap (λ (c : ChipState). c.status) new), ports-unchanged_by_set_chip chips chip_count i x d there fits (ap (λ (c : ChipState). c.port) new)) refl
-stored chips chip_count src i x d (Port chip n) place is h there fits sized new =
+bank_of-after_chip_write chips chip_count src i x d (Port chip n) place is h there fits sized new =
     let ports =
     ap (column 4 (λ (c : Chip). c.port) absent_chip) (take-set-lt chip_count chips i d there)
     ∙ set-column 4 (λ (c : Chip). c.port) absent_chip (take chip_count chips) i d n h (present_index-in_range chips chip_count i there fits) (ap (λ (c : ChipState). c.port) new)
     ∙ ap (λ j. slice_set (column 4 (λ (c : Chip). c.port) absent_chip (take chip_count chips)) j n) is in
     rw (cells-unchanged_by_set_chip 64 main_cells_of chips chip_count i x d there fits (ap (λ (c : ChipState). c.main) new), cells-unchanged_by_set_chip 16 status_cells_of chips chip_count i x d there fits (ap (λ (c : ChipState). c.status) new), ports) refl
-stored chips chip_count src i x d (Src byte) place is h there fits sized new =
+bank_of-after_chip_write chips chip_count src i x d (Src byte) place is h there fits sized new =
     rw (cells-unchanged_by_set_chip 64 main_cells_of chips chip_count i x d there fits (ap (λ (c : ChipState). c.main) new), cells-unchanged_by_set_chip 16 status_cells_of chips chip_count i x d there fits (ap (λ (c : ChipState). c.status) new), ports-unchanged_by_set_chip chips chip_count i x d there fits (ap (λ (c : ChipState). c.port) new)) refl
 
 -- ---- properties of every bank
 
-whole : (chips : List Chip) (chip_count src : ℕ) → HasFixedLengths (bank_of chips chip_count src)
-whole chips chip_count src = record { main = length-flat_rows 4 64 _ _ _; status = length-flat_rows 4 16 _ _ _; ports = length-column 4 _ _ _ }
+bank_of-has_fixed_lengths : (chips : List Chip) (chip_count src : ℕ) → HasFixedLengths (bank_of chips chip_count src)
+bank_of-has_fixed_lengths chips chip_count src = record { main = length-flat_rows 4 64 _ _ _; status = length-flat_rows 4 16 _ _ _; ports = length-column 4 _ _ _ }
 
 pub bank-has_fixed_lengths : (b : BankState) (chips : List Chip) (chip_count src : ℕ) → bank_of chips chip_count src ≡ b → HasFixedLengths b
-bank-has_fixed_lengths b chips chip_count src is = subst HasFixedLengths is (whole chips chip_count src)
+bank-has_fixed_lengths b chips chip_count src is = subst HasFixedLengths is (bank_of-has_fixed_lengths chips chip_count src)
 
 -- If all chips of a list are valid, so is each chip of the bank, present or absent.
 each_chip-valid : (chips : List Chip) (chip_count i : ℕ) → All IsValidChip chips → IsValidChip (get_or (take chip_count chips) i absent_chip)
@@ -109,7 +109,7 @@ each_chip-valid chips chip_count i valid =
 pub valid_of : (b : BankState) (chips : List Chip) (chip_count src : ℕ) → bank_of chips chip_count src ≡ b → src < 256 → (chip_count ≡ 0 → src ≡ 0) → All IsValidChip chips → IsValidBank b
 valid_of b chips chip_count src is small unwired valid =
     let at : IsValidBank (bank_of chips chip_count src) = record {
-      whole = whole chips chip_count src;
+      whole = bank_of-has_fixed_lengths chips chip_count src;
       main = flat_rows-below_limit 4 64 16 main_cells_of absent_chip (take chip_count chips) (λ i k. element-below_limit 16 _ k (omega arith) (each_chip-valid chips chip_count i valid).main);
       status = flat_rows-below_limit 4 16 16 status_cells_of absent_chip (take chip_count chips) (λ i k. element-below_limit 16 _ k (omega arith) (each_chip-valid chips chip_count i valid).status);
       ports = column-below_limit 4 16 (λ (c : Chip). c.port) absent_chip (take chip_count chips) (λ i. (each_chip-valid chips chip_count i valid).port);
@@ -137,8 +137,8 @@ slice_index-zeros n k = grind (arith, common_steps)
 unpacked_zeros-at_index : (n k : ℕ) → slice_index (unpacked_nibbles (replicate n 0)) k ≡ 0
 unpacked_zeros-at_index n k = ap (λ cells. slice_index cells k) (unpacked_nibbles-of_zeros n) ∙ slice_index-zeros (2 * n) k
 
-pub blank : (n chip_count src : ℕ) → chip_count ≤ n → bank_of (replicate n (record { main = replicate 32 0; status = replicate 8 0; port = 0 })) chip_count src ≡ record (blank_bank chip_count) { src = src }
-blank n chip_count src l =
+pub bank_of-blank_chips : (n chip_count src : ℕ) → chip_count ≤ n → bank_of (replicate n (record { main = replicate 32 0; status = replicate 8 0; port = 0 })) chip_count src ≡ record (blank_bank chip_count) { src = src }
+bank_of-blank_chips n chip_count src l =
     let b : Chip = record { main = replicate 32 0; status = replicate 8 0; port = 0 } in
     let main = zero-flat_rows 4 64 main_cells_of absent_chip (take chip_count (replicate n b)) (λ i k. blank_chip-value (λ c. slice_index (main_cells_of c) k) 0 n chip_count i b l (unpacked_zeros-at_index 32 k) (unpacked_nibbles-of_empty_list k)) in
     let status = zero-flat_rows 4 16 status_cells_of absent_chip (take chip_count (replicate n b)) (λ i k. blank_chip-value (λ c. slice_index (status_cells_of c) k) 0 n chip_count i b l (unpacked_zeros-at_index 8 k) (unpacked_nibbles-of_empty_list k)) in

@@ -60,8 +60,8 @@ pub unpacked_nibbles-of_empty_list : (k : ℕ) → slice_index (unpacked_nibbles
 unfolding unpacked_nibbles table_of
 unpacked_nibbles-of_empty_list k = refl
 
-pub sized : (c : Chip) → length c.main ≡ 32 → length c.status ≡ 8 → IsSizedChip c
-sized c main status = record { main = length-unpacked_nibbles c.main ∙ ap (λ n. 2 * n) main; status = length-unpacked_nibbles c.status ∙ ap (λ n. 2 * n) status }
+pub sized_chip-from_lengths : (c : Chip) → length c.main ≡ 32 → length c.status ≡ 8 → IsSizedChip c
+sized_chip-from_lengths c main status = record { main = length-unpacked_nibbles c.main ∙ ap (λ n. 2 * n) main; status = length-unpacked_nibbles c.status ∙ ap (λ n. 2 * n) status }
 
-pub valid : (c : Chip) → c.port < 16 → IsValidChip c
-valid c port = record { main = unpacked_nibbles-below_16 c.main; status = unpacked_nibbles-below_16 c.status; port = port }
+pub valid_chip-from_port : (c : Chip) → c.port < 16 → IsValidChip c
+valid_chip-from_port c port = record { main = unpacked_nibbles-below_16 c.main; status = unpacked_nibbles-below_16 c.status; port = port }

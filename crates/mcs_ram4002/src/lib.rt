@@ -68,7 +68,7 @@ fn nibble_in_byte(byte: u8, at: u8) -> Nibble
 /// upper half if `at` is odd.
 fn byte_with_nibble(byte: u8, at: u8, n: Nibble) -> u8
     ensures set { half_of result (at % 2) ≡ n }
-    ensures kept { half_of result (1 - at % 2) ≡ half_of byte (1 - at % 2) }
+    ensures other_half { half_of result (1 - at % 2) ≡ half_of byte (1 - at % 2) }
 {
     if at % 2 == 0 {
         byte / 16 * 16 + n.get()
@@ -228,11 +228,11 @@ impl<const CHIPS: usize> Bank<CHIPS> {
         ensures whole { HasFixedLengths self.old }
         ensures few { target_chip write < 4 }
     {
-        let (placed, kept) = (write, write);
-        let chip = usize::from(placed.chip());
+        let (chip_write, src_write) = (write, write);
+        let chip = usize::from(chip_write.chip());
         if chip < self.chip_count {
             self.chips[chip].store(write);
-            self.src = kept.src_after(self.src);
+            self.src = src_write.src_after(self.src);
         }
     }
 

@@ -15,7 +15,7 @@ use Rattle.mcs_session.specs.Acknowledgements.{Acknowledgements, acknowledged_by
 use Rattle.mcs_session.specs.CommandCalls.{AcknowledgesCommand, LeavesEitherState}
 use Rattle.mcs_session.specs.Log.{LogHolds, log_after_all}
 use Rattle.mcs_session.specs.KeptCommands.{KeepsCommands, KeepsAllCommands, RepresentsPrefix}
-use Rattle.mcs_session.proofs.LogCommands.{one_moment_per_command, log_after_all_append, log_of_file, rising, held_commands_are_unique, file_holds_its_log, moments_of_two_runs}
+use Rattle.mcs_session.proofs.LogCommands.{one_moment_per_command, log_after_all_append, log_of_file, acknowledged_moments_rise, held_commands_are_unique, file_holds_its_log, moments_of_two_runs}
 use Rattle.mcs_session.proofs.Prefixes.{acknowledged-append, all_acknowledged_by_last_moment, none_acknowledged_before_moment, acknowledged_at_most_all, none_acknowledged_before_run, last_moment_of_append, represents_state_after_all_commands, represents_prefix_of_longer_list, represents_empty_prefix, represents_prefix_of_one_command, represents_prefix_of_both_lists, clock_at_most_last_moment}
 
 -- ---- two runs
@@ -47,7 +47,7 @@ image_represents_prefix_of_both_runs d e f s t cs done ds a same b u image le no
     elim (cases_lt (time_of e) u) [
       | inl later ↦ represents_prefix_of_both_lists s t cs ds _ (acknowledged_by u ns) image same (omega (arith, sum, at_most_all, count)) (b.each u image (omega (arith, later)) now)
       | inr early ↦
-          let none_in_second_run = none_acknowledged_before_run u (time_of e) ns early (rising e f done b.acknowledged) in
+          let none_in_second_run = none_acknowledged_before_run u (time_of e) ns early (acknowledged_moments_rise e f done b.acknowledged) in
           let first : acknowledged_by u (ms ++ ns) ≡ acknowledged_by u ms = omega (arith, sum, none_in_second_run) in
           elim (image_since_before_or_in_stretch e f b.later u image now) [
             | inl old ↦ rw first (represents_prefix_of_longer_list s cs ds (acknowledged_by u ms) image (a.kept.each u image le old))
@@ -80,7 +80,7 @@ keeps_all_commands_of_both_runs d e f s t cs ds a same b =
 pub represented_after_run : (d e : DiskState) (s t : BenchState) (cs : List Command) → t ≡ fold s cs → KeepsAllCommands d e s cs → DiskRepresents e t
 represented_after_run d e s t cs same a image now =
     let ms = a.kept.acknowledged.moments in
-    let rising_moments = rising d e cs a.kept.acknowledged in
+    let rising_moments = acknowledged_moments_rise d e cs a.kept.acknowledged in
     let clock_not_later = clock_at_most_last_moment (time_of d) ms rising_moments in
     let last = a.clock in
     let all_acknowledged = all_acknowledged_by_last_moment (time_of e) (time_of d) ms (omega (arith, last)) rising_moments in

@@ -111,8 +111,8 @@ moments_rise : (clock : ℕ) (log : List Command) (cs : List Command) → AreRis
 moments_rise clock log [] = tt
 moments_rise clock log (c ∷ cs) = (clock_rises_while_recording clock (has_room_for log c), moments_rise (clock + recording_ticks log c) (log_after log c) cs)
 
-pub rising : (old new : DiskState) (cs : List Command) (a : Acknowledgements old new cs) → AreRising (time_of old) a.moments
-rising old new cs a = subst (AreRising (time_of old)) (sym a.timed) (moments_rise (time_of old) a.log cs)
+pub acknowledged_moments_rise : (old new : DiskState) (cs : List Command) (a : Acknowledgements old new cs) → AreRising (time_of old) a.moments
+acknowledged_moments_rise old new cs a = subst (AreRising (time_of old)) (sym a.timed) (moments_rise (time_of old) a.log cs)
 
 length-moments : (clock : ℕ) (log : List Command) (cs : List Command) → length (moments_of clock log cs) ≡ length cs
 length-moments clock log [] = refl

@@ -13,12 +13,12 @@ use Rattle.mcs_session.specs.Acknowledgements.{acknowledged_by}
 use Rattle.mcs_session.specs.KeptCommands.{IsAfterPrefix, KeepsCommands, RepresentsPrefix}
 use Rattle.mcs_session.specs.Represents.{Represents}
 use Rattle.mcs_session.proofs.Prefixes.{all_acknowledged_by_last_moment, acknowledged_by_moment_at_index, represents_state_after_all_commands, represents_prefix_with_lower_minimum, clock_at_most_last_moment}
-use Rattle.mcs_session.proofs.LogCommands.{one_moment_per_command, rising}
+use Rattle.mcs_session.proofs.LogCommands.{one_moment_per_command, acknowledged_moments_rise}
 use Rattle.mcs_session.proofs.Files.{is_session, version_2_state_is_unique}
 
-pub reopened : (t : ℕ) (old new found opened : DiskState) (s u : BenchState) (done reached : List Command) (kept : KeepsCommands old new s done reached) → time_of old ≤ t
+pub reopened_state_is_after_prefix : (t : ℕ) (old new found opened : DiskState) (s u : BenchState) (done reached : List Command) (kept : KeepsCommands old new s done reached) → time_of old ≤ t
     → IsLeftByCut t new found → OpensSession found opened u → IsAfterPrefix s reached (acknowledged_by t kept.acknowledged.moments) u
-reopened t old new found opened s u done reached kept le cut opens =
+reopened_state_is_after_prefix t old new found opened s u done reached kept le cut opens =
     let represented_prefix = kept.each t (bytes_of found) le cut.found in
     subst (λ (v : BenchState). IsAfterPrefix s reached (acknowledged_by t kept.acknowledged.moments) v) (version_2_state_is_unique (bytes_of found) represented_prefix.state u represented_prefix.represents opens.represented_before) represented_prefix.after
 
@@ -37,12 +37,12 @@ error_after_cut_is_device_or_memory t old new found s done reached fault kept le
 pub image_since_moment_represents_prefix : (old new : DiskState) (s : BenchState) (done reached : List Command) (kept : KeepsCommands old new s done reached) (j moment : ℕ) (image : List ℕ)
     → slice_get kept.acknowledged.moments j ≡ Some moment → images_since moment new image → RepresentsPrefix s reached (j + 1) image
 image_since_moment_represents_prefix old new s done reached kept j moment image e now =
-    let acknowledged_by_then = acknowledged_by_moment_at_index (time_of old) kept.acknowledged.moments j moment e (rising old new done kept.acknowledged) in
+    let acknowledged_by_then = acknowledged_by_moment_at_index (time_of old) kept.acknowledged.moments j moment e (acknowledged_moments_rise old new done kept.acknowledged) in
     represents_prefix_with_lower_minimum s reached (j + 1) (acknowledged_by moment kept.acknowledged.moments) image acknowledged_by_then.1 (kept.each moment image acknowledged_by_then.0 now)
 
 pub image_at_end_represents_prefix : (old new : DiskState) (s : BenchState) (done reached : List Command) (image : List ℕ) → KeepsCommands old new s done reached → images_of new image → RepresentsPrefix s reached (length done) image
 image_at_end_represents_prefix old new s done reached image kept now =
-    let rising_moments = rising old new done kept.acknowledged in
+    let rising_moments = acknowledged_moments_rise old new done kept.acknowledged in
     let clock_not_later = clock_at_most_last_moment (time_of old) kept.acknowledged.moments rising_moments in
     let within = kept.acknowledged.within in
     let count = one_moment_per_command old new done kept.acknowledged in

@@ -64,7 +64,7 @@ program-unchanged-by-bus_after Wr3 s m = program-unchanged-by-status-write m s.d
 program-unchanged-by-bus_after _ s m = record { rom = refl; board = refl }
 
 -- the result of a cycle is the effect of the instruction, if no second cycle is pending
-pub ran : (op : Op) (cpu regs : Regs) (rig m : BusState) (x : Regs × BusState) → x ≡ unwrap_or (cycle_of cpu rig) (cpu, rig) → cpu ≡ regs → rig ≡ m → regs.owed ≡ 0 → op_at m.rom regs.pc ≡ Some op → x ≡ effect op regs m
-ran op cpu regs rig m x state e f free there =
+pub cycle_result-is-effect : (op : Op) (cpu regs : Regs) (rig m : BusState) (x : Regs × BusState) → x ≡ unwrap_or (cycle_of cpu rig) (cpu, rig) → cpu ≡ regs → rig ≡ m → regs.owed ≡ 0 → op_at m.rom regs.pc ≡ Some op → x ≡ effect op regs m
+cycle_result-is-effect op cpu regs rig m x state e f free there =
     state ∙ ap (λ (r : Regs). unwrap_or (cycle_of r rig) (r, rig)) e ∙ ap (λ (b : BusState). unwrap_or (cycle_of regs b) (regs, b)) f
     ∙ ap (λ (o : Option (Regs × BusState)). unwrap_or o (regs, m)) (cycle_of-is-effect op regs m free there)

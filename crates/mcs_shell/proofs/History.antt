@@ -21,7 +21,7 @@ use Rattle.mcs_session.specs.Represents.{RepresentsInEitherVersion, Represents}
 use Rattle.mcs_session.proofs.Files.{is_session, represented_state_is_unique}
 use Rattle.mcs_session.proofs.Folds.{fold-append}
 use Rattle.mcs_session.proofs.Prefixes.{none_acknowledged_before_run}
-use Rattle.mcs_session.proofs.LogCommands.{rising}
+use Rattle.mcs_session.proofs.LogCommands.{acknowledged_moments_rise}
 use Rattle.mcs_shell.specs.History.{IsSittingOn, History, IsHistory, AreKeptFromSitting, AreKeptFromSittings, AreKeptFromRun, Refused, Served, Sitting, StoppedSitting, SurvivesHistory, disk_after}
 use Rattle.mcs_shell.specs.Headline.{AnswersAndAcknowledges, acknowledged_commands_of_run, reached_commands_of_run}
 use Rattle.mcs_shell.specs.Program.{OpenBegins, OpenRefusal}
@@ -87,7 +87,7 @@ kept_if_stopped_while_opening state_of disk run t s found here same given migrat
     let image : List ℕ = bytes_of (state_of found) in
     let kept_commands = keeps_commands_of_run state_of run given in
     let done : List Command = acknowledged_commands_of_run run in
-    let none_acknowledged : acknowledged_by t kept_commands.acknowledged.moments ≡ 0 = none_acknowledged_before_run t (time_of before) kept_commands.acknowledged.moments early (rising before (state_of run.after.disk) done kept_commands.acknowledged) in
+    let none_acknowledged : acknowledged_by t kept_commands.acknowledged.moments ≡ 0 = none_acknowledged_before_run t (time_of before) kept_commands.acknowledged.moments early (acknowledged_moments_rise before (state_of run.after.disk) done kept_commands.acknowledged) in
     elim (image_since_before_or_in_stretch before (state_of run.after.disk) kept_commands.later t image cut.found) [
       | inl left ↦
           let image_represents : RepresentsInEitherVersion image s = ⊎_elim

@@ -4,7 +4,7 @@ use Rattle.mcs_disk.specs.Disk.{DiskState}
 use Rattle.mcs_model.specs.declared.command.Command.{Command}
 use Rattle.mcs_session.specs.KeptCommands.{IsOpenOnHonestDisk, KeepsCommands}
 use Rattle.mcs_session.specs.SessionState.{SessionState, session_state}
-use Rattle.mcs_session.proofs.Reopening.{error_after_cut_is_device_or_memory, reopened}
+use Rattle.mcs_session.proofs.Reopening.{error_after_cut_is_device_or_memory, reopened_state_is_after_prefix}
 use Rattle.mcs_shell.specs.Headline.{AnswersAndAcknowledges, AnswersAndSurvives, acknowledged_commands_of_run, reached_commands_of_run}
 use Rattle.mcs_shell.specs.Serving.{LeavesSession}
 use Rattle.mcs_shell.specs.Shell.{ShellRun}
@@ -42,7 +42,7 @@ run_answers_and_survives state_of found_of run given =
     record {
       answered = answers_and_acknowledges_run state_of run kept_commands;
       survives = record {
-        reopened = λ time found opened state late cut opens. reopened time old new (found_of found) (found_of opened) s state (acknowledged_commands_of_run run) (reached_commands_of_run run) kept_commands late cut opens;
+        reopened = λ time found opened state late cut opens. reopened_state_is_after_prefix time old new (found_of found) (found_of opened) s state (acknowledged_commands_of_run run) (reached_commands_of_run run) kept_commands late cut opens;
         not_refused = λ time found fault late cut h. error_after_cut_is_device_or_memory time old new (found_of found) s (acknowledged_commands_of_run run) (reached_commands_of_run run) fault kept_commands late cut h;
       };
     }

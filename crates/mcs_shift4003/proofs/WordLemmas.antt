@@ -157,8 +157,8 @@ chain_bit-at_any_index bits words i p =
       | inr gone ↦ get_or_past (chain_bits_of bits words) i 0 (let e = length-chain_bits_of bits words in omega arith) ∙ sym (p.past i gone)
     ]
 
-pub got : (bits : ℕ) (words : List ℕ) (i : ℕ) → i < bits → Some (packed_bit words i) ≡ slice_get (chain_bits_of bits words) i
-got bits words i h = ap Some (sym (chain_bit-at_index bits words i 0 h)) ∙ sym (slice_get-get_or (chain_bits_of bits words) i 0 (let e = length-chain_bits_of bits words in omega arith))
+pub slice_get-chain_bits_of : (bits : ℕ) (words : List ℕ) (i : ℕ) → i < bits → Some (packed_bit words i) ≡ slice_get (chain_bits_of bits words) i
+slice_get-chain_bits_of bits words i h = ap Some (sym (chain_bit-at_index bits words i 0 h)) ∙ sym (slice_get-get_or (chain_bits_of bits words) i 0 (let e = length-chain_bits_of bits words in omega arith))
 
 pub no_chain_bit-past_end : (bits : ℕ) (words : List ℕ) (i : ℕ) → bits ≤ i → None ≡ slice_get (chain_bits_of bits words) i
 no_chain_bit-past_end bits words i h = sym (slice_get_past (chain_bits_of bits words) i (let e = length-chain_bits_of bits words in omega arith))

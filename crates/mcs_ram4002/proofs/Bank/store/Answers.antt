@@ -1,7 +1,7 @@
 use Rattle.std.proofs.Common.{refl, ap, ◌∙◌, ◌≡◌, ◌<◌, ◌≤◌, length, arith}
 use Rattle.std.proofs.lemmas.Bool.{lt-ltb, le-ltb}
 use Rattle.mcs_ram4002.specs.RamBank.{after_write, target_chip, bank_of}
-use Rattle.mcs_ram4002.proofs.BankLemmas.{stored, bank-has_fixed_lengths}
+use Rattle.mcs_ram4002.proofs.BankLemmas.{bank_of-after_chip_write, bank-has_fixed_lengths}
 use Rattle.mcs_ram4002.proofs.Bank.store.Goals as goal
 
 pub returns-then-chip-self-clause-stored : goal.returns-then-chip-self-clause-stored
@@ -14,7 +14,7 @@ returns-then-chip-self-clause-stored g c =
     let chip_below_4 : c.from-chip.result < 4 = let f = c.chip.ensures.few c.requires in omega arith in
     rw (← c.self.view_is, lt-ltb (target_chip write) i.chip_count (omega arith))
     (ap (bank_of _ i.chip_count) c.src_after-self-inside.ensures
-    ∙ stored i.chips i.chip_count i.src c.from-chip.result c.index-self-chip.result c.store.new.self write c.requires at chip_below_4 c.if-chip-self.true fits c.store.ensures.sized c.store.ensures.stored)
+    ∙ bank_of-after_chip_write i.chips i.chip_count i.src c.from-chip.result c.index-self-chip.result c.store.new.self write c.requires at chip_below_4 c.if-chip-self.true fits c.store.ensures.sized c.store.ensures.stored)
 
 pub returns-else-chip-self-clause-stored : goal.returns-else-chip-self-clause-stored
 unfolding after_write
