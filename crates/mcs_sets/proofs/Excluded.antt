@@ -14,7 +14,7 @@ use Rattle.mcs_check.specs.declared.conditions.Condition.{Condition}
 use Rattle.mcs_check.specs.Conditions.{is_met, are_met}
 use Rattle.mcs_check.specs.Mistaken.{makes_call_mistake, makes_chip_mistake, makes_port_mistake, has_input, has_output, is_fourth_call, is_unmatched_return, cycle_makes_mistake, is_rdr, is_wrr, lacks_selected_ram, reads_absent_rom, last_address_read, op_makes_mistake, uses_ram}
 use Rattle.mcs_sets.specs.declared.entries.Entry.{Entry}
-use Rattle.mcs_sets.specs.Entries.{has, value_at, Covers}
+use Rattle.mcs_sets.specs.Entries.{contains, value_at, Covers}
 use Rattle.mcs_sets.specs.Excluding.{ForAllIn, HasChipsOfBank, MakesNoMistake, reads_next_address}
 use Rattle.mcs_sets.specs.Landing.{CallsAllow}
 use Rattle.mcs_sets.proofs.Memory.{member-below-16}
@@ -62,7 +62,7 @@ no-absent-ram-selected board e s same is all =
     let n = slice_index s.1.ram_src s.0.dcl in
     let bank_exists = bank.bank_exists in
     let set = slice_index e.sets (18 + s.0.dcl) in
-    let in_set : has set (n / 16) ≡ true = subst (λ (x : ℕ). has set x ≡ true) (value_at-of-bank-src-byte s (18 + s.0.dcl) s.0.dcl refl) (is.locations (18 + s.0.dcl) (omega arith)) in
+    let in_set : contains set (n / 16) ≡ true = subst (λ (x : ℕ). contains set x ≡ true) (value_at-of-bank-src-byte s (18 + s.0.dcl) s.0.dcl refl) (is.locations (18 + s.0.dcl) (omega arith)) in
     let chip : n / 64 < slice_index board.banks s.0.dcl = chip-below-from-upper-nibble n (slice_index board.banks s.0.dcl) (bank.chips (n / 16) in_set) in
     let chip_present : n / 64 < slice_index s.1.board.banks s.0.dcl = subst (λ (b : BoardParts). n / 64 < slice_index b.banks s.0.dcl) (sym same) chip in
     not_from_true _ (lt-ltb (n / 64) (slice_index s.1.board.banks s.0.dcl) chip_present)
@@ -111,7 +111,7 @@ no-chip-mistake-if-checks-pass board e op mistakes s same is h =
 no-port-mistake-if-checks-pass : (board : BoardParts) (e : Entry) (op : Op) (mistakes : Mistakes) (s : TrackedMachine) → s.1.board ≡ board → Covers e s → PassesChecks board e op mistakes → makes_port_mistake mistakes op s ≡ false
 no-port-mistake-if-checks-pass board e op mistakes s same is h =
     let n = s.1.rom_src / 16 in
-    let inside : has (slice_index e.sets 17) n ≡ true = is.locations 17 (omega arith) in
+    let inside : contains (slice_index e.sets 17) n ≡ true = is.locations 17 (omega arith) in
     or_from _ _
     (false-under-two-guards mistakes.port_without_inputs (is_rdr op) (not (has_input s.1.board n)) (λ a r. not_from_true _ (subst (λ (b : BoardParts). has_input b n ≡ true) (sym same) (h.inputs a r n inside))))
     (false-under-two-guards mistakes.port_without_outputs (is_wrr op) (not (has_output s.1.board n)) (λ a r. not_from_true _ (subst (λ (b : BoardParts). has_output b n ≡ true) (sym same) (h.outputs a r n inside))))

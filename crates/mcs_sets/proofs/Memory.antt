@@ -15,11 +15,11 @@ use Rattle.mcs_model.specs.Levels.{clock_levels, after_chain_clocks, with_rom_po
 use Rattle.mcs_model.specs.Effect.{bus_after, cycle_of, effect, instruction_at}
 use Rattle.mcs_model.specs.Running.{Machine}
 use Rattle.mcs_drive.specs.TrackedMachine.{TrackedMachine, machine_in, cycled, no_observer}
-use Rattle.mcs_sets.specs.Entries.{has}
+use Rattle.mcs_sets.specs.Entries.{contains}
 use Rattle.mcs_sets.specs.Closure.{IsBusOf}
 
 -- each member of a set of nibbles is below 16
-pub member-below-16 : (set n : ℕ) → has set n ≡ true → n < 16
+pub member-below-16 : (set n : ℕ) → contains set n ≡ true → n < 16
 member-below-16 set n h = ltb-true n 16 (and_parts (nat_lt n 16) _ h).0
 
 module _ (board : BoardParts) (rom : List ℕ) where

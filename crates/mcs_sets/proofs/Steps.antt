@@ -16,7 +16,7 @@ use Rattle.mcs_sets.proofs.Ports.{port-lt}
 use Rattle.mcs_sets.specs.declared.entries.Entry.{Entry}
 use Rattle.mcs_sets.specs.declared.landing.Choice.{Choice}
 use Rattle.mcs_sets.specs.declared.landing.Landing.{Landing}
-use Rattle.mcs_sets.specs.Entries.{has, acc_values_of, value_at, Covers, IsCovered}
+use Rattle.mcs_sets.specs.Entries.{contains, acc_values_of, value_at, Covers, IsCovered}
 use Rattle.mcs_sets.specs.Closure.{IsBusOf}
 use Rattle.mcs_sets.specs.Landing.{StandInFits, op_at, first_operand_of, second_operand_of, first_operand_set, second_operand_set, IsValidOp, CallsAllow, landing, machine_after, choice_of, LandingDescribes, CoversLanding}
 use Rattle.mcs_sets.specs.Covering.{AllChoicesCovered, AllowsChoice, LandingsSuffice, IsChoiceCovered, choice_at}
@@ -31,8 +31,8 @@ covers-machine-after-landing e to s t o is l k = record {
   at = l.pc ∙ sym k.at;
   calls = l.calls ∙ sym k.calls;
   ret = λ j h inside. l.ret j h (subst (λ n. j < n) k.calls inside) ∙ sym (k.ret j h inside);
-  acc = ap (λ n. has (acc_values_of to n) t.0.acc) l.cy ∙ ap (has (acc_values_of to o.regs.cy)) l.acc ∙ k.acc;
-  locations = λ j h. ap (has (slice_index to.sets j)) (l.locations j h) ∙ k.locations j h (value_at s j) (is.locations j h);
+  acc = ap (λ n. contains (acc_values_of to n) t.0.acc) l.cy ∙ ap (contains (acc_values_of to o.regs.cy)) l.acc ∙ k.acc;
+  locations = λ j h. ap (contains (slice_index to.sets j)) (l.locations j h) ∙ k.locations j h (value_at s j) (is.locations j h);
   carry = subst (λ n. n < 2) (sym l.cy) k.carry;
   registers = l.registers;
   banks = l.banks;
@@ -40,20 +40,20 @@ covers-machine-after-landing e to s t o is l k = record {
 
 -- ---- an entry allows the choices of its machines
 
-register-value-allowed : (e : Entry) (s : TrackedMachine) (r : ℕ) → r < 16 → Covers e s → has (slice_index e.sets r) (register_of s.0 r) ≡ true
+register-value-allowed : (e : Entry) (s : TrackedMachine) (r : ℕ) → r < 16 → Covers e s → contains (slice_index e.sets r) (register_of s.0 r) ≡ true
 register-value-allowed e s r small is =
     let not_16 : r ≢ 16 = λ z. omega arith in
     let is_not_16 : eqb r 16 ≡ false = ne_eqb r 16 not_16 in
     let lt : nat_lt r 16 ≡ true = lt-ltb r 16 small in
     let below : r < 26 = omega arith in
     let place : value_at s r ≡ register_of s.0 r = rw (is_not_16, lt) refl in
-    ap (has (slice_index e.sets r)) (sym place) ∙ is.locations r below
+    ap (contains (slice_index e.sets r)) (sym place) ∙ is.locations r below
 
-full-set-has-each-nibble : (n : ℕ) → n < 16 → has 65535 n ≡ true
-full-set-has-each-nibble n h = agree_below_at (has 65535) (λ _. true) 16 n refl h
+full-set-has-each-nibble : (n : ℕ) → n < 16 → contains 65535 n ≡ true
+full-set-has-each-nibble n h = agree_below_at (contains 65535) (λ _. true) 16 n refl h
 
-level-set-has-each-level : (n : ℕ) → n < 2 → has 3 n ≡ true
-level-set-has-each-level n h = agree_below_at (has 3) (λ _. true) 2 n refl h
+level-set-has-each-level : (n : ℕ) → n < 2 → contains 3 n ≡ true
+level-set-has-each-level n h = agree_below_at (contains 3) (λ _. true) 2 n refl h
 
 element-below-16 : (l : List ℕ) (k : ℕ) → All (λ n. n < 16) l → slice_index l k < 16
 element-below-16 l k h = elim (cases_lt k (length l)) [
@@ -69,7 +69,7 @@ status_of-below-16 : (m : BusState) (bank k : ℕ) → All (λ n. n < 16) m.stat
 unfolding status_of
 status_of-below-16 m bank k h = element-below-16 m.status _ h
 
-first-operand-allowed : (board : BoardParts) (rom : List ℕ) (op : Op) (e : Entry) (s : TrackedMachine) → IsValidOp op → IsBusOf board rom s.1 → Covers e s → has (first_operand_set op e) (first_operand_of op s.0 s.1) ≡ true
+first-operand-allowed : (board : BoardParts) (rom : List ℕ) (op : Op) (e : Entry) (s : TrackedMachine) → IsValidOp op → IsBusOf board rom s.1 → Covers e s → contains (first_operand_set op e) (first_operand_of op s.0 s.1) ≡ true
 first-operand-allowed board rom (Src k) e s small of is = register-value-allowed e s (2 * k) (omega arith) is
 first-operand-allowed board rom (Fin k) e s small of is = register-value-allowed e s 0 (omega arith) is
 first-operand-allowed board rom (Jin k) e s small of is = register-value-allowed e s (2 * k) (omega arith) is
@@ -89,7 +89,7 @@ first-operand-allowed board rom Rd2 e s small of is = full-set-has-each-nibble (
 first-operand-allowed board rom Rd3 e s small of is = full-set-has-each-nibble (status_of s.1 s.0.dcl 3) (status_of-below-16 s.1 s.0.dcl 3 of.status)
 first-operand-allowed board rom _ e s small of is = refl
 
-second-operand-allowed : (board : BoardParts) (rom : List ℕ) (op : Op) (e : Entry) (s : TrackedMachine) → IsValidOp op → IsBusOf board rom s.1 → Covers e s → has (second_operand_set op e) (second_operand_of op s.0 s.1) ≡ true
+second-operand-allowed : (board : BoardParts) (rom : List ℕ) (op : Op) (e : Entry) (s : TrackedMachine) → IsValidOp op → IsBusOf board rom s.1 → Covers e s → contains (second_operand_set op e) (second_operand_of op s.0 s.1) ≡ true
 second-operand-allowed board rom (Jcn c b) e s small of is = level-set-has-each-level s.1.test of.test
 second-operand-allowed board rom (Fin k) e s small of is = register-value-allowed e s 1 (omega arith) is
 second-operand-allowed board rom (Jin k) e s small of is = register-value-allowed e s (2 * k + 1) (omega arith) is

@@ -7,14 +7,14 @@ use Rattle.mcs_model.specs.Bus.{BusState}
 use Rattle.mcs_sets.specs.declared.entries.Entry.{Entry}
 use Rattle.mcs_sets.specs.declared.landing.Choice.{Choice}
 use Rattle.mcs_sets.specs.declared.landing.Landing.{Landing}
-use Rattle.mcs_sets.specs.Entries.{has, acc_values_of}
+use Rattle.mcs_sets.specs.Entries.{contains, acc_values_of}
 use Rattle.mcs_sets.specs.Closure.{StaysCoveredOneCycle}
 use Rattle.mcs_sets.specs.Landing.{op_at, first_operand_set, second_operand_set, value_after, landing, CallsAllow, IsValidOp, CoversLanding}
 
 -- holds if the target entry allows every value that location `k` can have after a landing from the
 -- source entry
 abbrev pub CoversLocation : Entry → Entry → Landing → ℕ → Type 0
-CoversLocation source target o k = (v : ℕ) → has (slice_index source.sets k) v ≡ true → has (slice_index target.sets k) (value_after o k v) ≡ true
+CoversLocation source target o k = (v : ℕ) → contains (slice_index source.sets k) v ≡ true → contains (slice_index target.sets k) (value_after o k v) ≡ true
 
 -- holds if two call stacks have the same return addresses for the open calls
 abbrev pub AgreeOnOpenCalls : List ℕ → List ℕ → ℕ → Type 0
@@ -32,10 +32,10 @@ choice_at flags bank first second = record { acc = flags % 16; cy = flags / 16 %
 
 -- holds if an entry allows all values of a choice
 pub record AllowsChoice (e : Entry) (op : Op) (c : Choice) : Type 0 where
-  pub acc : has (acc_values_of e c.cy) c.acc ≡ true
-  pub bank : has (slice_index e.sets 16) c.bank ≡ true
-  pub first_operand : has (first_operand_set op e) c.first_operand ≡ true
-  pub second_operand : has (second_operand_set op e) c.second_operand ≡ true
+  pub acc : contains (acc_values_of e c.cy) c.acc ≡ true
+  pub bank : contains (slice_index e.sets 16) c.bank ≡ true
+  pub first_operand : contains (first_operand_set op e) c.first_operand ≡ true
+  pub second_operand : contains (second_operand_set op e) c.second_operand ≡ true
 
 -- Holds if the certificate covers the landing of a choice. The landing is computed on a bus with
 -- this ROM and this board.

@@ -8,12 +8,12 @@ use Rattle.mcs_drive.specs.TrackedMachine.{TrackedMachine}
 use Rattle.mcs_sets.specs.declared.entries.Entry.{Entry}
 
 -- true if a set of nibbles contains the number `n`: bit `n` of the set is 1
-abbrev pub has : ℕ → ℕ → Bool
-has set n = nat_lt n 16 && (set / 2 ^ n % 2 == 1)
+abbrev pub contains : ℕ → ℕ → Bool
+contains set n = nat_lt n 16 && (set / 2 ^ n % 2 == 1)
 
 -- holds if `subset` is a subset of `superset`
 abbrev pub IsSubset : ℕ → ℕ → Type 0
-IsSubset subset superset = (n : ℕ) → has subset n ≡ true → has superset n ≡ true
+IsSubset subset superset = (n : ℕ) → contains subset n ≡ true → contains superset n ≡ true
 
 -- the set of values that the accumulator may hold with this carry
 abbrev pub acc_values_of : Entry → ℕ → ℕ
@@ -34,8 +34,8 @@ pub record Covers (e : Entry) (s : TrackedMachine) : Type 0 where
   pub at : s.0.pc ≡ e.at
   pub calls : s.2.calls ≡ e.calls
   pub ret : (k : ℕ) → k < 3 → k < e.calls → slice_index s.0.ret k ≡ slice_index e.ret k
-  pub acc : has (acc_values_of e s.0.cy) s.0.acc ≡ true
-  pub locations : (k : ℕ) → k < 26 → has (slice_index e.sets k) (value_at s k) ≡ true
+  pub acc : contains (acc_values_of e s.0.cy) s.0.acc ≡ true
+  pub locations : (k : ℕ) → k < 26 → contains (slice_index e.sets k) (value_at s k) ≡ true
   pub carry : s.0.cy < 2
   pub registers : length s.0.r ≡ 16
   pub banks : length s.1.ram_src ≡ 8

@@ -12,7 +12,7 @@ use Rattle.mcs_check.specs.declared.conditions.Condition.{Condition}
 use Rattle.mcs_check.specs.Conditions.{are_met, is_met}
 use Rattle.mcs_check.specs.Mistaken.{op_makes_mistake}
 use Rattle.mcs_sets.specs.declared.entries.Entry.{Entry}
-use Rattle.mcs_sets.specs.Entries.{has, Covers}
+use Rattle.mcs_sets.specs.Entries.{contains, Covers}
 use Rattle.mcs_sets.specs.Closure.{IsBusOf, StaysCovered}
 
 -- holds if every machine that an entry covers, with this board and ROM, has a property
@@ -38,7 +38,7 @@ EntriesSuffice =
 
 -- holds if each number in a set of nibbles has a property
 abbrev pub ForAllIn : ℕ → (ℕ → Type 0) → Type 0
-ForAllIn set p = (n : ℕ) → has set n ≡ true → p n
+ForAllIn set p = (n : ℕ) → contains set n ≡ true → p n
 
 -- holds if a bank has each chip that its SRC byte can select. `set` has the possible upper nibbles
 -- of the SRC byte.

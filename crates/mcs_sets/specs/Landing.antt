@@ -14,7 +14,7 @@ use Rattle.mcs_drive.specs.TrackedMachine.{TrackedMachine, calls_after, elapsed_
 use Rattle.mcs_sets.specs.declared.entries.Entry.{Entry}
 use Rattle.mcs_sets.specs.declared.landing.Choice.{Choice}
 use Rattle.mcs_sets.specs.declared.landing.Landing.{Landing}
-use Rattle.mcs_sets.specs.Entries.{has, acc_values_of, value_at}
+use Rattle.mcs_sets.specs.Entries.{contains, acc_values_of, value_at}
 
 -- ---- the operand values of an instruction, besides accumulator, carry and bank: at most two
 
@@ -209,8 +209,8 @@ pub record CoversLanding (source target : Entry) (o : Landing) : Type 0 where
   pub calls : target.calls ≡ o.calls
   pub ret : (k : ℕ) → k < 3 → k < target.calls → slice_index target.ret k ≡ slice_index o.regs.ret k
   pub carry : o.regs.cy < 2
-  pub acc : has (acc_values_of target o.regs.cy) o.regs.acc ≡ true
-  pub locations : (k : ℕ) → k < 26 → (v : ℕ) → has (slice_index source.sets k) v ≡ true → has (slice_index target.sets k) (value_after o k v) ≡ true
+  pub acc : contains (acc_values_of target o.regs.cy) o.regs.acc ≡ true
+  pub locations : (k : ℕ) → k < 26 → (v : ℕ) → contains (slice_index source.sets k) v ≡ true → contains (slice_index target.sets k) (value_after o k v) ≡ true
 
 -- ---- the laws
 

@@ -3,11 +3,11 @@ ghost use Rattle.std.specs.Prelude.{◌≡◌, ◌<◌, ℕ, IsTrue, length, sli
 ghost use Rattle.mcs_drive.specs.TrackedMachine.{with_zero_counts};
 ghost use Rattle.mcs_sets.specs.declared.entries.Entry.{Entry};
 ghost use Rattle.mcs_sets.specs.Closure.{IsBusOf, StaysCovered, StaysCoveredOneCycle};
-ghost use Rattle.mcs_sets.specs.Entries.{Covers, IsAtEntry, IsCovered, acc_values_of, has, value_at};
+ghost use Rattle.mcs_sets.specs.Entries.{Covers, IsAtEntry, IsCovered, acc_values_of, contains, value_at};
 ghost use Rattle.mcs_sets.specs.Landing.{CallsAllow, IsValidOp};
 
 use crate::covering::are_all_covered;
-use crate::entries::{Entry, has};
+use crate::entries::{Entry, contains};
 use crate::sampling::singleton;
 use mcs_board::BenchRig;
 use mcs_cpu4004::Cpu;
@@ -101,9 +101,9 @@ pub(crate) fn entry_of(cpu: &Cpu, rig: &BenchRig) -> Entry {
 /// Returns whether an entry allows the value that a machine holds at a location.
 fn allows_value(entry: &Entry, cpu: &Cpu, rig: &BenchRig, location: u8) -> bool
     requires { location < 26 }
-    ensures { IsTrue result → has (slice_index entry.now.sets location) (value_at (with_zero_counts (cpu.now, rig.now)) location) ≡ true }
+    ensures { IsTrue result → contains (slice_index entry.now.sets location) (value_at (with_zero_counts (cpu.now, rig.now)) location) ≡ true }
 {
-    has(
+    contains(
         entry.sets[usize::from(location)],
         value_at(cpu, rig, location),
     )
@@ -111,7 +111,7 @@ fn allows_value(entry: &Entry, cpu: &Cpu, rig: &BenchRig, location: u8) -> bool
 
 /// Returns whether an entry allows the values that a machine holds at all locations.
 fn allows_all_values(entry: &Entry, cpu: &Cpu, rig: &BenchRig) -> bool
-    ensures { IsTrue result → (k : ℕ) → k < 26 → has (slice_index entry.now.sets k) (value_at (with_zero_counts (cpu.now, rig.now)) k) ≡ true }
+    ensures { IsTrue result → (k : ℕ) → k < 26 → contains (slice_index entry.now.sets k) (value_at (with_zero_counts (cpu.now, rig.now)) k) ≡ true }
 {
     for location in 0..26u8 {
         if !allows_value(entry, cpu, rig, location) {
@@ -141,10 +141,10 @@ fn is_at_entry(entry: &Entry, cpu: &Cpu) -> bool
 
 /// Returns whether an entry allows a processor's accumulator, given its carry.
 fn allows_acc(entry: &Entry, cpu: &Cpu) -> bool
-    ensures { result ≡ has (acc_values_of entry.now cpu.now.cy) cpu.now.acc }
+    ensures { result ≡ contains (acc_values_of entry.now cpu.now.cy) cpu.now.acc }
 {
     let regs = cpu.regs();
-    has(entry.acc_values(regs.cy.get()), regs.acc.get())
+    contains(entry.acc_values(regs.cy.get()), regs.acc.get())
 }
 
 /// Returns true only if an entry covers this machine, which has no open calls.

@@ -3,7 +3,7 @@ ghost use Rattle.std.specs.Prelude.{◌≡◌, ◌<◌, ℕ, IsTrue, Some};
 ghost use Rattle.mcs_sets.specs.Landing.{CoversLanding, op_at};
 ghost use Rattle.mcs_sets.specs.Covering.{AgreeOnOpenCalls, AllowsChoice, CoversLocation, IsChoiceCovered, IsLandingCovered, choice_at};
 
-use crate::entries::{Entry, has, is_subset};
+use crate::entries::{Entry, contains, is_subset};
 use crate::landing::{Choice, Landing, compute_landing, first_operand_set, second_operand_set};
 use mcs_board::BenchRig;
 use mcs_model::op::Op;
@@ -16,13 +16,13 @@ fn covers_location(source: &Entry, target: &Entry, landing: &Landing, location: 
 {
     let k = usize::from(location);
     if location == 16 {
-        return has(target.sets[k], landing.regs.dcl);
+        return contains(target.sets[k], landing.regs.dcl);
     }
     if location == landing.first_location {
-        return has(target.sets[k], landing.first_value);
+        return contains(target.sets[k], landing.first_value);
     }
     if location == landing.second_location {
-        return has(target.sets[k], landing.second_value);
+        return contains(target.sets[k], landing.second_value);
     }
     is_subset(source.sets[k], target.sets[k])
 }
@@ -58,7 +58,7 @@ fn covers_landing(source: &Entry, target: &Entry, landing: &Landing) -> bool
         && target.calls == landing.calls
         && agree_on_open_calls(&target.ret, &landing.regs.ret, target.calls)
         && landing.regs.cy.get() < 2
-        && has(
+        && contains(
             target.acc_values(landing.regs.cy.get()),
             landing.regs.acc.get(),
         )
@@ -98,10 +98,10 @@ fn is_choice_covered(
     ensures rom { rig.new.rom ≡ rig.old.rom }
     ensures board { rig.new.board ≡ rig.old.board }
 {
-    if !has(first_operand_set(op, entry), choice.first_operand.get()) {
+    if !contains(first_operand_set(op, entry), choice.first_operand.get()) {
         return true;
     }
-    if !has(second_operand_set(op, entry), choice.second_operand.get()) {
+    if !contains(second_operand_set(op, entry), choice.second_operand.get()) {
         return true;
     }
     let landing = compute_landing(rig, op, entry, choice);
@@ -126,7 +126,7 @@ fn are_covered_with_bank(
     ensures rom { rig.new.rom ≡ rig.old.rom }
     ensures board { rig.new.board ≡ rig.old.board }
 {
-    if !has(entry.sets[16], bank) {
+    if !contains(entry.sets[16], bank) {
         return true;
     }
     if bank >= 8 {
@@ -164,7 +164,7 @@ fn are_covered_with_flags(
     ensures rom { rig.new.rom ≡ rig.old.rom }
     ensures board { rig.new.board ≡ rig.old.board }
 {
-    if !has(entry.acc_values(flags / 16 % 2), flags % 16) {
+    if !contains(entry.acc_values(flags / 16 % 2), flags % 16) {
         return true;
     }
     for bank in 0..16u8 {

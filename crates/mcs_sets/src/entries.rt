@@ -1,6 +1,6 @@
 //! The entries of a certificate.
 ghost use Rattle.std.specs.Prelude.{◌≡◌, IsTrue, true};
-ghost use Rattle.mcs_sets.specs.Entries.{IsSubset, acc_values_of, has};
+ghost use Rattle.mcs_sets.specs.Entries.{IsSubset, acc_values_of, contains};
 
 use mcs_nibble::Addr;
 
@@ -28,17 +28,17 @@ pub struct Entry {
 }
 
 /// Returns whether a set contains a number. No set contains a number above 15.
-pub(crate) fn has(set: u16, n: u8) -> bool
-    ensures { result ≡ has set n }
+pub(crate) fn contains(set: u16, n: u8) -> bool
+    ensures { result ≡ contains set n }
 {
     n < 16 && (set >> n) % 2 == 1
 }
 
 /// Returns whether the number `n` is in `superset`, or is not in `subset`.
 fn keeps_member(subset: u16, superset: u16, n: u8) -> bool
-    ensures { IsTrue result → has subset n ≡ true → has superset n ≡ true }
+    ensures { IsTrue result → contains subset n ≡ true → contains superset n ≡ true }
 {
-    !has(subset, n) || has(superset, n)
+    !contains(subset, n) || contains(superset, n)
 }
 
 /// Returns whether `subset` is a subset of `superset`.

@@ -5,11 +5,11 @@ ghost use Rattle.mcs_model.specs.Command.{lacks_rom};
 ghost use Rattle.mcs_check.specs.declared.conditions.Condition.TheVariants.{Mistaken};
 ghost use Rattle.mcs_check.specs.Conditions.{meets_none};
 ghost use Rattle.mcs_check.specs.Mistaken.{has_input, has_output, is_rdr, is_wrr, uses_ram};
-ghost use Rattle.mcs_sets.specs.Entries.{has};
+ghost use Rattle.mcs_sets.specs.Entries.{contains};
 ghost use Rattle.mcs_sets.specs.Excluding.{Excludes, ExcludesConjunction, ForAllIn, HasChipsOfBank, HasSelectableChips, HoldsInEntry, MakesNoMistake, reads_next_address};
 
 use crate::certifying::calls_allow;
-use crate::entries::{Entry, has};
+use crate::entries::{Entry, contains};
 use mcs_board::BenchRig;
 use mcs_check::{Condition, Mistakes};
 use mcs_cpu4004::Cpu;
@@ -90,9 +90,9 @@ fn has_output(board: &Board, chip: u8) -> bool
 /// Returns whether a bank has the chip that an SRC byte with upper nibble `n` selects. Also returns true if `n` is not
 /// in `set`.
 fn has_chip_if_member(board: &Board, bank: u8, set: u16, n: u8) -> bool
-    ensures { IsTrue result → has set n ≡ true → n / 4 < slice_index board.now.banks bank }
+    ensures { IsTrue result → contains set n ≡ true → n / 4 < slice_index board.now.banks bank }
 {
-    !has(set, n) || n / 4 < board.bank_chips(bank)
+    !contains(set, n) || n / 4 < board.bank_chips(bank)
 }
 
 /// Returns whether a bank has each chip that its SRC byte can select. `set` has the possible upper nibbles of the SRC
@@ -111,11 +111,11 @@ fn has_selectable_chips(board: &Board, bank: u8, set: u16) -> bool
 /// Returns whether a bank number is below 8 and the board has each chip that a machine of the entry may select in that
 /// bank. Also returns true if the entry does not allow the bank.
 fn has_chips_of_bank(board: &Board, entry: &Entry, bank: u8) -> bool
-    ensures bank_exists { IsTrue result → has (slice_index entry.now.sets 16) bank ≡ true → bank < 8 }
-    ensures chips { IsTrue result → has (slice_index entry.now.sets 16) bank ≡ true →
+    ensures bank_exists { IsTrue result → contains (slice_index entry.now.sets 16) bank ≡ true → bank < 8 }
+    ensures chips { IsTrue result → contains (slice_index entry.now.sets 16) bank ≡ true →
         HasSelectableChips board.now bank (slice_index entry.now.sets (18 + bank)) }
 {
-    !has(entry.sets[16], bank)
+    !contains(entry.sets[16], bank)
         || (bank < 8 && has_selectable_chips(board, bank, entry.sets[usize::from(18 + bank)]))
 }
 
@@ -133,9 +133,9 @@ fn has_selectable_ram(board: &Board, entry: &Entry) -> bool
 
 /// Returns whether ROM `n` has an input line. Also returns true if `n` is not in the set.
 fn has_input_if_member(board: &Board, set: u16, n: u8) -> bool
-    ensures { IsTrue result → has set n ≡ true → has_input board.now n ≡ true }
+    ensures { IsTrue result → contains set n ≡ true → has_input board.now n ≡ true }
 {
-    !has(set, n) || has_input(board, n)
+    !contains(set, n) || has_input(board, n)
 }
 
 /// Returns whether each ROM of a set has an input line.
@@ -152,9 +152,9 @@ fn has_inputs(board: &Board, set: u16) -> bool
 
 /// Returns whether ROM `n` has an output line. Also returns true if `n` is not in the set.
 fn has_output_if_member(board: &Board, set: u16, n: u8) -> bool
-    ensures { IsTrue result → has set n ≡ true → has_output board.now n ≡ true }
+    ensures { IsTrue result → contains set n ≡ true → has_output board.now n ≡ true }
 {
-    !has(set, n) || has_output(board, n)
+    !contains(set, n) || has_output(board, n)
 }
 
 /// Returns whether each ROM of a set has an output line.

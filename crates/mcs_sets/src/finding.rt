@@ -5,7 +5,7 @@
 //! registers. The search ends when no entry grows, or at an entry whose machines may meet the conditions.
 ghost use Rattle.std.specs.Prelude.{◌≡◌};
 
-use crate::entries::{Entry, has};
+use crate::entries::{Entry, contains};
 use crate::excluding::avoids_all_lists;
 use crate::landing::{Choice, Landing, compute_landing, first_operand_set, second_operand_set};
 use crate::sampling::{join, sample, successor_entry};
@@ -198,8 +198,8 @@ impl Finder {
                 first_operand: Nibble::low_of((byte % 16) as u8),
                 second_operand: Nibble::low_of((byte / 16) as u8),
             };
-            if has(firsts, choice.first_operand.get())
-                && has(seconds, choice.second_operand.get())
+            if contains(firsts, choice.first_operand.get())
+                && contains(seconds, choice.second_operand.get())
             {
                 self.follow_choice(rig, source, op, &choice)?;
             }
@@ -211,9 +211,9 @@ impl Finder {
     fn follow_choices(&mut self, rig: &mut BenchRig, source: &Entry, op: &Op) -> Result<(), Stop> {
         let sample = sample(source, op);
         for flags in 0..32u8 {
-            if has(sample.acc_values(flags / 16), flags % 16) {
+            if contains(sample.acc_values(flags / 16), flags % 16) {
                 for bank in 0..8u8 {
-                    if has(sample.sets[16], bank) {
+                    if contains(sample.sets[16], bank) {
                         self.follow_operands(rig, source, op, flags, bank)?;
                     }
                 }

@@ -210,8 +210,8 @@ pub(crate) fn compute_landing(
     ensures board { rig.new.board ≡ rig.old.board }
 {
     let before = stand_in_before(op, entry, choice);
-    let ran = run_instruction(rig, op, &before, Bit::low_of(choice.second_operand.get()));
-    let regs = with_value_read(op, choice.first_operand, &before, ran);
+    let after = run_instruction(rig, op, &before, Bit::low_of(choice.second_operand.get()));
+    let regs = with_value_read(op, choice.first_operand, &before, after);
     let first_location = first_location_written(op);
     let second_location = second_location_written(
         op,
