@@ -76,7 +76,7 @@ pub index-in_last_block : (width len i : ℕ) (bs : List KeyStore) (last : KeySt
 index-in_last_block width len i bs last fits h k =
     let l = length-keys_of_blocks width 65536 bs fits.blocks in
     let sum = length-append (keys_of_blocks bs) last.keys in
-    let last_not_full = fits.last_few in
+    let last_not_full = fits.last_not_full in
     (omega arith, omega arith)
 
 pub arena_key-in_last_block : (width len i : ℕ) (bs : List KeyStore) (last : KeyStore) → ArenaInvariant width len bs last → i < length (keys_of_blocks bs ++ last.keys) → length bs ≤ i / 65536 →
@@ -98,7 +98,7 @@ arena_invariant-after_push width len bs last new key fits w k few =
     record {
       blocks = fits.blocks;
       last_width = w ∙ fits.last_width;
-      last_few = few;
+      last_not_full = few;
       count = omega arith;
     }
 
@@ -109,14 +109,14 @@ pub arena_invariant-after_block_filled : (width len : ℕ) (bs : List KeyStore) 
     ArenaInvariant width (len + 1) (bs ++ new ∷ []) next
 arena_invariant-after_block_filled width len bs last new next key fits w k full-now is =
     let longer_by_one = ap length k ∙ length-append last.keys (key ∷ []) in
-    let last_not_full = fits.last_few in
+    let last_not_full = fits.last_not_full in
     let count = fits.count in
     let total_length = ap length (keys_of_blocks-append_block bs new) ∙ length-append (keys_of_blocks bs) new.keys in
     let next_is_empty : length next.keys ≡ 0 = ap (λ (s : KeyStore). length s.keys) is in
     record {
       blocks = All-push (IsFullBlock width KEYS_PER_BLOCK) bs new fits.blocks (w ∙ fits.last_width, omega arith);
       last_width = ap (λ (s : KeyStore). s.width) is;
-      last_few = omega arith;
+      last_not_full = omega arith;
       count = omega arith;
     }
 
@@ -141,6 +141,6 @@ arena_invariant-of_empty_arena width bs last empty is =
     record {
       blocks = All-same (IsFullBlock width KEYS_PER_BLOCK) bs [] empty (All-nil (IsFullBlock width KEYS_PER_BLOCK));
       last_width = ap (λ (s : KeyStore). s.width) is;
-      last_few = omega arith;
+      last_not_full = omega arith;
       count = omega arith;
     }

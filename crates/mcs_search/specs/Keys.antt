@@ -27,7 +27,7 @@ AreFull width n = All (λ (b : KeyStore). (b.width ≡ width) × (length b.keys 
 pub record ArenaInvariant (width len : ℕ) (full : List KeyStore) (last : KeyStore) : Type 0 where
   pub blocks : AreFull width KEYS_PER_BLOCK full
   pub last_width : last.width ≡ width
-  pub last_few : length last.keys < KEYS_PER_BLOCK
+  pub last_not_full : length last.keys < KEYS_PER_BLOCK
   pub count : len ≡ length (keys_of_blocks full) + length last.keys
 
 -- holds if the new store has the keys of the old store, possibly followed by more keys

@@ -54,7 +54,7 @@ IsFollowOutcome r keys key choices followed.GaveUp = Unit {0}
 -- the invariant of the fields of a search: its counters are in range, and its buffers have the
 -- width of a key
 pub record SearchInvariant (visited : KeyStore) (next limit key_len into_len : ℕ) : Type 0 where
-  pub some : 0 < length visited.keys
+  pub not_empty : 0 < length visited.keys
   pub few : length visited.keys < 4294967295
   pub within : next ≤ length visited.keys
   pub max_states : limit ≤ MAX_STATES

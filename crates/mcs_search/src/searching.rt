@@ -111,7 +111,7 @@ impl Search {
     ) -> Result<Verdict, AllocError>
         requires under_way { IsUnderWay (S.rules (S.setting system.old)) self.old }
         ensures setting { S.setting system.new ≡ S.setting system.old }
-        ensures same { self.new ≡ self.old }
+        ensures unchanged { self.new ≡ self.old }
         ensures proved { IfOk result (IsProved (S.rules (S.setting system.old)) (start_of self.old)) }
     {
         let choices = choices_to(self.alloc, &self.visited, self.followed, choice)?;

@@ -167,15 +167,15 @@ durably_represented_after_refusal state_of disk left found number t s here refus
 
 kept_from_sitting : {D : Type 0} (state_of : D → DiskState) → (disk found : D) (x : Sitting state_of) (t : ℕ) (s : BenchState) → DurablyRepresents (state_of disk) s → IsSittingOn disk x → time_of (state_of disk) ≤ t
     → ((state_of (disk_after x)).honest → IsLeftByCut t (state_of (disk_after x)) (state_of found)) → (kept : List Command) × AreKeptFromSitting state_of x t s kept × DurablyRepresents (state_of found) (fold s kept)
-kept_from_sitting state_of disk found (Served run) t s here came late stopped = kept_from_served_run state_of disk run t s found here came late stopped
-kept_from_sitting state_of disk found (Refused number left) t s here came late stopped = ([], (refl, refusal_number_is_53_or_90 state_of disk left number s here came), durably_represented_after_refusal state_of disk left found number t s here came late stopped)
+kept_from_sitting state_of disk found (Served run) t s here is_on_disk late stopped = kept_from_served_run state_of disk run t s found here is_on_disk late stopped
+kept_from_sitting state_of disk found (Refused number left) t s here is_on_disk late stopped = ([], (refl, refusal_number_is_53_or_90 state_of disk left number s here is_on_disk), durably_represented_after_refusal state_of disk left found number t s here is_on_disk late stopped)
 
 kept_from_sittings : {D : Type 0} (state_of : D → DiskState) (IsFound : ℕ → D → D → Type 0) → AllowsOnlyPowerCuts state_of IsFound → (disk : D) (xs : List (StoppedSitting state_of)) (last : D) (s : BenchState) → DurablyRepresents (state_of disk) s → IsHistory IsFound disk xs last
     → (kept : List Command) × AreKeptFromSittings state_of xs s kept × DurablyRepresents (state_of last) (fold s kept)
-kept_from_sittings {D = D} state_of IsFound cuts disk [] last s here came = ([], refl, subst (λ (d : D). DurablyRepresents (state_of d) s) (sym came) here)
-kept_from_sittings state_of IsFound cuts disk (x ∷ xs) last s here came =
-    let first_kept = kept_from_sitting state_of disk x.found x.sitting x.time s here came.0 came.1 (λ honest. cuts x.time (disk_after x.sitting) x.found honest came.2) in
-    let later_kept = kept_from_sittings state_of IsFound cuts x.found xs last (fold s first_kept.0) first_kept.2 came.3 in (
+kept_from_sittings {D = D} state_of IsFound cuts disk [] last s here others_follow = ([], refl, subst (λ (d : D). DurablyRepresents (state_of d) s) (sym others_follow) here)
+kept_from_sittings state_of IsFound cuts disk (x ∷ xs) last s here others_follow =
+    let first_kept = kept_from_sitting state_of disk x.found x.sitting x.time s here others_follow.0 others_follow.1 (λ honest. cuts x.time (disk_after x.sitting) x.found honest others_follow.2) in
+    let later_kept = kept_from_sittings state_of IsFound cuts x.found xs last (fold s first_kept.0) first_kept.2 others_follow.3 in (
       first_kept.0 ++ later_kept.0,
       (first_kept.0, later_kept.0, refl, first_kept.1, later_kept.1),
       subst (DurablyRepresents (state_of last)) (sym (fold-append s first_kept.0 later_kept.0)) later_kept.2,
@@ -188,7 +188,7 @@ pub survives_history : {D : Type 0} (state_of : D → DiskState) (IsFound : ℕ 
 survives_history state_of IsFound cuts history given =
     let s : BenchState = history.first.before.state in
     let first = kept_if_stopped_after_opening state_of history.first history.time s history.found refl given history.since (cuts history.time history.first.after.disk history.found (disk_honest_after_run state_of history.first given.1) history.stopped) in
-    let others = kept_from_sittings state_of IsFound cuts history.found history.others history.last (fold s first.0) first.2 history.came in
+    let others = kept_from_sittings state_of IsFound cuts history.found history.others history.last (fold s first.0) first.2 history.others_follow in
     let durable_state = others.2 in
     record {
       kept = first.0 ++ others.0;

@@ -58,7 +58,7 @@ IsFoundByCut state_of time left found = IsLeftByCut time (state_of left) (state_
 
 -- A history: a first run of a shell, and the sittings after it. The session of the first run may
 -- have begun in any way. This run was stopped at clock `time` or later, and the disk `found` was
--- found after the stop. The other sittings followed on this disk (`came`), and `last` is the disk
+-- found after the stop. The other sittings followed on this disk (`others_follow`), and `last` is the disk
 -- found at the end.
 pub record History
     {D : Type 0} (state_of : D → DiskState) (IsFound : ℕ → D → D → Type 0) : Type 0 where
@@ -69,7 +69,7 @@ pub record History
   pub stopped : IsFound time first.after.disk found
   pub others : List (StoppedSitting state_of)
   pub last : D
-  pub came : IsHistory IsFound found others last
+  pub others_follow : IsHistory IsFound found others last
 
 -- all sittings of a history, the first run included
 abbrev pub sittings_of : {D : Type 0} {state_of : D → DiskState} {IsFound : ℕ → D → D → Type 0}

@@ -85,7 +85,7 @@ bits-after_word_shift level old k carry i (suc j) word is small here at h =
     ∙ sym (bit_after_shift-of_next_bit level old i (10 * k + j) (omega arith))
 
 pub shifted-next_word : (level : ℕ) (old new : List ℕ) (k carry word last : ℕ) → IsShifted level old new k carry → k < length old → word ≡ (2 * slice_index new k + carry) % 1024 → last ≡ slice_index new k / 512 → IsShifted level old (slice_set new k word) (k + 1) last
-shifted-next_word level old new k carry word last m there is lost-is =
+shifted-next_word level old new k carry word last m k_in_words is shifted_out-is =
     let word_unchanged : slice_index new k ≡ slice_index old k = m.rest k (omega arith) in
     let within : k < length new = let e = m.len in omega arith in
     let word_below_1024 = m.ten k in
@@ -108,7 +108,7 @@ shifted-next_word level old new k carry word last m there is lost-is =
       carry =
           let p : (10 * k + 9) / 10 ≡ k = omega arith in
           let q : (10 * k + 9) % 10 ≡ 9 = omega arith in
-          lost-is ∙ quotient_by_512-is_bit_9 (slice_index new k) word_below_1024 ∙ ap (λ w. bit_of w 9) word_unchanged
+          shifted_out-is ∙ quotient_by_512-is_bit_9 (slice_index new k) word_below_1024 ∙ ap (λ w. bit_of w 9) word_unchanged
           ∙ sym (ap (λ n. bit_of (slice_index old n) ((10 * k + 9) % 10)) p ∙ ap (bit_of (slice_index old k)) q)
           ∙ sym (bit_after_shift-of_next_bit level old (10 * (k + 1)) (10 * k + 9) (omega arith));
       small = omega arith;

@@ -57,14 +57,14 @@ fn shift_word(word: u16, level: u16) -> (u16, u16)
     requires word { word < 1024 }
     requires level { level < 2 }
     ensures word { result.0 ≡ (2 * word + level) % 1024 }
-    ensures lost { result.1 ≡ word / 512 }
+    ensures shifted_out { result.1 ≡ word / 512 }
 {
     ((2 * word + level) % 1024, word / 512)
 }
 
 /// Sets bit `i` of a chain to `level`. The chain is stored in ten-bit words.
 fn set_packed_bit(words: &mut [u16], i: usize, level: Bit)
-    requires there { i / 10 < length words.old }
+    requires in_words { i / 10 < length words.old }
     requires ten { (k : ℕ) → slice_index words.old k < 1024 }
     ensures len { length words.new ≡ length words.old }
     ensures ten { (k : ℕ) → slice_index words.new k < 1024 }
@@ -86,9 +86,9 @@ fn shift_words(words: &mut [u16], level: Bit)
 {
     let mut carry = u16::from(level.get());
     for k in 0..words.len() {
-        let (word, lost) = shift_word(words[k], carry);
+        let (word, shifted_out) = shift_word(words[k], carry);
         words[k] = word;
-        carry = lost;
+        carry = shifted_out;
     }
 }
 

@@ -31,18 +31,18 @@ list_any-false-if-others-false p q r f (x ∷ xs) e g =
 
 pub record IsSmall (b : BoardParts) : Type 0 where
   pub few : length b.chains.items ≤ 2
-  pub short : list_any (λ (c : ChainPart). nat_lt 4 c.chips) b.chains.items ≡ false
+  pub no_long_chain : list_any (λ (c : ChainPart). nat_lt 4 c.chips) b.chains.items ≡ false
 
 board-is-small : (b : BoardParts) → fits_version_1 b ≡ true → IsSmall b
 board-is-small b h =
     let w = and_parts (nat_le (length b.chains.items) 2) (not (list_any (λ (c : ChainPart). nat_lt 4 c.chips) b.chains.items)) h in
-    record { few = leb-true _ _ w.0; short = not-true _ w.1 }
+    record { few = leb-true _ _ w.0; no_long_chain = not-true _ w.1 }
 
 -- a chain of a small board has at most 4 chips
 chain-of-small-board-is-short : (b : BoardParts) (n : ℕ) → IsSmall b → (chain_part b n).chips ≤ 4
 chain-of-small-board-is-short b n s =
     elim (cases_lt n (length b.chains.items)) [
-      | inl lt ↦ (let size : nat_lt 4 (chain_part b n).chips ≡ false = test_false-if_list_any_false (λ (c : ChainPart). nat_lt 4 c.chips) b.chains.items n no_chain s.short lt in grind (arith, nat_tests))
+      | inl lt ↦ (let size : nat_lt 4 (chain_part b n).chips ≡ false = test_false-if_list_any_false (λ (c : ChainPart). nat_lt 4 c.chips) b.chains.items n no_chain s.no_long_chain lt in grind (arith, nat_tests))
       | inr ge ↦ (let no_chips : (chain_part b n).chips ≡ 0 = ap (λ (c : ChainPart). c.chips) (get_or_past b.chains.items n no_chain ge) in omega arith)
     ]
 
@@ -191,7 +191,7 @@ pub valid-in-version-1-if-small : (b : BoardParts) → IsValidBoard b → fits_v
 valid-in-version-1-if-small b h e =
     let s = board-is-small b e in
     let sound_parts = sound b h.valid in
-    let valid_sizes = list_any-false-if-others-false (λ (c : ChainPart). not (is_chain_size c)) (λ (c : ChainPart). nat_lt 4 c.chips) (λ (c : ChainPart). not (is_chain_size_1 c)) (λ c x y. chain-size-1-if-short c x y) b.chains.items sound_parts.values.chains s.short in
+    let valid_sizes = list_any-false-if-others-false (λ (c : ChainPart). not (is_chain_size c)) (λ (c : ChainPart). nat_lt 4 c.chips) (λ (c : ChainPart). not (is_chain_size_1 c)) (λ c x y. chain-size-1-if-short c x y) b.chains.items sound_parts.values.chains s.no_long_chain in
     let matrix = matrix-size-1-on-small-board b s b.keys sound_parts.rows sound_parts.values.matrix in
     let in_ranges = any_line-false-if-others-false (λ line. not (is_on_board b line)) (λ line. not (in_range line)) (λ line. not (in_range_1 line)) (λ line x y. line-in-range-1-on-small-board b s line x y) b sound_parts.lines sound_parts.values.lines in
     let no_bad_value : has_bad_value_1 b ≡ false = or_from _ _ (or_from _ _ (or_from _ _ sound_parts.values.banks valid_sizes) matrix) in_ranges in

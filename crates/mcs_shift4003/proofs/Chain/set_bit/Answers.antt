@@ -3,8 +3,8 @@ use Rattle.mcs_shift4003.specs.Packing.{packed_bit, chain_bits_of}
 use Rattle.mcs_shift4003.proofs.WordLemmas.{length-chain_bits_of, chain_bits-after_set, packed-after_set, refill-all}
 use Rattle.mcs_shift4003.proofs.Chain.set_bit.Goals as goal
 
-pub set_packed_bit-requires-clause-there : goal.set_packed_bit-requires-clause-there
-set_packed_bit-requires-clause-there g c =
+pub set_packed_bit-requires-clause-in_words : goal.set_packed_bit-requires-clause-in_words
+set_packed_bit-requires-clause-in_words g c =
     let i = c.self.inside in
     let len = length-chain_bits_of i.bits i.words.items in
     let equal_lengths = ap length c.self.view_is in

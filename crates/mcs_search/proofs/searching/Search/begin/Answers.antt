@@ -10,7 +10,7 @@ invariant_of-result c =
     let width : c.add.new.self.width ≡ length c.args.start.now = c.add.ensures.adds.width ∙ ap (λ (s : KeyStore). s.width) c.in_ok-visited.ensures in
     let max_states = c.requires in
     record {
-      some = omega arith;
+      not_empty = omega arith;
       few = omega arith;
       within = omega arith;
       max_states = max_states;

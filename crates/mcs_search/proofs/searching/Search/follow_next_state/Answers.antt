@@ -13,7 +13,7 @@ returns-then-self-len-2-clause-proved g c =
     let u = subst (IsUnderWay r) (sym c.self.view_is) c.requires.under_way in
     let all_followed : a.followed ≡ length a.visited.keys = (let t = c.if-self-len-2.true in let l = c.len-len.ensures in omega arith) in
     let n : a.followed ≡ c.len-len.result = all_followed ∙ sym c.len-len.ensures in
-    let is_closure = closure r a.visited.keys a.followed c.self.invariant.some all_followed u in
+    let is_closure = closure r a.visited.keys a.followed c.self.invariant.not_empty all_followed u in
     let start : get_or a.visited.keys 0 [] ≡ start_of c.args.self.now = ap (λ (p : SearchProgress). start_of p) c.self.view_is in
     subst (λ (k : ℕ). Closure r (start_of c.args.self.now) k) n (subst (λ (s : List ℕ). Closure r s a.followed) start is_closure)
 
@@ -40,7 +40,7 @@ returns-in_err-counterexample-in-Broken-clause-under_way g c =
     let r = g.S.System.rules (g.S.System.setting c.args.system.now) in
     let u = subst (IsUnderWay r) (sym c.self.view_is) c.requires.under_way in
     let states = subst (λ s. All (g.S.System.rules s).is_state c.follow_choices.new.visited.keys) c.choices.ensures.setting c.follow_choices.ensures.states in
-    subst (IsUnderWay r) (sym c.counterexample.ensures.same) (under_way-after_growth r a.followed c.follow_choices.ensures.grows c.self.invariant.within states u)
+    subst (IsUnderWay r) (sym c.counterexample.ensures.unchanged) (under_way-after_growth r a.followed c.follow_choices.ensures.grows c.self.invariant.within states u)
 
 pub returns-in_ok-counterexample-in-Broken-clause-under_way : goal.returns-in_ok-counterexample-in-Broken-clause-under_way
 returns-in_ok-counterexample-in-Broken-clause-under_way g c =
@@ -48,7 +48,7 @@ returns-in_ok-counterexample-in-Broken-clause-under_way g c =
     let r = g.S.System.rules (g.S.System.setting c.args.system.now) in
     let u = subst (IsUnderWay r) (sym c.self.view_is) c.requires.under_way in
     let states = subst (λ s. All (g.S.System.rules s).is_state c.follow_choices.new.visited.keys) c.choices.ensures.setting c.follow_choices.ensures.states in
-    subst (IsUnderWay r) (sym c.counterexample.ensures.same) (under_way-after_growth r a.followed c.follow_choices.ensures.grows c.self.invariant.within states u)
+    subst (IsUnderWay r) (sym c.counterexample.ensures.unchanged) (under_way-after_growth r a.followed c.follow_choices.ensures.grows c.self.invariant.within states u)
 
 pub returns-in-TooMany-clause-under_way : goal.returns-in-TooMany-clause-under_way
 returns-in-TooMany-clause-under_way g c =
