@@ -19,7 +19,7 @@ use Rattle.mcs_answers.specs.AnswerTexts.{stop_name}
 use Rattle.mcs_probe.specs.declared.probe.Probe.{Probe}
 use Rattle.mcs_probe.specs.Forecast.{instructions_begun_within}
 use Rattle.mcs_probe.specs.Probes.{row}
-use Rattle.mcs_trace.proofs.Steps.{instructions_begun-after_instruction, after_cycles-next, rests}
+use Rattle.mcs_trace.proofs.Steps.{instructions_begun-after_instruction, after_cycles-next, only_owed_differs-after_instruction}
 use Rattle.mcs_trace.proofs.Tallies.{instruction_begun_at}
 use Rattle.mcs_answers.proofs.UnchangedProbes.{row-ignores-owed}
 use Rattle.mcs_answers.specs.ForecastTexts.{addresses, count_line, is_reported, trace_line}
@@ -135,7 +135,7 @@ at-most-one-line-in-either-case false lines l = omega arith
 pub trace-so-far-next : (probes : List Probe) (left k d : ℕ) (s t u : Machine) (regs : Regs) (before text later longer : List ℕ) (lines added : ℕ) → t ≡ after_cycles k s → IsInstructionRun left t u d → 0 < d → regs ≡ t.0 → IsTraceSoFar probes k s t before text lines → later ≡ row probes u → added ≡ length (cycle_lines probes regs.owed k regs.pc before (row probes u)) → longer ≡ text ++ lines_text (cycle_lines probes regs.owed k regs.pc before (row probes u)) → IsTraceSoFar probes (k + d) s u later longer (lines + added)
 trace-so-far-next probes left k d s t u regs before text later longer lines added at ran some e report now count grown =
     let more : List (List ℕ) = cycle_lines probes regs.owed k regs.pc before (row probes u) in
-    let after : row probes u ≡ row probes (cycle_at s k).after = ap (row probes) (rests left d t u ran some) ∙ row-ignores-owed probes (after_cycles 1 t) u.0.owed ∙ ap (row probes) (after_cycles-next k s t at) in
+    let after : row probes u ≡ row probes (cycle_at s k).after = ap (row probes) (only_owed_differs-after_instruction left d t u ran some) ∙ row-ignores-owed probes (after_cycles 1 t) u.0.owed ∙ ap (row probes) (after_cycles-next k s t at) in
     let same : more ≡ (if begins (cycle_at s k) then trace_line probes (cycle_at s k) else []) = cycle-lines-are-trace-line probes k s regs.owed regs.pc before (row probes u)
     (ap (λ (r : Regs). r.owed) e ∙ ap (λ (m : Machine). m.0.owed) at)
     (ap (λ (r : Regs). r.pc) e ∙ ap (λ (m : Machine). m.0.pc) at)

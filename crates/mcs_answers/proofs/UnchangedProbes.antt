@@ -20,7 +20,7 @@ use Rattle.mcs_bench.specs.Runs.{IsInstructionResult}
 use Rattle.mcs_probe.specs.declared.probe.Probe.{Probe}
 use Rattle.mcs_probe.specs.declared.probe.Probe.TheVariants as place
 use Rattle.mcs_probe.specs.Probes.{level_if_on_board, levels_of_four_lines, probe_text, row}
-use Rattle.mcs_trace.proofs.Steps.{rests, with_owed}
+use Rattle.mcs_trace.proofs.Steps.{only_owed_differs-after_instruction, with_owed}
 use Rattle.mcs_answers.specs.declared.traces.ProbeKinds.{ProbeKinds}
 use Rattle.mcs_answers.specs.UnchangedProbes.{AlwaysStaysSame, StaysSame, RowAlwaysStaysSame, RowStaysSame, IncludesProbeKind, WritesPort, WritesStatus, touches}
 
@@ -207,7 +207,7 @@ one_cycle_is_effect op t off at = rw (off, at) refl
 pub run-leaves-bus-after : (stops : StopConditions) (left : ℕ) (t u : Machine) (w : InstructionResult) (op : Op) → IsInstructionResult stops left t u w → w.op ≡ Some op → u ≡ (u.0, bus_after op t.0 t.1)
 run-leaves-bus-after stops left t u w op h e =
     let is = not-owed-if-instruction-begun (eqb t.0.owed 1) op (instruction_at t.0 t.1) w.op e h.op in
-    let rest = rests left w.cycles t u h.ran h.some in
+    let rest = only_owed_differs-after_instruction left w.cycles t u h.ran h.some in
     ap (λ (m : BusState). (u.0, m)) (ap (λ (v : Machine). v.1) rest ∙ ap (λ (v : Machine). v.1) (one_cycle_is_effect op t is.0 is.1))
 
 -- If `RowStaysSame` holds for an instruction, the row is the same before and after it.
@@ -321,7 +321,7 @@ row-stays-same-by-kinds : (stops : StopConditions) (left : ℕ) (t u : Machine) 
 row-stays-same-by-kinds stops left t u w probes None h is same = absurd same
 row-stays-same-by-kinds stops left t u w probes (Some op) h is same =
     let at = not-owed-if-instruction-begun (eqb t.0.owed 1) op (instruction_at t.0 t.1) w.op is h.op in
-    sym (ap (row probes) (rests left w.cycles t u h.ran h.some) ∙ row-ignores-owed probes (after_cycles 1 t) u.0.owed ∙ ap (row probes) (one_cycle_is_effect op t at.0 at.1) ∙ same t.0 t.1)
+    sym (ap (row probes) (only_owed_differs-after_instruction left w.cycles t u h.ran h.some) ∙ row-ignores-owed probes (after_cycles 1 t) u.0.owed ∙ ap (row probes) (one_cycle_is_effect op t at.0 at.1) ∙ same t.0 t.1)
 
 pub row-stays-same : (stops : StopConditions) (left : ℕ) (t u : Machine) (w : InstructionResult) (before after : Regs) (probes : List Probe) → IsInstructionResult stops left t u w → before ≡ t.0 → after ≡ u.0 → RowStaysSame w.op before after probes ⊎ RowAlwaysStaysSame w.op probes → row probes t ≡ row probes u
 row-stays-same stops left t u w before after probes h e f (inl same) = row-stays-same-by-values stops left t u w before after probes w.op h e f refl same

@@ -364,7 +364,7 @@ impl<const CHIPS: usize> Bank<CHIPS> {
     pub fn show_state_is_valid(&self)
         ensures { IsValidBank self.now }
     {
-        let _kept = (self.chip_count, self.src);
+        let _fields = (self.chip_count, self.src);
         show_chips_are_valid(&self.chips);
     }
 }

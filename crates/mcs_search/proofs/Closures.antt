@@ -79,9 +79,9 @@ under_way-after_next_key_followed r {old = old} {new = new} n g l states u now =
 }
 
 -- If all keys are followed, these keys are a closure.
-pub closure : (r : Rules) (keys : List (List ℕ)) (n : ℕ) → 0 < length keys → n ≡ length keys → IsUnderWay r (record { keys = keys; followed = n }) →
+pub closure-if_all_followed : (r : Rules) (keys : List (List ℕ)) (n : ℕ) → 0 < length keys → n ≡ length keys → IsUnderWay r (record { keys = keys; followed = n }) →
     Closure r (get_or keys 0 []) n
-closure r keys n some all u = record {
+closure-if_all_followed r keys n some all u = record {
   keys = keys;
   count = sym all;
   contains_start = Contains-get_or keys 0 [] some;

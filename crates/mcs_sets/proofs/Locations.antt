@@ -9,11 +9,11 @@ use Rattle.mcs_sets.specs.Landing.{value_after, LandingDescribes}
 
 -- the value at location `k` after a landing, if the value was `v` before; `k` is not 16, the
 -- location of the bank number
-abbrev pub written : Landing → ℕ → ℕ → ℕ
-written o k v = cond (eqb k o.first_location) o.first_value (cond (eqb k o.second_location) o.second_value v)
+abbrev pub value_after_landing : Landing → ℕ → ℕ → ℕ
+value_after_landing o k v = cond (eqb k o.first_location) o.first_value (cond (eqb k o.second_location) o.second_value v)
 
 pub locations-agree-from-registers : (s t : TrackedMachine) (o : Landing) → t.0.dcl ≡ o.regs.dcl → t.1.rom_src ≡ s.1.rom_src → t.1.ram_src ≡ s.1.ram_src →
-    ((k : ℕ) → k < 16 → slice_index t.0.r k ≡ written o k (slice_index s.0.r k)) →
+    ((k : ℕ) → k < 16 → slice_index t.0.r k ≡ value_after_landing o k (slice_index s.0.r k)) →
     ((k : ℕ) → 16 < k → k < 26 → (k ≢ o.first_location) × (k ≢ o.second_location)) →
     (k : ℕ) → k < 26 → value_at t k ≡ value_after o k (value_at s k)
 locations-agree-from-registers s t o bank src srcs regs beyond k h =

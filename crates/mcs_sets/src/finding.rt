@@ -188,8 +188,8 @@ impl Finder {
         flags: u8,
         bank: u8,
     ) -> Result<(), Stop> {
-        let firsts = first_operand_set(op, source);
-        let seconds = second_operand_set(op, source);
+        let first_values = first_operand_set(op, source);
+        let second_values = second_operand_set(op, source);
         for byte in 0..256u16 {
             let choice = Choice {
                 acc: Nibble::low_of(flags),
@@ -198,8 +198,8 @@ impl Finder {
                 first_operand: Nibble::low_of((byte % 16) as u8),
                 second_operand: Nibble::low_of((byte / 16) as u8),
             };
-            if contains(firsts, choice.first_operand.get())
-                && contains(seconds, choice.second_operand.get())
+            if contains(first_values, choice.first_operand.get())
+                && contains(second_values, choice.second_operand.get())
             {
                 self.follow_choice(rig, source, op, &choice)?;
             }

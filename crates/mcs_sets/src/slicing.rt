@@ -291,8 +291,8 @@ impl Slice {
             let at = Addr::MAX.plus(ADDRESSES - n);
             if head < at && at < last {
                 if let Some(op) = self.op_reached(rig, at) {
-                    let leads = body.successors(&op, at);
-                    grew |= body.add(at, leads);
+                    let successors = body.successors(&op, at);
+                    grew |= body.add(at, successors);
                 }
             }
         }
@@ -439,14 +439,14 @@ pub(crate) fn exact_registers(
         slice.find_loops(rig, &mut body);
         slice.find_relevant(rig, level);
     }
-    let everywhere = if level == Level::SrcEverywhere {
+    let exact_everywhere = if level == Level::SrcEverywhere {
         relevant_somewhere(&slice)
     } else {
         0
     };
     let mut exact = Vec::new(alloc);
     for n in 0..ADDRESSES {
-        let set = slice.relevant.get(Addr::ZERO.plus(n)) | everywhere;
+        let set = slice.relevant.get(Addr::ZERO.plus(n)) | exact_everywhere;
         exact.push((set & REGISTERS) as u16)?;
     }
     Ok(exact)

@@ -9,7 +9,7 @@ use Rattle.mcs_bench.specs.Runs.{RunContinuesAt, IsRunResult}
 use Rattle.mcs_probe.specs.Forecast.{BegunInstruction, begins, instructions_begun_within, cycle_at, begins_at_address, jumps, jumps_at, runs_at}
 use Rattle.mcs_trace.specs.declared.counting.Counts.{Counts}
 use Rattle.mcs_trace.specs.RunCounts.{AreCountsOfRun, IsTally, incremented_if}
-use Rattle.mcs_trace.proofs.Steps.{instructions_begun-after_instruction, after_cycles-next, rests}
+use Rattle.mcs_trace.proofs.Steps.{instructions_begun-after_instruction, after_cycles-next, only_owed_differs-after_instruction}
 use Rattle.mcs_trace.proofs.Tallies.{instruction_begun_at, count_by-in_one_more_cycle, count_by-at_most_cycles, one-when, tally-after_increment}
 
 -- holds if a run of `n` cycles from `s` is at `t` after `k` cycles, and the tallies contain the
@@ -69,7 +69,7 @@ run_tally-after_instruction left k d s t u before xs ys at ran some e l new note
 pub jump_tally-after_instruction : (left k d : ℕ) (s t u : Machine) (before after : Regs) (xs ys : List ℕ) → t ≡ after_cycles k s → IsInstructionRun left t u d → 0 < d → before ≡ t.0 → after ≡ u.0 → before.pc < 4096 → ys ≡ incremented_if xs (before.owed == 0 && not (after.pc == (before.pc + 2) % 4096)) before.pc → IsTally xs (jumps_at (instructions_begun_within k s)) → IsTally ys (jumps_at (instructions_begun_within (k + d) s))
 jump_tally-after_instruction left k d s t u before after xs ys at ran some e f l new noted =
     let equal_registers : before ≡ (after_cycles k s).0 = e ∙ ap (λ (m : Machine). m.0) at in
-    let later : after.pc ≡ (after_cycles (k + 1) s).0.pc = ap (λ (r : Regs). r.pc) f ∙ ap (λ (m : Machine). m.0.pc) (rests left d t u ran some) ∙ ap (λ (m : Machine). m.0.pc) (after_cycles-next k s t at) in
+    let later : after.pc ≡ (after_cycles (k + 1) s).0.pc = ap (λ (r : Regs). r.pc) f ∙ ap (λ (m : Machine). m.0.pc) (only_owed_differs-after_instruction left d t u ran some) ∙ ap (λ (m : Machine). m.0.pc) (after_cycles-next k s t at) in
     subst (λ v. IsTally v (jumps_at (instructions_begun_within (k + d) s))) (sym new)
     (jump_tally-after_increment k (k + d) s xs (before.owed == 0 && not (after.pc == (before.pc + 2) % 4096)) before.pc l (instructions_begun-after_instruction left k d s t u at ran some)
     (ap (λ (r : Regs). r.owed == 0 && not (after.pc == (r.pc + 2) % 4096)) equal_registers ∙ ap (λ (p : ℕ). (after_cycles k s).0.owed == 0 && not (p == ((after_cycles k s).0.pc + 2) % 4096)) later)

@@ -27,8 +27,8 @@ only_owed_changes-after_first_cycle left d t u ran (suc (suc i)) some l =
     let step : after_cycles (suc (suc i)) t ≡ with_owed (after_cycles 1 t) 0 = second_cycle-clears_owed (after_cycles (suc i) t) (ran.between (suc i) (omega arith) (omega arith)) ∙ ap (λ (m : Machine). with_owed m 0) previous_cycle in
     step ∙ ap (with_owed (after_cycles 1 t)) (sym (ap (λ (m : Machine). m.0.owed) step))
 
-pub rests : (left d : ℕ) (t u : Machine) → IsInstructionRun left t u d → 0 < d → u ≡ with_owed (after_cycles 1 t) u.0.owed
-rests left d t u ran some =
+pub only_owed_differs-after_instruction : (left d : ℕ) (t u : Machine) → IsInstructionRun left t u d → 0 < d → u ≡ with_owed (after_cycles 1 t) u.0.owed
+only_owed_differs-after_instruction left d t u ran some =
     ran.machine ∙ only_owed_changes-after_first_cycle left d t u ran d some (omega arith) ∙ ap (λ (m : Machine). with_owed (after_cycles 1 t) m.0.owed) (sym ran.machine)
 
 -- one cycle after `k` cycles gives the machine after `k + 1` cycles

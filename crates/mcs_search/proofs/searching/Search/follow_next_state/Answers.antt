@@ -3,7 +3,7 @@ use Rattle.std.specs.List.{All}
 use Rattle.mcs_search.specs.Rules.{LeadsInto, Closure}
 use Rattle.mcs_search.specs.Verdicts.{IsUnderWay, SearchProgress, IsFollowOutcome, start_of}
 use Rattle.mcs_search.specs.declared.following.FollowOutcome.{FollowOutcome}
-use Rattle.mcs_search.proofs.Closures.{under_way-after_growth, under_way-after_next_key_followed, closure}
+use Rattle.mcs_search.proofs.Closures.{under_way-after_growth, under_way-after_next_key_followed, closure-if_all_followed}
 use Rattle.mcs_search.proofs.searching.Search.follow_next_state.Goals as goal
 
 pub returns-then-self-len-2-clause-proved : goal.returns-then-self-len-2-clause-proved
@@ -13,7 +13,7 @@ returns-then-self-len-2-clause-proved g c =
     let u = subst (IsUnderWay r) (sym c.self.view_is) c.requires.under_way in
     let all_followed : a.followed ≡ length a.visited.keys = (let t = c.if-self-len-2.true in let l = c.len-len.ensures in omega arith) in
     let n : a.followed ≡ c.len-len.result = all_followed ∙ sym c.len-len.ensures in
-    let is_closure = closure r a.visited.keys a.followed c.self.invariant.not_empty all_followed u in
+    let is_closure = closure-if_all_followed r a.visited.keys a.followed c.self.invariant.not_empty all_followed u in
     let start : get_or a.visited.keys 0 [] ≡ start_of c.args.self.now = ap (λ (p : SearchProgress). start_of p) c.self.view_is in
     subst (λ (k : ℕ). Closure r (start_of c.args.self.now) k) n (subst (λ (s : List ℕ). Closure r s a.followed) start is_closure)
 
