@@ -37,8 +37,8 @@ fn is_bit_subset(n: Nibble, most: Nibble) -> bool
         && n.bit(3).get() <= most.bit(3).get()
 }
 
-/// Returns whether each bit of `value` is at least the same bit of `least` and at most that of `most`. `value` must be
-/// less than 16.
+/// Returns whether each bit of `value` is between the same bit of `least` and the same bit of `most`, bounds included.
+/// `value` must be less than 16.
 fn lies_between(least: Nibble, value: u8, most: Nibble) -> bool
     requires { value < 16 }
     ensures { result ≡ (is_bit_subset least value && is_bit_subset value most) }

@@ -13,8 +13,8 @@ pub trait System {
     /// The system's setting: the part that no call changes.
     ghost setting: { Self → Setting };
 
-    /// The rules of the system: which keys are those of states, which choices a search must follow from a state, and
-    /// where a choice leads.
+    /// The rules of the system: which keys belong to states, which choices a search must follow from a state, and where
+    /// a choice leads.
     ghost rules: { Setting → Rules };
 
     /// Replaces the contents of `into` with the choices of the state `key`. Fails if memory cannot be allocated.

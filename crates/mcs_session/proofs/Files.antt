@@ -97,7 +97,7 @@ migrates_session_of_version_2 old new snap records cycles s opened replayed = re
 -- ---- version 1
 
 -- If records replay commands from a converted state, the same records replay the same commands from
--- the state of version 1. The state reached in version 1 is converted to the one reached in
+-- the state of version 1. The conversion of the state reached in version 1 is the state reached in
 -- version 2.
 replays_in_version_1 : (s : BenchState) (version_1 : BenchState1) (rs : List (List ℕ)) (cs : List Command) → s ≡ lift version_1 → ReplaysCommands One s rs cs → ReplaysCommands1 version_1 rs cs × (fold s cs ≡ lift (fold_1 version_1 cs))
 replays_in_version_1 s version_1 [] [] e h = (tt, e)

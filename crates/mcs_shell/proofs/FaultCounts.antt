@@ -19,7 +19,7 @@ use Rattle.mcs_shell.proofs.RunAnswers.{answers_of_run}
 use Rattle.mcs_shell.proofs.ShellLoop.{either_is_some_if_option_or_is}
 use Rattle.mcs_shell.proofs.ExchangeLists.{has_device_fault}
 
--- ---- an exchange that ends the shell is not a failed read
+-- ---- no exchange ends the shell because of a failed read
 
 no_read_fault_by_exchange : (whole : Bool) (o : Outcome) (end : ShellEnd) (faults : KnownFaults) → end_caused_by whole o ≡ Some end → read_faults_after end faults ≡ faults
 no_read_fault_by_exchange false o end faults e = let end_is : WriteFault ≡ end = cc e in subst (λ (v : ShellEnd). read_faults_after v faults ≡ faults) end_is refl

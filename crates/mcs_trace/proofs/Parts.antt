@@ -1,5 +1,5 @@
--- A run in two parts begins the same instructions as one run of the same number of cycles, if
--- nothing stops this run early.
+-- Two consecutive runs begin the same instructions as one run of as many cycles, if nothing stops
+-- the longer run early.
 use Rattle.std.proofs.Common.{◌≡◌, ℕ, zero, suc, ◌+◌, ◌-◌, ◌<◌, ◌≤◌, Bool, true, false, cond, Option, Some, None, is_some, unwrap_or, List, [], ◌∷◌, ◌++◌, map, find, inl, inr, refl, sym, ap, ◌∙◌, subst, arith, eqb, eq-eqb, append_assoc}
 use Rattle.std.specs.List.{range_with_len}
 use Rattle.std.proofs.lemmas.Bool.{cases_eq}

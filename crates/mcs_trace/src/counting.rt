@@ -11,8 +11,8 @@ use mcs_nibble::Addr;
 use std::alloc::{AllocError, Global};
 
 /// The result of a counted run: its number of cycles, the reason why it stops, and two counts for each of the 4,096
-/// addresses. `runs` counts the instructions that begin at the address. `jumps` counts those after which the program
-/// counter is not that address plus 2.
+/// addresses. `runs` counts the instructions that begin at the address. `jumps` counts only the instructions after
+/// which the program counter is not that address plus 2.
 #[derive(Drop)]
 pub struct Counts {
     pub cycles: u32,
