@@ -71,8 +71,8 @@ has_room_for_decides log c =
       | inr fits ↦
           let room_if_cycles_fit : has_room_for log c ≡ nat_le m REPLAY_CYCLES = ap (λ (b : Bool). b && nat_le m REPLAY_CYCLES) (le-leb n LOG_SIZE fits) in
           elim (cases_lt REPLAY_CYCLES m) [
-            | inl over ↦ inr (λ room. let few = room.1 in omega (arith, over, few, total_cycles), room_if_cycles_fit ∙ lt-leb m REPLAY_CYCLES over)
-            | inr few ↦ inl ((omega (arith, fits), omega (arith, few, total_cycles)), room_if_cycles_fit ∙ le-leb m REPLAY_CYCLES few)
+            | inl over ↦ inr (λ room. let cycles_fit = room.1 in omega (arith, over, cycles_fit, total_cycles), room_if_cycles_fit ∙ lt-leb m REPLAY_CYCLES over)
+            | inr cycles_fit ↦ inl ((omega (arith, fits), omega (arith, cycles_fit, total_cycles)), room_if_cycles_fit ∙ le-leb m REPLAY_CYCLES cycles_fit)
           ]
     ]
 

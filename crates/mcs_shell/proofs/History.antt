@@ -59,11 +59,11 @@ prefix_kept_from_run state_of run t u s same given a fewer found honest durable 
     let state_is : h.state ≡ fold s (take h.after.count reached) = h.after.state ∙ ap (λ (v : BenchState). fold v (take h.after.count reached)) same in (
       take h.after.count reached,
       record {
-        began = same;
+        begins_in_state = same;
         answered = a;
-        lost = drop h.after.count reached;
+        not_kept = drop h.after.count reached;
         parts = sym (take-append-drop h.after.count reached);
-        holds = omega (arith, fewer, least, kept_length);
+        keeps_acknowledged = omega (arith, fewer, least, kept_length);
       },
       record { honest = honest; durable = durable; represents = inl (subst (Represents (bytes_of found)) state_is h.represents) },
     )
@@ -95,7 +95,7 @@ kept_if_stopped_while_opening state_of disk run t s found here same given migrat
           (λ (new : RepresentsInEitherVersion image run.before.state). subst (RepresentsInEitherVersion image) same new)
           (migrates.leaves.each image ((disk_is_lawful before).longer (time_of (state_of disk)) t image late left)) in (
             [],
-            record { began = same; answered = answers_and_acknowledges_run state_of run kept_commands; lost = reached_commands_of_run run; parts = refl; holds = omega (arith, none_acknowledged) },
+            record { begins_in_state = same; answered = answers_and_acknowledges_run state_of run kept_commands; not_kept = reached_commands_of_run run; parts = refl; keeps_acknowledged = omega (arith, none_acknowledged) },
             record { honest = cut.honest; durable = cut.durable; represents = image_represents },
           )
       | inr now ↦
@@ -105,13 +105,13 @@ kept_if_stopped_while_opening state_of disk run t s found here same given migrat
 kept_from_served_run : {D : Type 0} (state_of : D → DiskState) → (disk : D) (run : ShellRun state_of) (t : ℕ) (s : BenchState) (found : D) → DurablyRepresents (state_of disk) s
     → OpenBegins (state_of disk) (state_of run.before.disk) run.before.live run.before.state → time_of (state_of disk) ≤ t → ((state_of run.after.disk).honest → IsLeftByCut t (state_of run.after.disk) (state_of found))
     → (kept : List Command) × AreKeptFromRun state_of run t s kept × DurablyRepresents (state_of found) (fold s kept)
-kept_from_served_run state_of disk run t s found here began late cut =
-    let opens = began.opens here.honest in
+kept_from_served_run state_of disk run t s found here opened_on_disk late cut =
+    let opens = opened_on_disk.opens here.honest in
     let equal_states : run.before.state ≡ s = represented_state_is_unique (bytes_of (state_of disk)) run.before.state s opens.represented_before here.represents in
-    let open_on_honest_disk : IsOpenOnHonestDisk (session_state state_of run.before) = (began.is_open, began.counts.honest.1 here.honest) in
+    let open_on_honest_disk : IsOpenOnHonestDisk (session_state state_of run.before) = (opened_on_disk.is_open, opened_on_disk.counts.honest.1 here.honest) in
     let left = cut (disk_honest_after_run state_of run open_on_honest_disk.1) in
     elim (cases_lt t (time_of (state_of run.before.disk))) [
-      | inl early ↦ kept_if_stopped_while_opening state_of disk run t s found here equal_states open_on_honest_disk (began.migrates here.honest) late (omega (arith, early)) left
+      | inl early ↦ kept_if_stopped_while_opening state_of disk run t s found here equal_states open_on_honest_disk (opened_on_disk.migrates here.honest) late (omega (arith, early)) left
       | inr since ↦ kept_if_stopped_after_opening state_of run t s found equal_states open_on_honest_disk since left
     ]
 

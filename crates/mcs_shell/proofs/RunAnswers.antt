@@ -56,14 +56,14 @@ all_answers_written live s (x ∷ rest) old new is_possible wrote =
 
 -- ---- a run that wrote its first line completely, and a run that did not
 
-answers_if_first_line_whole : (end : ShellEnd) (r r' : KnownBytes) (a b : ShellState) (ran : RanShell end r r' a b) → ran.began.whole ≡ true → (end ≢ WriteFault → ran.halted ≢ Some WriteFault) → (end ≢ WriteFault → end ≢ DeviceFault → ran.halted ≡ None)
+answers_if_first_line_whole : (end : ShellEnd) (r r' : KnownBytes) (a b : ShellState) (ran : RanShell end r r' a b) → ran.start.whole ≡ true → (end ≢ WriteFault → ran.halted ≢ Some WriteFault) → (end ≢ WriteFault → end ≢ DeviceFault → ran.halted ≡ None)
     → AnswersInOrder end ran.read a b ran.served.exchanges
 answers_if_first_line_whole end r r' a b ran whole uncut none =
     let s = a.session.state in
     let exchanges = ran.served.exchanges in
     let serves = ran.served.serves in
-    let first : Appends a.out ran.began.started (session_text s) = subst (λ (v : Bool). WroteBytes v a.out ran.began.started (session_text s)) whole ran.began.wrote in
-    let t : AnswersWritten ran.began.started b.out (results_in_order answer s exchanges) (end_caused_by_exchanges exchanges) = all_answers_written a.session.live s exchanges ran.began.started b.out serves.is_possible serves.wrote in
+    let first : Appends a.out ran.start.started (session_text s) = subst (λ (v : Bool). WroteBytes v a.out ran.start.started (session_text s)) whole ran.start.wrote in
+    let t : AnswersWritten ran.start.started b.out (results_in_order answer s exchanges) (end_caused_by_exchanges exchanges) = all_answers_written a.session.live s exchanges ran.start.started b.out serves.is_possible serves.wrote in
     record {
       not_served = ran.served.not_served;
       spelled = ran.served.spelled;
@@ -71,16 +71,16 @@ answers_if_first_line_whole end r r' a b ran whole uncut none =
       is_possible = serves.is_possible;
       response = session_text s ++ t.response;
       left_out = t.left_out;
-      written = Appends-trans a.out ran.began.started b.out (session_text s) t.response first t.written;
+      written = Appends-trans a.out ran.start.started b.out (session_text s) t.response first t.written;
       parts = append_assoc (session_text s) t.response t.left_out ∙ ap (λ v. session_text s ++ v) t.parts;
       all_sent = λ x z. t.all_sent (λ cut. uncut x (sym ran.served.halts ∙ cut));
     }
 
-answers_if_first_line_cut_off : (end : ShellEnd) (r r' : KnownBytes) (a b : ShellState) (ran : RanShell end r r' a b) → ran.began.whole ≡ false → ran.served.exchanges ≡ [] → (end ≢ WriteFault → end ≢ NoMemory → ⊥) → AnswersInOrder end ran.read a b ran.served.exchanges
+answers_if_first_line_cut_off : (end : ShellEnd) (r r' : KnownBytes) (a b : ShellState) (ran : RanShell end r r' a b) → ran.start.whole ≡ false → ran.served.exchanges ≡ [] → (end ≢ WriteFault → end ≢ NoMemory → ⊥) → AnswersInOrder end ran.read a b ran.served.exchanges
 answers_if_first_line_cut_off end r r' a b ran cut none by =
     let s = a.session.state in
-    let wrote_prefix : WroteBytes false a.out ran.began.started (session_text s) = subst (λ (v : Bool). WroteBytes v a.out ran.began.started (session_text s)) cut ran.began.wrote in
-    let nothing_more : b.out ≡ ran.began.started = subst (λ (v : List Exchange). WroteAnswers s v ran.began.started b.out) none ran.served.serves.wrote in
+    let wrote_prefix : WroteBytes false a.out ran.start.started (session_text s) = subst (λ (v : Bool). WroteBytes v a.out ran.start.started (session_text s)) cut ran.start.wrote in
+    let nothing_more : b.out ≡ ran.start.started = subst (λ (v : List Exchange). WroteAnswers s v ran.start.started b.out) none ran.served.serves.wrote in
     record {
       not_served = ran.served.not_served;
       spelled = ran.served.spelled;

@@ -128,7 +128,7 @@ loop_run_is_shell_run : (end : ShellEnd) (r r' : KnownBytes) (a c : ShellState) 
     → ReadsLittleAhead read.bytes (inputs_in (answered_exchanges m.exchanges)) → EndsBy end true read.bytes read.ended m.exchanges halted → RanShellGiven IsIntact [] end r r' a c
 loop_run_is_shell_run end r r' a c halted read m reads_little_ahead ends = record {
   read = read;
-  began = record { whole = true; started = a.out; wrote = Appends-nil a.out };
+  start = record { whole = true; started = a.out; wrote = Appends-nil a.out };
   halted = halted;
   served = m;
   reads_little_ahead = reads_little_ahead;
@@ -234,15 +234,15 @@ whole_if_no_bytes_to_write false old new h = absurd (omega (arith, h.fewer))
 pub ran_shell_after_first_line : (end : ShellEnd) (r r' : KnownBytes) (a b : ShellState) (started : KnownBytes) (first_line : List ℕ) → (IsOpenOnHonestDisk a.session → IsIntact a.session) → Appends a.out started first_line
     → RanShellGiven IsIntact [] end r r' (with_output a started) b → RanShellGiven IsOpenOnHonestDisk first_line end r r' a b
 ran_shell_after_first_line end r r' a b started first_line settle wrote x =
-    let begun : x.began.whole ≡ true = whole_if_no_bytes_to_write x.began.whole started x.began.started x.began.wrote in
-    let nothing : Appends started x.began.started [] = subst (λ (v : Bool). WroteBytes v started x.began.started []) begun x.began.wrote in
+    let begun : x.start.whole ≡ true = whole_if_no_bytes_to_write x.start.whole started x.start.started x.start.wrote in
+    let nothing : Appends started x.start.started [] = subst (λ (v : Bool). WroteBytes v started x.start.started []) begun x.start.wrote in
     let ends : EndsBy end true x.read.bytes x.read.ended x.served.exchanges x.halted = subst (λ (v : Bool). EndsBy end v x.read.bytes x.read.ended x.served.exchanges x.halted) begun x.ends in
-    let P : List ℕ → Type 0 = λ v. Appends a.out x.began.started v in
+    let P : List ℕ → Type 0 = λ v. Appends a.out x.start.started v in
     record {
       read = x.read;
-      began = record { whole = true; started = x.began.started; wrote = subst P (append-nil first_line) (Appends-trans a.out started x.began.started first_line [] wrote nothing) };
+      start = record { whole = true; started = x.start.started; wrote = subst P (append-nil first_line) (Appends-trans a.out started x.start.started first_line [] wrote nothing) };
       halted = x.halted;
-      served = serves_inputs_under_open_premise (inputs_read x.read) (with_output a x.began.started) b x.halted settle x.served;
+      served = serves_inputs_under_open_premise (inputs_read x.read) (with_output a x.start.started) b x.halted settle x.served;
       reads_little_ahead = x.reads_little_ahead;
       ends = ends;
       unwritten = λ is. absurd (no_lack_of_memory_after_first_line end x.read.bytes x.read.ended x.served.exchanges x.halted ends is);
@@ -256,7 +256,7 @@ pub ran_shell_without_first_line : (end : ShellEnd) (r : KnownBytes) (a : ShellS
     → (end ≡ NoMemory → out ≡ a.out) → EndsBy end false [] false [] None → RanShellGiven IsOpenOnHonestDisk first_line end r r a (with_output a out)
 ran_shell_without_first_line end r a out first_line settle some unwritten ends = record {
   read = input_read_until_cut r r [] (Consumes-nil r) (omega arith);
-  began = record { whole = false; started = out; wrote = some };
+  start = record { whole = false; started = out; wrote = some };
   halted = None;
   served = serves_equal_inputs IsOpenOnHonestDisk (inputs [] false) [] (with_output a out) (with_output a out) None no_inputs_from_no_bytes (serves_inputs_under_open_premise [] (with_output a out) (with_output a out) None settle (serves_no_inputs (with_output a out)));
   reads_little_ahead = record { before = []; ahead = []; parts = refl; few = omega arith; more = []; answered_are = sym (append-nil (inputs [] false) ∙ no_inputs_from_no_bytes) };

@@ -88,11 +88,11 @@ sittings_of history =
 pub record AreKeptFromRun
     {D : Type 0} (state_of : D → DiskState) (run : ShellRun state_of) (time : ℕ) (s : BenchState)
     (kept : List Command) : Type 0 where
-  pub began : run.before.state ≡ s
+  pub begins_in_state : run.before.state ≡ s
   pub answered : AnswersAndAcknowledges run
-  pub lost : List Command
-  pub parts : reached_commands_of_run run ≡ kept ++ lost
-  pub holds : acknowledged_by time answered.acknowledged.moments ≤ length kept
+  pub not_kept : List Command
+  pub parts : reached_commands_of_run run ≡ kept ++ not_kept
+  pub keeps_acknowledged : acknowledged_by time answered.acknowledged.moments ≤ length kept
 
 -- Holds if `kept` are the commands kept from a sitting that began in the state `s` and was stopped
 -- at clock `time` or later. If `open` began no session, no commands are kept, and the reason was an

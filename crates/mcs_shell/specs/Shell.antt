@@ -75,11 +75,11 @@ pub record RanShellGiven
     (Given : Premise) (first_line : List ℕ) (end : ShellEnd) (reader reader' : KnownBytes)
     (a b : ShellState) : Type 0 where
   pub read : ReadInput reader reader'
-  pub began : RunStart first_line a.out
+  pub start : RunStart first_line a.out
   pub halted : Option ShellEnd
-  pub served : ServesInputs Given (inputs_read read) (with_output a began.started) b halted
+  pub served : ServesInputs Given (inputs_read read) (with_output a start.started) b halted
   pub reads_little_ahead : ReadsLittleAhead read.bytes (inputs_in (answered_exchanges served.exchanges))
-  pub ends : EndsBy end began.whole read.bytes read.ended served.exchanges halted
+  pub ends : EndsBy end start.whole read.bytes read.ended served.exchanges halted
   pub unwritten : end ≡ NoMemory → b.out ≡ a.out
 
 -- Holds if the shell ran from the shell state `a` to `b`. Its first line reported the number of

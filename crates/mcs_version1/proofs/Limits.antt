@@ -195,5 +195,5 @@ valid-in-version-1-if-small b h e =
     let matrix = matrix-size-1-on-small-board b s b.keys sound_parts.rows sound_parts.values.matrix in
     let in_ranges = any_line-false-if-others-false (λ line. not (is_on_board b line)) (λ line. not (in_range line)) (λ line. not (in_range_1 line)) (λ line x y. line-in-range-1-on-small-board b s line x y) b sound_parts.lines sound_parts.values.lines in
     let no_bad_value : has_bad_value_1 b ≡ false = or_from _ _ (or_from _ _ (or_from _ _ sound_parts.values.banks valid_sizes) matrix) in_ranges in
-    let lacks : lacks_line b ≡ false = or_from _ _ sound_parts.lines sound_parts.rows in
-    record { sized = h.sized; few = s.few; valid = rw (no_bad_value, lacks, sound_parts.directions) refl }
+    let no_missing_line : lacks_line b ≡ false = or_from _ _ sound_parts.lines sound_parts.rows in
+    record { sized = h.sized; few = s.few; valid = rw (no_bad_value, no_missing_line, sound_parts.directions) refl }

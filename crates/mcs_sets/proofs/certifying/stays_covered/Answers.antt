@@ -8,16 +8,16 @@ use Rattle.mcs_sets.proofs.certifying.stays_covered.Goals as goal
 pub loop-i-preserved : goal.loop-i-preserved
 loop-i-preserved c =
     let es = c.args.entries.now in
-    let was = c.loop-i.invariant in
+    let invariant_before = c.loop-i.invariant in
     let entry_covered = c.stays_covered_one_cycle_at.ensures in
     record {
       stays_covered_one_cycle = λ k d inside.
           below_more (λ k. (d : Entry) → StaysCoveredOneCycle c.args.rig.now.board c.args.rig.now.rom es (slice_index_or es k d)) c.loop-i.i
-          (λ k h d. was.stays_covered_one_cycle k d h)
-          (λ d. stays-covered-for-equal-program c.loop-i.rig.board c.args.rig.now.board c.loop-i.rig.rom c.args.rig.now.rom es (slice_index_or es c.loop-i.i d) was.board was.rom (entry_covered.stays_covered_one_cycle c.if-not-stays_covered_one_cycle_at.false d))
+          (λ k h d. invariant_before.stays_covered_one_cycle k d h)
+          (λ d. stays-covered-for-equal-program c.loop-i.rig.board c.args.rig.now.board c.loop-i.rig.rom c.args.rig.now.rom es (slice_index_or es c.loop-i.i d) invariant_before.board invariant_before.rom (entry_covered.stays_covered_one_cycle c.if-not-stays_covered_one_cycle_at.false d))
           k inside d;
-      rom = entry_covered.rom ∙ was.rom;
-      board = entry_covered.board ∙ was.board;
+      rom = entry_covered.rom ∙ invariant_before.rom;
+      board = entry_covered.board ∙ invariant_before.board;
     }
 
 pub returns : goal.returns

@@ -8,14 +8,14 @@ loop-bank-preserved c =
     let es = c.args.entries.now in
     let e = c.args.entry.now in
     let op = c.args.op.now in
-    let was = c.loop-bank.invariant in
+    let invariant_before = c.loop-bank.invariant in
     let bank_covered = c.are_covered_with_bank.ensures in
     let P : ℕ → Type 0 = λ k. (first second : ℕ) → first < 16 → second < 16 → AllowsChoice e op (choice_at c.args.flags k first second) → IsChoiceCovered c.args.rig.now.rom c.args.rig.now.board es e op (choice_at c.args.flags k first second) in
     record {
       covered = λ bank first second inside f s ok.
-          below_more P c.loop-bank.bank (λ k h first second f s ok. was.covered k first second h f s ok)
-          (λ first second f s ok. choice-covered-for-equal-program c.loop-bank.rig.rom c.args.rig.now.rom c.loop-bank.rig.board c.args.rig.now.board es e op (choice_at c.args.flags c.loop-bank.bank first second) was.rom was.board (bank_covered.covered c.if-not-are_covered_with_bank.false first second f s ok))
+          below_more P c.loop-bank.bank (λ k h first second f s ok. invariant_before.covered k first second h f s ok)
+          (λ first second f s ok. choice-covered-for-equal-program c.loop-bank.rig.rom c.args.rig.now.rom c.loop-bank.rig.board c.args.rig.now.board es e op (choice_at c.args.flags c.loop-bank.bank first second) invariant_before.rom invariant_before.board (bank_covered.covered c.if-not-are_covered_with_bank.false first second f s ok))
           bank inside first second f s ok;
-      rom = bank_covered.rom ∙ was.rom;
-      board = bank_covered.board ∙ was.board;
+      rom = bank_covered.rom ∙ invariant_before.rom;
+      board = bank_covered.board ∙ invariant_before.board;
     }

@@ -6,8 +6,8 @@ pub invariant_of-result : goal.invariant_of-result
 invariant_of-result g c = record {
   ready = search rules;
   recorded = λ alive honest.
-      let made = c.in-Ok-create.ensures.created (c.in-Ok-create.ensures.counts.honest.0 honest) in
-      recorded_with_only_snapshot _ _ _ (rw c.as_slice.ensures.value c.encode_state-length.ensures.spells) made.holds made.durable;
+      let created_session = c.in-Ok-create.ensures.created (c.in-Ok-create.ensures.counts.honest.0 honest) in
+      recorded_with_only_snapshot _ _ _ (rw c.as_slice.ensures.value c.encode_state-length.ensures.spells) created_session.holds created_session.durable;
 }
 
 pub returns-in-Ok-create-clause-created : goal.returns-in-Ok-create-clause-created
