@@ -89,7 +89,7 @@ no_stopwatch-if_entries_allowed q None h some =
     let parts = and_parts (eqb (length q.begins) 0) (eqb (length q.ends) 0) h in
     (refl, (empty-if_length_zero q.begins (eqb-true (length q.begins) 0 parts.0), empty-if_length_zero q.ends (eqb-true (length q.ends) 0 parts.1)))
 no_stopwatch-if_entries_allowed q (Some n) h some =
-    let zero = eqb-true q.max_entries 0 (and_parts (not (eqb (length q.begins) 0) && not (eqb (length q.ends) 0)) (eqb q.max_entries 0) h).1 in
+    let no_entries = eqb-true q.max_entries 0 (and_parts (not (eqb (length q.begins) 0) && not (eqb (length q.ends) 0)) (eqb q.max_entries 0) h).1 in
     absurd (omega arith)
 
 no_marks-if_entries_allowed : (q : QuestionSoFar) (b : Bool) → eqb (length q.marks) 0 ≡ b → cond b (eqb (length q.opens) 0) (not (eqb (length q.opens) 0) && eqb q.max_entries 0) ≡ true → 0 < q.max_entries →

@@ -35,9 +35,9 @@ unpacked_nibbles-after_set bytes at n new h is kept =
     (λ k l ne.
     elim (cases_eq (k / 2) (at / 2)) [
       | inl q ↦
-          let side : k % 2 ≡ 1 - at % 2 = omega arith in
+          let other_half_index : k % 2 ≡ 1 - at % 2 = omega arith in
           ap (λ b. half_of b (k % 2)) (get_or-set_at bytes (at / 2) (k / 2) new 0 q (omega arith))
-          ∙ ap (half_of new) side ∙ kept ∙ ap (half_of (slice_index bytes (at / 2))) (sym side)
+          ∙ ap (half_of new) other_half_index ∙ kept ∙ ap (half_of (slice_index bytes (at / 2))) (sym other_half_index)
           ∙ ap (λ j. half_of (slice_index bytes j) (k % 2)) (sym q)
       | inr f ↦ ap (λ b. half_of b (k % 2)) (get_or-set_other bytes (at / 2) (k / 2) new 0 f)
     ]))

@@ -113,10 +113,10 @@ replays_after_conversion version_1 [] [] h = (tt, refl)
 replays_after_conversion version_1 [] (c ∷ cs) h = absurd h
 replays_after_conversion version_1 (r ∷ rs) [] h = absurd h
 replays_after_conversion version_1 (r ∷ rs) (c ∷ cs) h =
-    let lifts = command-lifts version_1 c h.0.1 in
+    let lifted_command = command-lifts version_1 c h.0.1 in
     let rest = replays_after_conversion (after_1 version_1 c) rs cs (h.2) in (
-      (h.0, lifts.refusal ∙ h.1, subst (λ (x : BenchState). ReplaysCommands One x rs cs) lifts.after rest.0),
-      ap (λ (x : BenchState). fold x cs) (sym lifts.after) ∙ rest.1,
+      (h.0, lifted_command.refusal ∙ h.1, subst (λ (x : BenchState). ReplaysCommands One x rs cs) lifted_command.after rest.0),
+      ap (λ (x : BenchState). fold x cs) (sym lifted_command.after) ∙ rest.1,
     )
 
 -- if the snapshot and the records of a file represent the state `s` in version 1, so does the file

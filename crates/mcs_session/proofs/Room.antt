@@ -85,9 +85,9 @@ pub made_room_by_snapshot : {T E : Type 0} (result : Result T E) (old new : Disk
     → OnOk result ((used' ≡ 0) × (cycles' ≡ 0)) → bytes ≡ length (command_bytes c) → more ≡ replay_cycles c → OnOk result (HasMadeRoom old new c cycles' s)
 made_room_by_snapshot (Ok x) old new used used' bytes more cycles cycles' s c was is none changes empty is_long is_more =
     let log = log_of_file (bytes_of old) s was.represents in
-    let framed = frames_length_is_log_bytes old cycles s was in
+    let frames_length = frames_length_is_log_bytes old cycles s was in
     let count = was.count in
-    let has_no_room : has_room_for log c ≡ false = has_room_for_is_false log c (λ room. let fits = room.0 in let cycles_fit = room.1 in none (omega (arith, fits, is, framed, is_long)) (omega (arith, cycles_fit, count, is_more))) in
+    let has_no_room : has_room_for log c ≡ false = has_room_for_is_false log c (λ room. let fits = room.0 in let cycles_fit = room.1 in none (omega (arith, fits, is, frames_length, is_long)) (omega (arith, cycles_fit, count, is_more))) in
     let P : Bool → Type 0 = λ b. LogHolds (bytes_of new) (if b then log else []) in
     let takes_four_ticks = changes.ticks in
     record {

@@ -14,12 +14,12 @@ bus-valid-at-every-moment : (entries : List Entry) (s : TrackedMachine) → IsBu
 bus-valid-at-every-moment entries s of stays f fit zero = of
 bus-valid-at-every-moment entries s of stays f fit (suc k) =
     let bus_valid = bus-valid-at-every-moment entries s of stays f fit k in
-    let among = stays f fit k in
-    cycle-of_board s.1.board s.1.rom (with_levels (f k) (driven no_observer f k s)) (member-below-16 (acc_values_of among.0 (driven no_observer f k s).0.cy) (driven no_observer f k s).0.acc among.2.acc)
+    let covered_at_k = stays f fit k in
+    cycle-of_board s.1.board s.1.rom (with_levels (f k) (driven no_observer f k s)) (member-below-16 (acc_values_of covered_at_k.0 (driven no_observer f k s).0.cy) (driven no_observer f k s).0.acc covered_at_k.2.acc)
     (record { board = bus_valid.board; rom = bus_valid.rom; ram = bus_valid.ram; status = bus_valid.status; test = (fit k).test })
 
 pub entries-suffice : EntriesSuffice
 entries-suffice p entries s each of stays = λ limits f allowed k.
     let fits_board : (i : ℕ) → FitsBoard s.1.board (f i) = λ i. (allowed i).fits in
-    let among = stays f fits_board k in
-    each among.0 among.1 (driven no_observer f k s) (bus-valid-at-every-moment entries s of stays f fits_board k) among.2
+    let covered_at_k = stays f fits_board k in
+    each covered_at_k.0 covered_at_k.1 (driven no_observer f k s) (bus-valid-at-every-moment entries s of stays f fits_board k) covered_at_k.2

@@ -111,10 +111,10 @@ no-chip-mistake-if-checks-pass board e op mistakes s same is h =
 no-port-mistake-if-checks-pass : (board : BoardParts) (e : Entry) (op : Op) (mistakes : Mistakes) (s : TrackedMachine) → s.1.board ≡ board → Covers e s → PassesChecks board e op mistakes → makes_port_mistake mistakes op s ≡ false
 no-port-mistake-if-checks-pass board e op mistakes s same is h =
     let n = s.1.rom_src / 16 in
-    let inside : contains (slice_index e.sets 17) n ≡ true = is.locations 17 (omega arith) in
+    let rom_in_set : contains (slice_index e.sets 17) n ≡ true = is.locations 17 (omega arith) in
     or_from _ _
-    (false-under-two-guards mistakes.port_without_inputs (is_rdr op) (not (has_input s.1.board n)) (λ a r. not_from_true _ (subst (λ (b : BoardParts). has_input b n ≡ true) (sym same) (h.inputs a r n inside))))
-    (false-under-two-guards mistakes.port_without_outputs (is_wrr op) (not (has_output s.1.board n)) (λ a r. not_from_true _ (subst (λ (b : BoardParts). has_output b n ≡ true) (sym same) (h.outputs a r n inside))))
+    (false-under-two-guards mistakes.port_without_inputs (is_rdr op) (not (has_input s.1.board n)) (λ a r. not_from_true _ (subst (λ (b : BoardParts). has_input b n ≡ true) (sym same) (h.inputs a r n rom_in_set))))
+    (false-under-two-guards mistakes.port_without_outputs (is_wrr op) (not (has_output s.1.board n)) (λ a r. not_from_true _ (subst (λ (b : BoardParts). has_output b n ≡ true) (sym same) (h.outputs a r n rom_in_set))))
 
 pub no-mistake-if-checks-pass : (board : BoardParts) (e : Entry) (op : Op) (mistakes : Mistakes) → PassesChecks board e op mistakes → MakesNoMistake board e op mistakes
 no-mistake-if-checks-pass board e op mistakes h = λ s same is.

@@ -307,7 +307,7 @@ landing-is-correct (Jin k) s m ret fit =
     refl refl refl
 landing-is-correct (Jms h b) s m ret fit =
     let calls_below_three = fit.calls in
-    let opened : calls_after (Some (Jms h b)) s.2.calls ≡ s.2.calls + 1 = let lt : nat_lt s.2.calls 3 ≡ true = lt-ltb s.2.calls 3 calls_below_three in rw lt refl in
+    let one_more_call : calls_after (Some (Jms h b)) s.2.calls ≡ s.2.calls + 1 = let lt : nat_lt s.2.calls 3 ≡ true = lt-ltb s.2.calls 3 calls_below_three in rw lt refl in
     landing-correct-if-no-register-changes (Jms h b) s m ret fit (record { rom = refl; ram = refl })
     (record {
       pc = refl;
@@ -315,7 +315,7 @@ landing-is-correct (Jms h b) s m ret fit =
       dcl = refl;
       cy = refl;
       acc = refl;
-      ret = return-addresses-agree-after-jms s.0.ret ret s.2.calls ((s.0.pc + 2) % 4096) (calls_after (Some (Jms h b)) s.2.calls) opened fit.ret;
+      ret = return-addresses-agree-after-jms s.0.ret ret s.2.calls ((s.0.pc + 2) % 4096) (calls_after (Some (Jms h b)) s.2.calls) one_more_call fit.ret;
     })
     refl refl refl
 landing-is-correct (Bbl d) s m ret fit =

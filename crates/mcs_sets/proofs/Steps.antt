@@ -45,9 +45,9 @@ register-value-allowed e s r small is =
     let not_16 : r ≢ 16 = λ z. omega arith in
     let is_not_16 : eqb r 16 ≡ false = ne_eqb r 16 not_16 in
     let lt : nat_lt r 16 ≡ true = lt-ltb r 16 small in
-    let below : r < 26 = omega arith in
-    let place : value_at s r ≡ register_of s.0 r = rw (is_not_16, lt) refl in
-    ap (contains (slice_index e.sets r)) (sym place) ∙ is.locations r below
+    let r_in_range : r < 26 = omega arith in
+    let value_is_register : value_at s r ≡ register_of s.0 r = rw (is_not_16, lt) refl in
+    ap (contains (slice_index e.sets r)) (sym value_is_register) ∙ is.locations r r_in_range
 
 full-set-has-each-nibble : (n : ℕ) → n < 16 → contains 65535 n ≡ true
 full-set-has-each-nibble n h = agree_below_at (contains 65535) (λ _. true) 16 n refl h

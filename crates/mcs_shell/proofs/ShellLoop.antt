@@ -153,8 +153,8 @@ serves_inputs_until_cut a b line bytes x = serves_all_inputs false a b b line by
 
 pub ran_shell_until_read_fault : (r r' r'' : KnownBytes) (a b : ShellState) (line : UnfinishedInputView) (total : ℕ) → LoopProgress r r' a b line total → total < INPUT_BYTES → Keeps r' r'' → RanShellGiven IsIntact [] ReadFault r r'' a b
 ran_shell_until_read_fault r r' r'' a b line total x small keeps =
-    let below : length x.bytes < INPUT_BYTES = omega (arith, x.count, small) in
-    loop_run_is_shell_run ReadFault r r'' a b None (input_read_until_cut r r'' x.bytes (Consumes-kept r r' r'' x.bytes x.consumed keeps) (omega (arith, below))) (serves_inputs_until_cut a b line x.bytes x.fed) (reads_nothing_ahead a b line x.bytes x.fed []) (refl, refl, refl, below)
+    let below_limit : length x.bytes < INPUT_BYTES = omega (arith, x.count, small) in
+    loop_run_is_shell_run ReadFault r r'' a b None (input_read_until_cut r r'' x.bytes (Consumes-kept r r' r'' x.bytes x.consumed keeps) (omega (arith, below_limit))) (serves_inputs_until_cut a b line x.bytes x.fed) (reads_nothing_ahead a b line x.bytes x.fed []) (refl, refl, refl, below_limit)
 
 pub ran_shell_until_input_limit : (r r' : KnownBytes) (a b : ShellState) (line : UnfinishedInputView) (total : ℕ) → LoopProgress r r' a b line total → total ≡ INPUT_BYTES → RanShellGiven IsIntact [] InputLimit r r' a b
 ran_shell_until_input_limit r r' a b line total x e =
@@ -235,12 +235,12 @@ pub ran_shell_after_first_line : (end : ShellEnd) (r r' : KnownBytes) (a b : She
     → RanShellGiven IsIntact [] end r r' (with_output a started) b → RanShellGiven IsOpenOnHonestDisk first_line end r r' a b
 ran_shell_after_first_line end r r' a b started first_line settle wrote x =
     let begun : x.start.whole ≡ true = whole_if_no_bytes_to_write x.start.whole started x.start.started x.start.wrote in
-    let nothing : Appends started x.start.started [] = subst (λ (v : Bool). WroteBytes v started x.start.started []) begun x.start.wrote in
+    let wrote_nothing : Appends started x.start.started [] = subst (λ (v : Bool). WroteBytes v started x.start.started []) begun x.start.wrote in
     let ends : EndsBy end true x.read.bytes x.read.ended x.served.exchanges x.halted = subst (λ (v : Bool). EndsBy end v x.read.bytes x.read.ended x.served.exchanges x.halted) begun x.ends in
     let P : List ℕ → Type 0 = λ v. Appends a.out x.start.started v in
     record {
       read = x.read;
-      start = record { whole = true; started = x.start.started; wrote = subst P (append-nil first_line) (Appends-trans a.out started x.start.started first_line [] wrote nothing) };
+      start = record { whole = true; started = x.start.started; wrote = subst P (append-nil first_line) (Appends-trans a.out started x.start.started first_line [] wrote wrote_nothing) };
       halted = x.halted;
       served = serves_inputs_under_open_premise (inputs_read x.read) (with_output a x.start.started) b x.halted settle x.served;
       reads_little_ahead = x.reads_little_ahead;

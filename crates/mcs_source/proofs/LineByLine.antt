@@ -107,6 +107,6 @@ pub assembles_if_no_fault : (text : List ℕ) (ls : List (List ℕ)) (names : Na
     → assembly_of_text text ≡ Ok (pairs_before (read ls) names (length (read ls)))
 unfolding assembly_of
 assembles_if_no_fault text ls names is one same two =
-    let two' : earliest_second_pass_fault (read ls) (all_names (read ls)) ≡ None = subst (λ (n : Names). earliest_second_pass_fault (read ls) n ≡ None) same two in
-    let assembles : assembly_of (read ls) ≡ Ok (pairs_before (read ls) (all_names (read ls)) (length (read ls))) = rw (one, two') refl in
+    let second_pass_ok : earliest_second_pass_fault (read ls) (all_names (read ls)) ≡ None = subst (λ (n : Names). earliest_second_pass_fault (read ls) n ≡ None) same two in
+    let assembles : assembly_of (read ls) ≡ Ok (pairs_before (read ls) (all_names (read ls)) (length (read ls))) = rw (one, second_pass_ok) refl in
     ap (λ (l : List (List ℕ)). assembly_of (read l)) (sym is) ∙ (assembles ∙ ap (λ (n : Names). Ok (pairs_before (read ls) n (length (read ls)))) (sym same))

@@ -129,9 +129,9 @@ second_part-uninterrupted : (stops : StopConditions) (m n : ℕ) (s : Machine) �
 second_part-uninterrupted stops m n s e = record {
   inside = λ l. inside_table-if_no_stop_reason stops (m + n) m (after_cycles (m - 1) s) (after_cycles m s) (no_stop_reason-before_end stops (m + n) s e m (omega arith));
   early = λ j some l.
-      let back : m + j - 1 ≡ m + (j - 1) = omega arith in
+      let sum_before : m + j - 1 ≡ m + (j - 1) = omega arith in
       let w = uninterrupted-if_run_length_full stops (m + n) s e in
-      ap (λ (t : Machine). early_stop_reason stops t (after_cycles j (after_cycles m s))) (sym (ap (λ i. after_cycles i s) back ∙ after_cycles-add m (j - 1) s))
+      ap (λ (t : Machine). early_stop_reason stops t (after_cycles j (after_cycles m s))) (sym (ap (λ i. after_cycles i s) sum_before ∙ after_cycles-add m (j - 1) s))
       ∙ ap (λ (t : Machine). early_stop_reason stops (after_cycles (m + j - 1) s) t) (sym (after_cycles-add m j s))
       ∙ w.early (m + j) (omega arith) (omega arith);
 }

@@ -11,8 +11,8 @@ use Rattle.mcs_probe.specs.Forecast.{early_stop_reason}
 pub no_stop_reason-at_start : (stops : StopConditions) (n : ℕ) (s : Machine) → 0 < n → is_outside_table s ≡ false → stop_reason_at stops n 0 s s ≡ None
 no_stop_reason-at_start stops n s l inside =
     let no_watch_changed = no-watch-changed-if-ram-equal stops.watches s s refl in
-    let ended : eqb 0 n ≡ false = grind (arith, nat_tests) in
-    rw (inside, no_watch_changed, ended) refl
+    let not_at_end : eqb 0 n ≡ false = grind (arith, nat_tests) in
+    rw (inside, no_watch_changed, not_at_end) refl
 
 stop_reason-if_not_ended : (out broken changed ended : Bool) → ended ≡ false → cond out (Some Outside) (cond broken (Some Breakpoint) (cond changed (Some Watched) (cond ended (Some Ended) None))) ≡ cond out (Some Outside) (cond broken (Some Breakpoint) (cond changed (Some Watched) None))
 stop_reason-if_not_ended out broken changed true e = absurd (cc)
@@ -21,6 +21,6 @@ stop_reason-if_not_ended out broken changed false e = refl
 -- before its last cycle, a run stops only for the reasons of `early_stop_reason`
 pub stop_reason-before_last_cycle : (stops : StopConditions) (n k : ℕ) (s t : Machine) → 0 < k → k < n → stop_reason_at stops n k s t ≡ early_stop_reason stops s t
 stop_reason-before_last_cycle stops n k s t some l =
-    let begun : nat_lt 0 k ≡ true = grind (arith, nat_tests) in
+    let after_start : nat_lt 0 k ≡ true = grind (arith, nat_tests) in
     let ended : eqb k n ≡ false = grind (arith, nat_tests) in
-    rw (begun, ended) refl
+    rw (after_start, ended) refl

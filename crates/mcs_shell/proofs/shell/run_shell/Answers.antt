@@ -22,8 +22,8 @@ pub returns-clause-ran : goal.returns-clause-ran
 returns-clause-ran g c =
     let response : c.set_number.new.self ≡ session_text (c.args.session.now.state) = search rules in
     let a = session_state g.D.Disk.state c.args.session.now in
-    let settled : IsOpenOnHonestDisk a → IsIntact a = λ honest. record { honest = honest; represents = c.bench.ensures.represents honest.0 honest.1 } in
-    ran_shell_after_first_line c.run_loop.result _ _ (shell_state g.D.Disk.state c.args.session.now (g.W.AnswerSink.contents c.args.writer.now)) _ _ (session_text a.state) settled (rw response at c.in-Ok-send.ensures.ok) c.run_loop.ensures.ran
+    let intact : IsOpenOnHonestDisk a → IsIntact a = λ honest. record { honest = honest; represents = c.bench.ensures.represents honest.0 honest.1 } in
+    ran_shell_after_first_line c.run_loop.result _ _ (shell_state g.D.Disk.state c.args.session.now (g.W.AnswerSink.contents c.args.writer.now)) _ _ (session_text a.state) intact (rw response at c.in-Ok-send.ensures.ok) c.run_loop.ensures.ran
 
 pub returns-in_default-clause-ran : goal.returns-in_default-clause-ran
 returns-in_default-clause-ran g c =

@@ -6,9 +6,9 @@ take-append : (n : ℕ) (a b : List ℕ) → length a ≤ n → take n (a ++ b) 
 take-append n [] b h = ap (λ k. take k b) (let e : n ≡ n - 0 = omega arith in e)
 take-append zero (x ∷ a) b h = absurd (omega (arith, h))
 take-append (suc m) (x ∷ a) b h =
-    let less : length a ≤ m = omega (arith, h) in
+    let fits_in_m : length a ≤ m = omega (arith, h) in
     let e : m - length a ≡ suc m - length (x ∷ a) = omega arith in
-    ap (λ v. x ∷ v) (take-append m a b less) ∙ ap (λ k. x ∷ (a ++ take k b)) e
+    ap (λ v. x ∷ v) (take-append m a b fits_in_m) ∙ ap (λ k. x ∷ (a ++ take k b)) e
 
 pub returns : goal.returns
 returns c =

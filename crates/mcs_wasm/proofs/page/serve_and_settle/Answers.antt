@@ -6,12 +6,12 @@ use Rattle.mcs_wasm.proofs.page.serve_and_settle.Goals as goal
 
 pub returns-clause-served : goal.returns-clause-served
 returns-clause-served c =
-    let settled = c.snapshot_into.ensures.settled in
+    let snapshot_written = c.snapshot_into.ensures.settled in
     let output = c.deref.ensures.value in
     let count = c.copy_to_front-count.ensures.count ∙ ap (λ (bytes : List ℕ). length bytes) output in
     record {
       between = bytes_of (mem_disk_state c.in-Ok.answered.session.disk);
       answers = answers_in_buffer_after_copy _ _ _ _ _ _ _ _ _ c.in-Ok.ensures.served c.in-Ok.ensures.room count (c.copy_to_front-count.ensures.answers ∙ output) c.copy_to_front-count.ensures.rest refl;
-      settled = record { state = c.in-Ok.answered.session.state; before = inl settled.disk_represents_state; after = settled.holds };
+      settled = record { state = c.in-Ok.answered.session.state; before = inl snapshot_written.disk_represents_state; after = snapshot_written.holds };
       same = refl;
     }

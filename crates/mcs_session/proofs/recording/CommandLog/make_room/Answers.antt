@@ -21,7 +21,7 @@ returns-clause-made g c = λ honest was command is_long is_more.
     made_room_by_snapshot _ _ _ _ _ _ _ _ _ _ command was (c.has_room.ensures.used c.requires.live honest was.represents.snap was.represents.records was.represents.holds)
     (λ room few. elim c.else-has_room.branch [
       | else-has_room-via-then-has_room+else-more-self w ↦ let too_many_cycles = w.if-more-self.false in let none : ⊥ = omega (arith, too_many_cycles, few, c.requires.ready.within) in none
-      | else-has_room-via-else-has_room w ↦ let there = c.has_room.ensures.room.1 room in let none : ⊥ = search rules in none
+      | else-has_room-via-else-has_room w ↦ let room_in_log = c.has_room.ensures.room.1 room in let none : ⊥ = search rules in none
     ])
     (c.checkpoint.ensures.replaces honest was.represents.snap was.represents.records was.represents.holds) c.checkpoint.ensures.used is_long is_more
 
