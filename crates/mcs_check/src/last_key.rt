@@ -69,7 +69,7 @@ pub(crate) fn bytes_that_may_differ(last: &[u8], key: &[u8], front: usize) -> us
     front
 }
 
-/// Returns true only if both values are true.
+/// Returns `first && second`. The contract promises nothing about the result `false`.
 pub(crate) fn both(first: bool, second: bool) -> bool
     ensures { result ≡ true → (first ≡ true) × (second ≡ true) }
 {

@@ -1,10 +1,10 @@
 //! Checks properties of a machine for all inputs, by a search through its states.
 //!
-//! A key is a list of bytes that identifies one state of a machine with a given board and given ROM bytes. The levels
-//! of keys are those of another kind of key: the keys of the board's key matrix. `SearchMachine` loads a machine from a
-//! key, saves the machine into a key, and runs the machine from one read of an input to the next. In contracts, a
-//! `SearchMachine` is a machine of `mcs_model` with three counts: its open calls, the cycles on a stopwatch, and the
-//! number of marks seen.
+//! A key is a list of bytes that identifies one state of a machine with a given board and given ROM bytes. Do not
+//! confuse it with a key of the board's key matrix, which has a row, a column and a level. `SearchMachine` loads a
+//! machine from a key, saves the machine into a key, and runs the machine from one read of an input to the next. In
+//! contracts, a `SearchMachine` is a machine of `mcs_model` with three counts: its open calls, the cycles on a
+//! stopwatch, and the number of marks seen.
 #![tactic(auto)]
 
 mod cells;

@@ -68,8 +68,8 @@ pub record HasFixedLengths (b : BankState) : Type 0 where
   pub status : length b.status ≡ 64
   pub ports : length b.ports ≡ 4
 
--- Holds if the lists have their lengths, and each number is in its range. The contents of absent
--- chips are 0. The SRC byte of a bank without chips is 0.
+-- Holds if the lists have their fixed lengths, and each number is in its range. The contents of
+-- absent chips are 0. The SRC byte of a bank without chips is 0.
 pub record IsValidBank (b : BankState) : Type 0 where
   pub whole : HasFixedLengths b
   pub main : All (λ n. n < 16) b.main

@@ -27,7 +27,7 @@ use std::alloc::{AllocError, Global};
 #[derive(Drop)]
 pub struct CommandLog<D: Disk + Drop> {
     pub store: Store<D>,
-    /// The cycle count of the log: the number of instruction cycles that its replay can need.
+    /// The cycle count of the log: the number of instruction cycles that its replay may take.
     pub cycles: u32,
     /// The buffer for an encoded command.
     pub payload: Vec<u8>,

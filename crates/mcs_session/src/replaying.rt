@@ -22,7 +22,7 @@ pub struct Replayed {
     pub version: Version,
 }
 
-/// Returns the cycle count of a command: the instruction cycles that its replay can need.
+/// Returns the cycle count of a command: the number of instruction cycles that its replay may take.
 pub(crate) fn replay_cycles(command: &Command) -> u32
     ensures { result ≡ replay_cycles command.now }
 {

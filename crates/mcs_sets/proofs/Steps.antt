@@ -1,4 +1,4 @@
--- One cycle of all machines of an entry.
+-- The effect of one cycle on the machines that an entry covers.
 use Rattle.std.proofs.Common.{◌≡◌, ◌≢◌, ◌<◌, ◌+◌, ◌*◌, ◌/◌, ◌%◌, ℕ, inl, inr, List, length, Bool, true, false, cond, Option, Some, None, unwrap_or, slice_index, nat_lt, refl, sym, ap, ◌∙◌, subst, arith, eqb}
 use Rattle.std.specs.Prelude.{All}
 use Rattle.std.proofs.lemmas.Bool.{cases_lt, cases_Bool, ne_eqb, lt-ltb, agree_below_at}
