@@ -12,9 +12,8 @@ use mcs_drive::Mark;
 use std::alloc::Global;
 use std::marker::Model;
 
-/// The conjunctions that a run uses: those that must never be met, those that begin or end a stopwatch, and those that
-/// must not be met before all marks were seen. In contracts, a `Property` has lists of conditions and the list of
-/// marks.
+/// The conjunctions that a run uses. Some must never be met, some begin or end a stopwatch, and some must not be met
+/// before all marks were seen. In contracts, a `Property` has lists of conditions and the list of marks.
 #[derive(Drop)]
 pub struct Property {
     never_lists: Vec<Conjunction>,

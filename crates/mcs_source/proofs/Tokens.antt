@@ -71,7 +71,7 @@ no_words = refl
 
 -- ---- a line
 
--- a byte `;` begins a comment, and `spaced_line` keeps no byte of a comment
+-- a byte `;` begins a comment, and `spaced_line` omits all bytes of a comment
 spaced_line_of_comment : (b : ℕ) (bytes : List ℕ) → eqb b 59 ≡ true → spaced_line (b ∷ bytes) ≡ []
 spaced_line_of_comment b bytes e = rw e refl
 
