@@ -117,19 +117,19 @@ impl Table {
 
     /// Returns the union of the sets of an instruction's successors in the same routine.
     fn successors(&self, op: &Op, at: Addr) -> u32 {
-        let mut all = 0;
+        let mut members = 0;
         if falls_through(op) {
-            all |= self.get(next_address(op, at));
+            members |= self.get(next_address(op, at));
         }
         if let Some(target) = jump_target(op, at) {
-            all |= self.get(target);
+            members |= self.get(target);
         }
         if let Some(page) = jump_page(op, at) {
             for word in 0..256u16 {
-                all |= self.get(page.plus(word));
+                members |= self.get(page.plus(word));
             }
         }
-        all
+        members
     }
 
     /// Adds the members of `more` to the sets of an instruction's successors in the same routine. Returns whether any
@@ -266,8 +266,8 @@ impl Slice {
         for n in 0..ADDRESSES {
             let at = Addr::MAX.plus(ADDRESSES - n);
             if let Some(op) = self.op_reached(rig, at) {
-                let later = self.may_write.successors(&op, at);
-                let set = later | self.writes_of(&op);
+                let written_later = self.may_write.successors(&op, at);
+                let set = written_later | self.writes_of(&op);
                 grew |= self.may_write.add(at, set);
             }
         }
@@ -301,16 +301,16 @@ impl Slice {
 
     /// Returns the registers that are written in the body of a loop, except by its last instruction.
     fn writes_of_body(&self, rig: &BenchRig, body: &Table, head: Addr, last: Addr) -> u32 {
-        let mut all = 0;
+        let mut written = 0;
         for n in head.get()..last.get() {
             let at = Addr::ZERO.plus(n);
             if at == head || body.get(at) != 0 {
                 if let Some(op) = self.op_reached(rig, at) {
-                    all |= self.writes_of(&op);
+                    written |= self.writes_of(&op);
                 }
             }
         }
-        all
+        written
     }
 
     /// Returns the registers that are written in the loop from `head` to `last`, except by the instruction at `last`.
@@ -395,8 +395,8 @@ impl Slice {
                 let set = self.relevant_on_return.get(at);
                 grew |= self.relevant_on_return.add_to_successors(&op, at, set);
                 if let Some(routine) = callee(&op) {
-                    let wanted = self.relevant.get(next_address(&op, at));
-                    grew |= self.relevant_on_return.add(routine, wanted);
+                    let relevant_after_call = self.relevant.get(next_address(&op, at));
+                    grew |= self.relevant_on_return.add(routine, relevant_after_call);
                 }
             }
         }
@@ -416,11 +416,11 @@ impl Slice {
 
 /// Returns the registers that are relevant at one address or more.
 fn relevant_somewhere(slice: &Slice) -> u32 {
-    let mut all = 0;
+    let mut members = 0;
     for n in 0..ADDRESSES {
-        all |= slice.relevant.get(Addr::ZERO.plus(n));
+        members |= slice.relevant.get(Addr::ZERO.plus(n));
     }
-    all
+    members
 }
 
 /// Returns the exact registers at each address, for a program that begins at `begin`. Bit `r` of a mask is 1 if

@@ -166,8 +166,8 @@ pub fn begin_session_in(
         (begin_fault_number refused.fault)))) }
 {
     let alloc = rt.alloc();
-    let make = matches!(choice, Choice::New(_));
-    let opened = FileDisk::open_at(rt, alloc, choice.file(), make);
+    let creates_file = matches!(choice, Choice::New(_));
+    let opened = FileDisk::open_at(rt, alloc, choice.file(), creates_file);
     print_name_warning(rt, choice.file(), &opened);
     begin_session_on(alloc, choice, opened)
 }

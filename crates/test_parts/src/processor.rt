@@ -243,12 +243,12 @@ fn jumps_and_fetches_cross_pages(rt: HostRuntime) {
 #[test]
 fn undefined_opcode_changes_nothing(rt: HostRuntime) {
     for code in 0..=255u8 {
-        let outside = matches!(code, 0x01..=0x0F | 0xE3 | 0xFE | 0xFF);
+        let is_undefined = matches!(code, 0x01..=0x0F | 0xE3 | 0xFE | 0xFF);
         let mut bus = memory_with(&[(0, code)]);
         let mut cpu = Cpu::new();
-        expect_equal(&rt, cpu.is_outside_table(&bus), outside);
-        expect_equal(&rt, cpu.cycle(&mut bus) == Cycle::Outside, outside);
-        if outside {
+        expect_equal(&rt, cpu.is_outside_table(&bus), is_undefined);
+        expect_equal(&rt, cpu.cycle(&mut bus) == Cycle::Outside, is_undefined);
+        if is_undefined {
             expect_equal(&rt, cpu.regs(), Regs::new());
         }
     }

@@ -35,11 +35,16 @@ fn texts_outside_scripts_are_rejected(rt: HostRuntime) {
     }
 }
 
-/// Checks that `board_text` returns the text `plain` for the board that `text` describes.
-fn expect_board_text(rt: &impl Abort, alloc: Global, text: &str, plain: &str) -> Result<(), Fail> {
+/// Checks that `board_text` returns the text `written_text` for the board that `text` describes.
+fn expect_board_text(
+    rt: &impl Abort,
+    alloc: Global,
+    text: &str,
+    written_text: &str,
+) -> Result<(), Fail> {
     let board = board_of(alloc, text)?;
     let found = board_text(alloc, &board)?;
-    assert_eq!(rt; found.as_str(), plain);
+    assert_eq!(rt; found.as_str(), written_text);
     Ok(())
 }
 
@@ -56,8 +61,8 @@ const EQUIVALENT_TEXTS: &[&str] = &[
 #[test]
 fn equivalent_texts_are_written_alike(rt: HostRuntime) -> Result<(), Fail> {
     for text in EQUIVALENT_TEXTS {
-        let plain = "[[rom]]\nchip = 10\nport = \"1i0i\"\n";
-        expect_board_text(&rt, rt.alloc(), text, plain)?;
+        let written_text = "[[rom]]\nchip = 10\nport = \"1i0i\"\n";
+        expect_board_text(&rt, rt.alloc(), text, written_text)?;
     }
     Ok(())
 }

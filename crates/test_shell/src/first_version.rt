@@ -26,8 +26,8 @@ pub(crate) fn new_file(alloc: Global, rt: &impl Abort) -> Vec<u8> {
 /// commands in the same way.
 fn file_of_inputs(alloc: Global, rt: &impl Abort) -> Vec<u8> {
     let mut file = new_file(alloc, rt);
-    let later = file_of(alloc, rt, &INPUTS, 0, b"");
-    match later.get(LOG_OFFSET..LOG_OFFSET + 800) {
+    let file_of_version_2 = file_of(alloc, rt, &INPUTS, 0, b"");
+    match file_of_version_2.get(LOG_OFFSET..LOG_OFFSET + 800) {
         Some(records) => overwrite(rt, file.as_mut_slice(), LOG_OFFSET, records),
         None => panic!(rt; "a file without a log"),
     }

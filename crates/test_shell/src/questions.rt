@@ -40,9 +40,9 @@ const ANSWERS: [(&[u8], &str); 5] = [
 
 /// Returns the part of the script that failed for lack of memory, given the output.
 fn failed_part(rt: &impl Abort, output: &[u8]) -> &'static str {
-    for (answers, what) in ANSWERS {
+    for (answers, part) in ANSWERS {
         if output == answers {
-            return what;
+            return part;
         }
     }
     panic!(rt; "other answers")

@@ -85,26 +85,26 @@ const ANSWERS: [[&[u8]; 6]; 5] = [
     ],
 ];
 
-/// Returns true if the output consists of the given answers. If `is_device` is true, the output
+/// Returns true if the output consists of the given answers. If `has_device_fault` is true, the output
 /// must instead consist of the first few answers, followed by `no 53` (device failed).
-fn is_answered(output: &[u8], answers: &[&[u8]], is_device: bool) -> bool {
+fn is_answered(output: &[u8], answers: &[&[u8]], has_device_fault: bool) -> bool {
     let mut rest = output;
     for answer in answers {
-        if is_device && rest == b"no 53\n".as_slice() {
+        if has_device_fault && rest == b"no 53\n".as_slice() {
             return true;
         }
-        let Some(behind) = rest.strip_prefix(*answer) else {
+        let Some(remaining) = rest.strip_prefix(*answer) else {
             return false;
         };
-        rest = behind;
+        rest = remaining;
         if *answer == BOARD {
-            let Some(behind) = rest.strip_prefix(board_text_in(WIRE_EXAMPLE)) else {
+            let Some(remaining) = rest.strip_prefix(board_text_in(WIRE_EXAMPLE)) else {
                 return false;
             };
-            rest = behind;
+            rest = remaining;
         }
     }
-    rest.is_empty() && !is_device
+    rest.is_empty() && !has_device_fault
 }
 
 /// The part of the script that fails for lack of memory, for each row of `ANSWERS`.
@@ -118,10 +118,10 @@ const FAILED_PARTS: [&str; 5] = [
 
 /// Returns the part of the script that failed, given the output. Returns `None` if one failed allocation cannot cause
 /// this output.
-fn failed_part(output: &[u8], is_device: bool) -> Option<&'static str> {
-    for (answers, what) in ANSWERS.iter().zip(FAILED_PARTS.iter()) {
-        if is_answered(output, answers, is_device) {
-            return Some(*what);
+fn failed_part(output: &[u8], has_device_fault: bool) -> Option<&'static str> {
+    for (answers, part) in ANSWERS.iter().zip(FAILED_PARTS.iter()) {
+        if is_answered(output, answers, has_device_fault) {
+            return Some(*part);
         }
     }
     None
@@ -166,9 +166,9 @@ fn run(alloc: Global, rt: &impl Abort, mut session: Session<MemDisk>) -> &'stati
     let served = run_script(alloc, rt, &mut session);
     let seq = seq_of(&session);
     let is_closed = !session.is_open();
-    let (again, refused) = open_again(alloc, rt, disk_of_session(session));
-    let kept = seq_of(&again);
-    assert!(rt; kept == seq || (is_closed && kept == seq.saturating_add(1)));
+    let (reopened, refused) = open_again(alloc, rt, disk_of_session(session));
+    let reopened_seq = seq_of(&reopened);
+    assert!(rt; reopened_seq == seq || (is_closed && reopened_seq == seq.saturating_add(1)));
     refused.unwrap_or(served)
 }
 

@@ -69,14 +69,14 @@ fn expect_executed_before_stop(
 ) {
     let script = script_of_inputs(alloc, rt);
     let (end, answers) = run_and_collect(alloc, &mut script.as_slice(), session);
-    let (wanted_end, then): (ShellEnd, &[u8]) = if done < INPUTS.len() {
+    let (wanted_end, ending): (ShellEnd, &[u8]) = if done < INPUTS.len() {
         (ShellEnd::DeviceFault, b"no 53\n")
     } else {
         (ShellEnd::End, b"")
     };
     expect(rt, end == wanted_end, calls);
     expect(rt, (status(end) == 1) == (done < INPUTS.len()), calls);
-    let wanted = answers_to(alloc, rt, done, then);
+    let wanted = answers_to(alloc, rt, done, ending);
     expect(rt, answers.as_slice() == wanted.as_slice(), calls);
     if done < INPUTS.len() {
         expect(rt, poke(session) == Err(SessionFault::Closed), calls);
@@ -275,11 +275,11 @@ fn a_stop_at_each_byte_that_is_written(rt: HostRuntime) {
     let answers = answers_to(alloc, &rt, ANSWERS.len(), b"");
     // A command is recorded if all earlier answers were written.
     let [one, two, three, four, _] = ANSWERS;
-    let before = [FIRST_LINE, one, two, three, four];
+    let earlier_pieces = [FIRST_LINE, one, two, three, four];
     for left in 0..=answers.len() {
         let disk = disk_after_cut_writing(alloc, &rt, script.as_slice(), answers.as_slice(), left);
-        let again = open_or_panic(alloc, &rt, disk);
-        let kept = count_complete_pieces(&before, left);
-        expect(&rt, seq_of(&again) as usize == kept, left);
+        let reopened = open_or_panic(alloc, &rt, disk);
+        let complete = count_complete_pieces(&earlier_pieces, left);
+        expect(&rt, seq_of(&reopened) as usize == complete, left);
     }
 }

@@ -226,7 +226,7 @@ fn files_that_repeat_one_byte(rt: HostRuntime) {
 #[test]
 fn files_that_hold_no_session(rt: HostRuntime) {
     let alloc = rt.alloc();
-    let made = new_file(alloc, &rt);
+    let intact_file = new_file(alloc, &rt);
     // another format name, a wrong length of the snapshot, a state of an unknown version, and a record that encodes
     // no command
     let changes: [(usize, &[u8], StoreFault); 4] = [
@@ -236,9 +236,9 @@ fn files_that_hold_no_session(rt: HostRuntime) {
         (16_400, &[1, 0, 1, 0], StoreFault::Damaged),
     ];
     for (at, bytes, fault) in changes {
-        let mut changed = copy(alloc, &rt, made.as_slice());
-        overwrite(&rt, changed.as_mut_slice(), at, bytes);
-        expect_refused(alloc, &rt, changed.as_slice(), fault);
+        let mut damaged_file = copy(alloc, &rt, intact_file.as_slice());
+        overwrite(&rt, damaged_file.as_mut_slice(), at, bytes);
+        expect_refused(alloc, &rt, damaged_file.as_slice(), fault);
     }
 }
 
@@ -250,8 +250,8 @@ fn expect_no_room(alloc: Global, rt: &impl Abort, file: &mut [u8], room: usize) 
         panic!(rt; "a short buffer");
     };
     for call in CALLS {
-        let why = make_call(alloc, call, file, FIRST_INPUT, short).err();
-        expect_equal(rt, why, Some(ServeFault::NoRoom(FIRST_ANSWERS.len())));
+        let error = make_call(alloc, call, file, FIRST_INPUT, short).err();
+        expect_equal(rt, error, Some(ServeFault::NoRoom(FIRST_ANSWERS.len())));
     }
     expect_equal(rt, buffer, [b'#'; 128]);
 }

@@ -124,9 +124,9 @@ impl PageFixture {
         if let Err(ServeFault::Refused(fault)) = first {
             expect_equal(rt, fault, StoreFault::NoMemory);
             self.expect_untouched(rt);
-            let again = self.call_once(alloc, call, input, room);
+            let second = self.call_once(alloc, call, input, room);
             return CallReport {
-                count: count_of(rt, again),
+                count: count_of(rt, second),
                 is_repeated: true,
             };
         }
