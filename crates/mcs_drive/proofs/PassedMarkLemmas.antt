@@ -54,7 +54,7 @@ record SeenMarksPassed (board : BoardParts) (f : ℕ → Levels) (marks : List M
   passed : PassesMarks board f (take (seen_mark_count (length marks) seen) marks) a i
   few : a < i → seen ≤ length marks
 
--- `SeenMarksPassed` still holds after a cycle before which the condition does not hold
+-- if the condition does not hold before a cycle, `SeenMarksPassed` still holds after the cycle
 seen-marks-passed-after-cycle : (board : BoardParts) (f : ℕ → Levels) (marks : List Mark) (a i seen : ℕ) → a ≤ i → PassesMarks board f (take (seen_mark_count (length marks) seen) marks) a i →
     (o : Option Mark) (p : Mark → Bool) (shown : Bool) → slice_get marks (seen_mark_count (length marks) seen) ≡ o → mark_satisfies o p ≡ shown → ((mark : Mark) → p mark ≡ true → IsAtMark board (f i) mark) →
     SeenMarksPassed board f marks a (suc i) (seen_count_after (length marks) seen false shown)
@@ -87,7 +87,7 @@ module _ (w : Observer) where
   driven-board f zero s = refl
   driven-board f (suc k) s = cycle-board w (with_levels (f k) (driven w f k s)) ∙ driven-board f k s
 
-  -- `SeenMarksPassed` still holds after cycle `i` of a run, if the condition does not hold before
+  -- if the condition does not hold before cycle `i` of a run, `SeenMarksPassed` still holds after
   -- this cycle
   seen-cycle : (s : TrackedMachine) (f : ℕ → Levels) (a i : ℕ) → board_fault_of s.1.board ≡ None → FitsBoard s.1.board (f i) → a ≤ i → condition_holds_at w (driven w f i s) ≡ false →
       SeenMarksPassed s.1.board f w.marks a i (driven w f i s).2.seen → SeenMarksPassed s.1.board f w.marks a (suc i) (driven w f (suc i) s).2.seen

@@ -58,8 +58,8 @@ IsFoundByCut state_of time left found = IsLeftByCut time (state_of left) (state_
 
 -- A history: a first run of a shell, and the sittings after it. The session of the first run may
 -- have begun in any way. This run was stopped at clock `time` or later, and the disk `found` was
--- found after the stop. The other sittings followed on this disk (`others_follow`), and `last` is the disk
--- found at the end.
+-- found after the stop. The other sittings followed on that disk (`others_follow`), and `last` is
+-- the disk found at the end.
 pub record History
     {D : Type 0} (state_of : D → DiskState) (IsFound : ℕ → D → D → Type 0) : Type 0 where
   pub first : ShellRun state_of
