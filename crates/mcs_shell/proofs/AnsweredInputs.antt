@@ -219,6 +219,6 @@ serves_one_input a b i o response halted h sent = record {
   serves = serves_one_exchange a b i o response sent.0 h sent.1;
   halts = option_or-none (end_caused_by sent.0 o) ∙ sym sent.2;
   not_served = [];
-  spelled = refl;
+  inputs_split = refl;
   all_served = λ none. refl;
 }

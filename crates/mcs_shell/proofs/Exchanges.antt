@@ -69,7 +69,7 @@ serves_exchanges_append a b c xs ys none x y =
 -- ---- the bytes that form the inputs
 
 abbrev pub serves_no_inputs : (a : ShellState) → ServesInputs IsIntact [] a a None
-serves_no_inputs a = record { exchanges = []; serves = record { is_possible = tt; wrote = refl; leaves = records_no_commands a.session }; halts = refl; not_served = []; spelled = refl; all_served = λ none. refl }
+serves_no_inputs a = record { exchanges = []; serves = record { is_possible = tt; wrote = refl; leaves = records_no_commands a.session }; halts = refl; not_served = []; inputs_split = refl; all_served = λ none. refl }
 
 -- If these bytes form the inputs `given`, serving these inputs serves the bytes.
 pub serves_bytes_that_form_inputs : (a b : ShellState) (p q k : UnfinishedInputView) (bytes : List ℕ) (given : List Input) (halted : Option ShellEnd) → HasNoFeed k.line → (halted ≡ None → q ≡ k)
@@ -80,7 +80,7 @@ serves_bytes_that_form_inputs a b p q k bytes given halted f same e m = record {
   serves = m.serves;
   halts = m.halts;
   not_served = λ more whole. m.not_served ++ inputs_after k more whole;
-  spelled = λ more whole. e more whole ∙ ap (λ v. v ++ inputs_after k more whole) m.spelled ∙ append_assoc (inputs_in m.exchanges) m.not_served (inputs_after k more whole);
+  inputs_split = λ more whole. e more whole ∙ ap (λ v. v ++ inputs_after k more whole) m.inputs_split ∙ append_assoc (inputs_in m.exchanges) m.not_served (inputs_after k more whole);
   all_served = λ none more whole. ap (λ v. v ++ inputs_after k more whole) (m.all_served none) ∙ ap (λ (x : UnfinishedInputView). inputs_after x more whole) (sym (same none));
   no_feed = λ none. subst (λ (x : UnfinishedInputView). HasNoFeed x.line) (sym (same none)) f;
 }
@@ -99,10 +99,10 @@ serves_bytes_append a b c l k e bytes rest halted x y = record {
   serves = serves_exchanges_append a b c x.exchanges y.exchanges x.halts x.serves y.serves;
   halts = end_caused_by_exchanges-append x.exchanges y.exchanges x.halts ∙ y.halts;
   not_served = y.not_served;
-  spelled = λ more whole.
+  inputs_split = λ more whole.
       ap (λ v. inputs_after l v whole) (append_assoc bytes rest more)
-      ∙ x.spelled (rest ++ more) whole
-      ∙ ap (λ v. inputs_in x.exchanges ++ v) (x.all_served refl (rest ++ more) whole ∙ y.spelled more whole)
+      ∙ x.inputs_split (rest ++ more) whole
+      ∙ ap (λ v. inputs_in x.exchanges ++ v) (x.all_served refl (rest ++ more) whole ∙ y.inputs_split more whole)
       ∙ sym (append_assoc (inputs_in x.exchanges) (inputs_in y.exchanges) (y.not_served more whole))
       ∙ ap (λ v. v ++ y.not_served more whole) (sym (map-append (λ (z : Exchange). z.input) x.exchanges y.exchanges));
   all_served = y.all_served;
@@ -117,7 +117,7 @@ serves_more_bytes_after_halt a b p q r bytes more_bytes end x = record {
   serves = x.serves;
   halts = x.halts;
   not_served = λ more whole. x.not_served (more_bytes ++ more) whole;
-  spelled = λ more whole. ap (λ v. inputs_after p v whole) (append_assoc bytes more_bytes more) ∙ x.spelled (more_bytes ++ more) whole;
+  inputs_split = λ more whole. ap (λ v. inputs_after p v whole) (append_assoc bytes more_bytes more) ∙ x.inputs_split (more_bytes ++ more) whole;
   all_served = λ none. absurd (cc none);
   no_feed = λ none. absurd (cc none);
 }

@@ -96,6 +96,6 @@ all_input_served_without_fault state_of run h =
     let P : List ℕ → Type 0 = λ v. Appends run.out run.out' v in
     record {
       end = end;
-      all_served = t.spelled ∙ ap (λ v. inputs_in exchanges ++ v) (t.all_served no_fault.0 no_fault.1 no_fault.2) ∙ append-nil (inputs_in exchanges);
+      all_served = t.inputs_split ∙ ap (λ v. inputs_in exchanges ++ v) (t.all_served no_fault.0 no_fault.1 no_fault.2) ∙ append-nil (inputs_in exchanges);
       all_sent = subst P (sym (append-nil t.response) ∙ ap (λ v. t.response ++ v) (sym (t.all_sent no_fault.0 no_fault.2)) ∙ t.parts) t.written;
     }

@@ -66,7 +66,7 @@ answers_if_first_line_whole end r r' a b ran whole uncut none =
     let t : AnswersWritten ran.start.started b.out (results_in_order answer s exchanges) (end_caused_by_exchanges exchanges) = all_answers_written a.session.live s exchanges ran.start.started b.out serves.is_possible serves.wrote in
     record {
       not_served = ran.served.not_served;
-      spelled = ran.served.spelled;
+      inputs_split = ran.served.inputs_split;
       all_served = λ x y z. ran.served.all_served (none x y);
       is_possible = serves.is_possible;
       response = session_text s ++ t.response;
@@ -83,7 +83,7 @@ answers_if_first_line_cut_off end r r' a b ran cut none by =
     let nothing_more : b.out ≡ ran.start.started = subst (λ (v : List Exchange). WroteAnswers s v ran.start.started b.out) none ran.served.serves.wrote in
     record {
       not_served = ran.served.not_served;
-      spelled = ran.served.spelled;
+      inputs_split = ran.served.inputs_split;
       all_served = λ x y z. absurd (by x z);
       is_possible = ran.served.serves.is_possible;
       response = take wrote_prefix.count (session_text s);

@@ -35,7 +35,7 @@ use Rattle.mcs_shell.proofs.Exchanges.{serves_bytes_append, serves_no_bytes, ser
 -- ---- the inputs that bytes form
 
 abbrev pub serves_equal_inputs : (Given : Premise) (xs ys : List Input) (a b : ShellState) (halted : Option ShellEnd) → xs ≡ ys → ServesInputs Given ys a b halted → ServesInputs Given xs a b halted
-serves_equal_inputs Given xs ys a b halted e m = record { exchanges = m.exchanges; serves = m.serves; halts = m.halts; not_served = m.not_served; spelled = e ∙ m.spelled; all_served = m.all_served }
+serves_equal_inputs Given xs ys a b halted e m = record { exchanges = m.exchanges; serves = m.serves; halts = m.halts; not_served = m.not_served; inputs_split = e ∙ m.inputs_split; all_served = m.all_served }
 
 -- Serves all inputs that the unfinished input `l` and the bytes after `l` form. First the bytes are
 -- served, and then the unfinished input `k` that remains.
@@ -46,15 +46,15 @@ serves_bytes_and_rest whole a b c l k bytes halted x y = record {
   serves = serves_exchanges_append a b c x.exchanges y.exchanges x.halts x.serves y.serves;
   halts = end_caused_by_exchanges-append x.exchanges y.exchanges x.halts ∙ y.halts;
   not_served = y.not_served;
-  spelled = x.spelled [] whole
-      ∙ ap (λ v. inputs_in x.exchanges ++ v) (x.all_served refl [] whole ∙ y.spelled)
+  inputs_split = x.inputs_split [] whole
+      ∙ ap (λ v. inputs_in x.exchanges ++ v) (x.all_served refl [] whole ∙ y.inputs_split)
       ∙ sym (append_assoc (inputs_in x.exchanges) (inputs_in y.exchanges) y.not_served)
       ∙ ap (λ v. v ++ y.not_served) (sym (map-append (λ (z : Exchange). z.input) x.exchanges y.exchanges));
   all_served = y.all_served;
 }
 
 abbrev pub serves_halted_bytes : (whole : Bool) (a b : ShellState) (p q : UnfinishedInputView) (bytes : List ℕ) (cause : ShellEnd) → ServesBytes a b p q bytes (Some cause) → ServesInputs IsIntact (inputs_after p (bytes ++ []) whole) a b (Some cause)
-serves_halted_bytes whole a b p q bytes cause x = record { exchanges = x.exchanges; serves = x.serves; halts = x.halts; not_served = x.not_served [] whole; spelled = x.spelled [] whole; all_served = λ none. absurd (some_is_not_none cause none) }
+serves_halted_bytes whole a b p q bytes cause x = record { exchanges = x.exchanges; serves = x.serves; halts = x.halts; not_served = x.not_served [] whole; inputs_split = x.inputs_split [] whole; all_served = λ none. absurd (some_is_not_none cause none) }
 
 -- ---- the end of input
 
@@ -100,7 +100,7 @@ unfolding inputs
 inputs_from_start bytes whole = sym (inputs_in_mode-split_at_dots whole OutsideText (lines bytes whole)) ∙ ap (λ v. inputs_after no_unfinished_input v whole) (sym (append-nil bytes))
 
 inputs_until_cut_are_served : (a b : ShellState) (line : UnfinishedInputView) (bytes : List ℕ) (x : ServesBytes a b no_unfinished_input line bytes None) → inputs bytes false ≡ inputs_in x.exchanges
-inputs_until_cut_are_served a b line bytes x = inputs_from_start bytes false ∙ x.spelled [] false ∙ ap (λ v. inputs_in x.exchanges ++ v) (x.all_served refl [] false ∙ inputs_after-cut_off line (x.no_feed refl)) ∙ append-nil (inputs_in x.exchanges)
+inputs_until_cut_are_served a b line bytes x = inputs_from_start bytes false ∙ x.inputs_split [] false ∙ ap (λ v. inputs_in x.exchanges ++ v) (x.all_served refl [] false ∙ inputs_after-cut_off line (x.no_feed refl)) ∙ append-nil (inputs_in x.exchanges)
 
 -- The answered inputs begin with the inputs that the bytes before `ahead` form.
 reads_little_ahead_in_chunk : (a b : ShellState) (line : UnfinishedInputView) (bytes ahead : List ℕ) (x : ServesBytes a b no_unfinished_input line bytes None) (ys : List Exchange) → length ahead ≤ CHUNK_BYTES → ReadsLittleAhead (bytes ++ ahead) (inputs_in (answered_exchanges (x.exchanges ++ ys)))
@@ -220,7 +220,7 @@ serves_inputs_under_open_premise given a b halted settle m =
       serves = record { is_possible = m.serves.is_possible; wrote = m.serves.wrote; leaves = leaves_session_under_open_premise (has_device_fault m.exchanges) a.session b.session (results_in_order acknowledged_commands s m.exchanges) (results_in_order reached_commands s m.exchanges) settle m.serves.leaves };
       halts = m.halts;
       not_served = m.not_served;
-      spelled = m.spelled;
+      inputs_split = m.inputs_split;
       all_served = m.all_served;
     }
 

@@ -31,7 +31,7 @@ pub record AnswersInOrder
     (end : ShellEnd) {reader reader' : KnownBytes} (read : ReadInput reader reader')
     (a b : ShellState) (exchanges : List Exchange) : Type 0 where
   pub not_served : List Input
-  pub spelled : inputs_read read ≡ inputs_in exchanges ++ not_served
+  pub inputs_split : inputs_read read ≡ inputs_in exchanges ++ not_served
   pub all_served : end ≢ WriteFault → end ≢ DeviceFault → end ≢ NoMemory → not_served ≡ []
   pub is_possible : ArePossibleExchanges a.session.live a.session.state exchanges
   pub response : List ℕ

@@ -50,7 +50,7 @@ pub record ServesBytes
   -- the inputs that were not served, as a function of the bytes that follow and of whether input
   -- ends after them
   pub not_served : List ℕ → Bool → List Input
-  pub spelled : (more : List ℕ) (whole : Bool)
+  pub inputs_split : (more : List ℕ) (whole : Bool)
       → inputs_after p (bytes ++ more) whole ≡ inputs_in exchanges ++ not_served more whole
   pub all_served : halted ≡ None → (more : List ℕ) (whole : Bool)
       → not_served more whole ≡ inputs_after q more whole

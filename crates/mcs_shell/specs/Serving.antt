@@ -81,5 +81,5 @@ pub record ServesInputs
   pub serves : ServesExchanges Given a exchanges b
   pub halts : end_caused_by_exchanges exchanges ≡ halted
   pub not_served : List Input
-  pub spelled : inputs_to_serve ≡ inputs_in exchanges ++ not_served
+  pub inputs_split : inputs_to_serve ≡ inputs_in exchanges ++ not_served
   pub all_served : halted ≡ None → not_served ≡ []

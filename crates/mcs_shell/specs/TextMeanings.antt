@@ -15,7 +15,7 @@ use Rattle.mcs_wiring.specs.Parts.{wiring_text}
 use Rattle.mcs_wiring.specs.Wiring.{board_of_text}
 use Rattle.mcs_wiring.specs.declared.fault.WiringFault.{WiringFault}
 use Rattle.mcs_shell.specs.declared.texts.TextMeaning as code
-use Rattle.mcs_shell.specs.declared.texts.TextMeaning.TheVariants as spelled
+use Rattle.mcs_shell.specs.declared.texts.TextMeaning.TheVariants as variant
 use Rattle.mcs_shell.specs.declared.texts.TextRefusal.{TextRefusal}
 use Rattle.mcs_shell.specs.declared.texts.TextRefusal.TheVariants.{Wiring, Program}
 use Rattle.mcs_lines.specs.declared.requests.TextKind.{TextKind}
@@ -55,8 +55,8 @@ meaning_of_text Errors text = Ok (Reports (errors_text (errors_of_text text)))
 
 -- the meaning that a value of the Rust type `TextMeaning` (`code.TextMeaning`) represents
 abbrev pub meaning_view : code.TextMeaning → TextMeaning
-meaning_view (spelled.Executes c) = Executes c
-meaning_view (spelled.Reports lines) = Reports lines.items
+meaning_view (variant.Executes c) = Executes c
+meaning_view (variant.Reports lines) = Reports lines.items
 
 -- the answer to a text that is invalid because of this error
 abbrev pub text_refusal_answer : TextRefusal → List ℕ

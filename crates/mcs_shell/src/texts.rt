@@ -136,7 +136,7 @@ pub enum TextMeaning {
 /// Parses the text of a board. Returns the command that replaces the bench's board with the parsed board, or the error
 /// in the text. Fails if memory runs out.
 fn read_board(alloc: Global, text: &str) -> Result<Result<Command, TextRefusal>, AllocError>
-    ensures { IfOk result (λ spelled. spelled ≡ wire_command (board_of_text text.now)) }
+    ensures { IfOk result (λ parsed. parsed ≡ wire_command (board_of_text text.now)) }
 {
     match board_of(alloc, text) {
         Ok(board) => Ok(Ok(Command::Wire(board))),
@@ -148,7 +148,7 @@ fn read_board(alloc: Global, text: &str) -> Result<Result<Command, TextRefusal>,
 /// Assembles the text of a program. Returns the command that loads the program's bytes, or the error in the text. Fails
 /// if memory runs out.
 fn read_program(alloc: Global, text: &str) -> Result<Result<Command, TextRefusal>, AllocError>
-    ensures { IfOk result (λ spelled. spelled ≡ load_command (assembly_of_text text.now)) }
+    ensures { IfOk result (λ parsed. parsed ≡ load_command (assembly_of_text text.now)) }
 {
     match assemble(alloc, text) {
         Ok(image) => Ok(Ok(Command::Load(image))),
@@ -197,8 +197,8 @@ pub fn read_text(
     kind: TextKind,
     text: &str,
 ) -> Result<Result<TextMeaning, TextRefusal>, AllocError>
-    ensures { IfOk result (λ spelled.
-        result_map_both meaning_view (λ why. why) spelled ≡ meaning_of_text kind text.now) }
+    ensures { IfOk result (λ parsed.
+        result_map_both meaning_view (λ why. why) parsed ≡ meaning_of_text kind text.now) }
 {
     match kind {
         TextKind::Wire => Ok(read_board(alloc, text)?.map(TextMeaning::Executes)),
