@@ -92,13 +92,13 @@ arena_key-in_last_block width len i bs last fits h k =
 
 pub arena_invariant-after_push : (width len : ℕ) (bs : List KeyStore) (last new : KeyStore) (key : List ℕ) → ArenaInvariant width len bs last →
     new.width ≡ last.width → new.keys ≡ last.keys ++ key ∷ [] → length new.keys < KEYS_PER_BLOCK → ArenaInvariant width (len + 1) bs new
-arena_invariant-after_push width len bs last new key fits w k few =
+arena_invariant-after_push width len bs last new key fits w k has_room =
     let longer_by_one = ap length k ∙ length-append last.keys (key ∷ []) in
     let count = fits.count in
     record {
       blocks = fits.blocks;
       last_width = w ∙ fits.last_width;
-      last_not_full = few;
+      last_not_full = has_room;
       count = omega arith;
     }
 

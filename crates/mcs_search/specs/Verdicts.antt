@@ -55,7 +55,7 @@ IsFollowOutcome r keys key choices followed.GaveUp = Unit {0}
 -- width of a key
 pub record SearchInvariant (visited : KeyStore) (next limit key_len into_len : ℕ) : Type 0 where
   pub not_empty : 0 < length visited.keys
-  pub few : length visited.keys < 4294967295
+  pub below_limit : length visited.keys < 4294967295
   pub within : next ≤ length visited.keys
   pub max_states : limit ≤ MAX_STATES
   pub key : key_len ≡ visited.width

@@ -74,7 +74,7 @@ impl KeyBlock {
     /// Appends a key and its parent. Fails if memory cannot be allocated; the keys are then unchanged.
     pub(crate) fn push(&mut self, key: &[u8], parent: Parent) -> Result<(), AllocError>
         requires width { length key.now ≡ self.old.width }
-        requires few { length self.old.keys < KEYS_PER_BLOCK }
+        requires not_full { length self.old.keys < KEYS_PER_BLOCK }
         ensures keys { OnOk result (self.new.keys ≡ self.old.keys ++ key.now ∷ []) }
         ensures width { self.new.width ≡ self.old.width }
         ensures err { OnErr result (self.new ≡ self.old) }

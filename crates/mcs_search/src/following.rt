@@ -36,7 +36,7 @@ pub(crate) fn follow_choices<S: System>(
     into: &mut [u8],
 ) -> Result<FollowOutcome, AllocError>
     requires max_states { max_states < 4294967295 }
-    requires few { length visited.old.keys < 4294967295 }
+    requires below_limit { length visited.old.keys < 4294967295 }
     requires at { at < 4294967295 }
     requires state { (S.rules (S.setting system.old)).is_state key.now }
     requires into { length into.old ≡ length key.now }
@@ -45,7 +45,7 @@ pub(crate) fn follow_choices<S: System>(
     ensures setting { S.setting system.new ≡ S.setting system.old }
     ensures grows { Grows visited.old visited.new }
     ensures states { All (S.rules (S.setting system.old)).is_state visited.new.keys }
-    ensures few { length visited.new.keys < 4294967295 }
+    ensures below_limit { length visited.new.keys < 4294967295 }
     ensures outcome { IfOk result (IsFollowOutcome (S.rules (S.setting system.old)) visited.new.keys key.now choices.now) }
 {
     for i in 0..choices.len() {

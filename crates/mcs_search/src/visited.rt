@@ -87,7 +87,7 @@ fn free_slot(slots: &[u32], key: &[u8]) -> usize
 /// Inserts all keys of an arena into an empty hash table.
 fn insert_all(slots: &mut [u32], arena: &Arena)
     requires room { 0 < length slots.old }
-    requires few { length arena.now.keys < 4294967295 }
+    requires below_limit { length arena.now.keys < 4294967295 }
 {
     for i in 0..arena.len() {
         let at = free_slot(slots, arena.key(i));
@@ -154,7 +154,7 @@ impl VisitedSet {
     /// Rebuilds the hash table if it is at least half full. The new table has at least four slots per key. The arena
     /// has all keys, so the old table is freed first. Fails if memory cannot be allocated.
     fn make_room(&mut self) -> Result<(), AllocError>
-        requires few { length self.old.keys < 4294967295 }
+        requires below_limit { length self.old.keys < 4294967295 }
         ensures { self.new ≡ self.old }
     {
         let len = self.arena.len();
@@ -179,10 +179,10 @@ impl VisitedSet {
     ) -> Result<AddOutcome, AllocError>
         requires width { length key.now ≡ self.old.width }
         requires max_states { max_states < 4294967295 }
-        requires few { length self.old.keys < 4294967295 }
+        requires below_limit { length self.old.keys < 4294967295 }
         ensures added { IfOk result (IsAddOutcome max_states self.old.keys self.new.keys key.now) }
         ensures adds { Adds self.old key.now self.new }
-        ensures few { length self.new.keys < 4294967295 }
+        ensures below_limit { length self.new.keys < 4294967295 }
     {
         self.make_room()?;
         match slot_if_new(&self.slots, &self.arena, key) {

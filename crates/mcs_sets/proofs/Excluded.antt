@@ -96,8 +96,8 @@ no-absent-rom-read board e op s is here next =
 pub record PassesChecks (board : BoardParts) (e : Entry) (op : Op) (mistakes : Mistakes) : Type 0 where
   pub calls : CallsAllow op e.calls
   pub ram : mistakes.absent_ram ≡ true → uses_ram op ≡ true → ForAllIn (slice_index e.sets 16) (HasChipsOfBank board e)
-  pub here : mistakes.absent_rom ≡ true → lacks_rom board e.at ≡ false
-  pub next : mistakes.absent_rom ≡ true → reads_next_address op ≡ true → lacks_rom board ((e.at + 1) % 4096) ≡ false
+  pub own_rom : mistakes.absent_rom ≡ true → lacks_rom board e.at ≡ false
+  pub next_rom : mistakes.absent_rom ≡ true → reads_next_address op ≡ true → lacks_rom board ((e.at + 1) % 4096) ≡ false
   pub inputs : mistakes.port_without_inputs ≡ true → is_rdr op ≡ true → ForAllIn (slice_index e.sets 17) (λ n. has_input board n ≡ true)
   pub outputs : mistakes.port_without_outputs ≡ true → is_wrr op ≡ true → ForAllIn (slice_index e.sets 17) (λ n. has_output board n ≡ true)
 
@@ -106,7 +106,7 @@ no-chip-mistake-if-checks-pass board e op mistakes s same is h =
     or_from _ _
     (false-under-two-guards mistakes.absent_ram (uses_ram op) (lacks_selected_ram s.0 s.1) (λ a u. no-absent-ram-selected board e s same is (h.ram a u)))
     (false-under-one-guard mistakes.absent_rom (reads_absent_rom op s.0 s.1.board)
-    (λ a. subst (λ (b : BoardParts). reads_absent_rom op s.0 b ≡ false) (sym same) (no-absent-rom-read board e op s is (h.here a) (h.next a))))
+    (λ a. subst (λ (b : BoardParts). reads_absent_rom op s.0 b ≡ false) (sym same) (no-absent-rom-read board e op s is (h.own_rom a) (h.next_rom a))))
 
 no-port-mistake-if-checks-pass : (board : BoardParts) (e : Entry) (op : Op) (mistakes : Mistakes) (s : TrackedMachine) → s.1.board ≡ board → Covers e s → PassesChecks board e op mistakes → makes_port_mistake mistakes op s ≡ false
 no-port-mistake-if-checks-pass board e op mistakes s same is h =

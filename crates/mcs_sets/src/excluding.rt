@@ -171,8 +171,8 @@ fn has_outputs(board: &Board, set: u16) -> bool
 
 /// Returns whether a board has the ROM of each word that an instruction reads.
 fn has_roms_of_words(board: &Board, at: Addr, op: &Op) -> bool
-    ensures here { IsTrue result → lacks_rom board.now at ≡ false }
-    ensures next { IsTrue result → reads_next_address op.now ≡ true → lacks_rom board.now ((at + 1) % 4096) ≡ false }
+    ensures own_rom { IsTrue result → lacks_rom board.now at ≡ false }
+    ensures next_rom { IsTrue result → reads_next_address op.now ≡ true → lacks_rom board.now ((at + 1) % 4096) ≡ false }
 {
     !lacks_rom(board, at) && (!reads_next_address(op) || !lacks_rom(board, at.plus(1)))
 }
@@ -187,8 +187,8 @@ fn avoids_absent_ram(board: &Board, entry: &Entry, op: &Op, mistakes: &Mistakes)
 
 /// Returns true only if no machine of an entry reads from an absent ROM, or `mistakes` does not include that mistake.
 fn avoids_absent_rom(board: &Board, entry: &Entry, op: &Op, mistakes: &Mistakes) -> bool
-    ensures here { IsTrue result → mistakes.now.absent_rom ≡ true → lacks_rom board.now entry.now.at ≡ false }
-    ensures next { IsTrue result → mistakes.now.absent_rom ≡ true → reads_next_address op.now ≡ true →
+    ensures own_rom { IsTrue result → mistakes.now.absent_rom ≡ true → lacks_rom board.now entry.now.at ≡ false }
+    ensures next_rom { IsTrue result → mistakes.now.absent_rom ≡ true → reads_next_address op.now ≡ true →
         lacks_rom board.now ((entry.now.at + 1) % 4096) ≡ false }
 {
     !mistakes.absent_rom || has_roms_of_words(board, entry.at, op)

@@ -31,7 +31,7 @@ fn zeros(alloc: Global) -> Result<Vec<u32>, AllocError>
 /// Adds 1 to the count of an address. The count must be below `u32::MAX`.
 fn add_one(numbers: &mut Vec<u32>, at: Addr)
     requires len { length numbers.old.items ≡ 4096 }
-    requires few { slice_index numbers.old.items at < u32.MAX }
+    requires below_max { slice_index numbers.old.items at < u32.MAX }
     ensures { numbers.new.items
         ≡ slice_set numbers.old.items at (slice_index numbers.old.items at + 1) }
 {
@@ -44,9 +44,9 @@ fn add_one(numbers: &mut Vec<u32>, at: Addr)
 /// pending in `before`.
 fn count_instruction(runs: &mut Vec<u32>, jumps: &mut Vec<u32>, before: &Regs, after: &Regs)
     requires runs { length runs.old.items ≡ 4096 }
-    requires few_runs { slice_index runs.old.items before.now.pc < u32.MAX }
+    requires runs_below_max { slice_index runs.old.items before.now.pc < u32.MAX }
     requires jumps { length jumps.old.items ≡ 4096 }
-    requires few_jumps { slice_index jumps.old.items before.now.pc < u32.MAX }
+    requires jumps_below_max { slice_index jumps.old.items before.now.pc < u32.MAX }
     ensures runs { runs.new.items
         ≡ incremented_if runs.old.items (before.now.owed == 0) before.now.pc }
     ensures jumps { jumps.new.items

@@ -31,7 +31,7 @@ loop-i-preserved g c =
       grows = grows-trans i.grows grows;
       states = all_keys-after_add r.is_state i.states state c.add.ensures.adds;
       followed = below_more _ _ (λ j h. leads_into-after_growth r key (slice_index c.args.choices.now j) grows (i.followed j h)) (into, leads, found);
-      few = c.add.ensures.few;
+      below_limit = c.add.ensures.below_limit;
       into = c.apply_choice.auto.into ∙ i.into;
     }
 

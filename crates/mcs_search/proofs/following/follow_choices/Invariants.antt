@@ -10,6 +10,6 @@ invariant-loop-i g l = record {
   grows : Grows l.fn.visited l.visited;
   states : All (g.S.System.rules (g.S.System.setting l.fn.system)).is_state l.visited.keys;
   followed : (k : ℕ) → k < l.i → LeadsInto (g.S.System.rules (g.S.System.setting l.fn.system)) l.visited.keys l.fn.key (slice_index l.choices k);
-  few : length l.visited.keys < 4294967295;
+  below_limit : length l.visited.keys < 4294967295;
   into : length l.into ≡ length l.fn.key;
 }

@@ -22,13 +22,13 @@ loop-done-init c =
       stops = ap stops_of c.in_ok-copy.ensures;
     }
 
-pub count_instruction-requires-clause-few_runs : goal.count_instruction-requires-clause-few_runs
-count_instruction-requires-clause-few_runs c =
+pub count_instruction-requires-clause-runs_below_max : goal.count_instruction-requires-clause-runs_below_max
+count_instruction-requires-clause-runs_below_max c =
     let count_at_most_cycles = tally_number-at_most_cycles c.loop-done.done (machine_of c.args.bench.now) c.loop-done.runs.items (λ a. begins_at_address a) c.regs-before.result.pc (omega arith) c.loop-done.invariant.counting.run_tally in
     omega arith
 
-pub count_instruction-requires-clause-few_jumps : goal.count_instruction-requires-clause-few_jumps
-count_instruction-requires-clause-few_jumps c =
+pub count_instruction-requires-clause-jumps_below_max : goal.count_instruction-requires-clause-jumps_below_max
+count_instruction-requires-clause-jumps_below_max c =
     let count_at_most_cycles = tally_number-at_most_cycles c.loop-done.done (machine_of c.args.bench.now) c.loop-done.jumps.items (λ a x. begins_at_address a x && jumps x) c.regs-before.result.pc (omega arith) c.loop-done.invariant.counting.jump_tally in
     omega arith
 

@@ -11,7 +11,7 @@ invariant_of-result c =
     let max_states = c.requires in
     record {
       not_empty = omega arith;
-      few = omega arith;
+      below_limit = omega arith;
       within = omega arith;
       max_states = max_states;
       key = c.in_ok-key.ensures.len ∙ sym width;
