@@ -31,7 +31,7 @@ fn read_some<R: InputSource>(
     buffer: &mut [u8],
     max_count: usize,
 ) -> Result<usize, ReadFailed>
-    requires some { 0 < max_count }
+    requires not_zero { 0 < max_count }
     requires room { max_count ≤ length buffer.old }
     ensures ok { IfOk result (λ n.
         ReadBytes n max_count (R.remaining reader.old) (R.remaining reader.new) (take n buffer.new)) }
@@ -91,7 +91,7 @@ fn run_loop<R: InputSource, W: AnswerSink, D: Disk + Drop>(
     writer: &mut W,
     session: &mut Session<D>,
 ) -> ShellEnd
-    requires some { 0 < length buffer.old }
+    requires not_empty { 0 < length buffer.old }
     requires chunk { length buffer.old ≤ CHUNK_BYTES }
     ensures ran { RanShellGiven IsIntact [] result (R.remaining reader.old) (R.remaining reader.new)
         (shell_state D.state session.old (W.contents writer.old))

@@ -48,14 +48,14 @@ quotient_by_512-is_bit_9 word h = omega arith
 -- ---- a list of words
 
 pub words-below_1024_after_set : (words : List ℕ) (at new : ℕ) → new < 1024 → ((k : ℕ) → slice_index words k < 1024) → (k : ℕ) → slice_index (slice_set words at new) k < 1024
-words-below_1024_after_set words at new h ten k =
+words-below_1024_after_set words at new h ten_bits k =
     elim (cases_eq k at) [
       | inl e ↦
           elim (cases_lt at (length words)) [
             | inl l ↦ subst (λ m. m < 1024) (sym (get_or-set_at words at k new 0 e l)) h
             | inr gone ↦ subst (λ m. m < 1024) (sym (get_or_past (slice_set words at new) k 0 (let e2 = length-set words at new in omega arith))) (omega arith)
           ]
-      | inr ne ↦ subst (λ m. m < 1024) (sym (get_or-set_other words at k new 0 ne)) (ten k)
+      | inr ne ↦ subst (λ m. m < 1024) (sym (get_or-set_other words at k new 0 ne)) (ten_bits k)
     ]
 
 -- ---- a shift, word by word
@@ -64,7 +64,7 @@ words-below_1024_after_set words at new h ten k =
 -- bit to shift into the next word
 pub record IsShifted (level : ℕ) (old new : List ℕ) (k level_next : ℕ) : Type 0 where
   pub len : length new ≡ length old
-  pub ten : (m : ℕ) → slice_index new m < 1024
+  pub ten_bits : (m : ℕ) → slice_index new m < 1024
   pub bits : (i : ℕ) → i < 10 * k → packed_bit new i ≡ bit_after_shift level old i
   pub rest : (m : ℕ) → k ≤ m → slice_index new m ≡ slice_index old m
   pub carry : level_next ≡ bit_after_shift level old (10 * k)
@@ -88,11 +88,11 @@ pub shifted-next_word : (level : ℕ) (old new : List ℕ) (k carry word last : 
 shifted-next_word level old new k carry word last m k_in_words is shifted_out-is =
     let word_unchanged : slice_index new k ≡ slice_index old k = m.rest k (omega arith) in
     let within : k < length new = let e = m.len in omega arith in
-    let word_below_1024 = m.ten k in
+    let word_below_1024 = m.ten_bits k in
     let at : slice_index (slice_set new k word) k ≡ word = get_or-set_at new k k word 0 refl within in
     record {
       len = length-set new k word ∙ m.len;
-      ten = words-below_1024_after_set new k word (omega arith) m.ten;
+      ten_bits = words-below_1024_after_set new k word (omega arith) m.ten_bits;
       bits = λ i l.
           elim (cases_lt i (10 * k)) [
             | inl before ↦
@@ -128,9 +128,9 @@ shifted_bit-past_chain_end bits level old new (suc i) p len moved h =
 
 -- If the first bit past the end of the chain is cleared after a shift, all bits past the end are 0.
 pub packed-after_clearing_end : (bits level : ℕ) (old new last : List ℕ) → IsPacked bits old → length new ≡ length old → ((k : ℕ) → slice_index last k < 1024) → length last ≡ length new → ((i : ℕ) → i < 10 * length old → packed_bit new i ≡ bit_after_shift level old i) → packed_bit last bits ≡ 0 → ((k : ℕ) → k ≢ bits → packed_bit last k ≡ packed_bit new k) → IsPacked bits last
-packed-after_clearing_end bits level old new last p len ten len2 moved zero-there others = record {
+packed-after_clearing_end bits level old new last p len ten_bits len2 moved zero-there others = record {
   used = len2 ∙ len ∙ p.used;
-  ten = ten;
+  ten_bits = ten_bits;
   past = λ i h.
       elim (cases_eq i bits) [
         | inl e ↦ ap (packed_bit last) e ∙ zero-there
@@ -186,9 +186,9 @@ unfolding chain_bits_of
 chain_bits-after_set bits words new i level h at others = sym (set-table_of bits (packed_bit words) (packed_bit new) i level h at (λ k _ ne. others k ne))
 
 pub packed-after_set : (bits : ℕ) (words new : List ℕ) (i : ℕ) → IsPacked bits words → i < bits → length new ≡ length words → ((k : ℕ) → slice_index new k < 1024) → ((k : ℕ) → k ≢ i → packed_bit new k ≡ packed_bit words k) → IsPacked bits new
-packed-after_set bits words new i p h len ten others = record {
+packed-after_set bits words new i p h len ten_bits others = record {
   used = len ∙ p.used;
-  ten = ten;
+  ten_bits = ten_bits;
   past = λ k l. others k (λ e. omega arith) ∙ p.past k l;
 }
 

@@ -21,5 +21,5 @@ chain_bits_of bits words = table_of bits (packed_bit words)
 -- bits at index `bits` and above are 0
 pub record IsPacked (bits : ℕ) (words : List ℕ) : Type 0 where
   pub used : length words ≡ (bits + 9) / 10
-  pub ten : (k : ℕ) → slice_index words k < 1024
+  pub ten_bits : (k : ℕ) → slice_index words k < 1024
   pub past : (i : ℕ) → bits ≤ i → packed_bit words i ≡ 0

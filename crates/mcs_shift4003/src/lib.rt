@@ -42,7 +42,7 @@ fn with_bit(word: u16, j: usize, level: Bit) -> u16
     requires j { j < 10 }
     ensures set { bit_of result j ≡ level }
     ensures others { (k : ℕ) → k < 10 → k ≢ j → bit_of result k ≡ bit_of word k }
-    ensures ten { result < 1024 }
+    ensures ten_bits { result < 1024 }
 {
     if level.get() == 1 {
         word | 1 << j
@@ -65,9 +65,9 @@ fn shift_word(word: u16, level: u16) -> (u16, u16)
 /// Sets bit `i` of a chain to `level`. The chain is stored in ten-bit words.
 fn set_packed_bit(words: &mut [u16], i: usize, level: Bit)
     requires in_words { i / 10 < length words.old }
-    requires ten { (k : ℕ) → slice_index words.old k < 1024 }
+    requires ten_bits { (k : ℕ) → slice_index words.old k < 1024 }
     ensures len { length words.new ≡ length words.old }
-    ensures ten { (k : ℕ) → slice_index words.new k < 1024 }
+    ensures ten_bits { (k : ℕ) → slice_index words.new k < 1024 }
     ensures set { packed_bit words.new i ≡ level }
     ensures others { (k : ℕ) → k ≢ i → packed_bit words.new k ≡ packed_bit words.old k }
 {
@@ -80,7 +80,7 @@ fn set_packed_bit(words: &mut [u16], i: usize, level: Bit)
 fn shift_words(words: &mut [u16], level: Bit)
     requires { (k : ℕ) → slice_index words.old k < 1024 }
     ensures len { length words.new ≡ length words.old }
-    ensures ten { (k : ℕ) → slice_index words.new k < 1024 }
+    ensures ten_bits { (k : ℕ) → slice_index words.new k < 1024 }
     ensures bits { (i : ℕ) → i < 10 * length words.old →
         packed_bit words.new i ≡ bit_after_shift level words.old i }
 {
@@ -173,7 +173,7 @@ impl<const MAX: usize> Chain<MAX> {
     /// or 0 past the end of the chain.
     pub fn ten_bits_from(&self, first: usize) -> u16
         ensures bits { (j : ℕ) → j < 10 → bit_of result j ≡ slice_index self.now (first + j) }
-        ensures ten { result < 1024 }
+        ensures ten_bits { result < 1024 }
     {
         let at = first / WORD_BITS;
         let words = self.words.as_slice();

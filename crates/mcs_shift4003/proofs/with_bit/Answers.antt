@@ -9,8 +9,8 @@ returns-then-get-eq1-clause-set c = bit_at_set_same w16 c.args.word c.args.j (le
 pub returns-then-get-eq1-clause-others : goal.returns-then-get-eq1-clause-others
 returns-then-get-eq1-clause-others c = λ k _ ne. bit_at_set_other w16 c.args.word c.args.j (let h = c.requires.j in omega arith) k ne
 
-pub returns-then-get-eq1-clause-ten : goal.returns-then-get-eq1-clause-ten
-returns-then-get-eq1-clause-ten c = bit_or-below_1024 c.args.word c.args.j c.requires.word c.requires.j
+pub returns-then-get-eq1-clause-ten_bits : goal.returns-then-get-eq1-clause-ten_bits
+returns-then-get-eq1-clause-ten_bits c = bit_or-below_1024 c.args.word c.args.j c.requires.word c.requires.j
 
 pub returns-else-get-eq1-clause-set : goal.returns-else-get-eq1-clause-set
 returns-else-get-eq1-clause-set c = bit_at_clear_same w16 c.args.word c.args.j (let h = c.requires.j in omega arith) ∙ (let e = c.get.ensures in omega arith)
@@ -18,5 +18,5 @@ returns-else-get-eq1-clause-set c = bit_at_clear_same w16 c.args.word c.args.j (
 pub returns-else-get-eq1-clause-others : goal.returns-else-get-eq1-clause-others
 returns-else-get-eq1-clause-others c = λ k l ne. bit_at_clear_other w16 c.args.word c.args.j (let h = c.requires.j in omega arith) k (omega arith) ne
 
-pub returns-else-get-eq1-clause-ten : goal.returns-else-get-eq1-clause-ten
-returns-else-get-eq1-clause-ten c = bit_and-below_1024 c.args.word _ c.requires.word
+pub returns-else-get-eq1-clause-ten_bits : goal.returns-else-get-eq1-clause-ten_bits
+returns-else-get-eq1-clause-ten_bits c = bit_and-below_1024 c.args.word _ c.requires.word

@@ -7,7 +7,7 @@ use Rattle.mcs_shell.proofs.ShellLoop.{ran_shell_halted_at_end_of_input, ran_she
 use Rattle.mcs_shell.proofs.shell.run_loop.Goals as goal
 
 pub loop-total-init : goal.loop-total-init
-loop-total-init g c = record { small = omega arith; room = c.requires.some; chunk = c.requires.chunk; so_far = loop_progress_at_start _ _ _ c.new-unfinished.ensures; reader = refl; writer = refl }
+loop-total-init g c = record { small = omega arith; room = c.requires.not_empty; chunk = c.requires.chunk; so_far = loop_progress_at_start _ _ _ c.new-unfinished.ensures; reader = refl; writer = refl }
 
 pub returns-in-Err-clause-ran : goal.returns-in-Err-clause-ran
 returns-in-Err-clause-ran g c = ran_shell_until_read_fault _ _ _ _ _ _ _ c.loop-total.invariant.so_far c.loop-total-test.true c.in-Err.ensures.err

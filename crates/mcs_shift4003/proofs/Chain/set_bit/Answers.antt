@@ -23,7 +23,7 @@ invariant_of-self g c =
     let other_bits : (k : ℕ) → k ≢ c.args.i → packed_bit c.set_packed_bit.new.words k ≡ packed_bit i.words.items k = λ k ne. set_packed_bit.others k ne ∙ ap (λ (ws : List ℕ). packed_bit ws k) words in
     record {
       fits = c.self.invariant.fits;
-      packed = rw (refill-all i.words.items c.set_packed_bit.new.words len) (packed-after_set i.bits i.words.items c.set_packed_bit.new.words c.args.i c.self.invariant.packed i_in_chain len set_packed_bit.ten other_bits);
+      packed = rw (refill-all i.words.items c.set_packed_bit.new.words len) (packed-after_set i.bits i.words.items c.set_packed_bit.new.words c.args.i c.self.invariant.packed i_in_chain len set_packed_bit.ten_bits other_bits);
     }
 
 pub returns : goal.returns
