@@ -1,4 +1,5 @@
--- The bytes found in a file after its end, if the file ended after an initial part of its calls.
+-- The bytes found in a file at its next opening, if the open file ended after an initial part of
+-- its calls.
 use Rattle.std.proofs.Common.{◌≡◌, ◌⊎◌, inl, inr, ℕ, ◌≤◌, List, [], ◌∷◌, ◌++◌, sym, subst, arith}
 use Rattle.mcs_disk.specs.Calls.{DiskCall, Wrote, images_after, clock_of, images_after_since}
 use Rattle.mcs_disk.proofs.CallLaws.{clock_only_advances, image_is_image_since}
@@ -10,9 +11,9 @@ pub image_is_image_since_earlier_time : (start : List ℕ) (more calls : List Di
 image_is_image_since_earlier_time start [] calls t c le now = image_is_image_since start calls t c now
 image_is_image_since_earlier_time start (call ∷ more) calls t c le now = inr (omega (arith, le, clock_only_advances more calls), image_is_image_since_earlier_time start more calls t c le now)
 
--- The bytes found in a file that ended after the calls `made` are an image since `t`. The premise
--- is that `t` is not later than the clock at the end. If the newest of these calls is a write, the
--- end can have interrupted it.
+-- If an open file ended after the calls `made`, the bytes found in it at its next opening are an
+-- image since `t`. The premise is that `t` is not later than the clock at the end. If the newest of
+-- these calls is a write, the end can have interrupted it.
 pub found_image_is_image_since : (start : List ℕ) (all more made calls_before_end : List DiskCall) (t : ℕ) (c : List ℕ) → all ≡ more ++ made → (calls_before_end ≡ made) ⊎ IsInterruptedInWrite made calls_before_end → t ≤ clock_of calls_before_end
     → images_after start calls_before_end c → images_after_since start all t c
 found_image_is_image_since start all more made calls_before_end t c are (inl whole) le now =

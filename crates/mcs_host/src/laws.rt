@@ -9,9 +9,8 @@ ghost use Rattle.mcs_host.specs.FileDisk.{IsNotStandardStream, HasNoCalls};
 
 use crate::FileDisk;
 
-/// Shows that the bytes that are found in an honest file after its end are an image since `time`.
-/// The premise is that the file ended after an initial part of its calls, with the disk's clock at
-/// `time` or later.
+/// Shows that the bytes found in an honest file at its next opening are an image since `time`. The premise is that the
+/// open file ended after an initial part of its calls, with the disk's clock at `time` or later.
 pub fn found_bytes_are_an_image()
     ensures { (time : ℕ) (file : FileDisk) → (as_disk file).honest
         → IsLeftSince time file → images_since time (as_disk file) (bytes_found_in file) }
@@ -20,7 +19,7 @@ pub fn found_bytes_are_an_image()
 /// Shows that a power cut at or after `time` can leave the disk of a file that was opened again.
 /// The premises are:
 ///
-/// - `file` is honest, and it ended with the disk's clock at `time` or later.
+/// - `file` is honest, and the open file ended with the disk's clock at `time` or later.
 /// - `again`, the file opened again, is honest. No call has been made on it, and it holds the bytes
 ///   that were found in `file`.
 pub fn reopened_file_is_left_by_cut()
@@ -31,15 +30,15 @@ pub fn reopened_file_is_left_by_cut()
         → IsLeftByCut time (as_disk file) (as_disk again) }
 {}
 
-/// Shows that a file is honest if, and only if, the bytes that are found after its end are an image
-/// that the calls before the end can leave.
+/// Shows that a file is honest if, and only if, the bytes found in it at its next opening are an image that the calls
+/// before its end can leave.
 pub fn file_is_honest_iff_image_is_found()
     ensures { (file : FileDisk) → (as_disk file).honest ↔ IsFoundAfterTheEnd file }
 {}
 
 /// Shows that no answer of a file can refute the premise that the file is honest. For each image
-/// that the calls on a file can leave, there is an honest file that gave the same answers. The image
-/// is found in this honest file after its end.
+/// that the calls on a file can leave, there is an honest file that gave the same answers. The image is found in this
+/// honest file at its next opening.
 pub fn each_image_can_be_found()
     ensures { (file : FileDisk) (image : List ℕ) → images_of (as_disk file) image
         → (like : FileDisk) × (as_disk like).honest × AgreesButEndsWith image file like }

@@ -6,7 +6,8 @@ use Rattle.mcs_model.specs.TextLines.{is_line_feed, last_line, lines, lines_in}
 use Rattle.mcs_model.specs.Cutting.{HasNoSeparator}
 use Rattle.mcs_model.proofs.Cutting.{prepend_to_first, prepend_to_first-nil, first_piece_of}
 
--- the lines of `line` followed by a text; `line` is the part of the first line that is already read
+-- the lines of `line` followed by a text; `line` is the part of the first line that has already
+-- been read
 unfoldable pub lines_after : Bool → List ℕ → List ℕ → List (List ℕ)
 lines_after whole line [] = last_line whole line
 lines_after whole line (b ∷ text) =

@@ -1,6 +1,6 @@
 -- The levels of lines, and port reads and writes. (4001, 4002 and 4003 data sheets, as each
--- definition says. Fethsaim, not Intel, defines that logic is positive: a line at level 1 carries
--- the bit 1.)
+-- definition says. Fethsaim, not Intel, specifies positive logic: a line at level 1 carries the bit
+-- 1.)
 use Rattle.std.specs.Prelude.{ℕ, ◌+◌, ◌*◌, ◌/◌, Bool, false, ◌&&◌, ◌==◌, List, [], Some, None, length, slice_index, slice_index_or, slice_set, if◌then◌else◌}
 use Rattle.std.specs.List.{list_any, range_with_len}
 use Rattle.mcs_nibble.specs.Bits.{bit_of}
@@ -55,7 +55,8 @@ latch_of s (Ram b c k) = bit_of (slice_index s.ram_ports (ram_port_index b c)) k
 latch_of s _ = 0
 
 -- The level of a line. An output line has the level of its latch bit, and a chain output has the
--- level of its chain bit. An input line is at 1 if a key pulls it, and otherwise at 0.
+-- level of its chain bit. An input line has the level 1 if a key pulls it to 1, and otherwise the
+-- level 0.
 unfoldable pub level : BusState → Line → ℕ
 level s (Rom c k) = if is_rom_input_line s.board c k then bit_when (is_pulled s c k) else latch_of s (Rom c k)
 level s (Ram b c k) = latch_of s (Ram b c k)
