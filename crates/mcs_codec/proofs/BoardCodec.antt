@@ -50,7 +50,7 @@ four_bytes_of_line (Chain n i) h = ((2, (n, (i, 0))), refl, are_four_bytes, λ r
 
 pub line_codec : IsCodec board_line_bytes (λ _. Unit {0}) board_line_at
 unfolding board_line_at
-line_codec = block_codec (steps_of_four_bytes line_of_four_bytes) (record { made = bytes_of_read_line; unmade = four_bytes_of_line })
+line_codec = block_codec (steps_of_four_bytes line_of_four_bytes) (record { made = bytes_of_read_line; made_from_steps = four_bytes_of_line })
 
 -- ---- ROMs
 
@@ -105,7 +105,7 @@ four_bytes_of_rom (Some (a ∷ b ∷ c ∷ d ∷ e ∷ l)) h = absurd cc
 
 pub rom_codec : IsCodec rom_bytes HasFourLines rom_at
 unfolding rom_at
-rom_codec = block_codec (steps_of_four_bytes rom_of_four_bytes) (record { made = bytes_of_read_rom; unmade = four_bytes_of_rom })
+rom_codec = block_codec (steps_of_four_bytes rom_of_four_bytes) (record { made = bytes_of_read_rom; made_from_steps = four_bytes_of_rom })
 
 -- ---- chains, keys, and the board
 

@@ -197,7 +197,7 @@ next {A} {C} {B} {s} {f} {r} {t} {g} {q} end first second = record {
 -- have the same encoding. Each `b` that fits its range can be made from some `c`.
 pub record Ends {C B : Type 0} (s : C → List ℕ) (f : C → Type 0) (spell : B → List ℕ) (fits : B → Type 0) (end : C → Reading B) : Type 0 where
   pub made : (c : C) (rest : List ℕ) (x : B × List ℕ) → f c → end c rest ≡ Some x → (spell x.0 ≡ s c) × (rest ≡ x.1) × fits x.0
-  pub unmade : (b : B) → fits b → (c : C) × (spell b ≡ s c) × f c × ((rest : List ℕ) → end c rest ≡ Some (b, rest))
+  pub made_from_steps : (b : B) → fits b → (c : C) × (spell b ≡ s c) × f c × ((rest : List ℕ) → end c rest ≡ Some (b, rest))
 
 pub block_codec : {B C : Type 0} {s : C → List ℕ} {f : C → Type 0} {spell : B → List ℕ} {fits : B → Type 0} {end : C → Reading B} {q : Reading B} → Steps s f end q → Ends s f spell fits end → IsCodec spell fits q
 block_codec {B} {C} {s} {f} {spell} {fits} {end} {q} steps ends = record {
@@ -206,20 +206,20 @@ block_codec {B} {C} {s} {f} {spell} {fits} {end} {q} steps ends = record {
       let m = ends.made c.0.0 c.0.1 x c.2 c.3 in
       (c.1 ∙ ap (λ (l : List ℕ). s c.0.0 ++ l) m.1 ∙ ap (λ (l : List ℕ). l ++ x.1) (sym m.0), m.2);
   reads_back = λ b rest h.
-      let u = ends.unmade b h in
+      let u = ends.made_from_steps b h in
       ap (λ (l : List ℕ). q (l ++ rest)) u.1 ∙ steps.reads_back u.0 rest u.2 ∙ u.3 rest;
 }
 
 -- a codec for a block whose end makes the value from the values of the steps
 pub giving_codec : {C B : Type 0} {s : C → List ℕ} {f : C → Type 0} {q : Reading B} (make : C → B) (spell : B → List ℕ) (fits : B → Type 0) → Steps s f (λ c. give (make c)) q
     → ((c : C) → f c → (spell (make c) ≡ s c) × fits (make c)) → ((b : B) → fits b → (c : C) × (make c ≡ b) × f c) → IsCodec spell fits q
-giving_codec {C} {B} {s} {f} {q} make spell fits steps made unmade = block_codec steps (record {
+giving_codec {C} {B} {s} {f} {q} make spell fits steps made made_from_steps = block_codec steps (record {
   made = λ c rest x h e.
       let same : (make c, rest) ≡ x = cc in
       let m = made c h in
       subst (λ (y : B × List ℕ). (spell y.0 ≡ s c) × (rest ≡ y.1) × fits y.0) same (m.0, refl, m.1);
-  unmade = λ b h.
-      let u = unmade b h in
+  made_from_steps = λ b h.
+      let u = made_from_steps b h in
       (u.0, sym (ap spell u.1) ∙ (made u.0 u.2).0, u.2, λ rest. ap (λ (v : B). Some (v, rest)) u.1);
 })
 

@@ -240,7 +240,7 @@ marks_with_next_address image marks i p a lt is same inside so_far at fits =
     let more : take (i + 1) image ≡ take i image ++ p ∷ [] = take_more image i p lt ∙ ap (λ (q : ℕ × ℕ). take i image ++ q ∷ []) (sym is) in
     let one : mark (take (i + 1) image) at ≡ cond (eqb p.0 at) 1 (mark (take i image) at) = ap (λ l. mark l at) more ∙ mark_with_one_more_byte (take i image) p at in
     elim (cases_eq at a) [
-      | inl e ↦ let own : eqb p.0 at ≡ true = let k : p.0 ≡ at = omega arith in grind (arith, nat_tests) in get_or-set_at marks a at 1 0 e inside ∙ sym (one ∙ rw own refl)
+      | inl e ↦ let same_address : eqb p.0 at ≡ true = let k : p.0 ≡ at = omega arith in grind (arith, nat_tests) in get_or-set_at marks a at 1 0 e inside ∙ sym (one ∙ rw same_address refl)
       | inr ne ↦ let other : eqb p.0 at ≡ false = let k : p.0 ≢ at = λ h. ne (sym (same ∙ h)) in grind (arith, nat_tests) in get_or-set_other marks a at 1 0 ne ∙ so_far at fits ∙ sym (one ∙ rw other refl)
     ]
 

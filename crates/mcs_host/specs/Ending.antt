@@ -28,7 +28,7 @@ pub record IsInterruptedInWrite (calls cut : List DiskCall) : Type 0 where
   pub at : ℕ
   pub bytes : List ℕ
   pub before : List DiskCall
-  pub whole : calls ≡ Wrote at bytes ∷ before
+  pub ends_in_write : calls ≡ Wrote at bytes ∷ before
   pub torn : cut ≡ Failed at bytes [] ∷ before
 
 -- Holds if the open file ended after the calls `made`, an initial part of all its calls. The disk's

@@ -54,7 +54,7 @@ pub record KeepsNameAndNumber (old new : HostState) : Type 0 where
 -- holds if the file was opened with this name, and exactly these calls were made on it
 pub record HasCalls (name : List ℕ) (calls : List AnsweredCall) (file : HostState) : Type 0 where
   pub named : file.name ≡ name
-  pub are : file.calls ≡ calls
+  pub same_calls : file.calls ≡ calls
 
 -- true if the result is Ok and its value is true
 abbrev pub is_yes : {E : Type 0} → Result Bool E → Bool

@@ -21,7 +21,7 @@ use std::alloc::{AllocError, Global};
 /// The file is read into memory once, when it is opened, and each write also updates this copy. If
 /// the host returns bytes that differ from the copy, `read` returns `DiskFault`. No call can check
 /// the premise `honest`. The premise is about the bytes that are found in the file after a close, a process kill or a
-/// power cut. It states that these bytes are one of the images that the calls before can leave.
+/// power cut. It states that these bytes are one of the images that the earlier calls can leave.
 #[derive(Drop)]
 pub struct HostDisk<H: HostFile> {
     file: H,

@@ -1,6 +1,6 @@
-//! Laws about the premise that a file is honest: what the premise means, what follows from it, and
-//! that no call can refute it. The contract of each function states a law; the function itself does
-//! nothing.
+//! Laws about the premise that a file is honest: what the premise means, what follows from it, and that no call can
+//! refute it. An open file ends with a close, a process kill or a power cut. The contract of each function states a
+//! law; the function itself does nothing.
 ghost use Rattle.std.specs.Prelude.{◌≡◌, ◌↔◌, ℕ, List};
 ghost use Rattle.mcs_disk.specs.Disk.{bytes_of, images_of, images_since};
 ghost use Rattle.mcs_disk.specs.PowerCut.{IsLeftByCut};
@@ -20,14 +20,14 @@ pub fn found_bytes_are_an_image()
 /// The premises are:
 ///
 /// - `file` is honest, and the open file ended with the disk's clock at `time` or later.
-/// - `again`, the file opened again, is honest. No call has been made on it, and it holds the bytes
+/// - `reopened`, the file opened again, is honest. No call has been made on it, and it holds the bytes
 ///   that were found in `file`.
 pub fn reopened_file_is_left_by_cut()
-    ensures { (time : ℕ) (file again : FileDisk) → (as_disk file).honest
-        → IsLeftSince time file → (as_disk again).honest
-        → HasNoCalls (as_disk again)
-        → bytes_of (as_disk again) ≡ bytes_found_in file
-        → IsLeftByCut time (as_disk file) (as_disk again) }
+    ensures { (time : ℕ) (file reopened : FileDisk) → (as_disk file).honest
+        → IsLeftSince time file → (as_disk reopened).honest
+        → HasNoCalls (as_disk reopened)
+        → bytes_of (as_disk reopened) ≡ bytes_found_in file
+        → IsLeftByCut time (as_disk file) (as_disk reopened) }
 {}
 
 /// Shows that a file is honest if, and only if, the bytes found in it at its next opening are an image that the calls

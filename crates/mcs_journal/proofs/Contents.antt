@@ -112,4 +112,4 @@ module _ (f snap r from : List ℕ) (rs : List (List ℕ)) (commit_at : ℕ) (sp
         let at_file : get_or (part commit_at 1 c) 0 0 ≡ get_or c (commit_at + 0) 0 = byte_of_part commit_at 1 c 0 (omega arith) in
         let place : lo + length (frames_of rs) ≡ commit_at + 0 = omega (arith, at_commit.at) in
         let is_one : get_or (part lo 65536 c) (length (frames_of rs)) 0 ≡ 1 = at_log ∙ ap (λ (i : ℕ). get_or c i 0) place ∙ sym at_file ∙ ap (λ (l : List ℕ). get_or l 0 0) one in
-        let by = log_by_commit_byte rs r _ _ (first_staged g first here) valid_length commit_torn_log in lift (rs ++ r ∷ []) (by.0 is_one)
+        let by_commit_byte = log_by_commit_byte rs r _ _ (first_staged g first here) valid_length commit_torn_log in lift (rs ++ r ∷ []) (by_commit_byte.0 is_one)

@@ -66,14 +66,14 @@ level s (Chain n i) = chain_bit s n i
 unfoldable pub clock_levels : BusState → List ℕ
 clock_levels s = table_of (chain_count s.board) (λ i. level s (chain_part s.board i).clock)
 
--- The bits of chain `i` after a port write. `s` is the bus after the write, before any shift; `was`
--- is the level of the clock line before the write. If the clock line rises from 0 to 1, each bit
--- moves up by one position. The level of the data line becomes bit 0, and the last bit is lost.
--- (4003 data sheet: a shift register with a serial input. Fethsaim, not Intel, defines the clock
--- edge, the bit order and the data level.)
+-- The bits of chain `i` after a port write. `s` is the bus after the write, before any shift;
+-- `old_level` is the level of the clock line before the write. If the clock line rises from 0 to 1,
+-- each bit moves up by one position. The level of the data line becomes bit 0, and the last bit is
+-- lost. (4003 data sheet: a shift register with a serial input. Fethsaim, not Intel, defines the
+-- clock edge, the bit order and the data level.)
 unfoldable pub chain_bits_after_clock : BusState → ℕ → ℕ → List ℕ → List ℕ
-chain_bits_after_clock s i was bits =
-    if was == 0 && level s (chain_part s.board i).clock == 1
+chain_bits_after_clock s i old_level bits =
+    if old_level == 0 && level s (chain_part s.board i).clock == 1
     then bits_after_shift (level s (chain_part s.board i).data_in) bits
     else bits
 

@@ -7,9 +7,9 @@ use Rattle.mcs_journal.proofs.writing.add_record.Goals as goal
 
 pub returns-in_err-commit-clause-changes : goal.returns-in_err-commit-clause-changes
 returns-in_err-commit-clause-changes g c = λ h durable snap records held commit_at.
-    let tears = first_torn (bytes_of (g.D.Disk.state c.args.disk.now)) snap c.args.payload.now _ records c.args.commit_at c.encode_record.ensures held commit_at c.requires.valid_length in
-    let moments = first_step _ _ (λ x. Holds x snap records) (λ x. Holds x snap (records ++ c.args.payload.now ∷ [])) (c.args.commit_at + 1) _ durable tears _ (c.commit.ensures.commits h) in
-    record { after = search rules; durable = search rules; ticks = search rules; leaves = moments }
+    let unchanged_if_torn = first_torn (bytes_of (g.D.Disk.state c.args.disk.now)) snap c.args.payload.now _ records c.args.commit_at c.encode_record.ensures held commit_at c.requires.valid_length in
+    let images = first_step _ _ (λ x. Holds x snap records) (λ x. Holds x snap (records ++ c.args.payload.now ∷ [])) (c.args.commit_at + 1) _ durable unchanged_if_torn _ (c.commit.ensures.commits h) in
+    record { after = search rules; durable = search rules; ticks = search rules; leaves = images }
 
 pub returns-clause-changes : goal.returns-clause-changes
 returns-clause-changes g c = λ h durable snap records held commit_at.

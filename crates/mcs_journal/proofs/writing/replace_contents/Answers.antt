@@ -22,9 +22,9 @@ pub returns-in_err-commit-clause-changes : goal.returns-in_err-commit-clause-cha
 returns-in_err-commit-clause-changes g c = λ h durable old_snap records held other.
     let f = bytes_of (g.D.Disk.state c.args.disk.now) in
     let area = c.encode_snapshot.ensures in
-    let moments = first_step _ _ (λ x. Holds x old_snap records) (λ x. Holds x c.args.snap.now []) c.start.result c.encode_snapshot.new.buffer durable
+    let images = first_step _ _ (λ x. Holds x old_snap records) (λ x. Holds x c.args.snap.now []) c.start.result c.encode_snapshot.new.buffer durable
     (λ x torn. other_torn f old_snap c.args.snap.now _ records c.start.result held (c.start.ensures ∙ ap start_of other) area x (area_write_is_torn_by_area_size _ _ _ _ _ area torn)) _ (c.commit.ensures.commits h) in
-    record { after = search rules; durable = search rules; ticks = search rules; leaves = moments }
+    record { after = search rules; durable = search rules; ticks = search rules; leaves = images }
 
 pub returns-clause-named : goal.returns-clause-named
 returns-clause-named g c = λ h.
