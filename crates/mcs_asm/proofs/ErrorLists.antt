@@ -237,12 +237,12 @@ first_pass_report_has_at_most_100 ls i b errors h = rw h.reported (reported_at_m
 pub record IsSecondPassReported (ls : List (Bor (List ℕ))) (names : Names) (i at : ℕ) (cells : List (Option ℕ)) (errors : List LineError) : Type 0 where
   pub within : i ≤ length ls
   pub start : at ≡ address_of (parsed_lines ls) i
-  pub kept : HoldsPairs cells (pairs_skipping_errors (parsed_lines ls) names i)
+  pub holds_pairs : HoldsPairs cells (pairs_skipping_errors (parsed_lines ls) names i)
   pub reported : errors ≡ reported_errors (errors_before (second_pass_error (parsed_lines ls) names) i)
 
 pub second_pass_report_at_start : (ls : List (Bor (List ℕ))) (names : Names) → IsSecondPassReported ls names 0 0 (replicate 4096 None) []
 unfolding address_of pairs_skipping_errors errors_before
-second_pass_report_at_start ls names = record { within = omega arith; start = refl; kept = empty_cells_hold_no_pairs; reported = sym (take_all 100 [] (omega arith)) }
+second_pass_report_at_start ls names = record { within = omega arith; start = refl; holds_pairs = empty_cells_hold_no_pairs; reported = sym (take_all 100 [] (omega arith)) }
 
 pub valid_ith_line_in_second_pass_report : (ls : List (Bor (List ℕ))) (names : Names) (i at : ℕ) (cells : List (Option ℕ)) (errors : List LineError) (d : Bor (List ℕ)) → i < length ls → earliest_first_pass_fault (parsed_lines ls) ≡ None → IsSecondPassReported ls names i at cells errors
     → HasValidNumberAndAddress at (line_of (tokens (get_or ls i d).now))
@@ -277,7 +277,7 @@ second_pass_report_at_next_line ls names i at now cells new errors more d o lt h
     let pairs : unless_error o (pairs_skipping_errors lines names i) (pairs_skipping_errors lines names i ++ from_address at (bytes_or_none (line_bytes at names (line_of (tokens (get_or ls i d).now))))) ≡ pairs_skipping_errors lines names (i + 1) =
     ap (λ (ps : List (ℕ × ℕ)). unless_error o (pairs_skipping_errors lines names i) (pairs_skipping_errors lines names i ++ ps)) added
     ∙ (ap (λ (p : Option SourceFault). unless_error p (pairs_skipping_errors lines names i) (pairs_skipping_errors lines names i ++ line_pairs lines names i)) is ∙ sym (pairs_skipping_errors_of_next_line lines names i)) in
-    record { within = omega (arith, lt); start = here; kept = subst (HoldsPairs new) pairs reports.1; reported = reported_errors_before_next_line (second_pass_error lines names) i o errors more h.reported is e }
+    record { within = omega (arith, lt); start = here; holds_pairs = subst (HoldsPairs new) pairs reports.1; reported = reported_errors_before_next_line (second_pass_error lines names) i o errors more h.reported is e }
 
 pub second_pass_report_after_last_line : (ls : List (Bor (List ℕ))) (names : Names) (i at : ℕ) (cells : List (Option ℕ)) (errors : List LineError) → length ls ≤ i → names ≡ all_names (parsed_lines ls) → IsSecondPassReported ls names i at cells errors → errors ≡ reported_errors (second_pass_errors (parsed_lines ls))
 second_pass_report_after_last_line ls names i at cells errors le same h =

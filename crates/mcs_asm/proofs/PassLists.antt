@@ -106,13 +106,13 @@ first_pass_state_after_last_line b ls i le h =
 pub record IsSecondPassBefore (ls : List (Bor (List ℕ))) (names : Names) (i at : ℕ) (cells : List (Option ℕ)) (spans : List Span) : Type 0 where
   pub within : i ≤ length ls
   pub start : at ≡ address_of (parsed_lines ls) i
-  pub kept : HoldsPairs cells (pairs_before (parsed_lines ls) names i)
+  pub holds_pairs : HoldsPairs cells (pairs_before (parsed_lines ls) names i)
   pub spans_so_far : spans ≡ spans_before (parsed_lines ls) names i
   pub none : NoFaultBefore (second_pass_fault (parsed_lines ls) names) i
 
 pub second_pass_invariant_at_start : (ls : List (Bor (List ℕ))) (names : Names) → IsSecondPassBefore ls names 0 0 (replicate 4096 None) []
 unfolding address_of pairs_before spans_before
-second_pass_invariant_at_start ls names = record { within = omega arith; start = refl; kept = empty_cells_hold_no_pairs; spans_so_far = refl; none = λ j lt. absurd (omega (arith, lt)) }
+second_pass_invariant_at_start ls names = record { within = omega arith; start = refl; holds_pairs = empty_cells_hold_no_pairs; spans_so_far = refl; none = λ j lt. absurd (omega (arith, lt)) }
 
 first_and_last_condition_false : (p q r w : Bool) (a b c d : SourceFault) → cond p (Some a) (cond q (Some b) (cond r (Some c) (cond w (Some d) None))) ≡ None → (p ≡ false) × (w ≡ false)
 first_and_last_condition_false true q r w a b c d e = absurd (cc)
@@ -191,7 +191,7 @@ second_pass_invariant_at_next_line ls names i at now cells new spans more d lt h
     record {
       within = omega (arith, lt);
       start = sym is ∙ ap (λ (s : SecondPassState). s.at) t_is;
-      kept = subst (λ (s : SecondPassState). HoldsPairs new s.pairs) t_is kept;
+      holds_pairs = subst (λ (s : SecondPassState). HoldsPairs new s.pairs) t_is kept;
       spans_so_far = added ∙ spans_with_line_appended ls names i at spans d lt h.start h.spans_so_far;
       none = no_fault_before_next (second_pass_fault lines names) i h.none p.0;
     }
@@ -214,7 +214,7 @@ all_lines_emitted ls names i at cells spans found le h is =
     let all : i ≡ length (parsed_lines ls) = omega (arith, parsed_lines_length ls, le, h.within) in (
       no_first_fault (second_pass_fault (parsed_lines ls) names) (length (parsed_lines ls)) (λ j lt. h.none j (omega (arith, lt, all))),
       is ∙ ap (λ (s : List Span). record { spans = s; names = names }) (h.spans_so_far ∙ ap (spans_before (parsed_lines ls) names) all),
-      subst (λ (n : ℕ). HoldsPairs cells (pairs_before (parsed_lines ls) names n)) all h.kept,
+      subst (λ (n : ℕ). HoldsPairs cells (pairs_before (parsed_lines ls) names n)) all h.holds_pairs,
     )
 
 -- ---- both passes

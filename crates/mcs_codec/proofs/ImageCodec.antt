@@ -15,7 +15,7 @@ use Rattle.mcs_nibble.proofs.TabledLemmas.{table_of-unique, get_or-table_of, len
 use Rattle.mcs_model.specs.Images.{IsImage}
 use Rattle.mcs_codec.specs.CommandBytes.{mark, byte_of_bits, mark_bytes, image_bytes, values}
 use Rattle.mcs_codec.specs.CommandReading.{mark_bit, addressed_bytes_at, image_at}
-use Rattle.mcs_codec.proofs.Codecs.{AreNumbersBelow, IsCodec, byte_codec, numbers_codec, last, next, steps_of_empty_block, steps_of_last_value, giving_codec, codec_of_equivalent_range}
+use Rattle.mcs_codec.proofs.Codecs.{AreNumbersBelow, IsCodec, byte_codec, numbers_codec, last_step, next_step, steps_of_empty_block, steps_of_last_value, giving_codec, codec_of_equivalent_range}
 
 -- Holds if the addresses of the image are strictly increasing, at least `low` and below `limit`.
 -- Each byte is below 256.
@@ -109,7 +109,7 @@ addressed_codec marks zero at limit k = giving_codec (λ (_ : Unit {0}). []) val
 addressed_codec marks (suc n) at limit k =
     let others = addressed_codec marks n (at + 1) limit (omega arith) in
     elim (mark_bit_is_one_or_zero marks at) [
-      | inl one ↦ rw one (giving_codec (λ p. (at, p.0) ∷ p.1) values (HasBytesAtMarkedAddresses marks at limit) (next _ byte_codec (λ _ _. last _ others)) (λ p h. (refl, marked_address_read marks at limit p (omega arith) one h)) (λ image h. marked_address_split marks at limit image (omega arith) one h))
+      | inl one ↦ rw one (giving_codec (λ p. (at, p.0) ∷ p.1) values (HasBytesAtMarkedAddresses marks at limit) (next_step _ byte_codec (λ _ _. last_step _ others)) (λ p h. (refl, marked_address_read marks at limit p (omega arith) one h)) (λ image h. marked_address_split marks at limit image (omega arith) one h))
       | inr none ↦ rw none (codec_of_equivalent_range (HasBytesAtMarkedAddresses marks at limit) (λ image h. unmarked_address_read marks at limit image none h) (λ image h. unmarked_address_split marks at limit image (omega arith) none h) others)
     ]
 
@@ -176,7 +176,7 @@ mark_bytes_are_bytes image =
 ascending_image_codec : IsCodec image_bytes (HasAddressesFrom 0 4096) image_at
 unfolding image_at
 ascending_image_codec = giving_codec (λ (p : List ℕ × List (ℕ × ℕ)). p.1) image_bytes (HasAddressesFrom 0 4096)
-    (next _ (numbers_codec 512) (λ marks _. steps_of_last_value (addressed_codec marks 4096 0 4096 refl)))
+    (next_step _ (numbers_codec 512) (λ marks _. steps_of_last_value (addressed_codec marks 4096 0 4096 refl)))
     (λ p h. (ap (λ (l : List ℕ). l ++ values p.1) (mark_bytes_equal_marks p.0 p.1 h.0 h.1.1), h.1.0))
     (λ image h. ((mark_bytes image, image), refl, (mark_bytes_are_bytes image, (h, mark_bytes_have_marks image))))
 

@@ -85,31 +85,31 @@ drop_after_first_byte (suc n) b rest le = ap (λ k. drop k rest) (omega arith)
 -- Holds if the text `out`, followed by the source lines of the bytes `rest`, is `full_text`. The
 -- bytes `rest` start at address `at` and end within the ROM.
 pub record IsSourceSoFar (full_text out : List ℕ) (at : ℕ) (rest : List ℕ) : Type 0 where
-  pub most : ℕ
-  pub enough : length rest ≤ most
+  pub fuel : ℕ
+  pub enough : length rest ≤ fuel
   pub in_rom : at + length rest ≤ 4096
-  pub text : out ++ flat_map as_line (piece_texts most at rest) ≡ full_text
+  pub text : out ++ flat_map as_line (piece_texts fuel at rest) ≡ full_text
 
-source_so_far_after_first_piece : (most : ℕ) (full_text out : List ℕ) (at b : ℕ) (rest : List ℕ) → length (b ∷ rest) ≤ most → at + length (b ∷ rest) ≤ 4096 → out ++ flat_map as_line (piece_texts most at (b ∷ rest)) ≡ full_text
+source_so_far_after_first_piece : (fuel : ℕ) (full_text out : List ℕ) (at b : ℕ) (rest : List ℕ) → length (b ∷ rest) ≤ fuel → at + length (b ∷ rest) ≤ 4096 → out ++ flat_map as_line (piece_texts fuel at (b ∷ rest)) ≡ full_text
     → IsSourceSoFar full_text (out ++ as_line (piece_text at b (op_at b rest))) (at + piece_size (op_at b rest)) (drop (piece_size (op_at b rest)) (b ∷ rest))
 unfolding piece_texts
 source_so_far_after_first_piece zero full_text out at b rest enough in_rom text = absurd (omega (arith, enough))
-source_so_far_after_first_piece (suc most) full_text out at b rest enough in_rom text =
+source_so_far_after_first_piece (suc fuel) full_text out at b rest enough in_rom text =
     let n : ℕ = piece_size (op_at b rest) in
     let some : 1 ≤ piece_size (op_at b rest) = piece_size_is_at_least_1 (op_at b rest) in
     let fits : piece_size (op_at b rest) ≤ 1 + length rest = piece_size_fits b rest in
     let len : length (drop (n - 1) rest) ≡ length rest - (n - 1) = length-drop (n - 1) rest in
     rw (drop_after_first_byte (piece_size (op_at b rest)) b rest some) (record {
-      most = most;
+      fuel = fuel;
       enough = omega (arith, len, enough);
       in_rom = omega (arith, len, in_rom, some, fits);
-      text = append_assoc out (as_line (piece_text at b (op_at b rest))) (flat_map as_line (piece_texts most (at + n) (drop (n - 1) rest))) ∙ text;
+      text = append_assoc out (as_line (piece_text at b (op_at b rest))) (flat_map as_line (piece_texts fuel (at + n) (drop (n - 1) rest))) ∙ text;
     })
 
 source_so_far_after_piece : (full_text out new rest : List ℕ) (at n : ℕ) → 0 < length rest → IsSourceSoFar full_text out at rest → n ≡ piece_size (op_at (get_or rest 0 0) (drop 1 rest))
     → new ≡ out ++ as_line (piece_text at (get_or rest 0 0) (op_at (get_or rest 0 0) (drop 1 rest))) → IsSourceSoFar full_text new (at + n) (drop n rest)
 source_so_far_after_piece full_text out new [] at n some w size line = absurd (omega (arith, some))
-source_so_far_after_piece full_text out new (b ∷ rest) at n some w size line = rw (line, size) (source_so_far_after_first_piece w.most full_text out at b rest w.enough w.in_rom w.text)
+source_so_far_after_piece full_text out new (b ∷ rest) at n some w size line = rw (line, size) (source_so_far_after_first_piece w.fuel full_text out at b rest w.enough w.in_rom w.text)
 
 pub source_so_far_after_piece_in_slice : (full_text out new rest : List ℕ) (at n here : ℕ) → 0 < length rest → IsSourceSoFar full_text out at rest → here ≡ at → n ≡ piece_size (op_at (get_or rest 0 0) (drop 1 rest))
     → new ≡ out ++ as_line (piece_text here (get_or rest 0 0) (op_at (get_or rest 0 0) (drop 1 rest))) → IsSourceSoFar full_text new (at + n) (take (length rest - n) (drop n rest))
@@ -121,19 +121,19 @@ source_so_far_after_piece_in_slice full_text out new rest at n here some w there
 pub source_so_far_at_start : (rom out : List ℕ) (from to at n m : ℕ) → length rom ≡ 4096 → from < to → to ≤ 4096 → out ≡ as_line (origin_text from) → at ≡ from → n ≡ from → m ≡ to → IsSourceSoFar (source_text rom from to) out at (take (m - n) (drop n rom))
 source_so_far_at_start rom out from to at n m all some end is there low high =
     rw (is, there, low, high) (record {
-      most = length (range rom from to);
+      fuel = length (range rom from to);
       enough = omega arith;
       in_rom = omega (arith, length-take (to - from) (drop from rom), length-drop from rom, all, some, end);
       text = refl;
     })
 
-no_piece_texts_of_no_bytes : (most at : ℕ) → piece_texts most at [] ≡ []
+no_piece_texts_of_no_bytes : (fuel at : ℕ) → piece_texts fuel at [] ≡ []
 unfolding piece_texts
 no_piece_texts_of_no_bytes zero at = refl
-no_piece_texts_of_no_bytes (suc most) at = refl
+no_piece_texts_of_no_bytes (suc fuel) at = refl
 
 pub source_is_complete : (full_text out rest : List ℕ) (at : ℕ) → length rest ≡ 0 → IsSourceSoFar full_text out at rest → out ≡ full_text
-source_is_complete full_text out [] at none w = sym (append-nil out) ∙ (ap (λ (ls : List (List ℕ)). out ++ flat_map as_line ls) (sym (no_piece_texts_of_no_bytes w.most at)) ∙ w.text)
+source_is_complete full_text out [] at none w = sym (append-nil out) ∙ (ap (λ (ls : List (List ℕ)). out ++ flat_map as_line ls) (sym (no_piece_texts_of_no_bytes w.fuel at)) ∙ w.text)
 source_is_complete full_text out (b ∷ rest) at none w = absurd (omega (arith, none))
 
 -- ---- the listing

@@ -31,7 +31,7 @@ pub struct HostDisk<H: HostFile> {
     end: Ending,
     is_name_stable: bool,
     is_full: bool,
-    ghost kept: { bytes.items ≡ bytes_after history.start (calls_in history.notes) },
+    ghost bytes_match_calls: { bytes.items ≡ bytes_after history.start (calls_in history.notes) },
     ghost sized: { length bytes.items ≡ length history.start },
     ghost not_standard_stream: { IsNotStandardStream (H.HostFile.state file).number },
 }

@@ -4,7 +4,7 @@ use Rattle.std.specs.Char.{digit_value}
 use Rattle.mcs_model.proofs.Digits.{value_with_digit_read, no_value-with_non_digit, value_of_all_digits}
 use Rattle.std.specs.Prelude.{option_map, None}
 use Rattle.mcs_model.specs.Numerals.{value_of_digits}
-use Rattle.mcs_model.proofs.numeral.digits.Goals as goal
+use Rattle.mcs_model.proofs.numeral.parse_digits.Goals as goal
 
 pub returns-in_err-digit : goal.returns-in_err-digit
 returns-in_err-digit c =
