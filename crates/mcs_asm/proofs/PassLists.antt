@@ -241,10 +241,10 @@ assembly_fails_if_second_pass_fails (Refused f) line text ls names is one same f
 pub second_pass_result_is_final : (r : Result (Survey × List (Option ℕ)) AsmFault) (text : List ℕ) (ls : List (List ℕ)) (names : Names) → ls ≡ lines_of text → earliest_first_pass_fault (read ls) ≡ None → names ≡ all_names (read ls) → IsSecondPassResult r (read ls) names → IsResultOfBothPasses r text
 second_pass_result_is_final (Err f) text ls names is one same fails = assembly_fails_if_second_pass_fails f.kind f.line text ls names is one same fails
 second_pass_result_is_final (Ok found) text ls names is one same passed =
-    let spelt_is : assembly_of_text text ≡ Ok (pairs_before (read ls) names (length (read ls))) = assembles_if_no_fault text ls names is one same passed.0 in
+    let assembly_is : assembly_of_text text ≡ Ok (pairs_before (read ls) names (length (read ls))) = assembles_if_no_fault text ls names is one same passed.0 in
     let lines : survey_of (read (lines_of text)) ≡ survey_of (read ls) = ap (λ (l : List (List ℕ)). survey_of (read l)) (sym is) in
     let found_is : survey_of (read ls) ≡ found.0 = ap (λ (n : Names). record { spans = spans_before (read ls) n (length (read ls)); names = n }) (sym same) ∙ sym passed.1 in
-    (ap (result_map_both (λ ps. survey_of (read (lines_of text))) (λ f. f)) spelt_is ∙ ap Ok (lines ∙ found_is), (pairs_before (read ls) names (length (read ls)), spelt_is, passed.2))
+    (ap (result_map_both (λ ps. survey_of (read (lines_of text))) (λ f. f)) assembly_is ∙ ap Ok (lines ∙ found_is), (pairs_before (read ls) names (length (read ls)), assembly_is, passed.2))
 
 -- If the assembly of a text fails, its survey fails with the same error.
 pub survey_fails_if_assembly_fails : (kind : FaultKind) (line : ℕ) (text : List ℕ) → IsErrorAtLine kind line (assembly_of_text text) → IsErrorAtLine kind line (survey_of_text text)

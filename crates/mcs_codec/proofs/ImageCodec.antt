@@ -115,8 +115,8 @@ addressed_codec marks (suc n) at limit k =
 
 -- ---- the bits of a byte
 
-byte_of_its_own_bits : (n : ℕ) → n < 256 → byte_of_bits (bit_of n) ≡ n
-byte_of_its_own_bits n lt = omega arith
+byte_from_bits_of_byte : (n : ℕ) → n < 256 → byte_of_bits (bit_of n) ≡ n
+byte_from_bits_of_byte n lt = omega arith
 
 bit_of_byte : (f : ℕ → ℕ) (k : ℕ) → ((i : ℕ) → f i < 2) → k < 8 → bit_of (byte_of_bits f) k ≡ f k
 bit_of_byte f zero small lt = omega (arith, small 0, small 1, small 2, small 3, small 4, small 5, small 6, small 7)
@@ -149,7 +149,7 @@ mark_bytes_equal_marks marks image c m = sym (table_of-unique 512 (λ i. byte_of
     let n = get_or marks i 0 in
     let fits : n < 256 = All-from_recursion (λ v. v < 256) marks c.small i 0 (omega (arith, c.len)) in
     let bits : byte_of_bits (λ k. mark image (8 * i + k)) ≡ byte_of_bits (bit_of n) = rw (b 0 (omega arith), b 1 (omega arith), b 2 (omega arith), b 3 (omega arith), b 4 (omega arith), b 5 (omega arith), b 6 (omega arith), b 7 (omega arith)) refl in
-    sym (bits ∙ byte_of_its_own_bits n fits)))
+    sym (bits ∙ byte_from_bits_of_byte n fits)))
 
 mark_bytes_have_marks : (image : List (ℕ × ℕ)) → HasMarksOf (mark_bytes image) 0 4096 image
 unfolding mark_bytes mark_bit

@@ -53,10 +53,10 @@ makes_with_area_of_other_error snap calls old mid new e f same makes =
 -- if `check_blank` returned Ok, the list of calls has one more read
 pub one_read_if_check_blank_is_ok : (old new : List DiskCall) {T : Type 0} (x : T) (A : Type 0) → MakesCalls {T = T} {E = StoreFault} (WasRead ∷ []) old new (Ok x) ⊎ (IsErrOf {T = T} {E = StoreFault} (Ok x) store_fault.NotBlank × A) → new ≡ WasRead ∷ old
 one_read_if_check_blank_is_ok old new x A (inl made) = made.all
-one_read_if_check_blank_is_ok old new x A (inr other) = absurd (erred other.0)
+one_read_if_check_blank_is_ok old new x A (inr other) = absurd (no_error other.0)
   where
-    erred : IsErrOf (Ok x) store_fault.NotBlank → ⊥
-    erred none = cc
+    no_error : IsErrOf (Ok x) store_fault.NotBlank → ⊥
+    no_error none = cc
 
 error_is_not_device_and_not_blank : {T : Type 0} (read : Result T StoreFault) → read ≡ Err store_fault.Device → read ≡ Err store_fault.NotBlank → ⊥
 error_is_not_device_and_not_blank read device not_blank = cc
