@@ -133,7 +133,7 @@ at-most-one-line-in-either-case false lines l = omega arith
 
 -- `IsTraceSoFar` still holds after one more instruction.
 pub trace-so-far-next : (probes : List Probe) (left k d : ℕ) (s t u : Machine) (regs : Regs) (before text later longer : List ℕ) (lines added : ℕ) → t ≡ after_cycles k s → IsInstructionRun left t u d → 0 < d → regs ≡ t.0 → IsTraceSoFar probes k s t before text lines → later ≡ row probes u → added ≡ length (cycle_lines probes regs.owed k regs.pc before (row probes u)) → longer ≡ text ++ lines_text (cycle_lines probes regs.owed k regs.pc before (row probes u)) → IsTraceSoFar probes (k + d) s u later longer (lines + added)
-trace-so-far-next probes left k d s t u regs before text later longer lines added at ran some e report now count grown =
+trace-so-far-next probes left k d s t u regs before text later longer lines added at ran some e report now count new_text =
     let more : List (List ℕ) = cycle_lines probes regs.owed k regs.pc before (row probes u) in
     let after : row probes u ≡ row probes (cycle_at s k).after = ap (row probes) (only_owed_differs-after_instruction left d t u ran some) ∙ row-ignores-owed probes (after_cycles 1 t) u.0.owed ∙ ap (row probes) (after_cycles-next k s t at) in
     let same : more ≡ (if begins (cycle_at s k) then trace_line probes (cycle_at s k) else []) = cycle-lines-are-trace-line probes k s regs.owed regs.pc before (row probes u)
@@ -146,7 +146,7 @@ trace-so-far-next probes left k d s t u regs before text later longer lines adde
     let few_so_far = report.few in
     record {
       row_now = now;
-      so_far = text-of-appended-lines (lines_within probes k s) more _ text longer all report.so_far grown;
+      so_far = text-of-appended-lines (lines_within probes k s) more _ text longer all report.so_far new_text;
       count = length-of-appended-lines (lines_within probes k s) more _ lines (lines + added) all report.count (ap (λ m. lines + m) count);
       few = omega arith;
     }

@@ -26,7 +26,7 @@ pub comma_list_if_dash_appended : (before old new : List ℕ) (items : List (Lis
     → new ≡ before ++ comma_list items
 comma_list_if_dash_appended before old new [] same listed here = here ∙ ap (λ v. v ++ codes "-") (listed ∙ append-nil before)
 comma_list_if_dash_appended before old new (x ∷ xs) same listed here =
-    let whole : length old ≡ length before + (length (x ++ 44 ∷ []) + length (with_commas xs)) =
+    let old_length : length old ≡ length before + (length (x ++ 44 ∷ []) + length (with_commas xs)) =
     ap length listed ∙ length-append before (with_commas (x ∷ xs)) ∙ ap (λ n. length before + n) (length-append (x ++ 44 ∷ []) (with_commas xs)) in
     let more : length (x ++ 44 ∷ []) ≡ length x + 1 = length-append x (44 ∷ []) in
     absurd (omega arith)
@@ -41,9 +41,9 @@ comma_list_if_last_comma_removed before old new [] more listed here =
     absurd (omega arith)
 comma_list_if_last_comma_removed before old new (x ∷ xs) more listed here =
     let text = before ++ join_with_byte 44 (x ∷ xs) in
-    let whole : old ≡ text ++ 44 ∷ [] =
+    let old_is_text : old ≡ text ++ 44 ∷ [] =
     listed ∙ ap (λ v. before ++ v) (sym (joined_with_commas x xs)) ∙ sym (append_assoc before (join_with_byte 44 (x ∷ xs)) (44 ∷ [])) in
-    here ∙ ap (λ v. take (length v - 1) v) whole ∙ take_all_but_last text 44
+    here ∙ ap (λ v. take (length v - 1) v) old_is_text ∙ take_all_but_last text 44
 
 -- Commas can be added to the items before or after the lists are joined, with the same result.
 pub with_commas-flat_map : {A : Type 0} (f : A → List (List ℕ)) (xs : List A) → with_commas (flat_map f xs) ≡ flat_map (λ x. with_commas (f x)) xs

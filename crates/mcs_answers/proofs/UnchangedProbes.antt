@@ -195,9 +195,9 @@ pub row-ignores-owed : (probes : List Probe) (t : Machine) (n : ℕ) → row pro
 row-ignores-owed [] t n = refl
 row-ignores-owed (p ∷ ps) t n = rw (probe-text-ignores-owed p t n, row-ignores-owed ps t n) refl
 
-not-owed-if-instruction-begun : (owed : Bool) (op : Op) (at did : Option Op) → did ≡ Some op → did ≡ (if owed then None else at) → (owed ≡ false) × (at ≡ Some op)
-not-owed-if-instruction-begun true op at did e f = absurd (cc)
-not-owed-if-instruction-begun false op at did e f = (refl, sym f ∙ e)
+not-owed-if-instruction-begun : (owed : Bool) (op : Op) (at begun : Option Op) → begun ≡ Some op → begun ≡ (if owed then None else at) → (owed ≡ false) × (at ≡ Some op)
+not-owed-if-instruction-begun true op at begun e f = absurd (cc)
+not-owed-if-instruction-begun false op at begun e f = (refl, sym f ∙ e)
 
 one_cycle_is_effect : (op : Op) (t : Machine) → eqb t.0.owed 1 ≡ false → instruction_at t.0 t.1 ≡ Some op → after_cycles 1 t ≡ effect op t.0 t.1
 unfolding cycle_of
@@ -206,12 +206,12 @@ one_cycle_is_effect op t off at = rw (off, at) refl
 -- After an instruction of a run, the bus is the bus that `bus_after` returns.
 pub run-leaves-bus-after : (stops : StopConditions) (left : ℕ) (t u : Machine) (w : InstructionResult) (op : Op) → IsInstructionResult stops left t u w → w.op ≡ Some op → u ≡ (u.0, bus_after op t.0 t.1)
 run-leaves-bus-after stops left t u w op h e =
-    let is = not-owed-if-instruction-begun (eqb t.0.owed 1) op (instruction_at t.0 t.1) w.op e h.op in
+    let begun = not-owed-if-instruction-begun (eqb t.0.owed 1) op (instruction_at t.0 t.1) w.op e h.op in
     let rest = only_owed_differs-after_instruction left w.cycles t u h.ran h.some in
-    ap (λ (m : BusState). (u.0, m)) (ap (λ (v : Machine). v.1) rest ∙ ap (λ (v : Machine). v.1) (one_cycle_is_effect op t is.0 is.1))
+    ap (λ (m : BusState). (u.0, m)) (ap (λ (v : Machine). v.1) rest ∙ ap (λ (v : Machine). v.1) (one_cycle_is_effect op t begun.0 begun.1))
 
 -- If `RowStaysSame` holds for an instruction, the row is the same before and after it.
-row-stays-same-by-values : (stops : StopConditions) (left : ℕ) (t u : Machine) (w : InstructionResult) (before after : Regs) (probes : List Probe) (did : Option Op) → IsInstructionResult stops left t u w → before ≡ t.0 → after ≡ u.0 → w.op ≡ did → RowStaysSame did before after probes → row probes t ≡ row probes u
+row-stays-same-by-values : (stops : StopConditions) (left : ℕ) (t u : Machine) (w : InstructionResult) (before after : Regs) (probes : List Probe) (begun : Option Op) → IsInstructionResult stops left t u w → before ≡ t.0 → after ≡ u.0 → w.op ≡ begun → RowStaysSame begun before after probes → row probes t ≡ row probes u
 row-stays-same-by-values stops left t u w before after probes None h e f is same = absurd same
 row-stays-same-by-values stops left t u w before after probes (Some op) h e f is same =
     sym (ap (row probes) (run-leaves-bus-after stops left t u w op h is ∙ ap (λ (r : Regs). (r, bus_after op t.0 t.1)) (sym f) ∙ ap (λ (r : Regs). (after, bus_after op r t.1)) (sym e))
@@ -317,7 +317,7 @@ pub stays-same-for-any-registers : (op : Op) (p : Probe) → ((before after : Re
 stays-same-for-any-registers op p h s m = h s (registers_after op (after_fetch op s) m) m
 
 -- If `RowAlwaysStaysSame` holds for an instruction, the row is the same before and after it.
-row-stays-same-by-kinds : (stops : StopConditions) (left : ℕ) (t u : Machine) (w : InstructionResult) (probes : List Probe) (did : Option Op) → IsInstructionResult stops left t u w → w.op ≡ did → RowAlwaysStaysSame did probes → row probes t ≡ row probes u
+row-stays-same-by-kinds : (stops : StopConditions) (left : ℕ) (t u : Machine) (w : InstructionResult) (probes : List Probe) (begun : Option Op) → IsInstructionResult stops left t u w → w.op ≡ begun → RowAlwaysStaysSame begun probes → row probes t ≡ row probes u
 row-stays-same-by-kinds stops left t u w probes None h is same = absurd same
 row-stays-same-by-kinds stops left t u w probes (Some op) h is same =
     let at = not-owed-if-instruction-begun (eqb t.0.owed 1) op (instruction_at t.0 t.1) w.op is h.op in

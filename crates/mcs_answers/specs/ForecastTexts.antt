@@ -24,8 +24,8 @@ forecast_head word b n lines =
 
 -- The lines of `count` for an address: one if the run begins an instruction there, else none. A
 -- line has the address and the number of instructions begun there. For JCN and ISZ, the line also
--- has the number of these instructions after which the program counter is not the address plus 2
--- (`jumps_at`).
+-- has the number of jumps (`jumps_at`): how often the program counter after the instruction is not
+-- the address plus 2.
 abbrev pub count_line : List BegunInstruction → Machine → ℕ → List (List ℕ)
 count_line begun s at =
     if nat_lt 0 (runs_at begun at)

@@ -52,8 +52,8 @@ const STATE_BYTES: usize = 30
     + (10 + 5 * WATCHES)
     + 1;
 
-/// The room for the longest value in a trace: a blank, then a chain. The room includes a comma,
-/// which is appended to the chain and then removed.
+/// The room for the longest value in a trace: a space, then a chain. The room includes a comma, which is appended to
+/// the chain and then removed.
 pub(crate) const PROBE_BYTES: usize = 1 + CHAIN_ITEM_BYTES;
 
 /// The room for the longest answer that needs no allocated memory, which is the answer to `ram` or

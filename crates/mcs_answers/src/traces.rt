@@ -491,17 +491,17 @@ fn add_lines<const REGISTERS: bool>(
         let regs = copy.regs();
         match copy.continue_run(n - done) {
             None => return Ok(trace_result(&copy, done, None, lines)),
-            Some(went) => {
+            Some(executed) => {
                 let rests = row_stays_same::<REGISTERS>(
                     probes,
                     probe_kinds,
-                    went.op,
+                    executed.op,
                     &regs,
                     &copy.regs(),
                 );
                 lines += add_instruction_line(text, &mut rows, done, &regs, rests, probes, &copy)?;
-                done += went.cycles;
-                if let Some(why) = went.mark {
+                done += executed.cycles;
+                if let Some(why) = executed.mark {
                     return Ok(trace_result(&copy, done, Some(why), lines));
                 }
             }

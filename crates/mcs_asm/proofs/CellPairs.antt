@@ -72,15 +72,15 @@ cells_hold_pairs_after_all_writes (b ∷ bytes) x cells pairs le kept free =
 -- If bytes at the `n` addresses that start at `x` overlap no pairs, no pair has any of these
 -- addresses.
 pub free_if_no_overlap : (pairs : List (ℕ × ℕ)) (x n : ℕ) → overlaps pairs x n ≡ false → (y : ℕ) → x ≤ y → y < x + n → IsAddressFree pairs y
-free_if_no_overlap pairs x n untaken y low high b has =
+free_if_no_overlap pairs x n untaken y low high b contained =
     let P : ℕ × ℕ → Bool = λ p. leb x p.0 && ltb p.0 (x + n) in
-    let yes : list_any P pairs ≡ true = list_any_at P pairs has.0 (y, b) (has.1) (rw has.2 (rw (le-leb x y low, lt-ltb y (x + n) high) refl)) in
-    absurd (true≢false (sym yes ∙ untaken))
+    let overlapping : list_any P pairs ≡ true = list_any_at P pairs contained.0 (y, b) (contained.1) (rw contained.2 (rw (le-leb x y low, lt-ltb y (x + n) high) refl)) in
+    absurd (true≢false (sym overlapping ∙ untaken))
 
 -- ---- the pairs in ascending order of address
 
 Contains-cons_cases : (p : ℕ × ℕ) (ps : List (ℕ × ℕ)) (q : ℕ × ℕ) → Contains (p ∷ ps) q → (p ≡ q) ⊎ Contains ps q
-Contains-cons_cases p ps q has = elim (Contains-append_cases (p ∷ []) ps q has) [
+Contains-cons_cases p ps q contained = elim (Contains-append_cases (p ∷ []) ps q contained) [
   | inl (zero, lt, e) ↦ inl e
   | inl (suc k, lt, e) ↦ absurd (omega (arith, lt))
   | inr more ↦ inr more
@@ -103,11 +103,11 @@ found_pair_is_contained (q ∷ pairs) a p e =
     ]) refl e
 
 contained_pair_is_found : (pairs : List (ℕ × ℕ)) (a b : ℕ) → Contains pairs (a, b) → find (λ (q : ℕ × ℕ). eqb q.0 a) pairs ≡ None → ⊥
-contained_pair_is_found [] a b has e = omega (arith, has.1)
-contained_pair_is_found (q ∷ pairs) a b has e =
+contained_pair_is_found [] a b contained e = omega (arith, contained.1)
+contained_pair_is_found (q ∷ pairs) a b contained e =
     (elim (eqb q.0 a) as (λ v. eqb q.0 a ≡ v → cond v (Some q) (find (λ (q : ℕ × ℕ). eqb q.0 a) pairs) ≡ None → ⊥) [
       | true ↦ λ yes f. none-some q (sym f)
-      | false ↦ λ no f. elim (Contains-cons_cases q pairs (a, b) has) [
+      | false ↦ λ no f. elim (Contains-cons_cases q pairs (a, b) contained) [
         | inl here ↦ true≢false (sym (eq-eqb q.0 a (ap (λ (r : ℕ × ℕ). r.0) here)) ∙ no)
         | inr more ↦ contained_pair_is_found pairs a b more f
       ]
@@ -159,9 +159,9 @@ image_is_by_address cells pairs kept =
 -- different bytes.
 pub has_one_byte_each : (cells : List (Option ℕ)) (pairs : List (ℕ × ℕ)) → HoldsPairs cells pairs → HaveOneByteEach pairs
 has_one_byte_each cells pairs kept = record {
-  within = λ a b has. elim (cases_lt a 4096) [
+  within = λ a b contained. elim (cases_lt a 4096) [
     | inl lt ↦ lt
-    | inr le ↦ absurd (none-some b (sym (get_or_past cells a None (omega (arith, le, kept.0))) ∙ (kept.1 a b).1 has))
+    | inr le ↦ absurd (none-some b (sym (get_or_past cells a None (omega (arith, le, kept.0))) ∙ (kept.1 a b).1 contained))
   ];
   once = λ a b c h k. some_is_injective b c (sym ((kept.1 a b).1 h) ∙ (kept.1 a c).1 k);
 }
@@ -173,7 +173,7 @@ no_byte_in_replicated_none n a b e = elim (cases_lt a n) [
 ]
 
 pub empty_cells_hold_no_pairs : HoldsPairs (replicate 4096 None) []
-empty_cells_hold_no_pairs = (length-replicate {A = Option ℕ} 4096 None, λ a b. ((λ e. absurd (no_byte_in_replicated_none 4096 a b e)), (λ has. absurd (omega (arith, has.1)))))
+empty_cells_hold_no_pairs = (length-replicate {A = Option ℕ} 4096 None, λ a b. ((λ e. absurd (no_byte_in_replicated_none 4096 a b e)), (λ contained. absurd (omega (arith, contained.1)))))
 
 -- ---- The overlap test on the cells gives the same result as the overlap test on the pairs.
 
@@ -211,17 +211,17 @@ pub taken_equals_overlaps : (cells : List (Option ℕ)) (pairs : List (ℕ × �
 taken_equals_overlaps cells pairs at n kept = equal_if_equivalent (list_any is_some (take n (drop at cells))) (overlaps pairs at n)
     (λ e.
     let r = first_taken_cell (drop at cells) n e in
-    let full : get_or cells (at + r.0) None ≡ Some r.1 = sym (get_or-drop at cells r.0 None) ∙ r.3 in
-    let has = (kept.1 (at + r.0) r.1).0 full in
-    list_any_at (is_address_in_range at n) pairs has.0 (at + r.0, r.1) has.1 (rw has.2 (rw (le-leb at (at + r.0) (omega arith), lt-ltb (at + r.0) (at + n) (omega (arith, r.2))) refl)))
+    let cell_has_byte : get_or cells (at + r.0) None ≡ Some r.1 = sym (get_or-drop at cells r.0 None) ∙ r.3 in
+    let contained = (kept.1 (at + r.0) r.1).0 cell_has_byte in
+    list_any_at (is_address_in_range at n) pairs contained.0 (at + r.0, r.1) contained.1 (rw contained.2 (rw (le-leb at (at + r.0) (omega arith), lt-ltb (at + r.0) (at + n) (omega (arith, r.2))) refl)))
     (λ e.
     let r = pair_that_satisfies (is_address_in_range at n) pairs e in
     let parts = and_parts (leb at r.0.0) (ltb r.0.0 (at + n)) r.2 in
     let low : at ≤ r.0.0 = leb-true at r.0.0 parts.0 in
     let high : r.0.0 < at + n = ltb-true r.0.0 (at + n) parts.1 in
     let k : ℕ = r.0.0 - at in
-    let full : get_or cells r.0.0 None ≡ Some r.0.1 = (kept.1 r.0.0 r.0.1).1 r.1 in
+    let cell_has_byte : get_or cells r.0.0 None ≡ Some r.0.1 = (kept.1 r.0.0 r.0.1).1 r.1 in
     let back : at + k ≡ r.0.0 = omega (arith, low) in
-    any_cell_taken_if_one_is (drop at cells) n k r.0.1 (omega (arith, low, high)) (get_or-drop at cells k None ∙ rw back full))
+    any_cell_taken_if_one_is (drop at cells) n k r.0.1 (omega (arith, low, high)) (get_or-drop at cells k None ∙ rw back cell_has_byte))
 
 pub ruleset new_rules = (replicate_more, length-replicate)

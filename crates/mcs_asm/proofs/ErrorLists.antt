@@ -191,12 +191,12 @@ rejected_line_has_error b l f e = sym (fault_if_line_rejected (first_pass_line_f
 -- `i`.
 pub record IsFirstPassReported (ls : List (Bor (List ℕ))) (i : ℕ) (b : FirstPassState) (errors : List LineError) : Type 0 where
   pub within : i ≤ length ls
-  pub here : b ≡ first_pass_skipping_errors (parsed_lines ls) i
+  pub start : b ≡ first_pass_skipping_errors (parsed_lines ls) i
   pub reported : errors ≡ reported_errors (errors_before (first_pass_error (parsed_lines ls)) i)
 
 pub first_pass_report_at_start : (ls : List (Bor (List ℕ))) → IsFirstPassReported ls 0 first_pass_start []
 unfolding first_pass_skipping_errors errors_before
-first_pass_report_at_start ls = record { within = omega arith; here = refl; reported = sym (take_all 100 [] (omega arith)) }
+first_pass_report_at_start ls = record { within = omega arith; start = refl; reported = sym (take_all 100 [] (omega arith)) }
 
 reported_errors_before_next_line : (error : ℕ → Option SourceFault) (i : ℕ) (o : Option SourceFault) (errors more : List LineError) → errors ≡ reported_errors (errors_before error i) → o ≡ error i → more ≡ reported_errors (errors ++ cons_option (option_map (error_at i) o) [])
     → more ≡ reported_errors (errors_before error (i + 1))
@@ -216,18 +216,18 @@ pub first_pass_report_at_next_line : (ls : List (Bor (List ℕ))) (i : ℕ) (b n
     → o ≡ first_pass_line_fault b.at b.names (line_of (tokens (get_or ls i d).now)) → new ≡ unless_error o b (first_pass_after_line b (line_of (tokens (get_or ls i d).now))) → more ≡ reported_errors (errors ++ cons_option (option_map (error_at i) o) []) → IsFirstPassReported ls (i + 1) new more
 first_pass_report_at_next_line ls i b new errors more d o lt h same step e =
     let lines : List (Option SourceLine) = parsed_lines ls in
-    let is : o ≡ first_pass_error lines i = same ∙ first_pass_error_of_ith_line b ls i d lt h.here in
+    let is : o ≡ first_pass_error lines i = same ∙ first_pass_error_of_ith_line b ls i d lt h.start in
     let here : new ≡ first_pass_skipping_errors lines (i + 1) =
     step
     ∙ (ap (λ (l : Option SourceLine). unless_error o b (first_pass_after_line b l)) (sym (parsed_line_at ls i d lt))
-    ∙ (ap (λ (c : FirstPassState). unless_error o c (first_pass_after_line c (ith_line lines i))) h.here
+    ∙ (ap (λ (c : FirstPassState). unless_error o c (first_pass_after_line c (ith_line lines i))) h.start
     ∙ (ap (λ (p : Option SourceFault). unless_error p (first_pass_skipping_errors lines i) (first_pass_after_line (first_pass_skipping_errors lines i) (ith_line lines i))) is ∙ sym (state_skipping_errors_of_next_line lines i)))) in
-    record { within = omega (arith, lt); here = here; reported = reported_errors_before_next_line (first_pass_error lines) i o errors more h.reported is e }
+    record { within = omega (arith, lt); start = here; reported = reported_errors_before_next_line (first_pass_error lines) i o errors more h.reported is e }
 
 pub first_pass_report_after_last_line : (ls : List (Bor (List ℕ))) (i : ℕ) (b : FirstPassState) (errors : List LineError) → length ls ≤ i → IsFirstPassReported ls i b errors → (b ≡ first_pass_skipping_errors (parsed_lines ls) (length ls)) × (errors ≡ reported_errors (first_pass_errors (parsed_lines ls)))
 first_pass_report_after_last_line ls i b errors le h =
     let all : i ≡ length ls = omega (arith, le, h.within) in
-    (h.here ∙ ap (first_pass_skipping_errors (parsed_lines ls)) all, h.reported ∙ ap (λ (n : ℕ). reported_errors (errors_before (first_pass_error (parsed_lines ls)) n)) (all ∙ sym (parsed_lines_length ls)))
+    (h.start ∙ ap (first_pass_skipping_errors (parsed_lines ls)) all, h.reported ∙ ap (λ (n : ℕ). reported_errors (errors_before (first_pass_error (parsed_lines ls)) n)) (all ∙ sym (parsed_lines_length ls)))
 
 pub first_pass_report_has_at_most_100 : (ls : List (Bor (List ℕ))) (i : ℕ) (b : FirstPassState) (errors : List LineError) → IsFirstPassReported ls i b errors → length errors ≤ 100
 first_pass_report_has_at_most_100 ls i b errors h = rw h.reported (reported_at_most_100 (errors_before (first_pass_error (parsed_lines ls)) i))
@@ -236,20 +236,20 @@ first_pass_report_has_at_most_100 ls i b errors h = rw h.reported (reported_at_m
 -- before line `i`.
 pub record IsSecondPassReported (ls : List (Bor (List ℕ))) (names : Names) (i at : ℕ) (cells : List (Option ℕ)) (errors : List LineError) : Type 0 where
   pub within : i ≤ length ls
-  pub here : at ≡ address_of (parsed_lines ls) i
-  pub kept : HoldsPairs cells (pairs_skipping_errors (parsed_lines ls) names i)
+  pub start : at ≡ address_of (parsed_lines ls) i
+  pub holds_pairs : HoldsPairs cells (pairs_skipping_errors (parsed_lines ls) names i)
   pub reported : errors ≡ reported_errors (errors_before (second_pass_error (parsed_lines ls) names) i)
 
 pub second_pass_report_at_start : (ls : List (Bor (List ℕ))) (names : Names) → IsSecondPassReported ls names 0 0 (replicate 4096 None) []
 unfolding address_of pairs_skipping_errors errors_before
-second_pass_report_at_start ls names = record { within = omega arith; here = refl; kept = empty_cells_hold_no_pairs; reported = sym (take_all 100 [] (omega arith)) }
+second_pass_report_at_start ls names = record { within = omega arith; start = refl; holds_pairs = empty_cells_hold_no_pairs; reported = sym (take_all 100 [] (omega arith)) }
 
 pub valid_ith_line_in_second_pass_report : (ls : List (Bor (List ℕ))) (names : Names) (i at : ℕ) (cells : List (Option ℕ)) (errors : List LineError) (d : Bor (List ℕ)) → i < length ls → earliest_first_pass_fault (parsed_lines ls) ≡ None → IsSecondPassReported ls names i at cells errors
     → HasValidNumberAndAddress at (line_of (tokens (get_or ls i d).now))
 valid_ith_line_in_second_pass_report ls names i at cells errors d lt one h =
     let none : first_pass_fault (parsed_lines ls) i ≡ None = no_fault_before_if_first_fault_is_none (first_pass_fault (parsed_lines ls)) (length (parsed_lines ls)) one i (omega (arith, parsed_lines_length ls, lt)) in
     let passes : HasValidNumberAndAddress (address_of (parsed_lines ls) i) (ith_line (parsed_lines ls) i) = valid_number_and_address_if_no_fault (address_of (parsed_lines ls) i) (names_before (parsed_lines ls) i) (ith_line (parsed_lines ls) i) (no_first_pass_fault_at (parsed_lines ls) i none) in
-    subst (λ (n : ℕ). HasValidNumberAndAddress n (line_of (tokens (get_or ls i d).now))) (sym h.here) (subst (HasValidNumberAndAddress (address_of (parsed_lines ls) i)) (parsed_line_at ls i d lt) passes)
+    subst (λ (n : ℕ). HasValidNumberAndAddress n (line_of (tokens (get_or ls i d).now))) (sym h.start) (subst (HasValidNumberAndAddress (address_of (parsed_lines ls) i)) (parsed_line_at ls i d lt) passes)
 
 line_bytes_of_ith_line : (ls : List (Bor (List ℕ))) (names : Names) (i at : ℕ) (d : Bor (List ℕ)) → i < length ls → at ≡ address_of (parsed_lines ls) i → line_bytes at names (line_of (tokens (get_or ls i d).now)) ≡ line_bytes (address_of (parsed_lines ls) i) names (ith_line (parsed_lines ls) i)
 line_bytes_of_ith_line ls names i at d lt here =
@@ -268,16 +268,16 @@ pub second_pass_report_at_next_line : (ls : List (Bor (List ℕ))) (names : Name
     → now ≡ next_at (line_of (tokens (get_or ls i d).now)) at → more ≡ reported_errors (errors ++ cons_option (option_map (error_at i) o) []) → IsSecondPassReported ls names (i + 1) now new more
 second_pass_report_at_next_line ls names i at now cells new errors more d o lt h reports step e =
     let lines : List (Option SourceLine) = parsed_lines ls in
-    let is : o ≡ second_pass_error lines names i = reports.0 ∙ second_pass_error_of_ith_line ls names i at d lt h.here in
+    let is : o ≡ second_pass_error lines names i = reports.0 ∙ second_pass_error_of_ith_line ls names i at d lt h.start in
     let here : now ≡ address_of lines (i + 1) =
-    step ∙ (ap (λ (l : Option SourceLine). next_at l at) (sym (parsed_line_at ls i d lt)) ∙ (ap (next_at (ith_line lines i)) h.here ∙ sym (address_of_next_line lines i))) in
+    step ∙ (ap (λ (l : Option SourceLine). next_at l at) (sym (parsed_line_at ls i d lt)) ∙ (ap (next_at (ith_line lines i)) h.start ∙ sym (address_of_next_line lines i))) in
     let added : from_address at (bytes_or_none (line_bytes at names (line_of (tokens (get_or ls i d).now)))) ≡ line_pairs lines names i =
-    ap (λ (r : Result (List ℕ) SourceFault). from_address at (bytes_or_none r)) (line_bytes_of_ith_line ls names i at d lt h.here)
-    ∙ ap (λ (n : ℕ). from_address n (bytes_or_none (line_bytes (address_of lines i) names (ith_line lines i)))) h.here in
+    ap (λ (r : Result (List ℕ) SourceFault). from_address at (bytes_or_none r)) (line_bytes_of_ith_line ls names i at d lt h.start)
+    ∙ ap (λ (n : ℕ). from_address n (bytes_or_none (line_bytes (address_of lines i) names (ith_line lines i)))) h.start in
     let pairs : unless_error o (pairs_skipping_errors lines names i) (pairs_skipping_errors lines names i ++ from_address at (bytes_or_none (line_bytes at names (line_of (tokens (get_or ls i d).now))))) ≡ pairs_skipping_errors lines names (i + 1) =
     ap (λ (ps : List (ℕ × ℕ)). unless_error o (pairs_skipping_errors lines names i) (pairs_skipping_errors lines names i ++ ps)) added
     ∙ (ap (λ (p : Option SourceFault). unless_error p (pairs_skipping_errors lines names i) (pairs_skipping_errors lines names i ++ line_pairs lines names i)) is ∙ sym (pairs_skipping_errors_of_next_line lines names i)) in
-    record { within = omega (arith, lt); here = here; kept = subst (HoldsPairs new) pairs reports.1; reported = reported_errors_before_next_line (second_pass_error lines names) i o errors more h.reported is e }
+    record { within = omega (arith, lt); start = here; holds_pairs = subst (HoldsPairs new) pairs reports.1; reported = reported_errors_before_next_line (second_pass_error lines names) i o errors more h.reported is e }
 
 pub second_pass_report_after_last_line : (ls : List (Bor (List ℕ))) (names : Names) (i at : ℕ) (cells : List (Option ℕ)) (errors : List LineError) → length ls ≤ i → names ≡ all_names (parsed_lines ls) → IsSecondPassReported ls names i at cells errors → errors ≡ reported_errors (second_pass_errors (parsed_lines ls))
 second_pass_report_after_last_line ls names i at cells errors le same h =

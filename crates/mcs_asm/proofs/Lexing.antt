@@ -17,10 +17,10 @@ unfolding tokens_after
 tokens_after_word_and_its_other_bytes word [] = ap (λ w. word_token_before w []) (sym (append-nil word))
 tokens_after_word_and_its_other_bytes word (b ∷ bytes) =
     let n : ℕ = prefix_len is_word_byte bytes in
-    let up : 1 + n ≡ suc n = omega arith in
+    let one_plus : 1 + n ≡ suc n = omega arith in
     let Q : Bool → Type 0 = λ t. cond t (tokens_after (word ++ b ∷ []) bytes) (word_token_before word (tokens_from_end_of_word (b ∷ bytes))) ≡ word_token_before (word ++ take (cond t (1 + n) 0) (b ∷ bytes)) (tokens_from_end_of_word (drop (cond t (1 + n) 0) (b ∷ bytes))) in
     elim (is_word_byte b) as Q [
-      | true ↦ tokens_after_word_and_its_other_bytes (word ++ b ∷ []) bytes ∙ rw (up, append_assoc word (b ∷ []) (take n bytes)) refl
+      | true ↦ tokens_after_word_and_its_other_bytes (word ++ b ∷ []) bytes ∙ rw (one_plus, append_assoc word (b ∷ []) (take n bytes)) refl
       | false ↦ rw (append-nil word) refl
     ]
 
@@ -29,10 +29,10 @@ unfolding tokens_after
 tokens_after_nothing_without_blanks [] = refl
 tokens_after_nothing_without_blanks (b ∷ bytes) =
     let n : ℕ = prefix_len is_blank bytes in
-    let up : 1 + n ≡ suc n = omega arith in
+    let one_plus : 1 + n ≡ suc n = omega arith in
     let Q : Bool → Type 0 = λ t. is_blank b ≡ t → tokens_after [] (b ∷ bytes) ≡ tokens_after [] (drop (cond t (1 + n) 0) (b ∷ bytes)) in
     (elim (is_blank b) as Q [
-      | true ↦ λ yes. rw (blank_is_no_word_byte b yes, yes, up) (tokens_after_nothing_without_blanks bytes)
+      | true ↦ λ yes. rw (blank_is_no_word_byte b yes, yes, one_plus) (tokens_after_nothing_without_blanks bytes)
       | false ↦ λ no. refl
     ]) refl
 
@@ -52,10 +52,10 @@ pub no_prefix_after_prefix : (p : ℕ → Bool) (xs : List ℕ) → prefix_len p
 no_prefix_after_prefix p [] = refl
 no_prefix_after_prefix p (x ∷ xs) =
     let n : ℕ = prefix_len p xs in
-    let up : 1 + n ≡ suc n = omega arith in
+    let one_plus : 1 + n ≡ suc n = omega arith in
     let Q : Bool → Type 0 = λ t. p x ≡ t → prefix_len p (drop (cond t (1 + n) 0) (x ∷ xs)) ≡ 0 in
     (elim (p x) as Q [
-      | true ↦ λ yes. rw up (no_prefix_after_prefix p xs)
+      | true ↦ λ yes. rw one_plus (no_prefix_after_prefix p xs)
       | false ↦ λ no. rw no refl
     ]) refl
 

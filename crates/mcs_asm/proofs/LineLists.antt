@@ -16,11 +16,11 @@ unfolding lines_after
 lines_after_partial_line line [] = ap (last_line true) (sym (append-nil line))
 lines_after_partial_line line (b ∷ bytes) =
     let n : ℕ = position_or_len is_line_feed bytes in
-    let up : 1 + n ≡ suc n = omega arith in
+    let one_plus : 1 + n ≡ suc n = omega arith in
     let Q : Bool → Type 0 = λ t. cond t (strip_carriage_return line ∷ lines_after true [] bytes) (lines_after true (line ++ b ∷ []) bytes) ≡ lines_from_first (line ++ take (cond (not t) (1 + n) 0) (b ∷ bytes)) (drop (cond (not t) (1 + n) 0) (b ∷ bytes)) in
     elim (eqb b 10) as Q [
       | true ↦ ap (λ (l : List ℕ). strip_carriage_return l ∷ lines_after true [] bytes) (sym (append-nil line)) ∙ ap (λ (ls : List (List ℕ)). strip_carriage_return (line ++ []) ∷ ls) (sym (byte_by_byte bytes true))
-      | false ↦ lines_after_partial_line (line ++ b ∷ []) bytes ∙ rw (up, append_assoc line (b ∷ []) (take n bytes)) refl
+      | false ↦ lines_after_partial_line (line ++ b ∷ []) bytes ∙ rw (one_plus, append_assoc line (b ∷ []) (take n bytes)) refl
     ]
 
 pub lines_of_text_from_first_line : (text : List ℕ) → lines_of text ≡ lines_from_first (take (position_or_len is_line_feed text) text) (drop (position_or_len is_line_feed text) text)
@@ -32,8 +32,8 @@ pub lines_of_only_line : (text line rest cut : List ℕ) (n : ℕ) → n ≡ pos
 unfolding lines
 lines_of_only_line text line [] cut n len within some front back none is =
     let short : 0 ≡ length text - n = ap length back ∙ length-drop n text in
-    let full : 0 < length line = omega (arith, ap length front ∙ length-take n text, short, within, some) in
-    (lines_of_text_from_first_line text ∙ rw (← len, ← back, ← front) (last_line-nonempty line full ∙ rw is refl), omega (arith, some))
+    let not_empty : 0 < length line = omega (arith, ap length front ∙ length-take n text, short, within, some) in
+    (lines_of_text_from_first_line text ∙ rw (← len, ← back, ← front) (last_line-nonempty line not_empty ∙ rw is refl), omega (arith, some))
 lines_of_only_line text line (b ∷ rest) cut n len within some front back none is = absurd (omega (arith, none))
 
 -- If a line feed follows the first line, the other lines are the lines of the bytes after the line

@@ -22,9 +22,9 @@ is_defined_in_view w (e ∷ es) = ap (λ b. bytes_eq e.0.now w || b) (is_defined
 other_name_differs_from_equal_name : (m bs w : List ℕ) → bytes_eq m bs ≡ false → bytes_eq m w ≡ true → bytes_eq bs w ≡ false
 other_name_differs_from_equal_name m bs w h e = false_from_ne_true (bytes_eq bs w) (λ t. true≢false (sym ((bytes_eq-Decides m bs).1 ((bytes_eq-Decides m w).0 e ∙ sym ((bytes_eq-Decides bs w).0 t))) ∙ h))
 
-later_name_is_ignored : (a b : Bool) (first last rest whole : Option ℕ) → (a ≡ true → b ≡ false) → whole ≡ cond b last rest → cond a first whole ≡ cond b last (cond a first rest)
-later_name_is_ignored true b first last rest whole h is = rw (h refl) refl
-later_name_is_ignored false b first last rest whole h is = is
+later_name_is_ignored : (a b : Bool) (first last rest found : Option ℕ) → (a ≡ true → b ≡ false) → found ≡ cond b last rest → cond a first found ≡ cond b last (cond a first rest)
+later_name_is_ignored true b first last rest found h is = rw (h refl) refl
+later_name_is_ignored false b first last rest found h is = is
 
 value_of_with_name_appended : (bs : List ℕ) (v : ℕ) (names : Names) → is_defined bs names ≡ false → (w : List ℕ) → value_of w (names ++ (bs, v) ∷ []) ≡ cond (bytes_eq bs w) (Some v) (value_of w names)
 value_of_with_name_appended bs v [] h w = refl

@@ -44,12 +44,12 @@ parsed_lines_length ls = length-map (texts ls) (λ (l : List ℕ). line_of (toke
 -- error.
 pub record IsFirstPassBefore (ls : List (Bor (List ℕ))) (i : ℕ) (b : FirstPassState) : Type 0 where
   pub within : i ≤ length ls
-  pub here : b ≡ first_pass_before (parsed_lines ls) i
+  pub start : b ≡ first_pass_before (parsed_lines ls) i
   pub none : NoFaultBefore (first_pass_fault (parsed_lines ls)) i
 
 pub first_pass_invariant_at_start : (ls : List (Bor (List ℕ))) → IsFirstPassBefore ls 0 first_pass_start
 unfolding address_of names_before
-first_pass_invariant_at_start ls = record { within = omega arith; here = refl; none = λ j lt. absurd (omega (arith, lt)) }
+first_pass_invariant_at_start ls = record { within = omega arith; start = refl; none = λ j lt. absurd (omega (arith, lt)) }
 
 names_with_line_appends_definition : (line : Option SourceLine) (at : ℕ) (names : Names) → names_with_line line at names ≡ names ++ cons_option (definition line at) []
 names_with_line_appends_definition None at names = sym (append-nil names)
@@ -80,8 +80,8 @@ first_pass_step_of_ith_line b ls i d wanted lt here step =
 pub first_pass_invariant_at_next_line : (b new : FirstPassState) (ls : List (Bor (List ℕ))) (i : ℕ) (d : Bor (List ℕ)) → i < length ls → first_pass_with_line b (line_of (tokens (get_or ls i d).now)) ≡ Ok new → IsFirstPassBefore ls i b → IsFirstPassBefore ls (i + 1) new
 unfolding first_pass_fault
 first_pass_invariant_at_next_line b new ls i d lt step h =
-    let p = no_fault_if_line_accepted (first_pass_fault (parsed_lines ls) i) (first_pass_after_line (first_pass_before (parsed_lines ls) i) (ith_line (parsed_lines ls) i)) new (first_pass_step_of_ith_line b ls i d (Ok new) lt h.here step) in
-    record { within = omega (arith, lt); here = p.1 ∙ first_pass_before_next_line (parsed_lines ls) i; none = no_fault_before_next (first_pass_fault (parsed_lines ls)) i h.none p.0 }
+    let p = no_fault_if_line_accepted (first_pass_fault (parsed_lines ls) i) (first_pass_after_line (first_pass_before (parsed_lines ls) i) (ith_line (parsed_lines ls) i)) new (first_pass_step_of_ith_line b ls i d (Ok new) lt h.start step) in
+    record { within = omega (arith, lt); start = p.1 ∙ first_pass_before_next_line (parsed_lines ls) i; none = no_fault_before_next (first_pass_fault (parsed_lines ls)) i h.none p.0 }
 
 first_error_is_fault_of_line : (fault : ℕ → Option SourceFault) (ls : List (Bor (List ℕ))) (i line : ℕ) (f : SourceFault) → i < length ls → NoFaultBefore fault i → fault i ≡ Some f → line ≡ i + 1 → IsFirstError (Refused f) line (first_fault fault (length (parsed_lines ls)))
 first_error_is_fault_of_line fault ls i line f lt none here is =
@@ -92,12 +92,12 @@ pub earliest_error_if_first_pass_fails : (kind : FaultKind) (line : ℕ) (b new 
 unfolding first_pass_fault
 earliest_error_if_first_pass_fails NoMemory line b new ls i d lt step is h = is
 earliest_error_if_first_pass_fails (Refused f) line b new ls i d lt step is h =
-    first_error_is_fault_of_line (first_pass_fault (parsed_lines ls)) ls i line f lt h.none (fault_if_line_rejected (first_pass_fault (parsed_lines ls) i) (first_pass_after_line (first_pass_before (parsed_lines ls) i) (ith_line (parsed_lines ls) i)) f (first_pass_step_of_ith_line b ls i d (Err f) lt h.here step)) is
+    first_error_is_fault_of_line (first_pass_fault (parsed_lines ls)) ls i line f lt h.none (fault_if_line_rejected (first_pass_fault (parsed_lines ls) i) (first_pass_after_line (first_pass_before (parsed_lines ls) i) (ith_line (parsed_lines ls) i)) f (first_pass_step_of_ith_line b ls i d (Err f) lt h.start step)) is
 
 pub first_pass_state_after_last_line : (b : FirstPassState) (ls : List (Bor (List ℕ))) (i : ℕ) → length ls ≤ i → IsFirstPassBefore ls i b → (earliest_first_pass_fault (parsed_lines ls) ≡ None) × (b ≡ first_pass_before (parsed_lines ls) (length (parsed_lines ls)))
 first_pass_state_after_last_line b ls i le h =
     let all : i ≡ length (parsed_lines ls) = omega (arith, parsed_lines_length ls, le, h.within) in
-    (no_first_fault (first_pass_fault (parsed_lines ls)) (length (parsed_lines ls)) (λ j lt. h.none j (omega (arith, lt, all))), h.here ∙ ap (first_pass_before (parsed_lines ls)) all)
+    (no_first_fault (first_pass_fault (parsed_lines ls)) (length (parsed_lines ls)) (λ j lt. h.none j (omega (arith, lt, all))), h.start ∙ ap (first_pass_before (parsed_lines ls)) all)
 
 -- ---- the second pass
 
@@ -105,14 +105,14 @@ first_pass_state_after_last_line b ls i le h =
 -- earlier line has a second-pass error. `names` are the names that the text defines.
 pub record IsSecondPassBefore (ls : List (Bor (List ℕ))) (names : Names) (i at : ℕ) (cells : List (Option ℕ)) (spans : List Span) : Type 0 where
   pub within : i ≤ length ls
-  pub here : at ≡ address_of (parsed_lines ls) i
-  pub kept : HoldsPairs cells (pairs_before (parsed_lines ls) names i)
+  pub start : at ≡ address_of (parsed_lines ls) i
+  pub holds_pairs : HoldsPairs cells (pairs_before (parsed_lines ls) names i)
   pub spans_so_far : spans ≡ spans_before (parsed_lines ls) names i
   pub none : NoFaultBefore (second_pass_fault (parsed_lines ls) names) i
 
 pub second_pass_invariant_at_start : (ls : List (Bor (List ℕ))) (names : Names) → IsSecondPassBefore ls names 0 0 (replicate 4096 None) []
 unfolding address_of pairs_before spans_before
-second_pass_invariant_at_start ls names = record { within = omega arith; here = refl; kept = empty_cells_hold_no_pairs; spans_so_far = refl; none = λ j lt. absurd (omega (arith, lt)) }
+second_pass_invariant_at_start ls names = record { within = omega arith; start = refl; holds_pairs = empty_cells_hold_no_pairs; spans_so_far = refl; none = λ j lt. absurd (omega (arith, lt)) }
 
 first_and_last_condition_false : (p q r w : Bool) (a b c d : SourceFault) → cond p (Some a) (cond q (Some b) (cond r (Some c) (cond w (Some d) None))) ≡ None → (p ≡ false) × (w ≡ false)
 first_and_last_condition_false true q r w a b c d e = absurd (cc)
@@ -131,7 +131,7 @@ unfolding first_pass_fault
 valid_ith_line_if_no_first_pass_fault ls names i at cells spans d lt one h =
     let none : first_pass_fault (parsed_lines ls) i ≡ None = no_fault_before_if_first_fault_is_none (first_pass_fault (parsed_lines ls)) (length (parsed_lines ls)) one i (omega (arith, parsed_lines_length ls, lt)) in
     let passes : HasValidNumberAndAddress (address_of (parsed_lines ls) i) (ith_line (parsed_lines ls) i) = valid_number_and_address_if_no_fault (address_of (parsed_lines ls) i) (names_before (parsed_lines ls) i) (ith_line (parsed_lines ls) i) none in
-    subst (λ (n : ℕ). HasValidNumberAndAddress n (line_of (tokens (get_or ls i d).now))) (sym h.here) (subst (HasValidNumberAndAddress (address_of (parsed_lines ls) i)) (parsed_line_at ls i d lt) passes)
+    subst (λ (n : ℕ). HasValidNumberAndAddress n (line_of (tokens (get_or ls i d).now))) (sym h.start) (subst (HasValidNumberAndAddress (address_of (parsed_lines ls) i)) (parsed_line_at ls i d lt) passes)
 
 pub no_fault_if_bytes_accepted : (s : SecondPassState) (next : ℕ) (r : Result (List ℕ) SourceFault) (t : SecondPassState) → second_pass_with_bytes s next r ≡ Ok t → (second_pass_line_fault s.at s.pairs r ≡ None) × (t ≡ record { at = next; pairs = s.pairs ++ from_address s.at (bytes_or_none r) })
 no_fault_if_bytes_accepted s next (Err f) t e = absurd (cc)
@@ -186,17 +186,17 @@ pub second_pass_invariant_at_next_line : (ls : List (Bor (List ℕ))) (names : N
 unfolding second_pass_fault
 second_pass_invariant_at_next_line ls names i at now cells new spans more d lt h t step is kept added =
     let lines : List (Option SourceLine) = parsed_lines ls in
-    let p = no_fault_if_bytes_accepted (second_pass_before lines names i) (next_at (ith_line lines i) (address_of lines i)) (line_bytes (address_of lines i) names (ith_line lines i)) t (second_pass_step_of_ith_line ls names i at d (Ok t) lt h.here step) in
+    let p = no_fault_if_bytes_accepted (second_pass_before lines names i) (next_at (ith_line lines i) (address_of lines i)) (line_bytes (address_of lines i) names (ith_line lines i)) t (second_pass_step_of_ith_line ls names i at d (Ok t) lt h.start step) in
     let t_is : t ≡ second_pass_before lines names (i + 1) = p.1 ∙ second_pass_before_next_line lines names i in
     record {
       within = omega (arith, lt);
-      here = sym is ∙ ap (λ (s : SecondPassState). s.at) t_is;
-      kept = subst (λ (s : SecondPassState). HoldsPairs new s.pairs) t_is kept;
-      spans_so_far = added ∙ spans_with_line_appended ls names i at spans d lt h.here h.spans_so_far;
+      start = sym is ∙ ap (λ (s : SecondPassState). s.at) t_is;
+      holds_pairs = subst (λ (s : SecondPassState). HoldsPairs new s.pairs) t_is kept;
+      spans_so_far = added ∙ spans_with_line_appended ls names i at spans d lt h.start h.spans_so_far;
       none = no_fault_before_next (second_pass_fault lines names) i h.none p.0;
     }
 
--- If line `i` is the first line with a second-pass error, this error is the earliest one of the
+-- If line `i` is the first line with a second-pass error, this error is the earliest error of the
 -- text.
 pub earliest_error_if_line_rejected : (kind : FaultKind) (line : ℕ) (ls : List (Bor (List ℕ))) (names : Names) (i at now : ℕ) (cells new : List (Option ℕ)) (spans : List Span) (d : Bor (List ℕ)) → i < length ls → IsSecondPassBefore ls names i at cells spans
     → MatchesStateWithAddedBytes (Err kind) now new (second_pass_with_line names (second_pass_state_at at (pairs_before (parsed_lines ls) names i)) (line_of (tokens (get_or ls i d).now))) → IsLineNumber kind i line → IsFirstError kind line (earliest_second_pass_fault (parsed_lines ls) names)
@@ -205,7 +205,7 @@ earliest_error_if_line_rejected NoMemory line ls names i at now cells new spans 
 earliest_error_if_line_rejected (Refused f) line ls names i at now cells new spans d lt h refused is =
     let lines : List (Option SourceLine) = parsed_lines ls in
     first_error_is_fault_of_line (second_pass_fault lines names) ls i line f lt h.none
-    (fault_if_bytes_rejected (second_pass_before lines names i) (next_at (ith_line lines i) (address_of lines i)) (line_bytes (address_of lines i) names (ith_line lines i)) f (second_pass_step_of_ith_line ls names i at d (Err f) lt h.here refused)) is
+    (fault_if_bytes_rejected (second_pass_before lines names i) (next_at (ith_line lines i) (address_of lines i)) (line_bytes (address_of lines i) names (ith_line lines i)) f (second_pass_step_of_ith_line ls names i at d (Err f) lt h.start refused)) is
 
 -- After the last line, the second pass has the survey and the bytes of all lines.
 pub all_lines_emitted : (ls : List (Bor (List ℕ))) (names : Names) (i at : ℕ) (cells : List (Option ℕ)) (spans : List Span) (found : Survey) → length ls ≤ i → IsSecondPassBefore ls names i at cells spans → found ≡ record { spans = spans; names = names }
@@ -214,7 +214,7 @@ all_lines_emitted ls names i at cells spans found le h is =
     let all : i ≡ length (parsed_lines ls) = omega (arith, parsed_lines_length ls, le, h.within) in (
       no_first_fault (second_pass_fault (parsed_lines ls) names) (length (parsed_lines ls)) (λ j lt. h.none j (omega (arith, lt, all))),
       is ∙ ap (λ (s : List Span). record { spans = s; names = names }) (h.spans_so_far ∙ ap (spans_before (parsed_lines ls) names) all),
-      subst (λ (n : ℕ). HoldsPairs cells (pairs_before (parsed_lines ls) names n)) all h.kept,
+      subst (λ (n : ℕ). HoldsPairs cells (pairs_before (parsed_lines ls) names n)) all h.holds_pairs,
     )
 
 -- ---- both passes
@@ -224,8 +224,8 @@ pub assembly_fails_if_first_pass_fails : (kind : FaultKind) (line : ℕ) (text :
 unfolding assembly_of
 assembly_fails_if_first_pass_fails NoMemory line text ls is fails = fails
 assembly_fails_if_first_pass_fails (Refused f) line text ls is fails =
-    let whole : assembly_of (read ls) ≡ Err (line, f) = rw fails refl in
-    ap (λ (l : List (List ℕ)). assembly_of (read l)) (sym is) ∙ whole
+    let result_is : assembly_of (read ls) ≡ Err (line, f) = rw fails refl in
+    ap (λ (l : List (List ℕ)). assembly_of (read l)) (sym is) ∙ result_is
 
 -- If no line has a first-pass error, the earliest second-pass error is the error of the text.
 pub assembly_fails_if_second_pass_fails : (kind : FaultKind) (line : ℕ) (text : List ℕ) (ls : List (List ℕ)) (names : Names) → ls ≡ lines_of text → earliest_first_pass_fault (read ls) ≡ None → names ≡ all_names (read ls) → IsFirstError kind line (earliest_second_pass_fault (read ls) names)
@@ -234,17 +234,17 @@ unfolding assembly_of
 assembly_fails_if_second_pass_fails NoMemory line text ls names is one same fails = fails
 assembly_fails_if_second_pass_fails (Refused f) line text ls names is one same fails =
     let fails' : earliest_second_pass_fault (read ls) (all_names (read ls)) ≡ Some (line, f) = subst (λ (n : Names). earliest_second_pass_fault (read ls) n ≡ Some (line, f)) same fails in
-    let whole : assembly_of (read ls) ≡ Err (line, f) = rw (one, fails') refl in
-    ap (λ (l : List (List ℕ)). assembly_of (read l)) (sym is) ∙ whole
+    let result_is : assembly_of (read ls) ≡ Err (line, f) = rw (one, fails') refl in
+    ap (λ (l : List (List ℕ)). assembly_of (read l)) (sym is) ∙ result_is
 
 -- If no line has a first-pass error, the result of the second pass is the result of both passes.
 pub second_pass_result_is_final : (r : Result (Survey × List (Option ℕ)) AsmFault) (text : List ℕ) (ls : List (List ℕ)) (names : Names) → ls ≡ lines_of text → earliest_first_pass_fault (read ls) ≡ None → names ≡ all_names (read ls) → IsSecondPassResult r (read ls) names → IsResultOfBothPasses r text
 second_pass_result_is_final (Err f) text ls names is one same fails = assembly_fails_if_second_pass_fails f.kind f.line text ls names is one same fails
 second_pass_result_is_final (Ok found) text ls names is one same passed =
-    let spelt_is : assembly_of_text text ≡ Ok (pairs_before (read ls) names (length (read ls))) = assembles_if_no_fault text ls names is one same passed.0 in
+    let assembly_is : assembly_of_text text ≡ Ok (pairs_before (read ls) names (length (read ls))) = assembles_if_no_fault text ls names is one same passed.0 in
     let lines : survey_of (read (lines_of text)) ≡ survey_of (read ls) = ap (λ (l : List (List ℕ)). survey_of (read l)) (sym is) in
     let found_is : survey_of (read ls) ≡ found.0 = ap (λ (n : Names). record { spans = spans_before (read ls) n (length (read ls)); names = n }) (sym same) ∙ sym passed.1 in
-    (ap (result_map_both (λ ps. survey_of (read (lines_of text))) (λ f. f)) spelt_is ∙ ap Ok (lines ∙ found_is), (pairs_before (read ls) names (length (read ls)), spelt_is, passed.2))
+    (ap (result_map_both (λ ps. survey_of (read (lines_of text))) (λ f. f)) assembly_is ∙ ap Ok (lines ∙ found_is), (pairs_before (read ls) names (length (read ls)), assembly_is, passed.2))
 
 -- If the assembly of a text fails, its survey fails with the same error.
 pub survey_fails_if_assembly_fails : (kind : FaultKind) (line : ℕ) (text : List ℕ) → IsErrorAtLine kind line (assembly_of_text text) → IsErrorAtLine kind line (survey_of_text text)

@@ -24,14 +24,14 @@ use Rattle.mcs_model.specs.Options.{◌>>=◌}
 pub overlap_is_rejected : (cells : List (Option ℕ)) (pairs : List (ℕ × ℕ)) (at next : ℕ) (bytes : List ℕ) → list_any is_some (take (length bytes) (drop at cells)) ≡ true → HoldsPairs cells pairs
     → second_pass_with_bytes (record { at = at; pairs = pairs }) next (Ok bytes) ≡ Err Overlap
 overlap_is_rejected cells pairs at next bytes taken kept =
-    let over : overlaps pairs at (length bytes) ≡ true = sym (taken_equals_overlaps cells pairs at (length bytes) kept) ∙ taken in
-    rw over refl
+    let overlap : overlaps pairs at (length bytes) ≡ true = sym (taken_equals_overlaps cells pairs at (length bytes) kept) ∙ taken in
+    rw overlap refl
 
 pub bytes_without_overlap_are_added : (cells : List (Option ℕ)) (pairs : List (ℕ × ℕ)) (at next : ℕ) (bytes : List ℕ) → at + length bytes ≤ 4096 → list_any is_some (take (length bytes) (drop at cells)) ≡ false → HoldsPairs cells pairs
     → (s : SecondPassState) × (second_pass_with_bytes (record { at = at; pairs = pairs }) next (Ok bytes) ≡ Ok s) × (s.at ≡ next) × HoldsPairs (cells_after_write at bytes cells) s.pairs
 bytes_without_overlap_are_added cells pairs at next bytes within free kept =
-    let over : overlaps pairs at (length bytes) ≡ false = sym (taken_equals_overlaps cells pairs at (length bytes) kept) ∙ free in
-    (record { at = next; pairs = pairs ++ from_address at bytes }, rw over refl, refl, cells_hold_pairs_after_all_writes bytes at cells pairs within kept (free_if_no_overlap pairs at (length bytes) over))
+    let overlap : overlaps pairs at (length bytes) ≡ false = sym (taken_equals_overlaps cells pairs at (length bytes) kept) ∙ free in
+    (record { at = next; pairs = pairs ++ from_address at bytes }, rw overlap refl, refl, cells_hold_pairs_after_all_writes bytes at cells pairs within kept (free_if_no_overlap pairs at (length bytes) overlap))
 
 -- Adding the bytes of a parsed line to the second pass gives the same result as adding the line.
 pub bytes_of_line_are_added : (names : Names) (s : SecondPassState) (l : Option asm.SourceLine) (line : asm.SourceLine) (bytes : List ℕ) (next : ℕ) → Some line ≡ l → line_bytes s.at names (Some line) ≡ Ok bytes → next ≡ next_at (Some line) s.at

@@ -93,8 +93,8 @@ errors_of lines =
 abbrev pub errors_of_text : List ℕ → List LineError
 errors_of_text text = errors_of (read (lines_of text))
 
--- ---- The law: the first error in the list is the error of the assembly. If the list is empty, the
--- assembly has no error.
+-- ---- The law: the first error in the list is the error that the assembly reports. If the list is
+-- empty, the assembly succeeds.
 
 abbrev pub first_listed_error : List LineError → Option (ℕ × SourceFault)
 first_listed_error [] = None

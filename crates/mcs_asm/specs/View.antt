@@ -54,7 +54,7 @@ Assembles (Ok image) wanted =
     × HaveOneByteEach pairs
 Assembles (Err f) wanted = IsErrorAtLine f.kind f.line wanted
 
--- Holds if the result is the wanted survey or the wanted error.
+-- Holds if the result is the expected survey or the expected error.
 abbrev pub Surveys : Result Survey AsmFault → Result Survey (ℕ × SourceFault) → Type 0
 Surveys (Ok s) wanted = wanted ≡ Ok s
 Surveys (Err f) wanted = IsErrorAtLine f.kind f.line wanted
@@ -101,21 +101,21 @@ HasNoDefinition ts = lines.unlabelled ts ≡ lines.code_line None ts
 abbrev pub words_view : Words → List ℕ
 words_view w = w.first ∷ option_to_list w.second
 
--- Holds if the converted result is the wanted value, or the result is the wanted error. Also holds
--- if allocation failed.
+-- Holds if the converted result is the expected value, or the result is the expected error. Also
+-- holds if allocation failed.
 abbrev pub MatchesView : {A B : Type 0} → (A → B) → Result A FaultKind → Result B SourceFault → Type 0
 MatchesView view (Ok x) wanted = wanted ≡ Ok (view x)
 MatchesView view (Err NoMemory) wanted = Unit {0}
 MatchesView view (Err (Refused f)) wanted = wanted ≡ Err f
 
--- Holds if the result is an instruction whose encoding is the wanted bytes, or the result is the
--- wanted error.
+-- Holds if the result is an instruction whose encoding is the expected bytes, or the result is the
+-- expected error.
 abbrev pub MatchesEncoding : Result Op SourceFault → Result (List ℕ) SourceFault → Type 0
 MatchesEncoding (Ok o) wanted = wanted ≡ Ok (spelling o)
 MatchesEncoding (Err f) wanted = wanted ≡ Err f
 
--- Holds if the result is an instruction whose encoding is the wanted bytes, or `None` and no bytes
--- are wanted, or the wanted error.
+-- Holds if the result is an instruction whose encoding is the expected bytes. Also holds if the
+-- result is `None` and no bytes are expected, or if it is the expected error.
 abbrev pub MatchesOptionalEncoding : Result (Option Op) SourceFault → Result (List ℕ) SourceFault → Type 0
 MatchesOptionalEncoding (Ok None) wanted = wanted ≡ Ok []
 MatchesOptionalEncoding (Ok (Some o)) wanted = wanted ≡ Ok (spelling o)

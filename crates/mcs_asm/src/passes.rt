@@ -112,7 +112,7 @@ impl SecondPassState {
             (second_pass_with_bytes (record { at = self.old.at; pairs = pairs }) next (Ok bytes.now)) }
         ensures span { OnOk result (self.new.spans.items
             ≡ self.old.spans.items ++ span_at self.old.at (Ok bytes.now) ∷ []) }
-        ensures kept { OnErr result (self.new.cells ≡ self.old.cells) }
+        ensures cells_unchanged { OnErr result (self.new.cells ≡ self.old.cells) }
         ensures next { OnOk result (self.new.at ≡ next) }
     {
         let at = usize::from(self.at);

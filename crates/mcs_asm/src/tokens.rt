@@ -46,7 +46,7 @@ fn blank_len(bytes: &[u8]) -> usize
 #[tactic(auto, using(crate::proofs::Lexing::trimmed_rules))]
 fn skip_blanks(line: &[u8]) -> &[u8]
     ensures same { tokens result.now ≡ tokens line.now }
-    ensures bare { prefix_len is_blank result.now ≡ 0 }
+    ensures no_leading_blanks { prefix_len is_blank result.now ≡ 0 }
 {
     let (_, bytes) = line.split_at(blank_len(line));
     bytes

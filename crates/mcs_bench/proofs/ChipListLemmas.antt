@@ -74,12 +74,12 @@ with_chip_list-twice s StatusCharacters xs ys = refl
 with_chip_list-twice s RamPorts xs ys = refl
 with_chip_list-twice s BankSrcBytes xs ys = refl
 
-pub with_chip_list-of-own-list : (s : BusState) (h : ChipList) → with_chip_list s h (chip_list_in s h) ≡ s
-with_chip_list-of-own-list s RomBytes = refl
-with_chip_list-of-own-list s RamNibbles = refl
-with_chip_list-of-own-list s StatusCharacters = refl
-with_chip_list-of-own-list s RamPorts = refl
-with_chip_list-of-own-list s BankSrcBytes = refl
+pub with_chip_list-of-same-list : (s : BusState) (h : ChipList) → with_chip_list s h (chip_list_in s h) ≡ s
+with_chip_list-of-same-list s RomBytes = refl
+with_chip_list-of-same-list s RamNibbles = refl
+with_chip_list-of-same-list s StatusCharacters = refl
+with_chip_list-of-same-list s RamPorts = refl
+with_chip_list-of-same-list s BankSrcBytes = refl
 
 pub board-of-with_chip_list : (s : BusState) (h : ChipList) (xs : List ℕ) → (with_chip_list s h xs).board ≡ s.board
 board-of-with_chip_list s RomBytes xs = refl
@@ -166,7 +166,7 @@ pub record Fills (start s : BusState) (h : ChipList) (goal : List ℕ) (i : ℕ)
   pub filled : IsFilled (chip_list_in start h) goal i (chip_list_in s h)
 
 pub chip-list-filled-at-start : (start : BusState) (h : ChipList) (goal : List ℕ) → length (chip_list_in start h) ≡ length goal → Fills start start h goal 0
-chip-list-filled-at-start start h goal l = record { others = sym (with_chip_list-of-own-list start h); filled = filled-at-start (chip_list_in start h) goal l }
+chip-list-filled-at-start start h goal l = record { others = sym (with_chip_list-of-same-list start h); filled = filled-at-start (chip_list_in start h) goal l }
 
 chip-list-filled-after-set : (start s t : BusState) (h : ChipList) (goal : List ℕ) (i n : ℕ) → i < length goal → n ≡ get_or goal i 0 → Fills start s h goal i → t ≡ with_chip_list s h (slice_set (chip_list_in s h) i n) → Fills start t h goal (i + 1)
 chip-list-filled-after-set start s t h goal i n l is f to =

@@ -9,4 +9,4 @@ decided_by_failed_part b e h part = (λ t. absurd (false≢true t), λ q. sym e 
 
 -- if the last part `P` is equivalent to the condition `Q`, the test `b` of `P` decides `Q`
 pub decided_by_last_part : (b : Bool) {P Q : Type 0} → IsTrue b ↔ P → (P → Q) → (Q → P) → IsTrue b ↔ Q
-decided_by_last_part b h whole part = (λ t. whole (h.0 t), λ q. h.1 (part q))
+decided_by_last_part b h condition part = (λ t. condition (h.0 t), λ q. h.1 (part q))

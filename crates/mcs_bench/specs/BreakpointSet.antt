@@ -9,7 +9,7 @@ use Rattle.mcs_model.specs.Listed.{is_listed}
 -- addresses. A flag is true exactly when its address is a breakpoint.
 pub record HasFlags (flags : List Bool) (breakpoints : List ℕ) : Type 0 where
   pub rising : IsStrictlyIncreasing breakpoints
-  pub whole : length flags ≡ 4096
+  pub flag_count : length flags ≡ 4096
   pub at : (a : ℕ) → a < 4096 → slice_index_or flags a false ≡ is_listed breakpoints a
 
 -- holds if there are at most 8 indices, each of a RAM nibble

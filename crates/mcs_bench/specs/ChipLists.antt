@@ -1,5 +1,5 @@
--- Lists of the values in a board's chips, and the presence of the chip that holds each element.
--- (Defined by Fethsaim, not by Intel.)
+-- Lists of the values in a board's chips, and a test whether the board lacks the chip that holds an
+-- element. (Defined by Fethsaim, not by Intel.)
 use Rattle.std.specs.Prelude.{◌≡◌, ℕ, ◌<◌, ◌/◌, ◌%◌, Bool, true, List, is_none, nat_le, slice_index, slice_set, if◌then◌else◌}
 use Rattle.mcs_model.specs.declared.board.BoardParts.{BoardParts}
 use Rattle.mcs_model.specs.Boards.{rom_masks, has_key, key_index}
@@ -62,5 +62,5 @@ with_chip_value s h i n =
 -- and the index of this key is `i`
 pub record IsKeyAt (b : BoardParts) (columns i : ℕ) : Type 0 where
   pub some : 0 < columns
-  pub there : has_key b (i / columns) (i % columns) ≡ true
+  pub key_exists : has_key b (i / columns) (i % columns) ≡ true
   pub index : key_index b (i / columns) (i % columns) ≡ i

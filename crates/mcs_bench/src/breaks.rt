@@ -47,13 +47,13 @@ fn insertion_index(list: &[Addr], at: Addr) -> usize
 fn list_without(list: &ArrayVec<Addr, BREAKPOINTS>, at: Addr) -> ArrayVec<Addr, BREAKPOINTS>
     ensures { result.items ≡ without_listed list.now.items at }
 {
-    let mut kept = ArrayVec::new();
+    let mut remaining = ArrayVec::new();
     for address in list.as_slice() {
         if *address != at {
-            kept.push(*address);
+            remaining.push(*address);
         }
     }
-    kept
+    remaining
 }
 
 /// Returns a copy of the list.

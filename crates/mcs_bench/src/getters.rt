@@ -69,7 +69,7 @@ impl Bench {
     /// Fails if memory cannot be allocated.
     pub fn rom(&self, alloc: Global) -> Result<Vec<u8>, AllocError>
         ensures bytes { IfOk result (λ rom. rom.items ≡ self.now.bus.rom) }
-        ensures whole { IfOk result (λ rom. length rom.items ≡ 4096) }
+        ensures rom_length { IfOk result (λ rom. length rom.items ≡ 4096) }
     {
         self.rig.show_state_is_valid();
         let mut rom = Vec::with_capacity(alloc, 4096)?;

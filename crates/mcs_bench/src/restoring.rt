@@ -75,7 +75,7 @@ fn fill_rom_ports(rig: &mut BenchRig, ports: &[u8])
 
 /// Sets all bits of a chain.
 fn fill_chain(rig: &mut BenchRig, chain: u8, bits: &[u8])
-    requires there { chain < chain_count rig.old.board }
+    requires chain_exists { chain < chain_count rig.old.board }
     requires fit { AreBelow (chain_bits rig.old.board chain) 2 bits.now }
     ensures { rig.new ≡ record rig.old { chains = slice_set rig.old.chains chain bits.now } }
 {

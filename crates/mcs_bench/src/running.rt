@@ -265,9 +265,9 @@ pub(crate) fn run(
     while done < n && mark.is_none() {
         match continue_run(cpu, rig, breaks, watches, n - done) {
             None => return (done, Stop::Outside),
-            Some(went) => {
-                done += went.cycles;
-                mark = went.mark;
+            Some(executed) => {
+                done += executed.cycles;
+                mark = executed.mark;
             }
         }
     }
@@ -278,7 +278,7 @@ pub(crate) fn run(
 /// (`is_outside_table`).
 #[inline(never)]
 fn run_cycle(cpu: &mut Cpu, rig: &mut BenchRig) -> bool
-    ensures went { result ≡ not (is_outside_table (cpu.old, rig.old)) }
+    ensures executed { result ≡ not (is_outside_table (cpu.old, rig.old)) }
     ensures machine { (cpu.new, rig.new) ≡ unwrap_or (cycle_of cpu.old rig.old) (cpu.old, rig.old) }
 {
     match mcs_board::cycle(cpu, rig) {

@@ -118,7 +118,7 @@ pub record IsRewired (old new : RigParts) : Type 0 where
   pub banks : AllBlank new.banks (slice_index new.board.banks)
   pub fit : chain_count new.board ≤ length new.chains
   pub chains : (k : ℕ) → k < chain_count new.board → get_or new.chains k [] ≡ replicate (chain_bits new.board k) 0
-  pub up : new.keys ≡ replicate (key_count new.board) 0
+  pub keys_up : new.keys ≡ replicate (key_count new.board) 0
   pub src : new.rom_src ≡ 0
   pub test : new.test ≡ old.test
 
@@ -129,7 +129,7 @@ state-after_wiring old new w =
     let z = blank_banks-read_as_zeros new.banks (slice_index new.board.banks) w.banks in
     let ports = rom_latches-zero new.roms (λ k. ap latch_of_rom (w.roms k) ∙ latch-zero_after_wiring (rom_masks new.board k)) in
     let cs = wired_chains-zero new.board new.chains w.fit w.chains in
-    rw (w.program, z.ram, z.status, z.ports, ports, z.src, cs, w.up, w.src, w.test) refl
+    rw (w.program, z.ram, z.status, z.ports, ports, z.src, cs, w.keys_up, w.src, w.test) refl
 
 -- The flat state of a rig after a reset is the state that `after_reset` gives.
 pub state-after_reset : (p : RigParts) (roms : List (Option PortState)) (banks : List BankState) (chains : List (List ℕ)) (chip_count : ℕ → ℕ) → ((k : ℕ) → get_or roms k None ≡ port_after_reset (get_or p.roms k None)) → AllBlank banks chip_count → chain_count p.board ≤ length chains → ((k : ℕ) → k < chain_count p.board → get_or chains k [] ≡ replicate (chain_bits p.board k) 0) → state_of_rig (record p { roms = roms; banks = banks; chains = chains; rom_src = 0 }) ≡ after_reset (state_of_rig p)
@@ -166,7 +166,7 @@ matches_board-after_wiring old new rom_sockets bank_sockets chain_sockets chain_
   roms_len = rl;
   banks_len = bl;
   chains_len = cl;
-  keys_len = ap length w.up ∙ length-replicate {A = ℕ} (key_count new.board) 0;
+  keys_len = ap length w.keys_up ∙ length-replicate {A = ℕ} (key_count new.board) 0;
   chains_fit = fits.chains;
   program_len = ap length w.program ∙ length-rom_of_board new.board old.program;
   absent = λ at none. ap (λ xs. slice_index xs at) w.program ∙ rom_of_board-zero_if_absent new.board old.program at none;

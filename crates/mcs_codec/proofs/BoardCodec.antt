@@ -16,7 +16,7 @@ use Rattle.mcs_nibble.specs.Ports.{mask_character, mask_of}
 use Rattle.mcs_codec.specs.BoardBytes.{rom_bytes, board_line_bytes, chain_bytes, counted_bytes, keys_bytes, board_bytes}
 use Rattle.mcs_codec.specs.BoardReading.{rom_of, rom_at, masks_of, board_line_of, board_line_at, chain_at, keys_at, matrix_at, parts_at, board_at}
 use Rattle.mcs_codec.proofs.BoardLengths.{HasFourLines, HasAtMostEightColumns, HasLengths, valid_board_has_lengths, valid_board_of_lengths}
-use Rattle.mcs_codec.proofs.Codecs.{IsCodec, IsBytes, IsBytes-rest, Steps, values_of_both_readings, any_byte_codec, bytes_codec, repeated_codec, any_counted_codec, last, next, steps_of_empty_block, block_codec, giving_codec, tested_codec, codec_of_equivalent_range, row_of_tag_table}
+use Rattle.mcs_codec.proofs.Codecs.{IsCodec, IsBytes, IsBytes-rest, Steps, values_of_both_readings, any_byte_codec, bytes_codec, repeated_codec, any_counted_codec, last_step, next_step, steps_of_empty_block, block_codec, giving_codec, tested_codec, codec_of_equivalent_range, row_of_tag_table}
 use Rattle.mcs_nibble.proofs.PortLemmas.{mask_of-mask_character}
 
 -- four bytes, as a tuple
@@ -33,7 +33,7 @@ are_four_bytes : Unit {0} × (Unit {0} × (Unit {0} × Unit {0}))
 are_four_bytes = (tt, (tt, (tt, tt)))
 
 steps_of_four_bytes : {B : Type 0} (end : FourBytes → Reading B) → Steps four_bytes AreFourBytes end (do a ← byte_at; b ← byte_at; c ← byte_at; d ← byte_at; end (a, (b, (c, d))))
-steps_of_four_bytes end = next end any_byte_codec (λ a _. next _ any_byte_codec (λ b _. next _ any_byte_codec (λ c _. last _ any_byte_codec)))
+steps_of_four_bytes end = next_step end any_byte_codec (λ a _. next_step _ any_byte_codec (λ b _. next_step _ any_byte_codec (λ c _. last_step _ any_byte_codec)))
 
 -- ---- lines
 
@@ -50,7 +50,7 @@ four_bytes_of_line (Chain n i) h = ((2, (n, (i, 0))), refl, are_four_bytes, λ r
 
 pub line_codec : IsCodec board_line_bytes (λ _. Unit {0}) board_line_at
 unfolding board_line_at
-line_codec = block_codec (steps_of_four_bytes line_of_four_bytes) (record { made = bytes_of_read_line; unmade = four_bytes_of_line })
+line_codec = block_codec (steps_of_four_bytes line_of_four_bytes) (record { made = bytes_of_read_line; made_from_steps = four_bytes_of_line })
 
 -- ---- ROMs
 
@@ -105,14 +105,14 @@ four_bytes_of_rom (Some (a ∷ b ∷ c ∷ d ∷ e ∷ l)) h = absurd cc
 
 pub rom_codec : IsCodec rom_bytes HasFourLines rom_at
 unfolding rom_at
-rom_codec = block_codec (steps_of_four_bytes rom_of_four_bytes) (record { made = bytes_of_read_rom; unmade = four_bytes_of_rom })
+rom_codec = block_codec (steps_of_four_bytes rom_of_four_bytes) (record { made = bytes_of_read_rom; made_from_steps = four_bytes_of_rom })
 
 -- ---- chains, keys, and the board
 
 pub chain_codec : IsCodec chain_bytes (λ _. Unit {0}) chain_at
 unfolding chain_at
 chain_codec = giving_codec (λ p. record { clock = p.0; data_in = p.1.0; chips = p.1.1 }) chain_bytes (λ _. Unit {0})
-    (next _ line_codec (λ _ _. next _ line_codec (λ _ _. last _ any_byte_codec))) (λ p h. (refl, tt)) (λ c h. ((c.clock, (c.data_in, c.chips)), refl, (tt, (tt, tt))))
+    (next_step _ line_codec (λ _ _. next_step _ line_codec (λ _ _. last_step _ any_byte_codec))) (λ p h. (refl, tt)) (λ c h. ((c.clock, (c.data_in, c.chips)), refl, (tt, (tt, tt))))
 
 -- the bytes of a key matrix, without the byte of 1 before them
 abbrev matrix_bytes : KeyMatrix → List ℕ
@@ -121,7 +121,7 @@ matrix_bytes m = m.chain ∷ m.first ∷ m.rows ∷ counted_bytes board_line_byt
 matrix_codec : IsCodec matrix_bytes (λ m. HasAtMostEightColumns (Some m)) matrix_at
 unfolding matrix_at
 matrix_codec = giving_codec (λ p. record { chain = p.0; first = p.1.0; rows = p.1.1.0; columns = record { items = p.1.1.1 } }) matrix_bytes (λ m. HasAtMostEightColumns (Some m))
-    (next _ any_byte_codec (λ _ _. next _ any_byte_codec (λ _ _. next _ any_byte_codec (λ _ _. last _ (any_counted_codec 8 (omega arith) line_codec))))) (λ p h. (refl, h.1.1.1)) (λ m h. ((m.chain, (m.first, (m.rows, m.columns.items))), refl, (tt, (tt, (tt, h)))))
+    (next_step _ any_byte_codec (λ _ _. next_step _ any_byte_codec (λ _ _. next_step _ any_byte_codec (λ _ _. last_step _ (any_counted_codec 8 (omega arith) line_codec))))) (λ p h. (refl, h.1.1.1)) (λ m h. ((m.chain, (m.first, (m.rows, m.columns.items))), refl, (tt, (tt, (tt, h)))))
 
 keys_read_encoding : (bytes : List ℕ) (x : Option KeyMatrix × List ℕ) → IsBytes bytes → keys_at bytes ≡ Some x → (bytes ≡ keys_bytes x.0 ++ x.1) × HasAtMostEightColumns x.0
 unfolding keys_at
@@ -129,13 +129,13 @@ keys_read_encoding [] x all e = absurd cc
 keys_read_encoding (tag ∷ bytes) x all e =
     let rest = IsBytes-rest tag bytes all in
     row_of_tag_table keys_bytes HasAtMostEightColumns 0 (λ _. None) _ rest (steps_of_empty_block _) (λ a h. (refl, tt))
-    (row_of_tag_table keys_bytes HasAtMostEightColumns 1 (λ m. Some m) _ rest (last _ matrix_codec) (λ m h. (refl, h))
+    (row_of_tag_table keys_bytes HasAtMostEightColumns 1 (λ m. Some m) _ rest (last_step _ matrix_codec) (λ m h. (refl, h))
     (λ no. absurd cc)) e
 
 keys_read_back : (k : Option KeyMatrix) (rest : List ℕ) → HasAtMostEightColumns k → keys_at (keys_bytes k ++ rest) ≡ Some (k, rest)
 unfolding keys_at
 keys_read_back None rest h = refl
-keys_read_back (Some m) rest h = (last (λ m. give (Some m)) matrix_codec).reads_back m rest h
+keys_read_back (Some m) rest h = (last_step (λ m. give (Some m)) matrix_codec).reads_back m rest h
 
 pub keys_codec : IsCodec keys_bytes HasAtMostEightColumns keys_at
 keys_codec = record { reads_encoding = keys_read_encoding; reads_back = keys_read_back }
@@ -143,7 +143,7 @@ keys_codec = record { reads_encoding = keys_read_encoding; reads_back = keys_rea
 pub parts_codec : IsCodec board_bytes HasLengths parts_at
 unfolding parts_at
 parts_codec = giving_codec (λ p. record { roms = p.0; banks = p.1.0; chains = record { items = p.1.1.0 }; keys = p.1.1.1.0; lamps = record { items = p.1.1.1.1 } }) board_bytes HasLengths
-    (next _ (repeated_codec 16 rom_codec) (λ _ _. next _ (bytes_codec 8) (λ _ _. next _ (any_counted_codec CHAINS (omega arith) chain_codec) (λ _ _. next _ keys_codec (λ _ _. last _ (any_counted_codec 64 (omega arith) line_codec))))))
+    (next_step _ (repeated_codec 16 rom_codec) (λ _ _. next_step _ (bytes_codec 8) (λ _ _. next_step _ (any_counted_codec CHAINS (omega arith) chain_codec) (λ _ _. next_step _ keys_codec (λ _ _. last_step _ (any_counted_codec 64 (omega arith) line_codec))))))
     (λ p h. (refl, record { roms = h.0.0; masks = h.0.1; banks = h.1.0; chains = h.1.1.0; keys = h.1.1.1.0; lamps = h.1.1.1.1 }))
     (λ b h. ((b.roms, (b.banks, (b.chains.items, (b.keys, b.lamps.items)))), refl, ((h.roms, h.masks), (h.banks, (h.chains, (h.keys, h.lamps))))))
 

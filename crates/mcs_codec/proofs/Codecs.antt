@@ -154,8 +154,8 @@ pub record Steps {C B : Type 0} (s : C → List ℕ) (f : C → Type 0) (end : C
   pub reads_back : (c : C) (rest : List ℕ) → f c → read (s c ++ rest) ≡ end c rest
 
 -- a block of one step, followed by `end`
-pub last : {A B : Type 0} {s : A → List ℕ} {f : A → Type 0} {r : Reading A} (end : A → Reading B) → IsCodec s f r → Steps s f end (r >>= end)
-last {A} {B} {s} {f} {r} end codec = record {
+pub last_step : {A B : Type 0} {s : A → List ℕ} {f : A → Type 0} {r : Reading A} (end : A → Reading B) → IsCodec s f r → Steps s f end (r >>= end)
+last_step {A} {B} {s} {f} {r} end codec = record {
   reads_encoding = λ bytes x all e.
       let a = values_of_both_readings (r bytes) end x e in
       let t = codec.reads_encoding bytes a.0 all a.1 in
@@ -178,9 +178,9 @@ steps_of_empty_block end = record {
 }
 
 -- a block of one step and further steps, which can depend on the value of the first
-pub next : {A C B : Type 0} {s : A → List ℕ} {f : A → Type 0} {r : Reading A} {t : A → C → List ℕ} {g : A → C → Type 0} {q : A → Reading B} (end : A × C → Reading B)
+pub next_step : {A C B : Type 0} {s : A → List ℕ} {f : A → Type 0} {r : Reading A} {t : A → C → List ℕ} {g : A → C → Type 0} {q : A → Reading B} (end : A × C → Reading B)
     → IsCodec s f r → ((a : A) → f a → Steps (t a) (g a) (λ c. end (a, c)) (q a)) → Steps (λ (p : A × C). s p.0 ++ t p.0 p.1) (λ p. f p.0 × g p.0 p.1) end (r >>= q)
-next {A} {C} {B} {s} {f} {r} {t} {g} {q} end first second = record {
+next_step {A} {C} {B} {s} {f} {r} {t} {g} {q} end first second = record {
   reads_encoding = λ bytes x all e.
       let a = values_of_both_readings (r bytes) q x e in
       let one = first.reads_encoding bytes a.0 all a.1 in
@@ -197,7 +197,7 @@ next {A} {C} {B} {s} {f} {r} {t} {g} {q} end first second = record {
 -- have the same encoding. Each `b` that fits its range can be made from some `c`.
 pub record Ends {C B : Type 0} (s : C → List ℕ) (f : C → Type 0) (spell : B → List ℕ) (fits : B → Type 0) (end : C → Reading B) : Type 0 where
   pub made : (c : C) (rest : List ℕ) (x : B × List ℕ) → f c → end c rest ≡ Some x → (spell x.0 ≡ s c) × (rest ≡ x.1) × fits x.0
-  pub unmade : (b : B) → fits b → (c : C) × (spell b ≡ s c) × f c × ((rest : List ℕ) → end c rest ≡ Some (b, rest))
+  pub made_from_steps : (b : B) → fits b → (c : C) × (spell b ≡ s c) × f c × ((rest : List ℕ) → end c rest ≡ Some (b, rest))
 
 pub block_codec : {B C : Type 0} {s : C → List ℕ} {f : C → Type 0} {spell : B → List ℕ} {fits : B → Type 0} {end : C → Reading B} {q : Reading B} → Steps s f end q → Ends s f spell fits end → IsCodec spell fits q
 block_codec {B} {C} {s} {f} {spell} {fits} {end} {q} steps ends = record {
@@ -206,20 +206,20 @@ block_codec {B} {C} {s} {f} {spell} {fits} {end} {q} steps ends = record {
       let m = ends.made c.0.0 c.0.1 x c.2 c.3 in
       (c.1 ∙ ap (λ (l : List ℕ). s c.0.0 ++ l) m.1 ∙ ap (λ (l : List ℕ). l ++ x.1) (sym m.0), m.2);
   reads_back = λ b rest h.
-      let u = ends.unmade b h in
+      let u = ends.made_from_steps b h in
       ap (λ (l : List ℕ). q (l ++ rest)) u.1 ∙ steps.reads_back u.0 rest u.2 ∙ u.3 rest;
 }
 
 -- a codec for a block whose end makes the value from the values of the steps
 pub giving_codec : {C B : Type 0} {s : C → List ℕ} {f : C → Type 0} {q : Reading B} (make : C → B) (spell : B → List ℕ) (fits : B → Type 0) → Steps s f (λ c. give (make c)) q
     → ((c : C) → f c → (spell (make c) ≡ s c) × fits (make c)) → ((b : B) → fits b → (c : C) × (make c ≡ b) × f c) → IsCodec spell fits q
-giving_codec {C} {B} {s} {f} {q} make spell fits steps made unmade = block_codec steps (record {
+giving_codec {C} {B} {s} {f} {q} make spell fits steps made made_from_steps = block_codec steps (record {
   made = λ c rest x h e.
       let same : (make c, rest) ≡ x = cc in
       let m = made c h in
       subst (λ (y : B × List ℕ). (spell y.0 ≡ s c) × (rest ≡ y.1) × fits y.0) same (m.0, refl, m.1);
-  unmade = λ b h.
-      let u = unmade b h in
+  made_from_steps = λ b h.
+      let u = made_from_steps b h in
       (u.0, sym (ap spell u.1) ∙ (made u.0 u.2).0, u.2, λ rest. ap (λ (v : B). Some (v, rest)) u.1);
 })
 
@@ -236,7 +236,7 @@ first_value_and_others f n (a ∷ l) h = ((a, l), refl, (h.1.0, (omega (arith, h
 pub repeated_codec : {A : Type 0} {s : A → List ℕ} {f : A → Type 0} {r : Reading A} (n : ℕ) → IsCodec s f r → IsCodec (flat_map s) (λ l. (length l ≡ n) × AllByRecursion f l) (read_times n r)
 unfolding read_times
 repeated_codec {A} {s} {f} {r} zero codec = giving_codec (λ (_ : Unit {0}). []) (flat_map s) (λ l. (length l ≡ 0) × AllByRecursion f l) (steps_of_empty_block _) (λ u h. (refl, (refl, tt))) (empty_list_of_zero_values f)
-repeated_codec {A} {s} {f} {r} (suc n) codec = giving_codec (λ p. p.0 ∷ p.1) (flat_map s) (λ l. (length l ≡ suc n) × AllByRecursion f l) (next _ codec (λ _ _. last _ (repeated_codec n codec))) (λ p h. (refl, (ap suc h.1.0, (h.0, h.1.1)))) (first_value_and_others f n)
+repeated_codec {A} {s} {f} {r} (suc n) codec = giving_codec (λ p. p.0 ∷ p.1) (flat_map s) (λ l. (length l ≡ suc n) × AllByRecursion f l) (next_step _ codec (λ _ _. last_step _ (repeated_codec n codec))) (λ p h. (refl, (ap suc h.1.0, (h.0, h.1.1)))) (first_value_and_others f n)
 
 -- a codec stays a codec if its range is stated in an equivalent way
 pub codec_of_equivalent_range : {A : Type 0} {s : A → List ℕ} {f : A → Type 0} {r : Reading A} (fits : A → Type 0) → ((a : A) → f a → fits a) → ((a : A) → fits a → f a) → IsCodec s f r → IsCodec s fits r
@@ -257,7 +257,7 @@ address_codec = codec_of_equivalent_range (λ n. n < 4096) (λ n h. ltb-true _ _
 pub counted_codec : {A : Type 0} {s : A → List ℕ} {f : A → Type 0} {r : Reading A} (limit : ℕ) → limit < 256 → IsCodec s f r → IsCodec (counted_bytes s) (λ l. (length l ≤ limit) × AllByRecursion f l) (counted_at limit r)
 unfolding counted_at
 counted_codec {A} {s} {f} {r} limit lt codec = giving_codec (λ (p : ℕ × List A). p.1) (counted_bytes s) (λ l. (length l ≤ limit) × AllByRecursion f l)
-    (next _ (tested_codec (λ n. leb n limit) byte_codec) (λ n h. steps_of_last_value (repeated_codec n codec)))
+    (next_step _ (tested_codec (λ n. leb n limit) byte_codec) (λ n h. steps_of_last_value (repeated_codec n codec)))
     (λ p h. let le : p.0 ≤ limit = leb-true _ _ h.0.1 in (ap (λ n. n ∷ flat_map s p.1) h.1.0, (omega (arith, h.1.0), h.1.1)))
     (λ l h. ((length l, l), refl, ((omega (arith, h.0), le-leb _ _ h.0), (refl, h.1))))
 

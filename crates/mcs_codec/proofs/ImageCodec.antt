@@ -15,7 +15,7 @@ use Rattle.mcs_nibble.proofs.TabledLemmas.{table_of-unique, get_or-table_of, len
 use Rattle.mcs_model.specs.Images.{IsImage}
 use Rattle.mcs_codec.specs.CommandBytes.{mark, byte_of_bits, mark_bytes, image_bytes, values}
 use Rattle.mcs_codec.specs.CommandReading.{mark_bit, addressed_bytes_at, image_at}
-use Rattle.mcs_codec.proofs.Codecs.{AreNumbersBelow, IsCodec, byte_codec, numbers_codec, last, next, steps_of_empty_block, steps_of_last_value, giving_codec, codec_of_equivalent_range}
+use Rattle.mcs_codec.proofs.Codecs.{AreNumbersBelow, IsCodec, byte_codec, numbers_codec, last_step, next_step, steps_of_empty_block, steps_of_last_value, giving_codec, codec_of_equivalent_range}
 
 -- Holds if the addresses of the image are strictly increasing, at least `low` and below `limit`.
 -- Each byte is below 256.
@@ -109,14 +109,14 @@ addressed_codec marks zero at limit k = giving_codec (λ (_ : Unit {0}). []) val
 addressed_codec marks (suc n) at limit k =
     let others = addressed_codec marks n (at + 1) limit (omega arith) in
     elim (mark_bit_is_one_or_zero marks at) [
-      | inl one ↦ rw one (giving_codec (λ p. (at, p.0) ∷ p.1) values (HasBytesAtMarkedAddresses marks at limit) (next _ byte_codec (λ _ _. last _ others)) (λ p h. (refl, marked_address_read marks at limit p (omega arith) one h)) (λ image h. marked_address_split marks at limit image (omega arith) one h))
+      | inl one ↦ rw one (giving_codec (λ p. (at, p.0) ∷ p.1) values (HasBytesAtMarkedAddresses marks at limit) (next_step _ byte_codec (λ _ _. last_step _ others)) (λ p h. (refl, marked_address_read marks at limit p (omega arith) one h)) (λ image h. marked_address_split marks at limit image (omega arith) one h))
       | inr none ↦ rw none (codec_of_equivalent_range (HasBytesAtMarkedAddresses marks at limit) (λ image h. unmarked_address_read marks at limit image none h) (λ image h. unmarked_address_split marks at limit image (omega arith) none h) others)
     ]
 
 -- ---- the bits of a byte
 
-byte_of_its_own_bits : (n : ℕ) → n < 256 → byte_of_bits (bit_of n) ≡ n
-byte_of_its_own_bits n lt = omega arith
+byte_from_bits_of_byte : (n : ℕ) → n < 256 → byte_of_bits (bit_of n) ≡ n
+byte_from_bits_of_byte n lt = omega arith
 
 bit_of_byte : (f : ℕ → ℕ) (k : ℕ) → ((i : ℕ) → f i < 2) → k < 8 → bit_of (byte_of_bits f) k ≡ f k
 bit_of_byte f zero small lt = omega (arith, small 0, small 1, small 2, small 3, small 4, small 5, small 6, small 7)
@@ -149,7 +149,7 @@ mark_bytes_equal_marks marks image c m = sym (table_of-unique 512 (λ i. byte_of
     let n = get_or marks i 0 in
     let fits : n < 256 = All-from_recursion (λ v. v < 256) marks c.small i 0 (omega (arith, c.len)) in
     let bits : byte_of_bits (λ k. mark image (8 * i + k)) ≡ byte_of_bits (bit_of n) = rw (b 0 (omega arith), b 1 (omega arith), b 2 (omega arith), b 3 (omega arith), b 4 (omega arith), b 5 (omega arith), b 6 (omega arith), b 7 (omega arith)) refl in
-    sym (bits ∙ byte_of_its_own_bits n fits)))
+    sym (bits ∙ byte_from_bits_of_byte n fits)))
 
 mark_bytes_have_marks : (image : List (ℕ × ℕ)) → HasMarksOf (mark_bytes image) 0 4096 image
 unfolding mark_bytes mark_bit
@@ -176,7 +176,7 @@ mark_bytes_are_bytes image =
 ascending_image_codec : IsCodec image_bytes (HasAddressesFrom 0 4096) image_at
 unfolding image_at
 ascending_image_codec = giving_codec (λ (p : List ℕ × List (ℕ × ℕ)). p.1) image_bytes (HasAddressesFrom 0 4096)
-    (next _ (numbers_codec 512) (λ marks _. steps_of_last_value (addressed_codec marks 4096 0 4096 refl)))
+    (next_step _ (numbers_codec 512) (λ marks _. steps_of_last_value (addressed_codec marks 4096 0 4096 refl)))
     (λ p h. (ap (λ (l : List ℕ). l ++ values p.1) (mark_bytes_equal_marks p.0 p.1 h.0 h.1.1), h.1.0))
     (λ image h. ((mark_bytes image, image), refl, (mark_bytes_are_bytes image, (h, mark_bytes_have_marks image))))
 
@@ -240,7 +240,7 @@ marks_with_next_address image marks i p a lt is same inside so_far at fits =
     let more : take (i + 1) image ≡ take i image ++ p ∷ [] = take_more image i p lt ∙ ap (λ (q : ℕ × ℕ). take i image ++ q ∷ []) (sym is) in
     let one : mark (take (i + 1) image) at ≡ cond (eqb p.0 at) 1 (mark (take i image) at) = ap (λ l. mark l at) more ∙ mark_with_one_more_byte (take i image) p at in
     elim (cases_eq at a) [
-      | inl e ↦ let own : eqb p.0 at ≡ true = let k : p.0 ≡ at = omega arith in grind (arith, nat_tests) in get_or-set_at marks a at 1 0 e inside ∙ sym (one ∙ rw own refl)
+      | inl e ↦ let same_address : eqb p.0 at ≡ true = let k : p.0 ≡ at = omega arith in grind (arith, nat_tests) in get_or-set_at marks a at 1 0 e inside ∙ sym (one ∙ rw same_address refl)
       | inr ne ↦ let other : eqb p.0 at ≡ false = let k : p.0 ≢ at = λ h. ne (sym (same ∙ h)) in grind (arith, nat_tests) in get_or-set_other marks a at 1 0 ne ∙ so_far at fits ∙ sym (one ∙ rw other refl)
     ]
 

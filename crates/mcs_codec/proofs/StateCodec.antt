@@ -23,7 +23,7 @@ use Rattle.mcs_codec.specs.StateReading.{chains_at, state_at}
 use Rattle.mcs_codec.specs.Codec.{EncodesInSomeVersion, EncodesState, EncodesState1, EncodesStateBy, version_of}
 use Rattle.mcs_codec.specs.declared.versions.Version.{Version}
 use Rattle.mcs_codec.specs.declared.versions.Version.TheVariants.{One, Two}
-use Rattle.mcs_codec.proofs.Codecs.{IsCodec, IsBytes, any_byte_codec, bytes_codec, word_codec, long_codec, last, next, steps_of_empty_block, repeated_codec, counted_codec, giving_codec, whole_value_reads_encoding, whole_value_reads_back}
+use Rattle.mcs_codec.proofs.Codecs.{IsCodec, IsBytes, any_byte_codec, bytes_codec, word_codec, long_codec, last_step, next_step, steps_of_empty_block, repeated_codec, counted_codec, giving_codec, whole_value_reads_encoding, whole_value_reads_back}
 use Rattle.mcs_codec.proofs.VersionCodec.{IsValidBoardIn, FitsWatches, versioned_board_bytes, watches_bytes, versioned_board_codec, watches_codec, board-bytes-begin-board}
 
 -- ---- widths and lengths
@@ -48,7 +48,7 @@ first_bits_and_other_chains c chains (bits ∷ l) h = ((bits, l), refl, h)
 chains_codec : (chains : List ChainPart) → IsCodec (flat_map (λ bits. bits)) (AreChains chains) (chains_at chains)
 unfolding chains_at
 chains_codec [] = giving_codec (λ (_ : Unit {0}). []) (flat_map (λ bits. bits)) (AreChains []) (steps_of_empty_block _) (λ u h. (refl, tt)) empty_list_for_no_chains
-chains_codec (c ∷ chains) = giving_codec (λ p. p.0 ∷ p.1) (flat_map (λ bits. bits)) (AreChains (c ∷ chains)) (next _ (bytes_codec (10 * c.chips)) (λ _ _. last _ (chains_codec chains))) (λ p h. (refl, h)) (first_bits_and_other_chains c chains)
+chains_codec (c ∷ chains) = giving_codec (λ p. p.0 ∷ p.1) (flat_map (λ bits. bits)) (AreChains (c ∷ chains)) (next_step _ (bytes_codec (10 * c.chips)) (λ _ _. last_step _ (chains_codec chains))) (λ p h. (refl, h)) (first_bits_and_other_chains c chains)
 
 -- ---- a state in either version
 
@@ -106,12 +106,12 @@ fields_in_order b p breakpoints rest =
 pub state_codec : IsCodec (λ (p : Version × BenchState). versioned_state_bytes p.0 p.1) (λ p. HasWidths p.0 p.1) state_at
 unfolding state_at
 state_codec = giving_codec state_from (λ p. versioned_state_bytes p.0 p.1) (λ p. HasWidths p.0 p.1)
-    (next _ long_codec (λ _ _. next _ versioned_board_codec (λ versioned _.
-    next _ (bytes_codec 4096) (λ _ _. next _ (bytes_codec 2048) (λ _ _. next _ (bytes_codec 512) (λ _ _. next _ (bytes_codec 32) (λ _ _. next _ (bytes_codec 16) (λ _ _.
-    next _ any_byte_codec (λ _ _. next _ any_byte_codec (λ _ _. next _ (bytes_codec 16) (λ _ _. next _ word_codec (λ _ _. next _ (repeated_codec 3 word_codec) (λ _ _.
-    next _ any_byte_codec (λ _ _. next _ any_byte_codec (λ _ _. next _ (bytes_codec 8) (λ _ _. next _ any_byte_codec (λ _ _.
-    next _ (chains_codec versioned.1.chains.items) (λ _ _. next _ (bytes_codec (key_count versioned.1)) (λ _ _. next _ any_byte_codec (λ _ _. next _ (counted_codec 32 (omega arith) word_codec) (λ _ _.
-    last _ (watches_codec versioned.0))))))))))))))))))))))
+    (next_step _ long_codec (λ _ _. next_step _ versioned_board_codec (λ versioned _.
+    next_step _ (bytes_codec 4096) (λ _ _. next_step _ (bytes_codec 2048) (λ _ _. next_step _ (bytes_codec 512) (λ _ _. next_step _ (bytes_codec 32) (λ _ _. next_step _ (bytes_codec 16) (λ _ _.
+    next_step _ any_byte_codec (λ _ _. next_step _ any_byte_codec (λ _ _. next_step _ (bytes_codec 16) (λ _ _. next_step _ word_codec (λ _ _. next_step _ (repeated_codec 3 word_codec) (λ _ _.
+    next_step _ any_byte_codec (λ _ _. next_step _ any_byte_codec (λ _ _. next_step _ (bytes_codec 8) (λ _ _. next_step _ any_byte_codec (λ _ _.
+    next_step _ (chains_codec versioned.1.chains.items) (λ _ _. next_step _ (bytes_codec (key_count versioned.1)) (λ _ _. next_step _ any_byte_codec (λ _ _. next_step _ (counted_codec 32 (omega arith) word_codec) (λ _ _.
+    last_step _ (watches_codec versioned.0))))))))))))))))))))))
     (λ p h. let v = (state_from p).0 in let s = (state_from p).1 in (ap (λ l. to_be_bytes w32 s.seq ++ (versioned_board_bytes v s.bus.board ++ l)) (fields_in_order s.bus s.processor s.breakpoints (watches_bytes v s.watches)), h)) (λ p h. (fields_of p, refl, h))
 
 -- ---- the fields of a valid state fit their widths

@@ -7,7 +7,7 @@ ghost use Rattle.mcs_codec.specs.StateReading.{version_at};
 use crate::versions::Version;
 use std::marker::Model;
 
-/// The bytes that are not read yet. After a method has returned `None`, they are unspecified.
+/// The bytes that have not been read yet. After a method has returned `None`, they are unspecified.
 #[derive(Drop)]
 pub struct Reader<'a> {
     rest: &'a [u8],

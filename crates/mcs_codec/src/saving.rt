@@ -125,8 +125,8 @@ fn put_registers(bench: &Bench, out: &mut [u8], at: usize) -> usize
     put_all(&registers.ret, out, at)
 }
 
-/// Writes the command register, the SRC bytes of the ROMs and of the banks, and the flag of a
-/// pending second cycle. Returns the offset after them.
+/// Writes the command register, the SRC bytes of the ROMs and of the banks, and the flag for a pending second cycle.
+/// Returns the offset after them.
 fn put_src_bytes(bench: &Bench, out: &mut [u8], at: usize) -> usize
     requires valid { IsValid bench.now }
     requires room { at + length (src_bytes bench.now.processor bench.now.bus) ≤ length out.old }

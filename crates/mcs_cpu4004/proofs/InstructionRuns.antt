@@ -82,7 +82,7 @@ instruction_run-of_all_cycles left op s regs m counter cycles l free at done som
           subst (IsInstructionRun left s u) (sym one) (instruction_run-of_one_cycle left s u (omega arith) (step ∙ ap Some same)))
       | inr more ↦ (
           let two : cycles ≡ 2 = omega arith in
-          let owing : t ≡ (record regs { pc = counter; owed = 1 }, m) = ap (λ o. (record regs { pc = counter; owed = o }, m)) (let e : cycles - 1 ≡ 1 = omega arith in e) in
+          let pending : t ≡ (record regs { pc = counter; owed = 1 }, m) = ap (λ o. (record regs { pc = counter; owed = o }, m)) (let e : cycles - 1 ≡ 1 = omega arith in e) in
           let same : (record regs { pc = counter; owed = 0 }, m) ≡ u = ap (λ o. (record regs { pc = counter; owed = o }, m)) (sym none) in
-          subst (IsInstructionRun left s u) (sym two) (instruction_run-of_two_cycles left s (record regs { pc = counter; owed = 1 }, m) u (omega arith) (step ∙ ap Some owing) refl (second_cycle-clears_owed (record regs { pc = counter }) m ∙ ap Some same)))
+          subst (IsInstructionRun left s u) (sym two) (instruction_run-of_two_cycles left s (record regs { pc = counter; owed = 1 }, m) u (omega arith) (step ∙ ap Some pending) refl (second_cycle-clears_owed (record regs { pc = counter }) m ∙ ap Some same)))
     ]

@@ -103,7 +103,7 @@ fn fall_through(next: Addr) -> Addr
 /// words of ISZ.
 #[inline(always)]
 fn increment_and_jump(regs: &mut Regs, r: RegNo, word: u8, next: Addr) -> Addr
-    ensures counted { record regs.new { pc = result }
+    ensures effect { record regs.new { pc = result }
         ≡ after_isz r word (record regs.old { pc = next }) }
     ensures pc { regs.new.pc ≡ regs.old.pc }
 {
@@ -377,9 +377,9 @@ macro_rules! execute_rows {
         match $op {
             $(operand_pattern!(a b $name $kind) => {
                 let next = $at.plus($words);
-                let on = next_pc!($name $regs $bus next a b);
+                let pc_after = next_pc!($name $regs $bus next a b);
                 effect!($name $regs $bus next a b);
-                (on, $cycles)
+                (pc_after, $cycles)
             })*
         }
     };

@@ -125,12 +125,12 @@ impl Cpu {
         ensures counter { self.new.pc ≡ self.old.pc }
     {
         let (next, cycles) = execute(&mut self.regs, bus, op, at);
-        let whole = u32::from(cycles);
-        if whole > left {
+        let needed = u32::from(cycles);
+        if needed > left {
             self.regs.owed = 1;
             return (next, 1);
         }
-        (next, whole)
+        (next, needed)
     }
 
     /// Returns true if the next cycle on a bus would return `Outside`.

@@ -13,7 +13,7 @@ ends_in_cr line = eqb (slice_index line (length line - 1)) 13
 -- if the lines `ls` parse back, the line `l` followed by `ls` also parses back, because `l` does
 -- not end in CR
 lines_parse_back_with_line_in_front : (l : List ℕ) (ls : List (List ℕ)) → ends_in_cr l ≡ false → lines_of (flat_map as_line ls) ≡ ls → strip_carriage_return l ∷ lines_of (flat_map as_line ls) ≡ l ∷ ls
-lines_parse_back_with_line_in_front l ls e again = rw (e, again) refl
+lines_parse_back_with_line_in_front l ls e others_parse_back = rw (e, others_parse_back) refl
 
 abbrev pub IsLine : List ℕ → Type 0
 IsLine l = HasNoSeparator is_line_feed l × (ends_in_cr l ≡ false)

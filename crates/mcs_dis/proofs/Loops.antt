@@ -82,72 +82,72 @@ drop_after_first_byte (suc n) b rest le = ap (λ k. drop k rest) (omega arith)
 
 -- ---- the source
 
--- Holds if the text `out`, followed by the source lines of the bytes `rest`, is the text `whole`.
--- The bytes `rest` start at address `at` and end within the ROM.
-pub record IsSourceSoFar (whole out : List ℕ) (at : ℕ) (rest : List ℕ) : Type 0 where
-  pub most : ℕ
-  pub enough : length rest ≤ most
+-- Holds if the text `out`, followed by the source lines of the bytes `rest`, is `full_text`. The
+-- bytes `rest` start at address `at` and end within the ROM.
+pub record IsSourceSoFar (full_text out : List ℕ) (at : ℕ) (rest : List ℕ) : Type 0 where
+  pub fuel : ℕ
+  pub enough : length rest ≤ fuel
   pub in_rom : at + length rest ≤ 4096
-  pub text : out ++ flat_map as_line (piece_texts most at rest) ≡ whole
+  pub text : out ++ flat_map as_line (piece_texts fuel at rest) ≡ full_text
 
-source_so_far_after_first_piece : (most : ℕ) (whole out : List ℕ) (at b : ℕ) (rest : List ℕ) → length (b ∷ rest) ≤ most → at + length (b ∷ rest) ≤ 4096 → out ++ flat_map as_line (piece_texts most at (b ∷ rest)) ≡ whole
-    → IsSourceSoFar whole (out ++ as_line (piece_text at b (op_at b rest))) (at + piece_size (op_at b rest)) (drop (piece_size (op_at b rest)) (b ∷ rest))
+source_so_far_after_first_piece : (fuel : ℕ) (full_text out : List ℕ) (at b : ℕ) (rest : List ℕ) → length (b ∷ rest) ≤ fuel → at + length (b ∷ rest) ≤ 4096 → out ++ flat_map as_line (piece_texts fuel at (b ∷ rest)) ≡ full_text
+    → IsSourceSoFar full_text (out ++ as_line (piece_text at b (op_at b rest))) (at + piece_size (op_at b rest)) (drop (piece_size (op_at b rest)) (b ∷ rest))
 unfolding piece_texts
-source_so_far_after_first_piece zero whole out at b rest enough in_rom text = absurd (omega (arith, enough))
-source_so_far_after_first_piece (suc most) whole out at b rest enough in_rom text =
+source_so_far_after_first_piece zero full_text out at b rest enough in_rom text = absurd (omega (arith, enough))
+source_so_far_after_first_piece (suc fuel) full_text out at b rest enough in_rom text =
     let n : ℕ = piece_size (op_at b rest) in
     let some : 1 ≤ piece_size (op_at b rest) = piece_size_is_at_least_1 (op_at b rest) in
     let fits : piece_size (op_at b rest) ≤ 1 + length rest = piece_size_fits b rest in
     let len : length (drop (n - 1) rest) ≡ length rest - (n - 1) = length-drop (n - 1) rest in
     rw (drop_after_first_byte (piece_size (op_at b rest)) b rest some) (record {
-      most = most;
+      fuel = fuel;
       enough = omega (arith, len, enough);
       in_rom = omega (arith, len, in_rom, some, fits);
-      text = append_assoc out (as_line (piece_text at b (op_at b rest))) (flat_map as_line (piece_texts most (at + n) (drop (n - 1) rest))) ∙ text;
+      text = append_assoc out (as_line (piece_text at b (op_at b rest))) (flat_map as_line (piece_texts fuel (at + n) (drop (n - 1) rest))) ∙ text;
     })
 
-source_so_far_after_piece : (whole out new rest : List ℕ) (at n : ℕ) → 0 < length rest → IsSourceSoFar whole out at rest → n ≡ piece_size (op_at (get_or rest 0 0) (drop 1 rest))
-    → new ≡ out ++ as_line (piece_text at (get_or rest 0 0) (op_at (get_or rest 0 0) (drop 1 rest))) → IsSourceSoFar whole new (at + n) (drop n rest)
-source_so_far_after_piece whole out new [] at n some w size line = absurd (omega (arith, some))
-source_so_far_after_piece whole out new (b ∷ rest) at n some w size line = rw (line, size) (source_so_far_after_first_piece w.most whole out at b rest w.enough w.in_rom w.text)
+source_so_far_after_piece : (full_text out new rest : List ℕ) (at n : ℕ) → 0 < length rest → IsSourceSoFar full_text out at rest → n ≡ piece_size (op_at (get_or rest 0 0) (drop 1 rest))
+    → new ≡ out ++ as_line (piece_text at (get_or rest 0 0) (op_at (get_or rest 0 0) (drop 1 rest))) → IsSourceSoFar full_text new (at + n) (drop n rest)
+source_so_far_after_piece full_text out new [] at n some w size line = absurd (omega (arith, some))
+source_so_far_after_piece full_text out new (b ∷ rest) at n some w size line = rw (line, size) (source_so_far_after_first_piece w.fuel full_text out at b rest w.enough w.in_rom w.text)
 
-pub source_so_far_after_piece_in_slice : (whole out new rest : List ℕ) (at n here : ℕ) → 0 < length rest → IsSourceSoFar whole out at rest → here ≡ at → n ≡ piece_size (op_at (get_or rest 0 0) (drop 1 rest))
-    → new ≡ out ++ as_line (piece_text here (get_or rest 0 0) (op_at (get_or rest 0 0) (drop 1 rest))) → IsSourceSoFar whole new (at + n) (take (length rest - n) (drop n rest))
-source_so_far_after_piece_in_slice whole out new rest at n here some w there size line =
+pub source_so_far_after_piece_in_slice : (full_text out new rest : List ℕ) (at n here : ℕ) → 0 < length rest → IsSourceSoFar full_text out at rest → here ≡ at → n ≡ piece_size (op_at (get_or rest 0 0) (drop 1 rest))
+    → new ≡ out ++ as_line (piece_text here (get_or rest 0 0) (op_at (get_or rest 0 0) (drop 1 rest))) → IsSourceSoFar full_text new (at + n) (take (length rest - n) (drop n rest))
+source_so_far_after_piece_in_slice full_text out new rest at n here some w there size line =
     let written : new ≡ out ++ as_line (piece_text at (get_or rest 0 0) (op_at (get_or rest 0 0) (drop 1 rest))) =
     line ∙ ap (λ (k : ℕ). out ++ as_line (piece_text k (get_or rest 0 0) (op_at (get_or rest 0 0) (drop 1 rest)))) there in
-    subst (λ (l : List ℕ). IsSourceSoFar whole new (at + n) l) (sym (take_rest-unchanged n rest)) (source_so_far_after_piece whole out new rest at n some w size written)
+    subst (λ (l : List ℕ). IsSourceSoFar full_text new (at + n) l) (sym (take_rest-unchanged n rest)) (source_so_far_after_piece full_text out new rest at n some w size written)
 
 pub source_so_far_at_start : (rom out : List ℕ) (from to at n m : ℕ) → length rom ≡ 4096 → from < to → to ≤ 4096 → out ≡ as_line (origin_text from) → at ≡ from → n ≡ from → m ≡ to → IsSourceSoFar (source_text rom from to) out at (take (m - n) (drop n rom))
 source_so_far_at_start rom out from to at n m all some end is there low high =
     rw (is, there, low, high) (record {
-      most = length (range rom from to);
+      fuel = length (range rom from to);
       enough = omega arith;
       in_rom = omega (arith, length-take (to - from) (drop from rom), length-drop from rom, all, some, end);
       text = refl;
     })
 
-no_piece_texts_of_no_bytes : (most at : ℕ) → piece_texts most at [] ≡ []
+no_piece_texts_of_no_bytes : (fuel at : ℕ) → piece_texts fuel at [] ≡ []
 unfolding piece_texts
 no_piece_texts_of_no_bytes zero at = refl
-no_piece_texts_of_no_bytes (suc most) at = refl
+no_piece_texts_of_no_bytes (suc fuel) at = refl
 
-pub source_is_complete : (whole out rest : List ℕ) (at : ℕ) → length rest ≡ 0 → IsSourceSoFar whole out at rest → out ≡ whole
-source_is_complete whole out [] at none w = sym (append-nil out) ∙ (ap (λ (ls : List (List ℕ)). out ++ flat_map as_line ls) (sym (no_piece_texts_of_no_bytes w.most at)) ∙ w.text)
-source_is_complete whole out (b ∷ rest) at none w = absurd (omega (arith, none))
+pub source_is_complete : (full_text out rest : List ℕ) (at : ℕ) → length rest ≡ 0 → IsSourceSoFar full_text out at rest → out ≡ full_text
+source_is_complete full_text out [] at none w = sym (append-nil out) ∙ (ap (λ (ls : List (List ℕ)). out ++ flat_map as_line ls) (sym (no_piece_texts_of_no_bytes w.fuel at)) ∙ w.text)
+source_is_complete full_text out (b ∷ rest) at none w = absurd (omega (arith, none))
 
 -- ---- the listing
 
--- Holds if the text `out`, followed by at most `left` listing lines for the bytes `rest`, is the
--- text `whole`. The bytes `rest` start at address `at` and end within the ROM.
-pub record IsListingSoFar (whole out : List ℕ) (left at : ℕ) (rest : List ℕ) : Type 0 where
+-- Holds if the text `out`, followed by at most `left` listing lines for the bytes `rest`, is
+-- `full_text`. The bytes `rest` start at address `at` and end within the ROM.
+pub record IsListingSoFar (full_text out : List ℕ) (left at : ℕ) (rest : List ℕ) : Type 0 where
   pub in_rom : at + length rest ≤ 4096
-  pub text : out ++ flat_map as_line (listing_lines left at rest) ≡ whole
+  pub text : out ++ flat_map as_line (listing_lines left at rest) ≡ full_text
 
-listing_so_far_after_first_piece : (left : ℕ) (whole out : List ℕ) (at b : ℕ) (rest : List ℕ) → IsListingSoFar whole out (suc left) at (b ∷ rest)
-    → IsListingSoFar whole (out ++ as_line (listing_line at b rest (op_at b rest))) left (at + piece_size (op_at b rest)) (drop (piece_size (op_at b rest)) (b ∷ rest))
+listing_so_far_after_first_piece : (left : ℕ) (full_text out : List ℕ) (at b : ℕ) (rest : List ℕ) → IsListingSoFar full_text out (suc left) at (b ∷ rest)
+    → IsListingSoFar full_text (out ++ as_line (listing_line at b rest (op_at b rest))) left (at + piece_size (op_at b rest)) (drop (piece_size (op_at b rest)) (b ∷ rest))
 unfolding listing_lines
-listing_so_far_after_first_piece left whole out at b rest w =
+listing_so_far_after_first_piece left full_text out at b rest w =
     let n : ℕ = piece_size (op_at b rest) in
     let some : 1 ≤ piece_size (op_at b rest) = piece_size_is_at_least_1 (op_at b rest) in
     let fits : piece_size (op_at b rest) ≤ 1 + length rest = piece_size_fits b rest in
@@ -157,19 +157,19 @@ listing_so_far_after_first_piece left whole out at b rest w =
       text = append_assoc out (as_line (listing_line at b rest (op_at b rest))) (flat_map as_line (listing_lines left (at + n) (drop (n - 1) rest))) ∙ w.text;
     })
 
-listing_so_far_after_piece : (whole out new rest : List ℕ) (left at n : ℕ) → 0 < length rest → IsListingSoFar whole out (suc left) at rest → n ≡ piece_size (op_at (get_or rest 0 0) (drop 1 rest))
-    → new ≡ out ++ as_line (listing_line at (get_or rest 0 0) (drop 1 rest) (op_at (get_or rest 0 0) (drop 1 rest))) → IsListingSoFar whole new left (at + n) (drop n rest)
-listing_so_far_after_piece whole out new [] left at n some w size line = absurd (omega (arith, some))
-listing_so_far_after_piece whole out new (b ∷ rest) left at n some w size line = rw (line, size) (listing_so_far_after_first_piece left whole out at b rest w)
+listing_so_far_after_piece : (full_text out new rest : List ℕ) (left at n : ℕ) → 0 < length rest → IsListingSoFar full_text out (suc left) at rest → n ≡ piece_size (op_at (get_or rest 0 0) (drop 1 rest))
+    → new ≡ out ++ as_line (listing_line at (get_or rest 0 0) (drop 1 rest) (op_at (get_or rest 0 0) (drop 1 rest))) → IsListingSoFar full_text new left (at + n) (drop n rest)
+listing_so_far_after_piece full_text out new [] left at n some w size line = absurd (omega (arith, some))
+listing_so_far_after_piece full_text out new (b ∷ rest) left at n some w size line = rw (line, size) (listing_so_far_after_first_piece left full_text out at b rest w)
 
-pub listing_so_far_after_piece_in_slice : (whole out new rest : List ℕ) (lines i at n here : ℕ) → i < lines → 0 < length rest → IsListingSoFar whole out (lines - i) at rest → here ≡ at → n ≡ piece_size (op_at (get_or rest 0 0) (drop 1 rest))
-    → new ≡ out ++ as_line (listing_line here (get_or rest 0 0) (drop 1 rest) (op_at (get_or rest 0 0) (drop 1 rest))) → IsListingSoFar whole new (lines - (i + 1)) (at + n) (take (length rest - n) (drop n rest))
-listing_so_far_after_piece_in_slice whole out new rest lines i at n here more some w there size line =
+pub listing_so_far_after_piece_in_slice : (full_text out new rest : List ℕ) (lines i at n here : ℕ) → i < lines → 0 < length rest → IsListingSoFar full_text out (lines - i) at rest → here ≡ at → n ≡ piece_size (op_at (get_or rest 0 0) (drop 1 rest))
+    → new ≡ out ++ as_line (listing_line here (get_or rest 0 0) (drop 1 rest) (op_at (get_or rest 0 0) (drop 1 rest))) → IsListingSoFar full_text new (lines - (i + 1)) (at + n) (take (length rest - n) (drop n rest))
+listing_so_far_after_piece_in_slice full_text out new rest lines i at n here more some w there size line =
     let left : lines - i ≡ suc (lines - (i + 1)) = omega (arith, more) in
     let written : new ≡ out ++ as_line (listing_line at (get_or rest 0 0) (drop 1 rest) (op_at (get_or rest 0 0) (drop 1 rest))) =
     line ∙ ap (λ (k : ℕ). out ++ as_line (listing_line k (get_or rest 0 0) (drop 1 rest) (op_at (get_or rest 0 0) (drop 1 rest)))) there in
-    let now : IsListingSoFar whole out (suc (lines - (i + 1))) at rest = subst (λ (k : ℕ). IsListingSoFar whole out k at rest) left w in
-    subst (λ (l : List ℕ). IsListingSoFar whole new (lines - (i + 1)) (at + n) l) (sym (take_rest-unchanged n rest)) (listing_so_far_after_piece whole out new rest (lines - (i + 1)) at n some now size written)
+    let now : IsListingSoFar full_text out (suc (lines - (i + 1))) at rest = subst (λ (k : ℕ). IsListingSoFar full_text out k at rest) left w in
+    subst (λ (l : List ℕ). IsListingSoFar full_text new (lines - (i + 1)) (at + n) l) (sym (take_rest-unchanged n rest)) (listing_so_far_after_piece full_text out new rest (lines - (i + 1)) at n some now size written)
 
 pub listing_so_far_at_start : (rom out : List ℕ) (from lines at n : ℕ) → length rom ≡ 4096 → from < 4096 → out ≡ [] → at ≡ from → n ≡ from → IsListingSoFar (listing_text rom from lines) out (lines - 0) at (take (length rom - n) (drop n rom))
 listing_so_far_at_start rom out from lines at n all low is there start =
@@ -184,15 +184,15 @@ unfolding listing_lines
 no_listing_lines_of_no_bytes zero at = refl
 no_listing_lines_of_no_bytes (suc left) at = refl
 
-pub listing_is_complete_at_end_of_rom : (whole out rest : List ℕ) (left at : ℕ) → length rest ≡ 0 → IsListingSoFar whole out left at rest → out ≡ whole
-listing_is_complete_at_end_of_rom whole out [] left at none w = sym (append-nil out) ∙ (ap (λ (ls : List (List ℕ)). out ++ flat_map as_line ls) (sym (no_listing_lines_of_no_bytes left at)) ∙ w.text)
-listing_is_complete_at_end_of_rom whole out (b ∷ rest) left at none w = absurd (omega (arith, none))
+pub listing_is_complete_at_end_of_rom : (full_text out rest : List ℕ) (left at : ℕ) → length rest ≡ 0 → IsListingSoFar full_text out left at rest → out ≡ full_text
+listing_is_complete_at_end_of_rom full_text out [] left at none w = sym (append-nil out) ∙ (ap (λ (ls : List (List ℕ)). out ++ flat_map as_line ls) (sym (no_listing_lines_of_no_bytes left at)) ∙ w.text)
+listing_is_complete_at_end_of_rom full_text out (b ∷ rest) left at none w = absurd (omega (arith, none))
 
-listing_is_complete_if_no_lines_left : (whole out rest : List ℕ) (at : ℕ) → IsListingSoFar whole out 0 at rest → out ≡ whole
+listing_is_complete_if_no_lines_left : (full_text out rest : List ℕ) (at : ℕ) → IsListingSoFar full_text out 0 at rest → out ≡ full_text
 unfolding listing_lines
-listing_is_complete_if_no_lines_left whole out rest at w = sym (append-nil out) ∙ w.text
+listing_is_complete_if_no_lines_left full_text out rest at w = sym (append-nil out) ∙ w.text
 
-pub listing_is_complete_after_all_lines : (whole out rest : List ℕ) (lines i at : ℕ) → lines ≤ i → IsListingSoFar whole out (lines - i) at rest → out ≡ whole
-listing_is_complete_after_all_lines whole out rest lines i at end w =
+pub listing_is_complete_after_all_lines : (full_text out rest : List ℕ) (lines i at : ℕ) → lines ≤ i → IsListingSoFar full_text out (lines - i) at rest → out ≡ full_text
+listing_is_complete_after_all_lines full_text out rest lines i at end w =
     let none : lines - i ≡ 0 = omega (arith, end) in
-    listing_is_complete_if_no_lines_left whole out rest at (subst (λ (k : ℕ). IsListingSoFar whole out k at rest) none w)
+    listing_is_complete_if_no_lines_left full_text out rest at (subst (λ (k : ℕ). IsListingSoFar full_text out k at rest) none w)

@@ -22,13 +22,13 @@ pub record IsPiece (at b : ℕ) (rest : List ℕ) (x : Option Op) : Type 0 where
   pub bytes : statement_bytes at [] (piece_statement at b x) ≡ Ok (take (piece_size x) (b ∷ rest))
   pub size_of : size (piece_statement at b x) ≡ piece_size x
   pub next : next_statement (Some (piece_statement at b x)) at ≡ at + piece_size x
-  pub fine : is_bad_origin (Some (piece_statement at b x)) ≡ false
+  pub no_bad_origin : is_bad_origin (Some (piece_statement at b x)) ≡ false
   pub some : 1 ≤ piece_size x
   pub fits : piece_size x ≤ 1 + length rest
-  pub clean : NoLineEnds (piece_text at b x)
+  pub no_line_ends : NoLineEnds (piece_text at b x)
 
 single_byte_is_piece : (at b : ℕ) (rest : List ℕ) → b < 256 → IsPiece at b rest None
-single_byte_is_piece at b rest lt = record { reads = byte_parses_back b lt; bytes = rw (lt-ltb b 256 lt) refl; size_of = refl; next = refl; fine = refl; some = omega arith; fits = omega arith; clean = no_line_ends_in_byte_text b lt }
+single_byte_is_piece at b rest lt = record { reads = byte_parses_back b lt; bytes = rw (lt-ltb b 256 lt) refl; size_of = refl; next = refl; no_bad_origin = refl; some = omega arith; fits = omega arith; no_line_ends = no_line_ends_in_byte_text b lt }
 
 words_are_first_bytes : (n b : ℕ) (rest : List ℕ) → (n ≡ 1) ⊎ (n ≡ 2) → n ≤ 1 + length rest → take n (b ∷ second_word rest ∷ []) ≡ take n (b ∷ rest)
 words_are_first_bytes n b rest (inl e) le = rw e refl
@@ -43,10 +43,10 @@ instruction_is_piece at b rest o lt e le =
       bytes = statement_emits_encoding at o [] s.0 ∙ ap Ok (s.1 ∙ words_are_first_bytes (word_count_of o) b rest (word_count_is_one_or_two o) le);
       size_of = statement_size_is_word_count at o;
       next = next_address_after_instruction at at o;
-      fine = origin_is_not_bad at o;
+      no_bad_origin = origin_is_not_bad at o;
       some = elim (word_count_is_one_or_two o) [ inl e ↦ omega (arith, e) | inr e ↦ omega (arith, e) ];
       fits = le;
-      clean = no_line_ends_in_instruction_text at o s.0;
+      no_line_ends = no_line_ends_in_instruction_text at o s.0;
     }
 
 pub op_at_is_piece : (at b : ℕ) (rest : List ℕ) → b < 256 → second_word rest < 256 → IsPiece at b rest (op_at b rest)

@@ -15,8 +15,8 @@ get_or-from_address (b ∷ bytes) at zero d lt =
     let here : at ≡ at + 0 = omega arith in
     ap (λ (n : ℕ). (n, b)) here
 get_or-from_address (b ∷ bytes) at (suc k) d lt =
-    let there : at + 1 + k ≡ at + suc k = omega arith in
-    get_or-from_address bytes (at + 1) k d (omega (arith, lt)) ∙ ap (λ (n : ℕ). (n, get_or bytes k 0)) there
+    let in_range : at + 1 + k ≡ at + suc k = omega arith in
+    get_or-from_address bytes (at + 1) k d (omega (arith, lt)) ∙ ap (λ (n : ℕ). (n, get_or bytes k 0)) in_range
 
 length-range : (rom : List ℕ) (from to : ℕ) → length rom ≡ 4096 → to ≤ 4096 → length (range rom from to) ≡ to - from
 length-range rom from to all end = omega (arith, length-take (to - from) (drop from rom), length-drop from rom, all, end)
@@ -29,21 +29,21 @@ range_pairs rom from to all end =
     let bytes : List ℕ = range rom from to in
     let len : length (range rom from to) ≡ to - from = length-range rom from to all end in
     λ p. (
-      (λ has.
-          let k : ℕ = has.0 in
-          let short : has.0 < length (range rom from to) = subst (λ (n : ℕ). has.0 < n) (length-from_address (range rom from to) from) has.1 in
-          let near : has.0 < to - from = omega (arith, short, len) in
-          let is : (from + has.0, get_or (range rom from to) has.0 0) ≡ p = sym (get_or-from_address (range rom from to) from has.0 p short) ∙ has.2 in
-          let at : from + has.0 ≡ p.0 = ap (λ (q : ℕ × ℕ). q.0) is in
-          let byte : get_or (range rom from to) has.0 0 ≡ p.1 = ap (λ (q : ℕ × ℕ). q.1) is in
-          (omega (arith, at), omega (arith, at, near), subst (λ (n : ℕ). get_or rom n 0 ≡ p.1) at (sym (get_or-range rom from to has.0 near) ∙ byte))),
-      (λ there.
+      (λ contained.
+          let k : ℕ = contained.0 in
+          let short : contained.0 < length (range rom from to) = subst (λ (n : ℕ). contained.0 < n) (length-from_address (range rom from to) from) contained.1 in
+          let index_in_range : contained.0 < to - from = omega (arith, short, len) in
+          let is : (from + contained.0, get_or (range rom from to) contained.0 0) ≡ p = sym (get_or-from_address (range rom from to) from contained.0 p short) ∙ contained.2 in
+          let at : from + contained.0 ≡ p.0 = ap (λ (q : ℕ × ℕ). q.0) is in
+          let byte : get_or (range rom from to) contained.0 0 ≡ p.1 = ap (λ (q : ℕ × ℕ). q.1) is in
+          (omega (arith, at), omega (arith, at, index_in_range), subst (λ (n : ℕ). get_or rom n 0 ≡ p.1) at (sym (get_or-range rom from to contained.0 index_in_range) ∙ byte))),
+      (λ in_range.
           let k : ℕ = p.0 - from in
-          let near : p.0 - from < to - from = omega (arith, there.0, there.1) in
-          let short : p.0 - from < length (range rom from to) = omega (arith, near, len) in
-          let at : from + (p.0 - from) ≡ p.0 = omega (arith, there.0) in
+          let index_in_range : p.0 - from < to - from = omega (arith, in_range.0, in_range.1) in
+          let short : p.0 - from < length (range rom from to) = omega (arith, index_in_range, len) in
+          let at : from + (p.0 - from) ≡ p.0 = omega (arith, in_range.0) in
           let byte : get_or (range rom from to) (p.0 - from) 0 ≡ p.1 =
-          get_or-range rom from to (p.0 - from) near ∙ (ap (λ (n : ℕ). get_or rom n 0) at ∙ there.2) in (
+          get_or-range rom from to (p.0 - from) index_in_range ∙ (ap (λ (n : ℕ). get_or rom n 0) at ∙ in_range.2) in (
             p.0 - from,
             subst (λ (n : ℕ). p.0 - from < n) (sym (length-from_address (range rom from to) from)) short,
             get_or-from_address (range rom from to) from (p.0 - from) p short ∙ (ap (λ (n : ℕ). (n, get_or (range rom from to) (p.0 - from) 0)) at ∙ ap (λ (b : ℕ). (p.0, b)) byte),

@@ -65,19 +65,19 @@ record FirstPassHoldsTo (lines : List (Option asm.SourceLine)) (i at : ℕ) : Ty
 
 first_pass_holds_at_next_line : (lines : List (Option asm.SourceLine)) (i at next : ℕ) (line : Option asm.SourceLine) → i < length lines → ith_line lines i ≡ line → first_pass_line_fault at [] line ≡ None → definition line at ≡ None → next_at line at ≡ next → FirstPassHoldsTo lines i at → FirstPassHoldsTo lines (i + 1) next
 unfolding first_pass_fault
-first_pass_holds_at_next_line lines i at next line lt is fine no_name goes h = record {
+first_pass_holds_at_next_line lines i at next line lt is no_fault no_name next_is h = record {
   within = omega (arith, lt);
-  address = address_of_next_line lines i ∙ (ap (λ (l : Option asm.SourceLine). next_at l (address_of lines i)) is ∙ (ap (next_at line) h.address ∙ goes));
+  address = address_of_next_line lines i ∙ (ap (λ (l : Option asm.SourceLine). next_at l (address_of lines i)) is ∙ (ap (next_at line) h.address ∙ next_is));
   names = names_before_next_line lines i
       ∙ (ap (λ (l : Option asm.SourceLine). names_before lines i ++ cons_option (definition l (address_of lines i)) []) is
       ∙ (ap (λ (n : ℕ). names_before lines i ++ cons_option (definition line n) []) h.address
       ∙ (ap (λ (o : Option (List ℕ × ℕ)). names_before lines i ++ cons_option o []) no_name ∙ (append-nil (names_before lines i) ∙ h.names))));
   none = no_fault_before_next (first_pass_fault lines) i h.none
-      (ap (λ (l : Option asm.SourceLine). first_pass_line_fault (address_of lines i) (names_before lines i) l) is ∙ (ap (λ (n : Names). first_pass_line_fault (address_of lines i) n line) h.names ∙ (ap (λ (n : ℕ). first_pass_line_fault n [] line) h.address ∙ fine)));
+      (ap (λ (l : Option asm.SourceLine). first_pass_line_fault (address_of lines i) (names_before lines i) l) is ∙ (ap (λ (n : Names). first_pass_line_fault (address_of lines i) n line) h.names ∙ (ap (λ (n : ℕ). first_pass_line_fault n [] line) h.address ∙ no_fault)));
 }
 
 piece_has_no_first_pass_fault : (at b : ℕ) (rest : List ℕ) (x : Option Op) → IsPiece at b rest x → at + piece_size x ≤ 4096 → first_pass_line_fault at [] (asm.line_of (tokens (piece_text at b x))) ≡ None
-piece_has_no_first_pass_fault at b rest x p le = rw (p.reads) (rw (p.fine, p.size_of, le-ltb 4096 (at + piece_size x) le) refl)
+piece_has_no_first_pass_fault at b rest x p le = rw (p.reads) (rw (p.no_bad_origin, p.size_of, le-ltb 4096 (at + piece_size x) le) refl)
 
 piece_defines_no_name : (at b : ℕ) (rest : List ℕ) (x : Option Op) → IsPiece at b rest x → definition (asm.line_of (tokens (piece_text at b x))) at ≡ None
 piece_defines_no_name at b rest x p = rw (p.reads) refl
@@ -95,23 +95,23 @@ index_is_length_if_no_lines_left lines i le e = omega (arith, le, length-drop i 
 record SecondPassHoldsTo (lines : List (Option asm.SourceLine)) (i at : ℕ) (pairs : List (ℕ × ℕ)) : Type 0 where
   within : i ≤ length lines
   address : address_of lines i ≡ at
-  spelt : pairs_before lines [] i ≡ pairs
+  emitted : pairs_before lines [] i ≡ pairs
   none : NoFaultBefore (second_pass_fault lines []) i
 
 second_pass_holds_at_next_line : (lines : List (Option asm.SourceLine)) (i at next : ℕ) (line : Option asm.SourceLine) (pairs : List (ℕ × ℕ)) (bytes : List ℕ) → i < length lines → ith_line lines i ≡ line → line_bytes at [] line ≡ Ok bytes → overlaps pairs at (length bytes) ≡ false → next_at line at ≡ next
     → SecondPassHoldsTo lines i at pairs → SecondPassHoldsTo lines (i + 1) next (pairs ++ from_address at bytes)
 unfolding second_pass_fault
-second_pass_holds_at_next_line lines i at next line pairs bytes lt is spells free goes h =
+second_pass_holds_at_next_line lines i at next line pairs bytes lt is spells free next_is h =
     let bytes_are : line_bytes (address_of lines i) [] (ith_line lines i) ≡ Ok bytes = ap (λ (l : Option asm.SourceLine). line_bytes (address_of lines i) [] l) is ∙ (ap (λ (n : ℕ). line_bytes n [] line) h.address ∙ spells) in
     record {
       within = omega (arith, lt);
-      address = address_of_next_line lines i ∙ (ap (λ (l : Option asm.SourceLine). next_at l (address_of lines i)) is ∙ (ap (next_at line) h.address ∙ goes));
-      spelt = pairs_before_next_line lines [] i
+      address = address_of_next_line lines i ∙ (ap (λ (l : Option asm.SourceLine). next_at l (address_of lines i)) is ∙ (ap (next_at line) h.address ∙ next_is));
+      emitted = pairs_before_next_line lines [] i
           ∙ (ap (λ (r : Result (List ℕ) SourceFault). pairs_before lines [] i ++ from_address (address_of lines i) (bytes_or_none r)) bytes_are
-          ∙ (ap (λ (n : ℕ). pairs_before lines [] i ++ from_address n bytes) h.address ∙ ap (λ (ps : List (ℕ × ℕ)). ps ++ from_address at bytes) h.spelt));
+          ∙ (ap (λ (n : ℕ). pairs_before lines [] i ++ from_address n bytes) h.address ∙ ap (λ (ps : List (ℕ × ℕ)). ps ++ from_address at bytes) h.emitted));
       none = no_fault_before_next (second_pass_fault lines []) i h.none
           (ap (λ (r : Result (List ℕ) SourceFault). second_pass_line_fault (address_of lines i) (pairs_before lines [] i) r) bytes_are
-          ∙ (ap (λ (ps : List (ℕ × ℕ)). second_pass_line_fault (address_of lines i) ps (Ok bytes)) h.spelt ∙ (ap (λ (n : ℕ). second_pass_line_fault n pairs (Ok bytes)) h.address ∙ rw free refl)));
+          ∙ (ap (λ (ps : List (ℕ × ℕ)). second_pass_line_fault (address_of lines i) ps (Ok bytes)) h.emitted ∙ (ap (λ (n : ℕ). second_pass_line_fault n pairs (Ok bytes)) h.address ∙ rw free refl)));
     }
 
 piece_bytes : (at b : ℕ) (rest : List ℕ) (x : Option Op) → IsPiece at b rest x → line_bytes at [] (asm.line_of (tokens (piece_text at b x))) ≡ Ok (take (piece_size x) (b ∷ rest))
@@ -164,10 +164,10 @@ second_pass_holds_to_end (suc fuel) at i (b ∷ rest) lines pairs short all belo
     let next : SecondPassHoldsTo lines (i + 1) (at + n) now = second_pass_holds_at_next_line lines i at (at + n) (asm.line_of (tokens (piece_text at b x))) pairs front f.0 f.1 (piece_bytes at b rest x p) (no_overlap_if_pairs_below at (length front) pairs below) (next_address_after_piece at b rest x p) h in
     let more = second_pass_holds_to_end fuel (at + n) (i + 1) (drop (n - 1) rest) lines now (omega (arith, len, short, p.some)) (drop_of_bytes_are_bytes (n - 1) rest all.1) below' f.2 next in
     let end : at + n + length (drop (n - 1) rest) ≡ at + length (b ∷ rest) = omega (arith, len, p.some, p.fits) in
-    let whole : front ++ drop (n - 1) rest ≡ b ∷ rest = ap (λ (l : List ℕ). front ++ l) (sym (drop_after_first_byte n b rest p.some)) ∙ take-append-drop n (b ∷ rest) in
+    let both_parts : front ++ drop (n - 1) rest ≡ b ∷ rest = ap (λ (l : List ℕ). front ++ l) (sym (drop_after_first_byte n b rest p.some)) ∙ take-append-drop n (b ∷ rest) in
     let pairs_are : now ++ from_address (at + n) (drop (n - 1) rest) ≡ pairs ++ from_address at (b ∷ rest) =
     append_assoc pairs (from_address at front) (from_address (at + n) (drop (n - 1) rest))
-    ∙ ap (λ (l : List (ℕ × ℕ)). pairs ++ l) (ap (λ (m : ℕ). from_address at front ++ from_address (at + m) (drop (n - 1) rest)) (sym front_len) ∙ (sym (from_address_of_append at front (drop (n - 1) rest)) ∙ ap (from_address at) whole)) in
+    ∙ ap (λ (l : List (ℕ × ℕ)). pairs ++ l) (ap (λ (m : ℕ). from_address at front ++ from_address (at + m) (drop (n - 1) rest)) (sym front_len) ∙ (sym (from_address_of_append at front (drop (n - 1) rest)) ∙ ap (from_address at) both_parts)) in
     subst (λ (m : ℕ). SecondPassHoldsTo lines (length lines) m (pairs ++ from_address at (b ∷ rest))) end (subst (SecondPassHoldsTo lines (length lines) (at + n + length (drop (n - 1) rest))) pairs_are more)
 
 piece_texts_are_lines : (fuel at : ℕ) (bytes : List ℕ) → AreBytes bytes → AllByRecursion IsLine (piece_texts fuel at bytes)
@@ -176,7 +176,7 @@ piece_texts_are_lines zero at bytes all = tt
 piece_texts_are_lines (suc fuel) at [] all = tt
 piece_texts_are_lines (suc fuel) at (b ∷ rest) all =
     let p : IsPiece at b rest (op_at b rest) = op_at_is_piece at b rest all.0 (second_word_is_byte rest all.1) in
-    (is_line_if_no_line_ends (piece_text at b (op_at b rest)) p.clean, piece_texts_are_lines fuel (at + piece_size (op_at b rest)) (drop (piece_size (op_at b rest) - 1) rest) (drop_of_bytes_are_bytes (piece_size (op_at b rest) - 1) rest all.1))
+    (is_line_if_no_line_ends (piece_text at b (op_at b rest)) p.no_line_ends, piece_texts_are_lines fuel (at + piece_size (op_at b rest)) (drop (piece_size (op_at b rest) - 1) rest) (drop_of_bytes_are_bytes (piece_size (op_at b rest) - 1) rest all.1))
 
 -- the source text for some bytes assembles to exactly these bytes, starting at address `from`
 pub source_assembles_back : (from : ℕ) (bytes : List ℕ) → from < 4096 → from + length bytes ≤ 4096 → AreBytes bytes → assembly_of_text (source_of from bytes) ≡ Ok (from_address from bytes)
@@ -188,13 +188,13 @@ source_assembles_back from bytes lt le all =
     let lines : List (Option asm.SourceLine) = read (origin_text from ∷ ts) in
     let origin : Option asm.SourceLine = Some (asm.Code None (Some (asm.Origin from))) in
     let some : 0 < length lines = omega arith in
-    let fine_start : FirstPassHoldsTo lines 0 0 = record { within = omega arith; address = refl; names = refl; none = λ j less. absurd (omega (arith, less)) } in
-    let fine_first : FirstPassHoldsTo lines (0 + 1) from = first_pass_holds_at_next_line lines 0 0 from origin some (origin_parses_back from lt) (rw (lt-ltb from 4096 lt) refl) refl refl fine_start in
-    let fine : FirstPassHoldsTo lines (length lines) (from + length bytes) = first_pass_holds_to_end (length bytes) from 1 bytes lines (omega arith) le all refl fine_first in
-    let spelt_start : SecondPassHoldsTo lines 0 0 [] = record { within = omega arith; address = refl; spelt = refl; none = λ j less. absurd (omega (arith, less)) } in
-    let spelt_first : SecondPassHoldsTo lines (0 + 1) from [] = second_pass_holds_at_next_line lines 0 0 from origin [] [] some (origin_parses_back from lt) refl refl refl spelt_start in
-    let spelt : SecondPassHoldsTo lines (length lines) (from + length bytes) (from_address from bytes) = second_pass_holds_to_end (length bytes) from 1 bytes lines [] (omega arith) all tt refl spelt_first in
-    assembles_if_no_fault (source_of from bytes) (origin_text from ∷ ts) [] (sym texts) (no_first_fault (first_pass_fault lines) (length lines) fine.none) (sym fine.names) (no_first_fault (second_pass_fault lines []) (length lines) spelt.none) ∙ ap Ok spelt.spelt
+    let first_pass_at_start : FirstPassHoldsTo lines 0 0 = record { within = omega arith; address = refl; names = refl; none = λ j less. absurd (omega (arith, less)) } in
+    let first_pass_after_origin : FirstPassHoldsTo lines (0 + 1) from = first_pass_holds_at_next_line lines 0 0 from origin some (origin_parses_back from lt) (rw (lt-ltb from 4096 lt) refl) refl refl first_pass_at_start in
+    let first_pass : FirstPassHoldsTo lines (length lines) (from + length bytes) = first_pass_holds_to_end (length bytes) from 1 bytes lines (omega arith) le all refl first_pass_after_origin in
+    let second_pass_at_start : SecondPassHoldsTo lines 0 0 [] = record { within = omega arith; address = refl; emitted = refl; none = λ j less. absurd (omega (arith, less)) } in
+    let second_pass_after_origin : SecondPassHoldsTo lines (0 + 1) from [] = second_pass_holds_at_next_line lines 0 0 from origin [] [] some (origin_parses_back from lt) refl refl refl second_pass_at_start in
+    let second_pass : SecondPassHoldsTo lines (length lines) (from + length bytes) (from_address from bytes) = second_pass_holds_to_end (length bytes) from 1 bytes lines [] (omega arith) all tt refl second_pass_after_origin in
+    assembles_if_no_fault (source_of from bytes) (origin_text from ∷ ts) [] (sym texts) (no_first_fault (first_pass_fault lines) (length lines) first_pass.none) (sym first_pass.names) (no_first_fault (second_pass_fault lines []) (length lines) second_pass.none) ∙ ap Ok second_pass.emitted
 
 take_of_bytes_are_bytes : (n : ℕ) (bytes : List ℕ) → AreBytes bytes → AreBytes (take n bytes)
 take_of_bytes_are_bytes zero bytes all = tt

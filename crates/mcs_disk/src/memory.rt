@@ -17,7 +17,7 @@ use std::alloc::{AllocError, Global};
 pub struct MemDisk {
     pub(crate) bytes: Vec<u8>,
     pub(crate) history: CallRecord,
-    ghost kept: { bytes.items ≡ bytes_after history.start (calls_in history.notes) },
+    ghost bytes_match_calls: { bytes.items ≡ bytes_after history.start (calls_in history.notes) },
     ghost sized: { length bytes.items ≡ length history.start },
 }
 

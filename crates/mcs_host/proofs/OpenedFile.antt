@@ -28,23 +28,23 @@ opened_file_if_filled create_if_missing name bytes written found first locked me
 }
 
 found_length_is_file_size : (found : ℕ) → min found (FILE_SIZE + 1) ≡ FILE_SIZE → found ≡ FILE_SIZE
-found_length_is_file_size found seen = omega (arith, seen)
+found_length_is_file_size found least = omega (arith, least)
 
-pub opened_file_if_rewritten : (create_if_missing : Bool) (name bytes written : List ℕ) (stable : Bool) (found : ℕ) (first locked measured read again : HostState) → IsTrue create_if_missing → first.name ≡ name
+pub opened_file_if_rewritten : (create_if_missing : Bool) (name bytes written : List ℕ) (stable : Bool) (found : ℕ) (first locked measured read rewritten : HostState) → IsTrue create_if_missing → first.name ≡ name
     → IsFreshlyOpened create_if_missing first.calls → KeepsNameAndNumber first locked → locked.calls ≡ locking_calls name first.calls → measured ≡ asked (Length found true) locked → length bytes ≡ min found (FILE_SIZE + 1)
-    → KeepsNameAndNumber measured read → IsReadAfter name bytes stable measured.calls read.calls → IsAllZeros bytes → KeepsNameAndNumber read again → written ≡ bytes
-    → IsWrittenAfter name written read.calls again.calls → IsOpenedFile create_if_missing name bytes stable again
-opened_file_if_rewritten create_if_missing name bytes written stable found first locked measured read again to_be_made named begun same lock long size after reads blank still these writes =
-    let whole : found ≡ FILE_SIZE = found_length_is_file_size found (sym size ∙ blank.size) in
+    → KeepsNameAndNumber measured read → IsReadAfter name bytes stable measured.calls read.calls → IsAllZeros bytes → KeepsNameAndNumber read rewritten → written ≡ bytes
+    → IsWrittenAfter name written read.calls rewritten.calls → IsOpenedFile create_if_missing name bytes stable rewritten
+opened_file_if_rewritten create_if_missing name bytes written stable found first locked measured read rewritten to_be_made named begun same lock long size after reads blank same_name written_is writes =
+    let found_is_file_size : found ≡ FILE_SIZE = found_length_is_file_size found (sym size ∙ blank.size) in
     record {
-      named = still.name ∙ after.name ∙ ap (λ (s : HostState). s.name) long ∙ same.name ∙ named;
+      named = same_name.name ∙ after.name ∙ ap (λ (s : HostState). s.name) long ∙ same.name ∙ named;
       opened = first.calls;
       begun = begun;
       filled_read_or_rewritten = inr (inr (record {
         to_be_made = to_be_made;
         is_blank = blank;
         read = read.calls;
-        asked = subst (λ (before : List AnsweredCall). IsReadAfter name bytes stable before read.calls) (calls_after_length_request name found FILE_SIZE first locked measured lock long whole) reads;
-        writes = subst (λ (w : List ℕ). IsWrittenAfter name w read.calls again.calls) these writes;
+        asked = subst (λ (before : List AnsweredCall). IsReadAfter name bytes stable before read.calls) (calls_after_length_request name found FILE_SIZE first locked measured lock long found_is_file_size) reads;
+        writes = subst (λ (w : List ℕ). IsWrittenAfter name w read.calls rewritten.calls) written_is writes;
       }));
     }

@@ -1,4 +1,5 @@
--- The end of an open file, and the bytes that are found in the file after the end.
+-- The end of an open file (a close, a process kill or a power cut), and the bytes that are found in
+-- the file at its next opening.
 use Rattle.std.specs.Prelude.{◌≡◌, ◌⊎◌, ℕ, ◌≤◌, List, [], ◌∷◌, ◌++◌}
 use Rattle.mcs_disk.specs.Calls.{DiskCall, Wrote, Failed, clock_of, images_after}
 use Rattle.mcs_disk.specs.Disk.{DiskState}
@@ -27,10 +28,10 @@ pub record IsInterruptedInWrite (calls cut : List DiskCall) : Type 0 where
   pub at : ℕ
   pub bytes : List ℕ
   pub before : List DiskCall
-  pub whole : calls ≡ Wrote at bytes ∷ before
+  pub ends_in_write : calls ≡ Wrote at bytes ∷ before
   pub torn : cut ≡ Failed at bytes [] ∷ before
 
--- Holds if the file ended after the calls `made`, an initial part of all its calls. The disk's
+-- Holds if the open file ended after the calls `made`, an initial part of all its calls. The disk's
 -- clock was then at `time` or later. Lists of calls are newest first, so the initial part is the
 -- tail of the list. If the newest call of `made` is a write, the end can have interrupted it.
 pub record IsLeftSince (time : ℕ) (file : FileDisk) : Type 0 where
@@ -41,14 +42,14 @@ pub record IsLeftSince (time : ℕ) (file : FileDisk) : Type 0 where
       ⊎ IsInterruptedInWrite made (calls_in file.inner_disk.end.notes)
   pub clock_reached : time ≤ clock_of (calls_in file.inner_disk.end.notes)
 
--- holds if the bytes found in the file after its end are an image that the calls before the end can
--- leave; this is what `IsHonest` states for the file
+-- Holds if the bytes found in the file at its next opening are an image that the calls before the
+-- end can leave. This is what `IsHonest` states for the file.
 abbrev pub IsFoundAfterTheEnd : FileDisk → Type 0
 IsFoundAfterTheEnd file =
     images_after file.inner_disk.history.start (calls_in file.inner_disk.end.notes) (bytes_found_in file)
 
--- Holds if `like` and `file` have given the same answers to all calls. In addition, `like` ended
--- after all of its calls, and the bytes `image` are found in it.
+-- Holds if `like` and `file` have given the same answers to all calls. In addition, the open file
+-- `like` ended after all of its calls, and the bytes `image` are found in it at its next opening.
 pub record AgreesButEndsWith (image : List ℕ) (file like : FileDisk) : Type 0 where
   pub faults : like.inner_disk.faults ≡ file.inner_disk.faults
   pub bytes : like.inner_disk.bytes.items ≡ file.inner_disk.bytes.items

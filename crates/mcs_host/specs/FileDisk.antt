@@ -6,10 +6,10 @@ use Rattle.mcs_disk.specs.NotedCalls.{calls_in}
 use Rattle.mcs_disk.specs.declared.call_record.Call.{Call}
 use Rattle.mcs_disk.specs.declared.record.Record.{Record}
 
--- The premise that a file is honest: the bytes found in the file after its end are an image that
--- the calls before the end can leave. The premise is about the host, and about other programs that
--- write the file without requesting its lock. A write that the end interrupted counts as a failed
--- call.
+-- The premise that a file is honest. An open file ends with a close, a process kill or a power cut.
+-- The bytes found in the file at its next opening are an image that the calls before the end can
+-- leave. The premise is about the host, and about other programs that write the file without
+-- requesting its lock. A write that the end interrupted counts as a failed call.
 abbrev pub IsHonest : Record Call → Record Call → Type 0
 IsHonest history end = images_after history.start (calls_in end.notes) end.start
 

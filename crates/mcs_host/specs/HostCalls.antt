@@ -2,8 +2,8 @@
 -- and with POSIX's stat, ftruncate, pread, pwrite, fsync and fdatasync.
 use Rattle.std.specs.Prelude.{◌≡◌, ℕ, ℤ, Bool, true, false, List, ◌∷◌, Result, Ok, Err, OnOk}
 
--- A call on a file. The Bool is true if the call returned Ok and, for a question, if the answer was
--- also yes. If the Bool is false, a length or a real path in the call has no meaning.
+-- A call on a file. The Bool is true if the call returned Ok and, for a question, the answer was
+-- yes. If the Bool is false, a length or a real path in the call has no meaning.
 pub data AnsweredCall : Type 0 where
   -- a request for the exclusive lock, without waiting; the Bool is true if the host granted the
   -- lock
@@ -54,7 +54,7 @@ pub record KeepsNameAndNumber (old new : HostState) : Type 0 where
 -- holds if the file was opened with this name, and exactly these calls were made on it
 pub record HasCalls (name : List ℕ) (calls : List AnsweredCall) (file : HostState) : Type 0 where
   pub named : file.name ≡ name
-  pub are : file.calls ≡ calls
+  pub same_calls : file.calls ≡ calls
 
 -- true if the result is Ok and its value is true
 abbrev pub is_yes : {E : Type 0} → Result Bool E → Bool

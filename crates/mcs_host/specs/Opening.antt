@@ -33,10 +33,10 @@ parent_or_working_folder (Some (b ∷ folder)) = b ∷ folder
 abbrev pub folder_of : List ℕ → List ℕ
 folder_of name = parent_or_working_folder (path_parent name)
 
--- Holds if `after` is `before` and then the calls that sync the folder of the file `name`. If the
--- name is a link, this is the folder of its real path. If `ok` is true, the folder was synced;
--- otherwise one of these calls failed. (The Bool of an `IsLink` is `false` if the call failed, and
--- also if the answer was no.)
+-- Holds if `after` consists of `before`, followed by the calls that sync the folder of the file
+-- `name`. If the name is a link, this is the folder of its real path. If `ok` is true, the folder
+-- was synced; otherwise one of these calls failed. (The Bool of an `IsLink` is `false` if the call
+-- failed, and also if the answer was no.)
 abbrev pub FolderCalls : List ℕ → Bool → List AnsweredCall → List AnsweredCall → Type 0
 FolderCalls name ok before after =
     (after ≡ SyncFolder (folder_of name) ok ∷ IsLink name false ∷ before)

@@ -22,19 +22,19 @@ impl Choice {
 
 // Parses the arguments with clap. Fails only if they are invalid by clap's specification, or if
 // memory runs out.
-fn matches<'a, S: AsStr>(alloc: Global, arguments: &'a [S]) -> Result<ArgMatches<'a>, Error>
+fn parse_arguments<'a, S: AsStr>(alloc: Global, arguments: &'a [S]) -> Result<ArgMatches<'a>, Error>
     ensures ok { IfOk result (λ m. subcommand_rows_of m
         ≡ subcommand_of program (map S.text arguments.entry.now)) }
     ensures err { IfErr result (λ e. accepts_arguments (map S.text arguments.entry.now) ≡ true
         → kind_of e ≡ ErrorKind.OutOfMemory) }
 {
     let new_file = Arg::new(alloc, "FILE").required(true);
-    let making = Command::new(alloc, "new").arg(new_file)?;
+    let new_command = Command::new(alloc, "new").arg(new_file)?;
     let open_file = Arg::new(alloc, "FILE").required(true);
-    let opening = Command::new(alloc, "open").arg(open_file)?;
+    let open_command = Command::new(alloc, "open").arg(open_file)?;
     let bench = Command::new(alloc, "mcs4");
-    let with_new = bench.subcommand(making)?;
-    let with_both = with_new.subcommand(opening)?;
+    let with_new = bench.subcommand(new_command)?;
+    let with_both = with_new.subcommand(open_command)?;
     with_both.try_get_matches_from(arguments)
 }
 
@@ -51,7 +51,7 @@ pub fn choice<S: AsStr>(alloc: Global, arguments: &[S]) -> Result<Choice, Argume
         → (accepts_arguments (map S.text arguments.entry.now) ≡ true
         → choice_in (map S.text arguments.entry.now) ≡ None) }
 {
-    let found = match matches(alloc, arguments) {
+    let found = match parse_arguments(alloc, arguments) {
         Ok(found) => found,
         Err(error) => return Err(fault_of(&error)),
     };

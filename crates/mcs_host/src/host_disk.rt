@@ -20,8 +20,8 @@ use std::alloc::{AllocError, Global};
 ///
 /// The file is read into memory once, when it is opened, and each write also updates this copy. If
 /// the host returns bytes that differ from the copy, `read` returns `DiskFault`. No call can check
-/// the premise `honest`. The premise states that the bytes found in the file after its end are one
-/// of the images that the calls before the end can leave.
+/// the premise `honest`. The premise is about the bytes that are found in the file after a close, a process kill or a
+/// power cut. It states that these bytes are one of the images that the earlier calls can leave.
 #[derive(Drop)]
 pub struct HostDisk<H: HostFile> {
     file: H,
@@ -31,7 +31,7 @@ pub struct HostDisk<H: HostFile> {
     end: Ending,
     is_name_stable: bool,
     is_full: bool,
-    ghost kept: { bytes.items ≡ bytes_after history.start (calls_in history.notes) },
+    ghost bytes_match_calls: { bytes.items ≡ bytes_after history.start (calls_in history.notes) },
     ghost sized: { length bytes.items ≡ length history.start },
     ghost not_standard_stream: { IsNotStandardStream (H.HostFile.state file).number },
 }

@@ -1,9 +1,9 @@
 //! The record of the calls on a file of the host.
 use mcs_disk::Record;
 
-/// An answered call on a file of the host. The `bool` is true if the call returned Ok and, for a
-/// question, if the answer was also yes. The value does not contain the bytes or the name that were
-/// passed or returned; a `Record` stores them next to the call.
+/// An answered call on a file of the host. The `bool` is true if the call returned Ok and, for a question, the answer
+/// was yes. The value does not contain the bytes or the name that were passed or returned; a `Record` stores them next
+/// to the call.
 #[derive(Clone, Copy)]
 pub(crate) enum AnsweredRequest {
     /// A request to lock the file exclusively.

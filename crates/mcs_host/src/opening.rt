@@ -305,7 +305,7 @@ fn try_sync_folder<N: Host>(
     }
 }
 
-// Removes a file if it is empty. If the name is a link, the link itself stays.
+// Removes a file if it is empty. If the name is a link, the link itself is not removed.
 fn remove_empty<N: Host>(
     host: &N,
     alloc: Global,

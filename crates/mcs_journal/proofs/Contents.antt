@@ -81,8 +81,8 @@ module _ (f snap r from : List ℕ) (rs : List (List ℕ)) (commit_at : ℕ) (sp
   log_torn c torn = part_torn_around_write (commit_at + 1) (length from) lo 65536 (length (frames_of rs) + 1) f c torn fits (omega (arith, at_commit.at)) (omega (arith, at_commit.room, long))
 
   -- the first write, even if it is torn, leaves the contents unchanged
-  pub first_torn : (c : List ℕ) → Torn (commit_at + 1) (length from) f c → Holds c snap rs
-  first_torn c torn = log_write_keeps_rest f c snap rs rs (commit_at + 1) (length from) old torn (omega (arith, at_commit.at)) (log_unchanged_after_commit_byte rs (length from) _ _ old.log (log_torn c torn))
+  pub holds_after_torn_first_write : (c : List ℕ) → Torn (commit_at + 1) (length from) f c → Holds c snap rs
+  holds_after_torn_first_write c torn = log_write_keeps_rest f c snap rs rs (commit_at + 1) (length from) old torn (omega (arith, at_commit.at)) (log_unchanged_after_commit_byte rs (length from) _ _ old.log (log_torn c torn))
 
   first_staged : (c : List ℕ) → Torn (commit_at + 1) (length from) f c → part (commit_at + 1) (length from) c ≡ from → IsStaged rs r (part lo 65536 c)
   first_staged c torn here =
@@ -101,15 +101,15 @@ module _ (f snap r from : List ℕ) (rs : List (List ℕ)) (commit_at : ℕ) (sp
     commit_torn_log = part_torn_around_write commit_at 1 lo 65536 (length (frames_of rs)) g c torn (omega (arith, fits, first.size)) at_commit.at (omega (arith, at_commit.room))
 
     lift : (news : List (List ℕ)) → IsLog news (part lo 65536 c) → Holds c snap news
-    lift news log = log_write_keeps_rest g c snap rs news commit_at 1 (first_torn g first) torn (omega (arith, at_commit.at, slot_stays)) (subst (λ (s : ℕ). IsLog news (part (s + 16384) 65536 c)) (sym slot_stays) log)
+    lift news log = log_write_keeps_rest g c snap rs news commit_at 1 (holds_after_torn_first_write g first) torn (omega (arith, at_commit.at, slot_stays)) (subst (λ (s : ℕ). IsLog news (part (s + 16384) 65536 c)) (sym slot_stays) log)
 
-    pub second_torn : Holds c snap rs ⊎ Holds c snap (rs ++ r ∷ [])
-    second_torn = elim (old_or_new_log_after_torn_commit rs r _ _ (first_staged g first here) valid_length commit_torn_log) [ inl a ↦ inl (lift rs a) | inr b ↦ inr (lift (rs ++ r ∷ []) b) ]
+    pub holds_after_torn_second_write : Holds c snap rs ⊎ Holds c snap (rs ++ r ∷ [])
+    holds_after_torn_second_write = elim (old_or_new_log_after_torn_commit rs r _ _ (first_staged g first here) valid_length commit_torn_log) [ inl a ↦ inl (lift rs a) | inr b ↦ inr (lift (rs ++ r ∷ []) b) ]
 
-    pub second_done : part commit_at 1 c ≡ 1 ∷ [] → Holds c snap (rs ++ r ∷ [])
-    second_done one =
+    pub holds_after_second_write : part commit_at 1 c ≡ 1 ∷ [] → Holds c snap (rs ++ r ∷ [])
+    holds_after_second_write one =
         let at_log : get_or (part lo 65536 c) (length (frames_of rs)) 0 ≡ get_or c (lo + length (frames_of rs)) 0 = byte_of_part lo 65536 c (length (frames_of rs)) (omega (arith, at_commit.room)) in
         let at_file : get_or (part commit_at 1 c) 0 0 ≡ get_or c (commit_at + 0) 0 = byte_of_part commit_at 1 c 0 (omega arith) in
         let place : lo + length (frames_of rs) ≡ commit_at + 0 = omega (arith, at_commit.at) in
         let is_one : get_or (part lo 65536 c) (length (frames_of rs)) 0 ≡ 1 = at_log ∙ ap (λ (i : ℕ). get_or c i 0) place ∙ sym at_file ∙ ap (λ (l : List ℕ). get_or l 0 0) one in
-        let by = log_by_commit_byte rs r _ _ (first_staged g first here) valid_length commit_torn_log in lift (rs ++ r ∷ []) (by.0 is_one)
+        let by_commit_byte = log_by_commit_byte rs r _ _ (first_staged g first here) valid_length commit_torn_log in lift (rs ++ r ∷ []) (by_commit_byte.0 is_one)

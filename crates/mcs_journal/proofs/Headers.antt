@@ -26,5 +26,5 @@ module _ (f header : List ℕ) (is : header ≡ part 0 16 f) where
   pub selector : get_or header 8 0 ≡ get_or f 8 0
   selector = ap (λ (l : List ℕ). get_or l 8 0) is ∙ byte_of_part 0 16 f 8 (omega arith)
 
-  pub header_is : (slot : Slot) → false ≡ not (bytes_eq (take 8 header) NAME) → false ≡ not (bytes_eq (take 7 (drop 9 header)) ZEROS) → slot_selected_by (get_or header 8 0) ≡ slot → IsHeader f slot
-  header_is slot named zeroed at = record { name = sym front ∙ equal_if_bytes_eq _ _ named; zeros = sym back ∙ equal_if_bytes_eq _ _ zeroed; active = ap slot_selected_by (sym selector) ∙ at }
+  pub valid_header_from_parts : (slot : Slot) → false ≡ not (bytes_eq (take 8 header) NAME) → false ≡ not (bytes_eq (take 7 (drop 9 header)) ZEROS) → slot_selected_by (get_or header 8 0) ≡ slot → IsHeader f slot
+  valid_header_from_parts slot named zeroed at = record { name = sym front ∙ equal_if_bytes_eq _ _ named; zeros = sym back ∙ equal_if_bytes_eq _ _ zeroed; active = ap slot_selected_by (sym selector) ∙ at }

@@ -80,10 +80,10 @@ log_by_commit_byte rs r log c old valid_length torn =
     (λ i lt. torn.before i lt ∙ ap (λ (l : List ℕ). get_or l i 0) old.is)
     (λ i le. torn.after i le ∙ ap (λ (l : List ℕ). get_or l i 0) old.is) in (
       λ one. subst (IsLog (rs ++ r ∷ [])) (sym is) (log_with_commit_byte_set rs r old.rest g old.records_ok valid_length one),
-      λ shut. record { commit_byte = g; rest = bytes; is = is; ends_log = shut; records_ok = old.records_ok },
+      λ not_committed. record { commit_byte = g; rest = bytes; is = is; ends_log = not_committed; records_ok = old.records_ok },
     )
 
 pub old_or_new_log_after_torn_commit : (rs : List (List ℕ)) (r log c : List ℕ) → IsStaged rs r log → IsRecord r → Torn (length (frames_of rs)) 1 log c → IsLog rs c ⊎ IsLog (rs ++ r ∷ []) c
 old_or_new_log_after_torn_commit rs r log c old valid_length torn =
-    let by = log_by_commit_byte rs r log c old valid_length torn in
-    elim (cases_eq (get_or c (length (frames_of rs)) 0) 1) [ inl one ↦ inr (by.0 one) | inr shut ↦ inl (by.1 shut) ]
+    let by_commit_byte = log_by_commit_byte rs r log c old valid_length torn in
+    elim (cases_eq (get_or c (length (frames_of rs)) 0) 1) [ inl one ↦ inr (by_commit_byte.0 one) | inr not_committed ↦ inl (by_commit_byte.1 not_committed) ]

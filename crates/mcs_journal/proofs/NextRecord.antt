@@ -17,15 +17,15 @@ list_of_length_two (a ∷ []) long = absurd (omega arith)
 list_of_length_two (a ∷ b ∷ []) long = refl
 list_of_length_two (a ∷ b ∷ c ∷ p) long = absurd (omega arith)
 
-one : (p : List ℕ) → length p ≡ 1 → p ≡ get_or p 0 0 ∷ []
-one [] long = absurd (omega arith)
-one (a ∷ []) long = refl
-one (a ∷ b ∷ p) long = absurd (omega arith)
+list_of_length_one : (p : List ℕ) → length p ≡ 1 → p ≡ get_or p 0 0 ∷ []
+list_of_length_one [] long = absurd (omega arith)
+list_of_length_one (a ∷ []) long = refl
+list_of_length_one (a ∷ b ∷ p) long = absurd (omega arith)
 
 pub record_at_if_length_is_valid : (f : List ℕ) (at n : ℕ) (commit_byte prefix r : List ℕ) → commit_byte ≡ part at 1 f → length commit_byte ≡ 1 → get_or commit_byte 0 0 ≡ 1 → prefix ≡ part (at + 1) 2 f → length prefix ≡ 2 → get_or prefix 1 0 < 256
     → n ≡ get_or prefix 0 0 * 256 + get_or prefix 1 0 → r ≡ part (at + 3) n f → length r ≡ n → 1 ≤ n → n ≤ 8192 → IsRecordAt f at r
 record_at_if_length_is_valid f at n commit_byte prefix r is_commit commit_long opened is_prefix prefix_long low is is_r r_long some few =
-    let commit_is : part at 1 f ≡ 1 ∷ [] = sym is_commit ∙ one commit_byte commit_long ∙ ap (λ (x : ℕ). x ∷ []) opened in
+    let commit_is : part at 1 f ≡ 1 ∷ [] = sym is_commit ∙ list_of_length_one commit_byte commit_long ∙ ap (λ (x : ℕ). x ∷ []) opened in
     let high_is : get_or prefix 0 0 ≡ length r / 256 = omega (arith, is, r_long, low) in
     let low_is : get_or prefix 1 0 ≡ length r % 256 = omega (arith, is, r_long, low) in
     let prefix_is : part (at + 1) 2 f ≡ be16 (length r) = sym is_prefix ∙ list_of_length_two prefix prefix_long ∙ (λ k. high_is k ∷ low_is k ∷ []) in

@@ -17,8 +17,8 @@ module _ (f : List ℕ) (at : ℕ) (fits : at + 65536 ≤ length f) (rs : List (
   abbrev log : List ℕ
   log = part at 65536 f
 
-  pub one_more : (r : List ℕ) → IsPrefix rs used log → IsRecordAt f (at + used) r → length r + 4 ≤ 65536 - used → IsPrefix (rs ++ r ∷ []) (used + (length r + 3)) log
-  one_more r so_far next room = record {
+  pub prefix_with_next_record : (r : List ℕ) → IsPrefix rs used log → IsRecordAt f (at + used) r → length r + 4 ≤ 65536 - used → IsPrefix (rs ++ r ∷ []) (used + (length r + 3)) log
+  prefix_with_next_record r so_far next room = record {
     is =
         so_far.is
         ∙ ap (λ (l : List ℕ). frames_of rs ++ l) (sym (take-append-drop (length r + 3) (drop used log)) ∙ (λ k. here k ++ behind k))
@@ -34,12 +34,12 @@ module _ (f : List ℕ) (at : ℕ) (fits : at + 65536 ≤ length f) (rs : List (
       behind : drop (length r + 3) (drop used log) ≡ drop (used + (length r + 3)) log
       behind = drop-drop (length r + 3) used log
 
-  pub ends : IsPrefix rs used log → get_or f (at + used) 0 ≢ 1 → used < 65536 → IsLog rs log
-  ends so_far shut inside = record {
+  pub log_if_prefix_ends : IsPrefix rs used log → get_or f (at + used) 0 ≢ 1 → used < 65536 → IsLog rs log
+  log_if_prefix_ends so_far not_committed inside = record {
     commit_byte = get_or log used 0;
     rest = drop (used + 1) log;
     is = so_far.is ∙ ap (λ (l : List ℕ). frames_of rs ++ l) (drop_more log used 0 (omega (arith, inside, length-part at 65536 f fits)));
-    ends_log = λ one. shut (sym (byte_of_part at 65536 f used inside) ∙ one);
+    ends_log = λ one. not_committed (sym (byte_of_part at 65536 f used inside) ∙ one);
     records_ok = so_far.valid_length;
   }
 

@@ -25,8 +25,8 @@ module _ (f snap fresh area : List ℕ) (rs : List (List ℕ)) (start : ℕ) (ol
 
   -- the first write, which puts an area into the other slot, leaves the contents unchanged, even if
   -- it is torn
-  pub other_torn : (c : List ℕ) → Torn start 16385 f c → Holds c snap rs
-  other_torn c torn =
+  pub holds_after_torn_area_write : (c : List ℕ) → Torn start 16385 f c → Holds c snap rs
+  holds_after_torn_area_write c torn =
       holds_with_log f c snap rs rs old torn.size (slot_unchanged_with_selector f c (torn.before 8 (omega (arith, beyond)))) (front 0 8 (omega arith)) (front 9 7 (omega arith))
       (λ lo k from to. here lo k from (omega (arith, to))) (subst (IsLog rs) (sym (here (slot_at f + 16384) 65536 (omega arith) (omega arith))) old.log)
     where
@@ -39,7 +39,7 @@ module _ (f snap fresh area : List ℕ) (rs : List (List ℕ)) (start : ℕ) (ol
   -- after the first write, any value of the selector gives the old contents or the new contents
   module _ (g c : List ℕ) (first : Torn start 16385 f g) (there : part start 16385 g ≡ area) (torn : Torn 8 1 g c) where
     held : Holds g snap rs
-    held = other_torn g first
+    held = holds_after_torn_area_write g first
 
     kept : (lo k : ℕ) → 9 ≤ lo → part lo k c ≡ part lo k g
     kept lo k le = part_unchanged_outside_write 8 1 lo k g c torn (inr (omega (arith, le)))
@@ -59,8 +59,8 @@ module _ (f snap fresh area : List ℕ) (rs : List (List ℕ)) (start : ℕ) (ol
         file_holds_snapshot_of_area c fresh area (torn.size ∙ held.size) (name ∙ held.name) (kept 9 7 (omega arith) ∙ held.zeros) is_area
         (ap (λ (s : ℕ). part s 16385 c) (ap start_of named ∙ sym at) ∙ kept start 16385 (omega (arith, beyond)) ∙ there)
 
-    pub selector_torn : Holds c snap rs ⊎ Holds c fresh []
-    selector_torn = elim (slot_or_other_slot (slot_of f) (slot_of c)) [ inl same ↦ inl (stays same) | inr named ↦ inr (swaps named) ]
+    pub holds_after_torn_selector_write : Holds c snap rs ⊎ Holds c fresh []
+    holds_after_torn_selector_write = elim (slot_or_other_slot (slot_of f) (slot_of c)) [ inl same ↦ inl (stays same) | inr named ↦ inr (swaps named) ]
 
-    pub selector_done : (selector : ℕ) → part 8 1 c ≡ selector ∷ [] → slot_selected_by selector ≡ other_slot (slot_of f) → Holds c fresh []
-    selector_done selector one names = swaps (ap slot_selected_by (sym (byte_of_part 8 1 c 0 (omega arith)) ∙ ap (λ (l : List ℕ). get_or l 0 0) one) ∙ names)
+    pub holds_after_selector_write : (selector : ℕ) → part 8 1 c ≡ selector ∷ [] → slot_selected_by selector ≡ other_slot (slot_of f) → Holds c fresh []
+    holds_after_selector_write selector one names = swaps (ap slot_selected_by (sym (byte_of_part 8 1 c 0 (omega arith)) ∙ ap (λ (l : List ℕ). get_or l 0 0) one) ∙ names)

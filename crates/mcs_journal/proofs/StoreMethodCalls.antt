@@ -13,11 +13,11 @@ use Rattle.mcs_journal.specs.declared.fault.StoreFault.TheVariants as store_faul
 -- If no write is unsynced before a method (`synced`), at most one write is unsynced after each of
 -- its disk calls.
 module _ (old : List DiskCall) (synced : unsynced_writes old ≡ 0) where
-  pub append_one : {T E : Type 0} (at : ℕ) (payload : List ℕ) (new : List DiskCall) (result : Result T E) → MakesCalls (append_calls at payload) old new result → AtMostOneUnsynced old new
-  append_one at payload new result made = at_most_one_unsynced_after_calls (append_calls at payload) old new result (omega arith, (omega arith, (omega arith, (omega (arith, synced), tt)))) made
+  pub append_at_most_one_unsynced : {T E : Type 0} (at : ℕ) (payload : List ℕ) (new : List DiskCall) (result : Result T E) → MakesCalls (append_calls at payload) old new result → AtMostOneUnsynced old new
+  append_at_most_one_unsynced at payload new result made = at_most_one_unsynced_after_calls (append_calls at payload) old new result (omega arith, (omega arith, (omega arith, (omega (arith, synced), tt)))) made
 
-  pub replace_one : {T E : Type 0} (snap : List ℕ) (slot : Slot) (new : List DiskCall) (result : Result T E) → MakesWithArea snap (replace_calls slot) old new result → AtMostOneUnsynced old new
-  replace_one snap slot new result makes = at_most_one_unsynced_after_calls (replace_calls slot makes.area) old new result (omega arith, (omega arith, (omega arith, (omega (arith, synced), tt)))) makes.made
+  pub replace_at_most_one_unsynced : {T E : Type 0} (snap : List ℕ) (slot : Slot) (new : List DiskCall) (result : Result T E) → MakesWithArea snap (replace_calls slot) old new result → AtMostOneUnsynced old new
+  replace_at_most_one_unsynced snap slot new result makes = at_most_one_unsynced_after_calls (replace_calls slot makes.area) old new result (omega arith, (omega arith, (omega arith, (omega (arith, synced), tt)))) makes.made
 
   one_read : AtMostOneUnsynced old (WasRead ∷ old)
   one_read = at_most_one_unsynced_if_each_leaves_one old (WasRead ∷ old) (WasRead ∷ []) refl (omega (arith, synced), tt)
@@ -30,14 +30,14 @@ module _ (old : List DiskCall) (synced : unsynced_writes old ≡ 0) where
   same_one : (new : List DiskCall) → new ≡ old → AtMostOneUnsynced old new
   same_one new same = subst (AtMostOneUnsynced old) (sym same) (at_most_one_unsynced_without_calls old)
 
-  pub refused_create_one : {T E : Type 0} (fault : StoreFault) (snap : List ℕ) (new : List DiskCall) (result : Result T E) → FailedCreateCalls fault snap old new result → AtMostOneUnsynced old new
-  refused_create_one store_fault.NotBlank snap new result (inl same) = same_one new same
-  refused_create_one store_fault.NotBlank snap new result (inr read) = subst (AtMostOneUnsynced old) (sym read) one_read
-  refused_create_one store_fault.Device snap new result (inl same) = same_one new same
-  refused_create_one store_fault.Device snap new result (inr makes) = create_at_most_one_unsynced snap new result makes
-  refused_create_one store_fault.NoMemory snap new result same = same_one new same
-  refused_create_one store_fault.NotASession snap new result none = absurd none
-  refused_create_one store_fault.Damaged snap new result none = absurd none
+  pub refused_create_at_most_one_unsynced : {T E : Type 0} (fault : StoreFault) (snap : List ℕ) (new : List DiskCall) (result : Result T E) → FailedCreateCalls fault snap old new result → AtMostOneUnsynced old new
+  refused_create_at_most_one_unsynced store_fault.NotBlank snap new result (inl same) = same_one new same
+  refused_create_at_most_one_unsynced store_fault.NotBlank snap new result (inr read) = subst (AtMostOneUnsynced old) (sym read) one_read
+  refused_create_at_most_one_unsynced store_fault.Device snap new result (inl same) = same_one new same
+  refused_create_at_most_one_unsynced store_fault.Device snap new result (inr makes) = create_at_most_one_unsynced snap new result makes
+  refused_create_at_most_one_unsynced store_fault.NoMemory snap new result same = same_one new same
+  refused_create_at_most_one_unsynced store_fault.NotASession snap new result none = absurd none
+  refused_create_at_most_one_unsynced store_fault.Damaged snap new result none = absurd none
 
 -- `MakesWithArea` does not depend on the type of the result, only on Ok or Err
 pub makes_with_area_of_other_ok : {T E U V : Type 0} (snap : List ℕ) (calls : List ℕ → List DiskCall) (old mid new : List DiskCall) (x : T) (y : U) → mid ≡ old
@@ -53,10 +53,10 @@ makes_with_area_of_other_error snap calls old mid new e f same makes =
 -- if `check_blank` returned Ok, the list of calls has one more read
 pub one_read_if_check_blank_is_ok : (old new : List DiskCall) {T : Type 0} (x : T) (A : Type 0) → MakesCalls {T = T} {E = StoreFault} (WasRead ∷ []) old new (Ok x) ⊎ (IsErrOf {T = T} {E = StoreFault} (Ok x) store_fault.NotBlank × A) → new ≡ WasRead ∷ old
 one_read_if_check_blank_is_ok old new x A (inl made) = made.all
-one_read_if_check_blank_is_ok old new x A (inr other) = absurd (erred other.0)
+one_read_if_check_blank_is_ok old new x A (inr other) = absurd (no_error other.0)
   where
-    erred : IsErrOf (Ok x) store_fault.NotBlank → ⊥
-    erred none = cc
+    no_error : IsErrOf (Ok x) store_fault.NotBlank → ⊥
+    no_error none = cc
 
 error_is_not_device_and_not_blank : {T : Type 0} (read : Result T StoreFault) → read ≡ Err store_fault.Device → read ≡ Err store_fault.NotBlank → ⊥
 error_is_not_device_and_not_blank read device not_blank = cc

@@ -7,10 +7,10 @@ use Rattle.mcs_journal.specs.File.{Holds, frames_of, be32, slot_at}
 -- two logs with equal bytes have equal records, if a commit byte that is not 1 (`g` and `h`) ends
 -- the records of each log
 equal_frames_have_equal_records : (rs ss : List (List ℕ)) (g h : ℕ) (xs ys : List ℕ) → g ≢ 1 → h ≢ 1 → frames_of rs ++ g ∷ xs ≡ frames_of ss ++ h ∷ ys → rs ≡ ss
-equal_frames_have_equal_records [] [] g h xs ys shut ends_log same = refl
-equal_frames_have_equal_records [] (s ∷ ss) g h xs ys shut ends_log same = let one : g ≡ 1 = cc in absurd (shut one)
-equal_frames_have_equal_records (r ∷ rs) [] g h xs ys shut ends_log same = let one : h ≡ 1 = cc in absurd (ends_log one)
-equal_frames_have_equal_records (r ∷ rs) (s ∷ ss) g h xs ys shut ends_log same =
+equal_frames_have_equal_records [] [] g h xs ys ends_first_log ends_log same = refl
+equal_frames_have_equal_records [] (s ∷ ss) g h xs ys ends_first_log ends_log same = let one : g ≡ 1 = cc in absurd (ends_first_log one)
+equal_frames_have_equal_records (r ∷ rs) [] g h xs ys ends_first_log ends_log same = let one : h ≡ 1 = cc in absurd (ends_log one)
+equal_frames_have_equal_records (r ∷ rs) (s ∷ ss) g h xs ys ends_first_log ends_log same =
     let high : length r / 256 ≡ length s / 256 = cc in
     let low : length r % 256 ≡ length s % 256 = cc in
     let long : length r ≡ length s = omega (arith, high, low) in
@@ -18,7 +18,7 @@ equal_frames_have_equal_records (r ∷ rs) (s ∷ ss) g h xs ys shut ends_log sa
     let apart : r ++ (frames_of rs ++ g ∷ xs) ≡ s ++ (frames_of ss ++ h ∷ ys) = sym (append_assoc r (frames_of rs) (g ∷ xs)) ∙ tails ∙ append_assoc s (frames_of ss) (h ∷ ys) in
     let head : r ≡ s = sym (take_at r (frames_of rs ++ g ∷ xs) (length r) refl) ∙ ap (λ (l : List ℕ). take (length r) l) apart ∙ take_at s (frames_of ss ++ h ∷ ys) (length r) (sym long) in
     let rest : frames_of rs ++ g ∷ xs ≡ frames_of ss ++ h ∷ ys = sym (drop_at r (frames_of rs ++ g ∷ xs) (length r) refl) ∙ ap (λ (l : List ℕ). drop (length r) l) apart ∙ drop_at s (frames_of ss ++ h ∷ ys) (length r) (sym long) in
-    let more = equal_frames_have_equal_records rs ss g h xs ys shut ends_log rest in
+    let more = equal_frames_have_equal_records rs ss g h xs ys ends_first_log ends_log rest in
     (λ k. head k ∷ more k)
 
 -- two numbers up to 16,380 are equal if their four bytes (`be32`) are equal

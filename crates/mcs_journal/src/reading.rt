@@ -146,7 +146,7 @@ pub fn read_header<D: Disk>(disk: &mut D) -> Result<Slot, StoreFault>
     if header[ZEROS_OFFSET..] != ZEROS[..] {
         return Err(StoreFault::Damaged);
     }
-    Ok(Slot::named(header[SELECTOR_OFFSET]))
+    Ok(Slot::selected_by(header[SELECTOR_OFFSET]))
 }
 
 /// Reads the snapshot of the slot that starts at offset `start`. Fails if the stored length is

@@ -18,7 +18,7 @@ impl Slot {
 
     /// Returns the slot that a selector selects: the first if the selector is even, or the second
     /// if the selector is odd.
-    pub fn named(selector: u8) -> Slot
+    pub fn selected_by(selector: u8) -> Slot
         ensures { result ≡ slot_selected_by selector }
     {
         if selector % 2 == 0 { Slot::A } else { Slot::B }

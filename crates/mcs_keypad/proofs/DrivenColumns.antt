@@ -50,8 +50,8 @@ driven_mask-after_idle_rows bits down m driven_columns r (suc d) x low =
 bit-zero_if_shifted_out : (n r j : ℕ) → n / 2 ^ r ≡ 0 → bit_of n (r + j) ≡ 0
 bit-zero_if_shifted_out n r j none = ap (λ m. n / m % 2) (pow-add 2 r j) ∙ ap (λ m. m % 2) (sym (div-div-eq-div-mul n (2 ^ r) (2 ^ j))) ∙ ap (λ m. bit_of m j) none ∙ bit_at-zero j
 
-pub none-left : (n r k : ℕ) → n / 2 ^ r ≡ 0 → r ≤ k → bit_of n k ≡ 0
-none-left n r k none l = ap (bit_of n) (let e : k ≡ r + (k - r) = omega arith in e) ∙ bit-zero_if_shifted_out n r (k - r) none
+pub bits-zero_above_shift : (n r k : ℕ) → n / 2 ^ r ≡ 0 → r ≤ k → bit_of n k ≡ 0
+bits-zero_above_shift n r k none l = ap (bit_of n) (let e : k ≡ r + (k - r) = omega arith in e) ∙ bit-zero_if_shifted_out n r (k - r) none
 
 -- Shifting a number right by `r` bits and halving the result shifts the number right by `r + 1`
 -- bits.

@@ -14,8 +14,8 @@ with_earlier_probes true ps (Ok qs) = Err BadNumber
 with_earlier_probes bad ps (Err fault) = Err fault
 
 -- The invariant: `with_earlier_probes` gives the result of parsing all words (`all`). `ps` are the
--- probes parsed so far, and `rest` are the words that are not parsed yet. There is room for `room`
--- more probes.
+-- probes parsed so far, and `rest` are the words that have not been parsed yet. There is room for
+-- `room` more probes.
 pub record IsParsedSoFar (all rest : List (List ℕ)) (ps : List Probe) (room : ℕ) (bad : Bool) : Type 0 where
   pub few : length ps + room ≤ 16
   pub so_far : probes_within 16 all ≡ with_earlier_probes bad ps (probes_within room rest)

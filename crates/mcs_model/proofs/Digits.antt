@@ -24,9 +24,9 @@ pub record IsValueOfFirstDigits (base value i : ℕ) (ds : List ℕ) : Type 0 wh
   pub each : list_all (λ c. ltb (digit_value c) base) (take i ds) ≡ true
   pub capped_value : value ≡ min (digits_value base (take i ds)) 4294967296
 
-pub one_more : (base value i : ℕ) (ds : List ℕ) → (base ≡ 10) ⊎ (base ≡ 16) → i < length ds → digit_value (get_or ds i 0) < base → IsValueOfFirstDigits base value i ds
+pub value_with_next_digit : (base value i : ℕ) (ds : List ℕ) → (base ≡ 10) ⊎ (base ≡ 16) → i < length ds → digit_value (get_or ds i 0) < base → IsValueOfFirstDigits base value i ds
     → IsValueOfFirstDigits base (min (value * base + digit_value (get_or ds i 0)) 4294967296) (i + 1) ds
-one_more base value i ds ten lt small so_far = record {
+value_with_next_digit base value i ds ten lt small so_far = record {
   each = list_all_more (λ c. ltb (digit_value c) base) ds i 0 lt ∙ rw (so_far.each, lt-ltb _ _ small) refl;
   capped_value = rw (so_far.capped_value, take_more ds i 0 lt, digits_value_after-last_digit base 0 (take i ds) (get_or ds i 0)) (earlier_cap-redundant base (digits_value base (take i ds)) (digit_value (get_or ds i 0)) ten);
 }
@@ -43,4 +43,4 @@ value_of_all_digits base value i (d ∷ ds) some all so_far =
 
 pub value_with_digit_read : (base value i : ℕ) (ds : List ℕ) (x d v : ℕ) → (base ≡ 10) ⊎ (base ≡ 16) → i < length ds → x ≡ get_or ds i 0 → digit_value x < base → d ≡ digit_value x → v ≡ min (value * base + d) 4294967296 → IsValueOfFirstDigits base value i ds → IsValueOfFirstDigits base v (i + 1) ds
 value_with_digit_read base value i ds x d v ten lt read small is made so_far =
-    rw (made, is, read) (one_more base value i ds ten lt (subst (λ (k : ℕ). digit_value k < base) read small) so_far)
+    rw (made, is, read) (value_with_next_digit base value i ds ten lt (subst (λ (k : ℕ). digit_value k < base) read small) so_far)

@@ -35,8 +35,8 @@ chain_part b i = slice_index_or b.chains.items i no_chain
 abbrev pub chain_count : BoardParts → ℕ
 chain_count b = length b.chains.items
 
--- the number of bits in chain `i`: ten for each chip (4003 data sheet; Fethsaim, not Intel, defines
--- that the chips form one sequence of bits)
+-- the number of bits in chain `i`: ten for each chip (4003 data sheet; Fethsaim, not Intel,
+-- specifies that the chips form one sequence of bits)
 abbrev pub chain_bits : BoardParts → ℕ → ℕ
 chain_bits b i = 10 * (chain_part b i).chips
 

@@ -71,8 +71,8 @@ abbrev pub has_chip : BusState → ℕ → ℕ → Bool
 has_chip s bank src = nat_lt (src / 64) (chips_of s bank)
 
 -- The bus after SRC sends a byte. The ROMs store the byte, and so does the designated bank if the
--- bank has chips (MCS-4 Users Manual, SRC). Fethsaim, not Intel, defines that the other banks keep
--- their SRC bytes.
+-- bank has chips (MCS-4 Users Manual, SRC). Fethsaim, not Intel, specifies that the other banks
+-- keep their SRC bytes.
 unfoldable pub after_src : BusState → ℕ → ℕ → BusState
 after_src s bank byte =
     if nat_lt 0 (chips_of s bank)

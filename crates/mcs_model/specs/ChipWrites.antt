@@ -62,8 +62,8 @@ with_key s row column bit = record s { keys = slice_set s.keys (key_index s.boar
 abbrev pub zero_chains : BoardParts → List (List ℕ)
 zero_chains b = map (λ (c : ChainPart). replicate (10 * c.chips) 0) b.chains.items
 
--- the bus after a power cycle: the board, ROM, keys and TEST stay; everything else (RAM, port
--- latches, SRC bytes, chains) becomes 0, and nothing is shifted
+-- the bus after a power cycle: the board, ROM, keys and TEST are unchanged; everything else (RAM,
+-- port latches, SRC bytes, chains) becomes 0, and nothing is shifted
 abbrev pub after_reset : BusState → BusState
 after_reset s = record zero_bus {
   board = s.board;

@@ -56,8 +56,8 @@ after_isz r w s =
     if n == 0 then with_register s r n else with_pc_on_page (with_register s r n) w
 
 -- JMS: sets the program counter to the target. The old program counter becomes the first return
--- address, and the last return address is lost. (Fethsaim, not Intel, defines that the return
--- addresses are one list.)
+-- address, and the last return address is lost. (Fethsaim, not Intel, specifies that the return
+-- addresses form one list.)
 abbrev pub after_jms : ℕ → Regs → Regs
 after_jms target s =
     record s { pc = target; ret = s.pc ∷ slice_index s.ret 0 ∷ slice_index s.ret 1 ∷ [] }

@@ -1,6 +1,6 @@
 -- The levels of lines, and port reads and writes. (4001, 4002 and 4003 data sheets, as each
--- definition says. Fethsaim, not Intel, defines that logic is positive: a line at level 1 carries
--- the bit 1.)
+-- definition says. Fethsaim, not Intel, specifies positive logic: a line at level 1 carries the bit
+-- 1.)
 use Rattle.std.specs.Prelude.{ℕ, ◌+◌, ◌*◌, ◌/◌, Bool, false, ◌&&◌, ◌==◌, List, [], Some, None, length, slice_index, slice_index_or, slice_set, if◌then◌else◌}
 use Rattle.std.specs.List.{list_any, range_with_len}
 use Rattle.mcs_nibble.specs.Bits.{bit_of}
@@ -55,7 +55,8 @@ latch_of s (Ram b c k) = bit_of (slice_index s.ram_ports (ram_port_index b c)) k
 latch_of s _ = 0
 
 -- The level of a line. An output line has the level of its latch bit, and a chain output has the
--- level of its chain bit. An input line is at 1 if a key pulls it, and otherwise at 0.
+-- level of its chain bit. An input line has the level 1 if a key pulls it to 1, and otherwise the
+-- level 0.
 unfoldable pub level : BusState → Line → ℕ
 level s (Rom c k) = if is_rom_input_line s.board c k then bit_when (is_pulled s c k) else latch_of s (Rom c k)
 level s (Ram b c k) = latch_of s (Ram b c k)
@@ -65,14 +66,14 @@ level s (Chain n i) = chain_bit s n i
 unfoldable pub clock_levels : BusState → List ℕ
 clock_levels s = table_of (chain_count s.board) (λ i. level s (chain_part s.board i).clock)
 
--- The bits of chain `i` after a port write. `s` is the bus after the write, before any shift; `was`
--- is the level of the clock line before the write. If the clock line rises from 0 to 1, each bit
--- moves up by one position. The level of the data line becomes bit 0, and the last bit is lost.
--- (4003 data sheet: a shift register with a serial input. Fethsaim, not Intel, defines the clock
--- edge, the bit order and the data level.)
+-- The bits of chain `i` after a port write. `s` is the bus after the write, before any shift;
+-- `old_level` is the level of the clock line before the write. If the clock line rises from 0 to 1,
+-- each bit moves up by one position. The level of the data line becomes bit 0, and the last bit is
+-- lost. (4003 data sheet: a shift register with a serial input. Fethsaim, not Intel, defines the
+-- clock edge, the bit order and the data level.)
 unfoldable pub chain_bits_after_clock : BusState → ℕ → ℕ → List ℕ → List ℕ
-chain_bits_after_clock s i was bits =
-    if was == 0 && level s (chain_part s.board i).clock == 1
+chain_bits_after_clock s i old_level bits =
+    if old_level == 0 && level s (chain_part s.board i).clock == 1
     then bits_after_shift (level s (chain_part s.board i).data_in) bits
     else bits
 

@@ -1,6 +1,6 @@
 -- The opcode table: the instruction of each opcode, and the number of words and cycles of each
 -- instruction. (MCS-4 Users Manual, instruction set. The opcodes 01 to 0F, E3, FE and FF are in no
--- row. Fethsaim, not Intel, defines that these opcodes are outside the table and stop a run.)
+-- row. Fethsaim, not Intel, specifies that these opcodes are outside the table and stop a run.)
 use Rattle.std.specs.Prelude.{ℕ, ◌/◌, ◌%◌, Bool, true, ◌&&◌, List, [], ◌∷◌, Option, find, ◌==◌}
 use Rattle.std.specs.Option.{option_map}
 use Rattle.mcs_model.specs.declared.op.Op.{Op}

@@ -19,23 +19,24 @@ abbrev pub text_of : List (List ℕ) → List ℕ
 text_of lines = flat_map as_line lines
 
 -- A list with the line after the last line feed, without its final CR. The list is empty if that
--- line is empty, or if the text was cut off (`whole` is false).
+-- line is empty, or if the text was cut off (the Bool is false).
 abbrev pub last_line : Bool → List ℕ → List (List ℕ)
 last_line false line = []
 last_line true [] = []
 last_line true (b ∷ line) = strip_carriage_return (b ∷ line) ∷ []
 
--- the lines of a text that is already split at its line feeds; `whole` is false if the text was cut
--- off
+-- the lines of a text that has been split at its line feeds; `complete` is false if the text was
+-- cut off
 abbrev pub lines_in : Bool → List (List ℕ) → List (List ℕ)
-lines_in whole [] = []
-lines_in whole (last ∷ []) = last_line whole last
-lines_in whole (line ∷ next ∷ pieces) = strip_carriage_return line ∷ lines_in whole (next ∷ pieces)
+lines_in complete [] = []
+lines_in complete (last ∷ []) = last_line complete last
+lines_in complete (line ∷ next ∷ pieces) =
+    strip_carriage_return line ∷ lines_in complete (next ∷ pieces)
 
--- The lines of a text, each without its line feed and without one final CR. `whole` is true if the
--- text is complete, and false if it was cut off.
+-- The lines of a text, each without its line feed and without one final CR. `complete` is false if
+-- the text was cut off.
 unfoldable pub lines : List ℕ → Bool → List (List ℕ)
-lines text whole = lines_in whole (slice_split is_line_feed text)
+lines text complete = lines_in complete (slice_split is_line_feed text)
 
 -- the lines of a complete text
 abbrev pub lines_of : List ℕ → List (List ℕ)

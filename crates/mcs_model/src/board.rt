@@ -74,7 +74,7 @@ impl KeyMatrix {
             chain: self.chain,
             first: self.first,
             rows: self.rows,
-            columns: copied(&self.columns),
+            columns: copy_of_list(&self.columns),
         }
     }
 }
@@ -488,15 +488,17 @@ impl BoardParts {
         BoardParts {
             roms: self.roms,
             banks: self.banks,
-            chains: copied(&self.chains),
+            chains: copy_of_list(&self.chains),
             keys,
-            lamps: copied(&self.lamps),
+            lamps: copy_of_list(&self.lamps),
         }
     }
 }
 
 /// Returns a copy of the list.
-fn copied<T: Copy + Default + Drop, const CAP: usize>(items: &ArrayVec<T, CAP>) -> ArrayVec<T, CAP>
+fn copy_of_list<T: Copy + Default + Drop, const CAP: usize>(
+    items: &ArrayVec<T, CAP>,
+) -> ArrayVec<T, CAP>
     ensures { result.items ≡ items.now.items }
 {
     let mut copy = ArrayVec::new();

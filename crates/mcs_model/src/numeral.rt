@@ -5,7 +5,7 @@ ghost use Rattle.mcs_model.specs.Numerals.{value_of_digits, number_in_word, numb
 /// The largest number that `number` returns: 2^32. `number` returns 2^32 for every larger number.
 pub const NUMBER_CAP: u64 = 4_294_967_296;
 
-fn digits(ds: &[u8], base: u32) -> Option<u64>
+fn parse_digits(ds: &[u8], base: u32) -> Option<u64>
     requires { (base ≡ 10) ⊎ (base ≡ 16) }
     ensures { result ≡ option_map (λ n. min n NUMBER_CAP) (value_of_digits base ds.now) }
 {
@@ -28,8 +28,8 @@ pub fn number(word: &[u8]) -> Option<u64>
     ensures { result ≡ option_map (λ n. min n NUMBER_CAP) (number_in_word word.now) }
 {
     match word {
-        [b'0', b'x', ds @ ..] => digits(ds, 16),
-        _ => digits(word, 10),
+        [b'0', b'x', ds @ ..] => parse_digits(ds, 16),
+        _ => parse_digits(word, 10),
     }
 }
 

@@ -81,13 +81,13 @@ pub const NO_SUCH_PLACE: u8 = 43;
 /// The refusal number for a run of 0 cycles, or of more than 100,000 cycles.
 pub const BAD_COUNT: u8 = 44;
 
-/// The refusal number for a new breakpoint if the maximum number is already set.
+/// The refusal number for a new breakpoint when the maximum number of breakpoints is already set.
 pub const BREAKS_FULL: u8 = 45;
 
 /// The refusal number for a command after the session has accepted the maximum number of commands.
 pub const COMMANDS_EXHAUSTED: u8 = 46;
 
-/// The refusal number for a new watch if the maximum number is already set.
+/// The refusal number for a new watch when the maximum number of watches is already set.
 pub const WATCHES_FULL: u8 = 47;
 
 /// The refusal number for a file that is not a session file: its size, or the name at its start, is wrong.

@@ -16,10 +16,10 @@ pub struct Regs {
     pub r: [Nibble; 16],
     /// The program counter.
     pub pc: Addr,
-    /// The three return addresses. BBL returns to the first one. (Fethsaim, not Intel, defines that they form one
+    /// The three return addresses. BBL returns to the first one. (Fethsaim, not Intel, specifies that they form one
     /// list.)
     pub ret: [Addr; 3],
-    /// The command register, 0 to 7. (Fethsaim, not Intel, defines that its value is the RAM bank number.)
+    /// The command register, 0 to 7. (Fethsaim, not Intel, specifies that its value is the RAM bank number.)
     pub dcl: u8,
     /// 1 if the second cycle of the last instruction is pending, otherwise 0.
     pub owed: u8,

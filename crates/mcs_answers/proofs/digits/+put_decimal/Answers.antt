@@ -7,14 +7,14 @@ pub put_decimal-requires : goal.put_decimal-requires
 put_decimal-requires t c =
     let fits : c.args.n < 2 ^ 64 = omega arith in
     let step : length (decimal c.args.n) ≡ length (decimal (c.args.n / 10)) + 1 = length-decimal-step c.args.n c.if-n-lt10.false fits in
-    let falls : c.args.n / 10 < c.args.n = omega arith in
+    let smaller : c.args.n / 10 < c.args.n = omega arith in
     (omega arith, omega arith)
 
 pub push-requires-else-n-lt10 : goal.push-requires-else-n-lt10
 push-requires-else-n-lt10 t c =
     let fits : c.args.n < 2 ^ 64 = omega arith in
     let step : length (decimal c.args.n) ≡ length (decimal (c.args.n / 10)) + 1 = length-decimal-step c.args.n c.if-n-lt10.false fits in
-    let grown : length c.put_decimal.new.answer.items ≡ length c.args.answer.now.items + length (decimal (c.args.n / 10)) =
+    let new_length : length c.put_decimal.new.answer.items ≡ length c.args.answer.now.items + length (decimal (c.args.n / 10)) =
     ap length c.put_decimal.ensures ∙ length-append c.args.answer.now.items (decimal (c.args.n / 10)) in
     (omega arith, omega arith)
 

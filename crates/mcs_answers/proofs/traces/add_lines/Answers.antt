@@ -17,7 +17,7 @@ loop-done-init g c =
     let probes = c.args.probes.now in
     let none = no-lines-within-zero-cycles probes s in
     record {
-      going = subst (λ (x : BenchState). RunContinuesAt (stops_of b) c.args.n 0 s (machine_of x)) (sym c.in_ok-copy.ensures) (begins (stops_of b) c.args.n s);
+      continues = subst (λ (x : BenchState). RunContinuesAt (stops_of b) c.args.n 0 s (machine_of x)) (sym c.in_ok-copy.ensures) (begins (stops_of b) c.args.n s);
       stops = ap stops_of c.in_ok-copy.ensures;
       report = record {
         row_now = c.first_row-rows.ensures ∙ sym (ap (λ (x : BenchState). row probes (machine_of x)) c.in_ok-copy.ensures);
@@ -33,12 +33,12 @@ returns-in-None g c =
     let s : Machine = machine_of b in
     let k : ℕ = c.loop-done.done in
     let t : Machine = machine_of c.loop-done.copy in
-    let going = c.loop-done.invariant.going in
+    let continues = c.loop-done.invariant.continues in
     let so_far = c.loop-done.invariant.report in
     let report = c.in-None.ensures.went in
     let stop = c.trace_result.ensures.stop ∙ ap (λ (x : BenchState). stop_reason (machine_of x) None) report.1 in
     is-trace-of-run c.args.probes.now c.args.n b t k c.trace_result.result c.loop-done.text.items
-    (ends (stops_of b) c.args.n k s t None c.trace_result.result.stop (run-stops-if-no-cycle-possible (stops_of b) c.args.n k s t going report.0) stop) c.trace_result.ensures.cycles (c.trace_result.ensures.lines ∙ so_far.count) so_far.so_far
+    (ends (stops_of b) c.args.n k s t None c.trace_result.result.stop (run-stops-if-no-cycle-possible (stops_of b) c.args.n k s t continues report.0) stop) c.trace_result.ensures.cycles (c.trace_result.ensures.lines ∙ so_far.count) so_far.so_far
 
 pub add_instruction_line-requires-clause-same : goal.add_instruction_line-requires-clause-same
 add_instruction_line-requires-clause-same g c =
@@ -47,7 +47,7 @@ add_instruction_line-requires-clause-same g c =
     let k : ℕ = c.loop-done.done in
     let t : Machine = machine_of c.loop-done.copy in
     let u : Machine = machine_of c.continue_run.new.self in
-    λ on. c.loop-done.invariant.report.row_now ∙ row-stays-same (stops_of c.loop-done.copy) (n - k) t u c.in-Some.went c.regs-regs.result c.regs.result c.args.probes.now c.in-Some.ensures.went c.regs-regs.ensures.same c.regs.ensures.same (c.row_stays_same-rests.ensures on)
+    λ on. c.loop-done.invariant.report.row_now ∙ row-stays-same (stops_of c.loop-done.copy) (n - k) t u c.in-Some.executed c.regs-regs.result c.regs.result c.args.probes.now c.in-Some.ensures.went c.regs-regs.ensures.same c.regs.ensures.same (c.row_stays_same-rests.ensures on)
 
 pub returns-in-Some-mark : goal.returns-in-Some-mark
 returns-in-Some-mark g c =
@@ -57,14 +57,14 @@ returns-in-Some-mark g c =
     let k : ℕ = c.loop-done.done in
     let t : Machine = machine_of c.loop-done.copy in
     let u : Machine = machine_of c.continue_run.new.self in
-    let w : InstructionResult = c.in-Some.went in
-    let going = c.loop-done.invariant.going in
-    let went : IsInstructionResult (stops_of b) (n - k) t u w = subst (λ (x : StopConditions). IsInstructionResult x (n - k) t u w) c.loop-done.invariant.stops c.in-Some.ensures.went in
-    let ran = run-stops-after-instruction-result (stops_of b) n k s t u w c.in-Some-mark.why going went c.loop-done-test.true c.in-Some-mark.is in
-    let report = trace-so-far-next c.args.probes.now (n - k) k w.cycles s t u c.regs-regs.result c.loop-done.rows.last.items c.loop-done.text.items c.add_instruction_line.new.rows.last.items c.add_instruction_line.new.text.items c.loop-done.lines c.in_ok-lines-in-Some.field-0 going.at went.ran went.some c.regs-regs.ensures.same c.loop-done.invariant.report c.in_ok-lines-in-Some.ensures.row c.in_ok-lines-in-Some.ensures.lines c.in_ok-lines-in-Some.ensures.text in
-    let came = c.trace_result-in-Some-mark in
-    is-trace-of-run c.args.probes.now n b u (k + w.cycles) came.result c.add_instruction_line.new.text.items
-    (ends (stops_of b) n (k + w.cycles) s u w.mark came.result.stop ran (came.ensures.stop ∙ ap (stop_reason u) (sym c.in-Some-mark.is))) came.ensures.cycles (came.ensures.lines ∙ report.count) report.so_far
+    let w : InstructionResult = c.in-Some.executed in
+    let continues = c.loop-done.invariant.continues in
+    let executed : IsInstructionResult (stops_of b) (n - k) t u w = subst (λ (x : StopConditions). IsInstructionResult x (n - k) t u w) c.loop-done.invariant.stops c.in-Some.ensures.went in
+    let ran = run-stops-after-instruction-result (stops_of b) n k s t u w c.in-Some-mark.why continues executed c.loop-done-test.true c.in-Some-mark.is in
+    let report = trace-so-far-next c.args.probes.now (n - k) k w.cycles s t u c.regs-regs.result c.loop-done.rows.last.items c.loop-done.text.items c.add_instruction_line.new.rows.last.items c.add_instruction_line.new.text.items c.loop-done.lines c.in_ok-lines-in-Some.field-0 continues.at executed.ran executed.some c.regs-regs.ensures.same c.loop-done.invariant.report c.in_ok-lines-in-Some.ensures.row c.in_ok-lines-in-Some.ensures.lines c.in_ok-lines-in-Some.ensures.text in
+    let traced = c.trace_result-in-Some-mark in
+    is-trace-of-run c.args.probes.now n b u (k + w.cycles) traced.result c.add_instruction_line.new.text.items
+    (ends (stops_of b) n (k + w.cycles) s u w.mark traced.result.stop ran (traced.ensures.stop ∙ ap (stop_reason u) (sym c.in-Some-mark.is))) traced.ensures.cycles (traced.ensures.lines ∙ report.count) report.so_far
 
 pub loop-done-preserved : goal.loop-done-preserved
 loop-done-preserved g c =
@@ -74,13 +74,13 @@ loop-done-preserved g c =
     let k : ℕ = c.loop-done.done in
     let t : Machine = machine_of c.loop-done.copy in
     let u : Machine = machine_of c.continue_run.new.self in
-    let w : InstructionResult = c.in-Some.went in
-    let going = c.loop-done.invariant.going in
-    let went : IsInstructionResult (stops_of b) (n - k) t u w = subst (λ (x : StopConditions). IsInstructionResult x (n - k) t u w) c.loop-done.invariant.stops c.in-Some.ensures.went in
+    let w : InstructionResult = c.in-Some.executed in
+    let continues = c.loop-done.invariant.continues in
+    let executed : IsInstructionResult (stops_of b) (n - k) t u w = subst (λ (x : StopConditions). IsInstructionResult x (n - k) t u w) c.loop-done.invariant.stops c.in-Some.ensures.went in
     record {
-      going = run-continues-after-instruction-result (stops_of b) n k s t u w going went c.loop-done-test.true c.in_default.is;
+      continues = run-continues-after-instruction-result (stops_of b) n k s t u w continues executed c.loop-done-test.true c.in_default.is;
       stops = ap stops_of c.continue_run.ensures.rest ∙ c.loop-done.invariant.stops;
-      report = trace-so-far-next c.args.probes.now (n - k) k w.cycles s t u c.regs-regs.result c.loop-done.rows.last.items c.loop-done.text.items c.add_instruction_line.new.rows.last.items c.add_instruction_line.new.text.items c.loop-done.lines c.in_ok-lines-in-Some.field-0 going.at went.ran went.some c.regs-regs.ensures.same c.loop-done.invariant.report c.in_ok-lines-in-Some.ensures.row c.in_ok-lines-in-Some.ensures.lines c.in_ok-lines-in-Some.ensures.text;
+      report = trace-so-far-next c.args.probes.now (n - k) k w.cycles s t u c.regs-regs.result c.loop-done.rows.last.items c.loop-done.text.items c.add_instruction_line.new.rows.last.items c.add_instruction_line.new.text.items c.loop-done.lines c.in_ok-lines-in-Some.field-0 continues.at executed.ran executed.some c.regs-regs.ensures.same c.loop-done.invariant.report c.in_ok-lines-in-Some.ensures.row c.in_ok-lines-in-Some.ensures.lines c.in_ok-lines-in-Some.ensures.text;
     }
 
 pub returns : goal.returns
@@ -90,10 +90,10 @@ returns g c =
     let n : ℕ = c.args.n in
     let k : ℕ = c.loop-done.done in
     let t : Machine = machine_of c.loop-done.copy in
-    let going = c.loop-done.invariant.going in
-    let within = going.within in
-    let full : n ≡ k = omega arith in
+    let continues = c.loop-done.invariant.continues in
+    let within = continues.within in
+    let all_cycles_done : n ≡ k = omega arith in
     let report = c.loop-done.invariant.report in
-    let came = c.trace_result-2 in
-    is-trace-of-run c.args.probes.now n b t k came.result c.loop-done.text.items
-    (ends (stops_of b) n k s t None came.result.stop (run-stops-when-cycles-done (stops_of b) n k s t going (sym full)) came.ensures.stop) (came.ensures.cycles ∙ full) (came.ensures.lines ∙ report.count) report.so_far
+    let traced = c.trace_result-2 in
+    is-trace-of-run c.args.probes.now n b t k traced.result c.loop-done.text.items
+    (ends (stops_of b) n k s t None traced.result.stop (run-stops-when-cycles-done (stops_of b) n k s t continues (sym all_cycles_done)) traced.ensures.stop) (traced.ensures.cycles ∙ all_cycles_done) (traced.ensures.lines ∙ report.count) report.so_far

@@ -6,7 +6,7 @@ use Rattle.mcs_answers.proofs.traces.add_lines.Given as goal
 
 abbrev pub invariant-loop-done : goal.invariant-loop-done
 invariant-loop-done g l = record {
-  going : RunContinuesAt (stops_of l.fn.bench) l.n l.done (machine_of l.fn.bench) (machine_of l.copy);
+  continues : RunContinuesAt (stops_of l.fn.bench) l.n l.done (machine_of l.fn.bench) (machine_of l.copy);
   stops : stops_of l.copy ≡ stops_of l.fn.bench;
   report : IsTraceSoFar l.probes l.done (machine_of l.fn.bench) (machine_of l.copy) l.rows.last.items l.text.items l.lines;
 }

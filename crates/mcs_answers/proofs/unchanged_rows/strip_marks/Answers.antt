@@ -18,12 +18,12 @@ loop-i-preserved c =
     let same : c.parts.result.now ≡ bus.board = c.parts.ensures.same ∙ c.board.ensures in
     let inside : i < length lines =
     subst (λ (b : BoardParts). i < length b.lamps.items) same (omega (arith, c.loop-i-test.true, c.len-lamps.ensures.value)) in
-    let lit : c.unwrap_or-level.result ≡ level bus (get_or lines i (Rom 0 0)) =
+    let level_is : c.unwrap_or-level.result ≡ level bus (get_or lines i (Rom 0 0)) =
     c.unwrap_or-level.ensures
     ∙ ap (λ o. unwrap_or o 0) (c.lamp.ensures ∙ ap (option_map (level bus)) (slice_get-get_or lines i (Rom 0 0) inside)) in
     let f = λ (line : Line). lamp_mark (level bus line) in
     let one = get_or lines i (Rom 0 0) in
     c.loop-i.invariant
-    ∙ ap (λ v. map f (take i lines) ++ v) (c.in-Some.ensures ∙ ap (λ m. m ∷ more) (c.lamp_mark.ensures ∙ ap lamp_mark lit))
+    ∙ ap (λ v. map f (take i lines) ++ v) (c.in-Some.ensures ∙ ap (λ m. m ∷ more) (c.lamp_mark.ensures ∙ ap lamp_mark level_is))
     ∙ sym (append_assoc (map f (take i lines)) (f one ∷ []) more)
     ∙ ap (λ v. v ++ more) (sym (ap (map f) (take_more lines i (Rom 0 0) inside) ∙ map-append f (take i lines) (one ∷ [])))

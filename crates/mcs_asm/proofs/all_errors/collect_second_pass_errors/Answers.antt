@@ -17,7 +17,7 @@ pub loop-i-preserved : goal.loop-i-preserved
 loop-i-preserved c =
     let names : Names = c.args.names.now.names in
     second_pass_report_at_next_line c.args.lines.now names c.loop-i.i c.loop-i.pass_state.at c.emit_line_or_error.new.self.at c.loop-i.pass_state.cells c.emit_line_or_error.new.self.cells c.loop-i.errors.items c.push_error_if_any.new.errors.items _ c.in_ok-fault.fault c.loop-i-test.true
-    c.loop-i.invariant (c.in_ok-fault.ensures.error (pairs_skipping_errors (parsed_lines c.args.lines.now) names c.loop-i.i) c.loop-i.invariant.kept) c.in_ok-fault.ensures.next c.in_ok-push_error_if_any.ensures
+    c.loop-i.invariant (c.in_ok-fault.ensures.error (pairs_skipping_errors (parsed_lines c.args.lines.now) names c.loop-i.i) c.loop-i.invariant.holds_pairs) c.in_ok-fault.ensures.next c.in_ok-push_error_if_any.ensures
 
 pub returns : goal.returns
 returns c = second_pass_report_after_last_line c.args.lines.now c.args.names.now.names c.loop-i.i c.loop-i.pass_state.at c.loop-i.pass_state.cells c.loop-i.errors.items c.loop-i-test.false c.requires.names c.loop-i.invariant

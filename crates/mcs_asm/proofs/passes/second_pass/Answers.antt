@@ -24,7 +24,7 @@ loop-i-preserved c =
     let names : Names = c.args.names.names in
     let h = c.loop-i.invariant in
     let done : c.emit_line.result ≡ Ok c.in_ok-add_line_number.field-0 = c.in_ok-add_line_number.ensures in
-    let r = rw done at (c.emit_line.ensures.bytes (pairs_before (parsed_lines c.args.lines.now) names c.loop-i.i) h.kept) in
+    let r = rw done at (c.emit_line.ensures.bytes (pairs_before (parsed_lines c.args.lines.now) names c.loop-i.i) h.holds_pairs) in
     second_pass_invariant_at_next_line c.args.lines.now names c.loop-i.i c.loop-i.pass_state.at c.emit_line.new.self.at c.loop-i.pass_state.cells c.emit_line.new.self.cells c.loop-i.pass_state.spans.items c.emit_line.new.self.spans.items _ c.loop-i-test.true h r.0 r.1 r.2 r.3 (rw done at c.emit_line.ensures.span)
 
 pub returns-in_err-add_line_number : goal.returns-in_err-add_line_number
@@ -33,7 +33,7 @@ returns-in_err-add_line_number c =
     let h = c.loop-i.invariant in
     let f : AsmFault = c.in_err-add_line_number.field-0.0 in
     let from : (c.emit_line.result ≡ Err f.kind) × IsLineNumber f.kind c.loop-i.i f.line = c.in_err-add_line_number.ensures in
-    let refused = rw from.0 at (c.emit_line.ensures.bytes (pairs_before (parsed_lines c.args.lines.now) names c.loop-i.i) h.kept) in
+    let refused = rw from.0 at (c.emit_line.ensures.bytes (pairs_before (parsed_lines c.args.lines.now) names c.loop-i.i) h.holds_pairs) in
     returned_error_is_correct c.from_residual-in_err-add_line_number.result f (parsed_lines c.args.lines.now) names c.from_residual-in_err-add_line_number.ensures.1
     (earliest_error_if_line_rejected f.kind f.line c.args.lines.now names c.loop-i.i c.loop-i.pass_state.at c.emit_line.new.self.at c.loop-i.pass_state.cells c.emit_line.new.self.cells c.loop-i.pass_state.spans.items _ c.loop-i-test.true h refused from.1)
 

@@ -12,7 +12,7 @@ loop-i-preserved c =
     let i = c.loop-i.i in
     let p = get_or r.chains x [] in
     let q = slice_set p i c.low_of.result in
-    let here : x < length s.chains = omega (arith, c.requires.there, c.show_state_is_valid.ensures.in_range.chains) in
+    let here : x < length s.chains = omega (arith, c.requires.chain_exists, c.show_state_is_valid.ensures.in_range.chains) in
     let rows : slice_set r.chains x q ≡ slice_set s.chains x q = ap (λ (t : BusState). slice_set t.chains x q) c.loop-i.invariant.others ∙ set-set s.chains x p q in
     let row : get_or (slice_set r.chains x q) x [] ≡ q = ap (λ (l : List (List ℕ)). get_or l x []) rows ∙ get_or-set_same s.chains x q [] here in
     let bit : c.low_of.result ≡ get_or c.args.bits.now i 0 = (let b = c.requires.fit.below i 0 (omega arith) in omega arith) in

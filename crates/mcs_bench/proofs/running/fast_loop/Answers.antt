@@ -3,7 +3,7 @@ use Rattle.mcs_model.specs.Listed.{is_listed}
 use Rattle.mcs_bench.specs.Runs.{RunStopsAt, PredictsWatchChange, debug_stop_of}
 use Rattle.mcs_model.specs.declared.regs.Regs.{Regs}
 use Rattle.mcs_model.specs.Running.{Machine, StopConditions}
-use Rattle.mcs_bench.proofs.Runs.{RunInvariant, starts, invariant-after-second-cycle, stop-after-second-cycle, run-reaches-from-invariant, invariant-after-instruction, at_break-after-first-cycle, no-debug-stop-at-unlisted-address, watch-changes-as-predicted}
+use Rattle.mcs_bench.proofs.Runs.{RunInvariant, invariant-at-start, invariant-after-second-cycle, stop-after-second-cycle, run-reaches-from-invariant, invariant-after-instruction, at_break-after-first-cycle, no-debug-stop-at-unlisted-address, watch-changes-as-predicted}
 use Rattle.mcs_bench.proofs.running.fast_loop.Goals as goal
 use Rattle.mcs_bench.proofs.running.fast_loop.Goals.{then-n-gt0+then-regs-eq1+in_default, else-n-gt0, else-n-gt0-via-then-n-gt0+else-regs-eq1, else-n-gt0-via-else-n-gt0}
 
@@ -37,7 +37,7 @@ loop-left-init g c =
             | else-n-gt0-via-else-n-gt0 v ↦ absurd (let none = v.if-n-gt0.false in omega arith)
           ] in
           subst (λ l. RunInvariant stops c.args.n l s (record c.if-n-gt0.cpu { pc = counter }, c.args.rig.now)) (sym w.left-is)
-          (subst (λ (r : Regs). RunInvariant stops c.args.n c.args.n s (record r { pc = counter }, c.args.rig.now)) (sym w.cpu-is) (starts stops c.args.n s counter free there)))
+          (subst (λ (r : Regs). RunInvariant stops c.args.n c.args.n s (record r { pc = counter }, c.args.rig.now)) (sym w.cpu-is) (invariant-at-start stops c.args.n s counter free there)))
     ]
 
 pub returns-then-contains : goal.returns-then-contains
@@ -52,10 +52,10 @@ returns-then-contains g c =
     let more : 1 < c.loop-left.left = c.loop-left-test.true in
     let some : 0 < c.run_instruction-next.result.1 = c.run_instruction-next.ensures.goes in
     let later : 0 < c.args.n - (c.loop-left.left - c.run_instruction-next.result.1) = omega arith in
-    let foreseen : PredictsWatchChange c.args.watches.now t false = subst (PredictsWatchChange c.args.watches.now t) c.if-op_changes_watch_if.false c.op_changes_watch_if.ensures in
-    let seen = watch-changes-as-predicted c.args.watches.now c.loop-left.left c.run_instruction-next.result.1 t u false ran (c.loop-left.invariant.free (omega arith)) foreseen in
+    let predicted : PredictsWatchChange c.args.watches.now t false = subst (PredictsWatchChange c.args.watches.now t) c.if-op_changes_watch_if.false c.op_changes_watch_if.ensures in
+    let watch_changes = watch-changes-as-predicted c.args.watches.now c.loop-left.left c.run_instruction-next.result.1 t u false ran (c.loop-left.invariant.free (omega arith)) predicted in
     let at = ap (λ b. debug_stop_of b false) (at_break-after-first-cycle c.args.breaks.now (c.args.n - (c.loop-left.left - c.run_instruction-next.result.1)) u later) in
-    run-reaches-from-invariant stops c.args.n c.loop-left.left c.run_instruction-next.result.1 s t u false c.debug_stop_at.result c.loop-left.invariant ran seen (omega arith) some c.run_instruction-next.ensures.owes (at ∙ sym c.debug_stop_at.ensures.mark)
+    run-reaches-from-invariant stops c.args.n c.loop-left.left c.run_instruction-next.result.1 s t u false c.debug_stop_at.result c.loop-left.invariant ran watch_changes (omega arith) some c.run_instruction-next.ensures.owes (at ∙ sym c.debug_stop_at.ensures.mark)
 
 pub loop-left-preserved : goal.loop-left-preserved
 loop-left-preserved g c =
@@ -66,16 +66,16 @@ loop-left-preserved g c =
     let ran = c.run_instruction-next.ensures.ran in
     let more : 1 < c.loop-left.left = c.loop-left-test.true in
     let some : 0 < c.run_instruction-next.result.1 = c.run_instruction-next.ensures.goes in
-    let foreseen : PredictsWatchChange c.args.watches.now t false = subst (PredictsWatchChange c.args.watches.now t) c.if-op_changes_watch_if.false c.op_changes_watch_if.ensures in
-    let seen = watch-changes-as-predicted c.args.watches.now c.loop-left.left c.run_instruction-next.result.1 t u false ran (c.loop-left.invariant.free (omega arith)) foreseen in
+    let predicted : PredictsWatchChange c.args.watches.now t false = subst (PredictsWatchChange c.args.watches.now t) c.if-op_changes_watch_if.false c.op_changes_watch_if.ensures in
+    let watch_changes = watch-changes-as-predicted c.args.watches.now c.loop-left.left c.run_instruction-next.result.1 t u false ran (c.loop-left.invariant.free (omega arith)) predicted in
     let unlisted : is_listed c.args.breaks.now u.0.pc ≡ false = sym c.contains.ensures ∙ c.if-contains.false in
-    invariant-after-instruction stops c.args.n c.loop-left.left c.run_instruction-next.result.1 s t u false c.loop-left.invariant ran seen (omega arith) some c.run_instruction-next.ensures.owes (no-debug-stop-at-unlisted-address c.args.breaks.now _ u unlisted)
+    invariant-after-instruction stops c.args.n c.loop-left.left c.run_instruction-next.result.1 s t u false c.loop-left.invariant ran watch_changes (omega arith) some c.run_instruction-next.ensures.owes (no-debug-stop-at-unlisted-address c.args.breaks.now _ u unlisted)
 
 pub returns-then-op_changes_watch_if : goal.returns-then-op_changes_watch_if
-returns-then-op_changes_watch_if g c = c.loop-left.invariant.on
+returns-then-op_changes_watch_if g c = c.loop-left.invariant.continues
 
 pub returns-in-None : goal.returns-in-None
-returns-in-None g c = c.loop-left.invariant.on
+returns-in-None g c = c.loop-left.invariant.continues
 
 pub returns : goal.returns
-returns g c = c.loop-left.invariant.on
+returns g c = c.loop-left.invariant.continues

@@ -11,5 +11,5 @@ rom_of_board-from_each_byte b old new l h = table_of-unique 4096 (λ k. if is_so
 
 pub returns : goal.returns
 returns c =
-    let whole : length c.loop-at.program.items ≡ 4096 = c.loop-at.invariant.len ∙ c.requires in
-    rom_of_board-from_each_byte c.args.board.now c.args.program.now.items c.loop-at.program.items whole (λ k h. c.loop-at.invariant.done k (let r = c.requires in omega arith))
+    let program_length : length c.loop-at.program.items ≡ 4096 = c.loop-at.invariant.len ∙ c.requires in
+    rom_of_board-from_each_byte c.args.board.now c.args.program.now.items c.loop-at.program.items program_length (λ k h. c.loop-at.invariant.done k (let r = c.requires in omega arith))

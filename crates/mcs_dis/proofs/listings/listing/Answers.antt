@@ -21,8 +21,8 @@ overflow_add-at c =
 
 pub loop-line-preserved : goal.loop-line-preserved
 loop-line-preserved c =
-    let full : eqb (length c.loop-line.rest.now) 0 ≡ false = sym c.is_empty.ensures ∙ c.if-is_empty.false in
-    let some : 0 < length c.loop-line.rest.now = omega (arith, eqb-false _ _ full) in
+    let not_empty : eqb (length c.loop-line.rest.now) 0 ≡ false = sym c.is_empty.ensures ∙ c.if-is_empty.false in
+    let some : 0 < length c.loop-line.rest.now = omega (arith, eqb-false _ _ not_empty) in
     let here : c.plus.result ≡ c.loop-line.at = omega (arith, c.plus.ensures, c.loop-line.invariant.in_rom) in
     listing_so_far_after_piece_in_slice (listing_text c.args.rom.now c.args.from c.args.lines) (string_bytes c.loop-line.out) (string_bytes c.push_listing_line.new.out) c.loop-line.rest.now c.args.lines c.loop-line._line c.loop-line.at c.in_ok-size.size c.plus.result
     c.loop-line-test.true some c.loop-line.invariant here c.in_ok-size.ensures.size c.in_ok-size.ensures.line

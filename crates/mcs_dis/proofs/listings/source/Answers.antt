@@ -18,8 +18,8 @@ overflow_add-at c =
 
 pub loop-rest-preserved : goal.loop-rest-preserved
 loop-rest-preserved c =
-    let full : eqb (length c.loop-rest.rest.now) 0 ≡ false = sym c.is_empty.ensures ∙ c.loop-rest-test.true in
-    let some : 0 < length c.loop-rest.rest.now = omega (arith, eqb-false _ _ full) in
+    let not_empty : eqb (length c.loop-rest.rest.now) 0 ≡ false = sym c.is_empty.ensures ∙ c.loop-rest-test.true in
+    let some : 0 < length c.loop-rest.rest.now = omega (arith, eqb-false _ _ not_empty) in
     let here : c.plus.result ≡ c.loop-rest.at = omega (arith, c.plus.ensures, c.loop-rest.invariant.in_rom) in
     source_so_far_after_piece_in_slice (source_text c.args.rom.now c.args.from c.args.to) (string_bytes c.loop-rest.out) (string_bytes c.push_source_line.new.out) c.loop-rest.rest.now c.loop-rest.at c.in_ok-size.size c.plus.result some c.loop-rest.invariant here
     c.in_ok-size.ensures.size c.in_ok-size.ensures.line

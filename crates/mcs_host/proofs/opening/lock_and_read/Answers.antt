@@ -25,12 +25,12 @@ returns-in_ok-write_whole-clause-asked g c =
     let measured : state c.length.new.self ≡ asked (Length c.in_ok-found.found true) (state c.lock.new.opened) = search rules in
     let size : length bytes ≡ min c.in_ok-found.found (FILE_SIZE + 1) = search rules in
     let blank : IsAllZeros bytes = search rules in
-    let these : c.deref-then-is_blank.result.now ≡ bytes = search rules in
-    let still : KeepsNameAndNumber (state c.sync_and_read.new.opened) (state c.write_whole.new.opened) = search rules in
+    let written_is : c.deref-then-is_blank.result.now ≡ bytes = search rules in
+    let same_name : KeepsNameAndNumber (state c.sync_and_read.new.opened) (state c.write_whole.new.opened) = search rules in
     let writes : IsWrittenAfter c.args.file.now c.deref-then-is_blank.result.now (state c.sync_and_read.new.opened).calls (state c.write_whole.new.opened).calls = search rules in
     opened_file_if_rewritten c.args.create_if_missing c.args.file.now bytes c.deref-then-is_blank.result.now _ c.in_ok-found.found (state c.args.opened.now) (state c.lock.new.opened) (state c.length.new.self)
     (state c.sync_and_read.new.opened) _ c.if-create_if_missing-2.true c.requires.named c.requires.begun c.in_ok-lock.ensures.same c.in_ok-lock.ensures.asked measured size
-    c.in_ok-is_name_stable.ensures.same c.in_ok-is_name_stable.ensures.asked blank still these writes
+    c.in_ok-is_name_stable.ensures.same c.in_ok-is_name_stable.ensures.asked blank same_name written_is writes
 
 pub returns-else-create_if_missing-2-clause-asked : goal.returns-else-create_if_missing-2-clause-asked
 returns-else-create_if_missing-2-clause-asked g c = search rules

@@ -40,7 +40,7 @@ returns-clause-holds g c = λ h.
     (subst (λ (s : ℕ). IsLog c.in_ok-log.log.records.items (part (s + 16384) 65536 (bytes_of (g.D.Disk.state c.args.disk.now)))) c.start-start.ensures (subst (λ (f : List ℕ). IsLog c.in_ok-log.log.records.items (part (c.start-start.result + 16384) 65536 f)) same3 found.0))
 
 pub returns-in_err-log-clause-damaged : goal.returns-in_err-log-clause-damaged
-returns-in_err-log-clause-damaged g c = λ h erred snap records held.
+returns-in_err-log-clause-damaged g c = λ h is_damaged snap records held.
     let h1 = c.sync.ensures.call.honest.1 h in
     let h2 = c.read_header.ensures.reads.counts.honest.1 h1 in
     let h3 = c.read_snapshot.ensures.reads.counts.honest.1 h2 in

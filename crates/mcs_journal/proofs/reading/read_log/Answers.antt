@@ -6,7 +6,7 @@ use Rattle.mcs_journal.specs.declared.fault.StoreFault.TheVariants.{Damaged}
 use Rattle.mcs_disk.specs.Disk.{part, bytes_of}
 use Rattle.mcs_journal.specs.Writing.{IsRecordAt, HasNoRecordAt}
 use Rattle.mcs_disk.proofs.StretchComposition.{reads_only_of_equivalent_failure, reads_only_in_two_stretches, bytes_unchanged_without_new_image}
-use Rattle.mcs_journal.proofs.ReadingLog.{IsPrefix, one_more, ends, no_log}
+use Rattle.mcs_journal.proofs.ReadingLog.{IsPrefix, prefix_with_next_record, log_if_prefix_ends, no_log}
 use Rattle.mcs_journal.proofs.reading.read_log.Goals as goal
 
 pub returns-in_err-record-clause-reads : goal.returns-in_err-record-clause-reads
@@ -22,17 +22,17 @@ pub returns-clause-found : goal.returns-clause-found
 returns-clause-found g c = λ h.
     let so_far = c.loop-records.invariant.walked h in
     let same = bytes_unchanged_without_new_image _ _ c.loop-records.invariant.reads.adds_no_image in
-    let shut = c.in_ok-record.ensures.ends_log (c.loop-records.invariant.reads.counts.honest.1 h) in
+    let not_committed = c.in_ok-record.ensures.ends_log (c.loop-records.invariant.reads.counts.honest.1 h) in
     let not_one : get_or (bytes_of (g.D.Disk.state c.loop-records.disk)) (c.args.at + c.loop-records.used) 0 ≢ 1 = search rules in
-    (ends (bytes_of (g.D.Disk.state c.args.disk.now)) c.args.at (omega (arith, length-bytes_of (g.D.Disk.state c.args.disk.now), c.requires.inside)) _ _ so_far (λ one. not_one (ap (λ (b : List ℕ). get_or b (c.args.at + c.loop-records.used) 0) same ∙ one)) (omega arith), so_far.count)
+    (log_if_prefix_ends (bytes_of (g.D.Disk.state c.args.disk.now)) c.args.at (omega (arith, length-bytes_of (g.D.Disk.state c.args.disk.now), c.requires.inside)) _ _ so_far (λ one. not_one (ap (λ (b : List ℕ). get_or b (c.args.at + c.loop-records.used) 0) same ∙ one)) (omega arith), so_far.count)
 
 pub returns-in_err-record-clause-damaged : goal.returns-in_err-record-clause-damaged
 returns-in_err-record-clause-damaged g c = λ h damaged records is_log.
     let so_far = c.loop-records.invariant.walked h in
     let same = bytes_unchanged_without_new_image _ _ c.loop-records.invariant.reads.adds_no_image in
-    let erred : IsErrOf c.read_record.result Damaged = search rules in
-    let said = c.read_record.ensures.damaged (c.loop-records.invariant.reads.counts.honest.1 h) erred in
-    no_log (bytes_of (g.D.Disk.state c.args.disk.now)) c.args.at (omega (arith, length-bytes_of (g.D.Disk.state c.args.disk.now), c.requires.inside)) _ _ so_far (omega arith) (subst (λ (b : List ℕ). HasNoRecordAt b (c.args.at + c.loop-records.used) (65536 - c.loop-records.used)) same said) records is_log
+    let is_damaged : IsErrOf c.read_record.result Damaged = search rules in
+    let no_record = c.read_record.ensures.damaged (c.loop-records.invariant.reads.counts.honest.1 h) is_damaged in
+    no_log (bytes_of (g.D.Disk.state c.args.disk.now)) c.args.at (omega (arith, length-bytes_of (g.D.Disk.state c.args.disk.now), c.requires.inside)) _ _ so_far (omega arith) (subst (λ (b : List ℕ). HasNoRecordAt b (c.args.at + c.loop-records.used) (65536 - c.loop-records.used)) same no_record) records is_log
 
 pub loop-records-preserved : goal.loop-records-preserved
 loop-records-preserved g c = record {
@@ -43,7 +43,7 @@ loop-records-preserved g c = record {
   walked = λ h.
       let same = bytes_unchanged_without_new_image _ _ c.loop-records.invariant.reads.adds_no_image in
       let next = rw c.in-Some.is at c.in_ok-record.ensures.next (c.loop-records.invariant.reads.counts.honest.1 h) in
-      let more = one_more (bytes_of (g.D.Disk.state c.args.disk.now)) c.args.at (omega (arith, length-bytes_of (g.D.Disk.state c.args.disk.now), c.requires.inside)) c.loop-records.records.items c.loop-records.used c.in-Some.record (c.loop-records.invariant.walked h)
+      let more = prefix_with_next_record (bytes_of (g.D.Disk.state c.args.disk.now)) c.args.at (omega (arith, length-bytes_of (g.D.Disk.state c.args.disk.now), c.requires.inside)) c.loop-records.records.items c.loop-records.used c.in-Some.record (c.loop-records.invariant.walked h)
       (subst (λ (b : List ℕ). IsRecordAt b (c.args.at + c.loop-records.used) c.in-Some.record) same next) room in
       let log = part c.args.at 65536 (bytes_of (g.D.Disk.state c.args.disk.now)) in
       let sized = subst (λ (n : ℕ). IsPrefix (c.loop-records.records.items ++ c.in-Some.record ∷ []) (c.loop-records.used + (n + 3)) log) (sym long) more in

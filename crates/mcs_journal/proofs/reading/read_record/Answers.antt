@@ -10,7 +10,7 @@ use Rattle.mcs_journal.proofs.reading.read_record.Goals as goal
 use Rattle.mcs_journal.proofs.reading.read_record.Goals.{then-len-eq0-via-then-len-eq0, then-len-eq0-via-else-len-eq0+then-len-gt-MAX_RECORD_SIZE, then-len-eq0-via-else-len-eq0+else-len-gt-MAX_RECORD_SIZE+then-room-len}
 
 pub returns-then-len-eq0-clause-damaged : goal.returns-then-len-eq0-clause-damaged
-returns-then-len-eq0-clause-damaged g c = λ h erred.
+returns-then-len-eq0-clause-damaged g c = λ h is_damaged.
     let f = bytes_of (g.D.Disk.state c.args.disk.now) in
     let commit_byte = c.in_ok-read_at.ensures.given h in
     let first = c.read_at.ensures.reads.adds_no_image in

@@ -10,17 +10,17 @@ encoded_snapshot_is_area (x ∷ []) ys n k is same room within_limit = absurd (o
 encoded_snapshot_is_area (x ∷ y ∷ []) ys n k is same room within_limit = absurd (omega arith)
 encoded_snapshot_is_area (x ∷ y ∷ z ∷ []) ys n k is same room within_limit = absurd (omega arith)
 encoded_snapshot_is_area (x ∷ y ∷ z ∷ w ∷ t) ys n k is same room within_limit =
-    let behind : length (ys ++ drop k t) ≡ 16381 = omega (arith, length-append ys (drop k t), length-drop k t) in
+    let rest_length : length (ys ++ drop k t) ≡ 16381 = omega (arith, length-append ys (drop k t), length-drop k t) in
     let first : 0 ≡ length ys / 16777216 = omega (arith, is) in
     let second : 0 ≡ length ys / 65536 % 256 = omega (arith, is) in
     let third : n / 256 ≡ length ys / 256 % 256 = omega (arith, is) in
     let fourth : n % 256 ≡ length ys % 256 = ap (λ (m : ℕ). m % 256) (sym is) in
     record {
-      long = omega (arith, behind, length-set (ys ++ drop k t) 16380 0);
+      long = omega (arith, rest_length, length-set (ys ++ drop k t) 16380 0);
       within_limit = omega (arith, is);
       snap_length = (λ i. first i ∷ second i ∷ third i ∷ fourth i ∷ []);
       snap_bytes = take-set-le (length ys) (ys ++ drop k t) 16380 0 (omega (arith, is)) ∙ take_at ys (drop k t) (length ys) refl;
-      ends_log = get_or-set_same (ys ++ drop k t) 16380 0 0 (omega (arith, behind));
+      ends_log = get_or-set_same (ys ++ drop k t) 16380 0 0 (omega (arith, rest_length));
     }
 
 pub returns : goal.returns

@@ -27,7 +27,7 @@ returns-then-is_empty g c =
       banks = record { at = λ k h. c.rewire_banks.ensures.banks k (let n = c.rewire_banks.ensures.count in omega arith) };
       fit = omega (arith, fits.chains, v.chains_len);
       chains = λ k h. absurd (omega (arith, fits.chains, v.chains_len));
-      up = refl;
+      keys_up = refl;
       src = refl;
       test = refl;
     } in
@@ -49,7 +49,7 @@ invariant_of-self g c =
       banks = record { at = λ k h. c.rewire_banks.ensures.banks k (let n = c.rewire_banks.ensures.count in omega arith) };
       fit = omega (arith, fits.chains, v.chains_len);
       chains = λ k h. absurd (omega (arith, fits.chains, v.chains_len));
-      up = refl;
+      keys_up = refl;
       src = refl;
       test = refl;
     } in
@@ -69,7 +69,7 @@ invariant_of-self-2 g c =
       banks = record { at = λ k h. c.rewire_banks.ensures.banks k (let n = c.rewire_banks.ensures.count in omega arith) };
       fit = omega (arith, fits.chains, v.chains_len, c.rewire_chains.ensures.count);
       chains = λ k h. c.rewire_chains.ensures.rows k (omega (arith, fits.chains, v.chains_len));
-      up = refl;
+      keys_up = refl;
       src = refl;
       test = refl;
     } in
@@ -89,7 +89,7 @@ returns g c =
       banks = record { at = λ k h. c.rewire_banks.ensures.banks k (let n = c.rewire_banks.ensures.count in omega arith) };
       fit = omega (arith, fits.chains, v.chains_len, c.rewire_chains.ensures.count);
       chains = λ k h. c.rewire_chains.ensures.rows k (omega (arith, fits.chains, v.chains_len));
-      up = refl;
+      keys_up = refl;
       src = refl;
       test = refl;
     } in

@@ -12,14 +12,14 @@ returns-clause-ran g c =
     let regs : Regs = c.execute-next.new.regs in
     let n : BusState = g.B.Bus.flat c.execute-next.new.bus in
     let decoded = c.requires.decoded in
-    let cycles = c.from-whole.ensures in
+    let cycles = c.from-needed.ensures in
     let some = c.execute-next.ensures.some in
     let few = c.execute-next.ensures.few in
-    let fits = c.if-whole-left.false in
+    let fits = c.if-needed-left.false in
     let same = c.execute-next.ensures.owed in
     let range = c.self.invariant.1 in
     let free : before.owed ≢ 1 = λ e. c.requires.free (sym (ap (λ (r : Regs). r.owed) c.self.view_is) ∙ e) in
-    let whole =
-    instruction_run-of_all_cycles c.args.left c.args.op (record before { pc = c.args.at }, m) regs n c.execute-next.result.0 c.from-whole.result (omega arith) free (cc)
+    let instruction_run =
+    instruction_run-of_all_cycles c.args.left c.args.op (record before { pc = c.args.at }, m) regs n c.execute-next.result.0 c.from-needed.result (omega arith) free (cc)
     (ap (λ x. (record regs { pc = c.execute-next.result.0; owed = x - 1 }, n)) cycles ∙ c.execute-next.ensures.effect) (omega arith) (omega arith) (omega arith) in
-    subst (λ (r : Regs). IsInstructionRun c.args.left (record r { pc = c.args.at }, m) (record regs { pc = c.execute-next.result.0 }, n) c.from-whole.result) c.self.view_is whole
+    subst (λ (r : Regs). IsInstructionRun c.args.left (record r { pc = c.args.at }, m) (record regs { pc = c.execute-next.result.0 }, n) c.from-needed.result) c.self.view_is instruction_run

@@ -1,5 +1,5 @@
 use Rattle.mcs_disk.specs.CallList.{unsynced_writes}
-use Rattle.mcs_journal.proofs.StoreMethodCalls.{append_one}
+use Rattle.mcs_journal.proofs.StoreMethodCalls.{append_at_most_one_unsynced}
 use Rattle.std.proofs.Common.{◌≡◌, ◌+◌, List, [], ◌∷◌, ◌++◌, ℕ, length, sym, ◌∙◌, ap, subst, arith, IsTrue, length-take, length-append, length-drop}
 use Rattle.mcs_disk.specs.Disk.{DiskState, bytes_of}
 use Rattle.mcs_journal.specs.Store.{StoreView, IsIntactStore}
@@ -44,13 +44,13 @@ invariant_of-self g c =
       room = simp (length-take, length-append, length-drop) (omega (arith, c.deref_mut.ensures.len, ap length c.deref_mut.ensures.value, c.add_record.auto.buffer, c.self.invariant.room));
       synced = λ alive. ap unsynced_writes c.in-Ok.ensures.calls.all;
       intact = λ alive h.
-          let beyond = start_bounds c.self.inside.slot in
-          let was = c.add_record.ensures.call.honest.0 h in
-          let intact = c.self.invariant.intact live was in
-          let changes = c.in-Ok.ensures.changes was intact.durable intact.snap intact.records intact.holds (commit_offset_of_intact_store _ _ _ _ _ intact.snap intact.records c.start.ensures intact room intact.holds) in
+          let bounds = start_bounds c.self.inside.slot in
+          let was_honest = c.add_record.ensures.call.honest.0 h in
+          let intact = c.self.invariant.intact live was_honest in
+          let changes = c.in-Ok.ensures.changes was_honest intact.durable intact.snap intact.records intact.holds (commit_offset_of_intact_store _ _ _ _ _ intact.snap intact.records c.start.ensures intact room intact.holds) in
           record {
             durable = changes.durable;
-            active = ap slot_selected_by (c.add_record.ensures.selector was (omega (arith, beyond.0, c.start.ensures))) ∙ intact.active;
+            active = ap slot_selected_by (c.add_record.ensures.selector was_honest (omega (arith, bounds.0, c.start.ensures))) ∙ intact.active;
             snap = intact.snap;
             records = intact.records ++ c.args.payload.now ∷ [];
             holds = changes.after;
@@ -67,9 +67,9 @@ returns-in-Err-clause-calls g c = rw (← c.self.view_is) (rw (← c.start.ensur
 pub returns-in-Ok-clause-one_unsynced : goal.returns-in-Ok-clause-one_unsynced
 returns-in-Ok-clause-one_unsynced g c = rw (← c.self.view_is) (
     let live : IsTrue c.self.inside.live = subst (λ (v : StoreView g.row.D.Denot). IsTrue v.live) (sym c.self.view_is) c.requires.live in
-    append_one _ (c.self.invariant.synced live) _ _ _ _ c.in-Ok.ensures.calls)
+    append_at_most_one_unsynced _ (c.self.invariant.synced live) _ _ _ _ c.in-Ok.ensures.calls)
 
 pub returns-in-Err-clause-one_unsynced : goal.returns-in-Err-clause-one_unsynced
 returns-in-Err-clause-one_unsynced g c = rw (← c.self.view_is) (
     let live : IsTrue c.self.inside.live = subst (λ (v : StoreView g.row.D.Denot). IsTrue v.live) (sym c.self.view_is) c.requires.live in
-    append_one _ (c.self.invariant.synced live) _ _ _ _ c.in-Err.ensures.calls)
+    append_at_most_one_unsynced _ (c.self.invariant.synced live) _ _ _ _ c.in-Err.ensures.calls)

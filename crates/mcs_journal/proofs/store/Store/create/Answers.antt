@@ -1,6 +1,6 @@
 use Rattle.mcs_disk.specs.CallList.{unsynced_writes}
 use Rattle.mcs_disk.proofs.CallSequences.{at_most_one_unsynced_without_calls}
-use Rattle.mcs_journal.proofs.StoreMethodCalls.{makes_with_area_of_other_ok, makes_with_area_of_other_error, create_at_most_one_unsynced, one_read_if_check_blank_is_ok, failed_create_calls_after_header_fault, refused_create_one}
+use Rattle.mcs_journal.proofs.StoreMethodCalls.{makes_with_area_of_other_ok, makes_with_area_of_other_error, create_at_most_one_unsynced, one_read_if_check_blank_is_ok, failed_create_calls_after_header_fault, refused_create_at_most_one_unsynced}
 use Rattle.std.proofs.Common.{inr, [], length, refl, sym, ◌∙◌, ap, arith, Err, length-take, length-append, length-drop}
 use Rattle.mcs_disk.proofs.StretchComposition.{counts_fault_of_equivalent_failure, counts_fault_of_two_stretches, adds_no_image_without_calls, is_later_transitive}
 use Rattle.mcs_journal.specs.declared.fault.StoreFault.TheVariants.{Device}
@@ -74,7 +74,7 @@ pub returns-in-Err-check_blank-clause-error_calls : goal.returns-in-Err-check_bl
 returns-in-Err-check_blank-clause-error_calls g c = failed_create_calls_after_header_fault _ _ _ _ _ _ c.in-Err-check_blank.is c.in-Err-check_blank.ensures.possible_errors c.check_blank.ensures.calls
 
 pub returns-in-Err-check_blank-clause-error_one_unsynced : goal.returns-in-Err-check_blank-clause-error_one_unsynced
-returns-in-Err-check_blank-clause-error_one_unsynced g c = λ synced. refused_create_one _ synced _ c.args.snap.now _ c.check_blank.result
+returns-in-Err-check_blank-clause-error_one_unsynced g c = λ synced. refused_create_at_most_one_unsynced _ synced _ c.args.snap.now _ c.check_blank.result
     (failed_create_calls_after_header_fault _ _ _ _ _ _ c.in-Err-check_blank.is c.in-Err-check_blank.ensures.possible_errors c.check_blank.ensures.calls)
 
 pub returns-in-Ok-write_first-clause-calls : goal.returns-in-Ok-write_first-clause-calls

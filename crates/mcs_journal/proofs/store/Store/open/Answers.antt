@@ -40,15 +40,15 @@ invariant_of-store g c = record {
   room = search rules;
   synced = λ live. no_unsynced_write_after_open _ _ _ c.in-Ok-read_contents.ensures.calls;
   intact = λ live h.
-      let was = c.read_contents.ensures.reads.counts.honest.0 h in
+      let was_honest = c.read_contents.ensures.reads.counts.honest.0 h in
       let same = bytes_unchanged_without_new_image _ _ c.read_contents.ensures.reads.adds_no_image in
       record {
-        durable = c.in-Ok-read_contents.ensures.durable was;
-        active = ap slot_of same ∙ c.in-Ok-read_contents.ensures.active was;
+        durable = c.in-Ok-read_contents.ensures.durable was_honest;
+        active = ap slot_of same ∙ c.in-Ok-read_contents.ensures.active was_honest;
         snap = c.in-Ok-read_contents.field-0.snap;
         records = c.in-Ok-read_contents.field-0.log.records.items;
-        holds = subst (λ (f : List ℕ). Holds f c.in-Ok-read_contents.field-0.snap c.in-Ok-read_contents.field-0.log.records.items) (sym same) (c.in-Ok-read_contents.ensures.holds was);
-        count = c.in-Ok-read_contents.ensures.count was;
+        holds = subst (λ (f : List ℕ). Holds f c.in-Ok-read_contents.field-0.snap c.in-Ok-read_contents.field-0.log.records.items) (sym same) (c.in-Ok-read_contents.ensures.holds was_honest);
+        count = c.in-Ok-read_contents.ensures.count was_honest;
       };
 }
 

@@ -1,5 +1,5 @@
 use Rattle.mcs_disk.specs.CallList.{unsynced_writes}
-use Rattle.mcs_journal.proofs.StoreMethodCalls.{replace_one}
+use Rattle.mcs_journal.proofs.StoreMethodCalls.{replace_at_most_one_unsynced}
 use Rattle.std.proofs.Common.{[], length, refl, sym, ◌∙◌, ap, subst, arith, IsTrue, length-take, length-append, length-drop, rules}
 use Rattle.mcs_journal.specs.Store.{StoreView}
 use Rattle.mcs_journal.specs.Writing.{other_slot}
@@ -27,12 +27,12 @@ invariant_of-self g c = record {
   synced = λ alive. ap unsynced_writes c.in-Ok.ensures.calls.made.all;
   intact = λ alive h.
       let live : IsTrue c.self.inside.live = subst (λ (v : StoreView g.row.D.Denot). IsTrue v.live) (sym c.self.view_is) c.requires.live in
-      let was = c.replace_contents.ensures.call.honest.0 h in
-      let intact = c.self.invariant.intact live was in
-      let changes = c.in-Ok.ensures.changes was intact.durable intact.snap intact.records intact.holds (c.other-other.ensures ∙ sym (ap other_slot intact.active)) in
+      let was_honest = c.replace_contents.ensures.call.honest.0 h in
+      let intact = c.self.invariant.intact live was_honest in
+      let changes = c.in-Ok.ensures.changes was_honest intact.durable intact.snap intact.records intact.holds (c.other-other.ensures ∙ sym (ap other_slot intact.active)) in
       record {
         durable = changes.durable;
-        active = c.in-Ok.ensures.named was;
+        active = c.in-Ok.ensures.named was_honest;
         snap = c.args.snap.now;
         records = [];
         holds = changes.after;
@@ -49,12 +49,12 @@ returns-in-Err-clause-calls g c = rw (← c.self.view_is) (rw (← c.other-other
 pub returns-in-Ok-clause-one_unsynced : goal.returns-in-Ok-clause-one_unsynced
 returns-in-Ok-clause-one_unsynced g c = rw (← c.self.view_is) (
     let live : IsTrue c.self.inside.live = subst (λ (v : StoreView g.row.D.Denot). IsTrue v.live) (sym c.self.view_is) c.requires.live in
-    replace_one _ (c.self.invariant.synced live) _ _ _ _ c.in-Ok.ensures.calls)
+    replace_at_most_one_unsynced _ (c.self.invariant.synced live) _ _ _ _ c.in-Ok.ensures.calls)
 
 pub returns-in-Err-clause-one_unsynced : goal.returns-in-Err-clause-one_unsynced
 returns-in-Err-clause-one_unsynced g c = rw (← c.self.view_is) (
     let live : IsTrue c.self.inside.live = subst (λ (v : StoreView g.row.D.Denot). IsTrue v.live) (sym c.self.view_is) c.requires.live in
-    replace_one _ (c.self.invariant.synced live) _ _ _ _ c.in-Err.ensures.calls)
+    replace_at_most_one_unsynced _ (c.self.invariant.synced live) _ _ _ _ c.in-Err.ensures.calls)
 
 pub returns-in-Ok-clause-slot : goal.returns-in-Ok-clause-slot
 returns-in-Ok-clause-slot g c = search rules

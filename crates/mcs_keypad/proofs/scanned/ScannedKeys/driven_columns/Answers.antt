@@ -4,7 +4,7 @@ use Rattle.std.specs.List.{list_any, range_with_len}
 use Rattle.mcs_nibble.specs.Bits.{bit_of}
 use Rattle.mcs_model.specs.Levels.{row_drives_column}
 use Rattle.mcs_keypad.specs.Keys.{ScannedState, IsColumnMask, is_down}
-use Rattle.mcs_keypad.proofs.DrivenColumns.{driven_mask-after_driving_row, driven_mask-after_idle_row, driven_mask-after_idle_rows, none-left, shifted_right-halved}
+use Rattle.mcs_keypad.proofs.DrivenColumns.{driven_mask-after_driving_row, driven_mask-after_idle_row, driven_mask-after_idle_rows, bits-zero_above_shift, shifted_right-halved}
 use Rattle.mcs_keypad.proofs.scanned.ScannedKeys.driven_columns.Goals as goal
 use Rattle.mcs_keypad.proofs.scanned.ScannedKeys.driven_columns.Goals.{then-left-eq1, else-left-eq1}
 
@@ -35,6 +35,6 @@ returns-then-left-eq0 g c =
     let bits = c.args.bits.now in
     let r = c.loop-r.r in
     let few = c.requires.scanned.few in
-    let low = λ (k : ℕ) (l : r ≤ k) (h : k < r + (m.rows - r)). sym (c.ten_bits_from-levels.ensures.bits k (omega arith) ∙ ap (λ n. slice_index bits (n + k)) c.from.ensures) ∙ none-left c.ten_bits_from-levels.result r k (sym c.loop-r.invariant.left ∙ c.if-left-eq0.true) l in
+    let low = λ (k : ℕ) (l : r ≤ k) (h : k < r + (m.rows - r)). sym (c.ten_bits_from-levels.ensures.bits k (omega arith) ∙ ap (λ n. slice_index bits (n + k)) c.from.ensures) ∙ bits-zero_above_shift c.ten_bits_from-levels.result r k (sym c.loop-r.invariant.left ∙ c.if-left-eq0.true) l in
     let all : r + (m.rows - r) ≡ m.rows = omega arith in
     subst (λ n. IsColumnMask c.loop-r.driven_columns (length m.columns.items) (λ j. list_any (row_drives_column bits s.down m j) (range_with_len 0 n))) all (driven_mask-after_idle_rows bits s.down m c.loop-r.driven_columns r (m.rows - r) c.loop-r.invariant.byte low)

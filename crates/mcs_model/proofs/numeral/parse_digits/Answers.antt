@@ -4,7 +4,7 @@ use Rattle.std.specs.Char.{digit_value}
 use Rattle.mcs_model.proofs.Digits.{value_with_digit_read, no_value-with_non_digit, value_of_all_digits}
 use Rattle.std.specs.Prelude.{option_map, None}
 use Rattle.mcs_model.specs.Numerals.{value_of_digits}
-use Rattle.mcs_model.proofs.numeral.digits.Goals as goal
+use Rattle.mcs_model.proofs.numeral.parse_digits.Goals as goal
 
 pub returns-in_err-digit : goal.returns-in_err-digit
 returns-in_err-digit c =
@@ -19,6 +19,6 @@ loop-c-preserved c =
 
 pub returns : goal.returns
 returns c =
-    let full : eqb (length c.args.ds.now) 0 ≡ false = sym c.is_empty.ensures ∙ c.if-is_empty.false in
-    let some : 0 < length c.args.ds.now = omega (arith, eqb-false _ _ full) in
+    let not_empty : eqb (length c.args.ds.now) 0 ≡ false = sym c.is_empty.ensures ∙ c.if-is_empty.false in
+    let some : 0 < length c.args.ds.now = omega (arith, eqb-false _ _ not_empty) in
     value_of_all_digits c.args.base c.loop-c.value c.loop-c.c-index c.args.ds.now some (omega arith) c.loop-c.invariant

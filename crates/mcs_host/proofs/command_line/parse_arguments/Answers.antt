@@ -3,7 +3,7 @@ use Rattle.std.proofs.lemmas.Result.{IfErr-weaker, IfOk-weaker}
 use Rattle.clap.specs.Words.{App, app_of, is_simple, rule_of, subcommand_of, takes, with_rule, with_subcommand}
 use Rattle.clap.proofs.OnLiterals.{clap_on_literals}
 use Rattle.mcs_host.specs.CommandLine.{file_rule, accepts_arguments, subcommand_with_file, program}
-use Rattle.mcs_host.proofs.command_line.matches.Goals as goal
+use Rattle.mcs_host.proofs.command_line.parse_arguments.Goals as goal
 
 is_simple_program : is_simple program ≡ true
 unfolding clap_on_literals
@@ -14,12 +14,12 @@ unfolding accepts_arguments
 returns g c =
     let new_file_is : rule_of c.required-new_file.result ≡ file_rule = search rules in
     let open_file_is : rule_of c.required-open_file.result ≡ file_rule = search rules in
-    let making_is : app_of c.in_ok-making.making ≡ subcommand_with_file (codes "new") = c.in_ok-making.ensures.shape (search rules)
+    let new_command_is : app_of c.in_ok-new_command.new_command ≡ subcommand_with_file (codes "new") = c.in_ok-new_command.ensures.shape (search rules)
     ∙ ap₂ with_rule c.new-2.ensures.app new_file_is in
-    let opening_is : app_of c.in_ok-opening.opening ≡ subcommand_with_file (codes "open") = c.in_ok-opening.ensures.shape (search rules)
+    let open_command_is : app_of c.in_ok-open_command.open_command ≡ subcommand_with_file (codes "open") = c.in_ok-open_command.ensures.shape (search rules)
     ∙ ap₂ with_rule c.new-4.ensures.app open_file_is in
     let program_is : app_of c.in_ok-with_both.with_both ≡ program = c.in_ok-with_both.ensures.shape (search rules)
-    ∙ ap₂ with_subcommand (c.in_ok-with_new.ensures.shape (search rules) ∙ ap₂ with_subcommand c.new-bench.ensures.app (ap (λ (a : App). a.top) making_is)) (ap (λ (a : App). a.top) opening_is) in
+    ∙ ap₂ with_subcommand (c.in_ok-with_new.ensures.shape (search rules) ∙ ap₂ with_subcommand c.new-bench.ensures.app (ap (λ (a : App). a.top) new_command_is)) (ap (λ (a : App). a.top) open_command_is) in
     let arguments = map g.S.AsStr.text c.args.arguments.now in
     let parse = c.try_get_matches_from in
     record {
