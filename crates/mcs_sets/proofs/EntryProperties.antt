@@ -20,6 +20,6 @@ bus-valid-at-every-moment entries s of stays f fit (suc k) =
 
 pub entries-suffice : EntriesSuffice
 entries-suffice p entries s each of stays = λ limits f allowed k.
-    let fits_board : (i : ℕ) → FitsBoard s.1.board (f i) = λ i. (allowed i).fits in
+    let fits_board : (i : ℕ) → FitsBoard s.1.board (f i) = λ i. (allowed.levels i).fits in
     let covered_at_k = stays f fits_board k in
     each covered_at_k.0 covered_at_k.1 (driven no_observer f k s) (bus-valid-at-every-moment entries s of stays f fits_board k) covered_at_k.2
