@@ -37,6 +37,7 @@ pub use marks::{Marks, add_mark_requirement};
 pub use mcs_drive::Mark;
 pub use packing::keys_determine_machines;
 pub use property::Property;
+pub use read_point::Run;
 pub use reading::InputSource;
 pub use replica::SearchMachine;
 pub use stopwatch::{StopwatchCycles, add_limit};
