@@ -6,11 +6,11 @@ import re
 import subprocess
 
 TOP = pathlib.Path(__file__).resolve().parent.parent.parent
-# Files that this project did not write, those that a program writes, and boards, whose comments are a front panel or a drawing.
+# Third-party files, generated files, and boards, whose comments describe a front panel or a drawing.
 EXEMPT_FILES = re.compile(r"page/(?:codemirror|from_npm)/|page/fethsaim\.html|shipped/|examples/\w+/board\.toml")
 C_LIKE = {".js", ".mjs", ".cjs", ".ts", ".css", ".c", ".rt"}
 HASH_SUFFIXES = {".py", ".sh", ".toml", ".vim"}
-# Matches a comment, or a string, a template or a regular expression, in which nothing is a comment.
+# Matches a comment. Also matches a complete string, template or regular expression, because nothing inside them is a comment.
 C_TOKEN = re.compile(r"""
     (?P<block>/\*.*?\*/) | (?P<line>//[^\n]*)
   | "(?:\\.|[^"\\\n])*" | '(?:\\.|[^'\\\n])*' | `(?:\\.|[^`\\])*`
@@ -26,17 +26,17 @@ JSDOC_TAG = re.compile(r"@(?:param|property|prop|returns?|throws|type|typedef|te
 
 
 def c_comments(text):
-    """Yields the comments of a source in a language with the comments of C, each with the number of its first line."""
+    """Yields the comments of a source in a language with C-style comments, each with the number of its first line."""
     for match in C_TOKEN.finditer(text):
         if match["block"] or match["line"]:
             yield text.count("\n", 0, match.start()) + 1, match[0]
 
 
 def without_signs(comment):
-    """Returns the words of a comment, without the signs at its beginning, at its end, and at the beginnings of its lines."""
+    """Returns the words of a comment, without the comment marks at its beginning, at its end, and at the beginnings of its lines."""
     comment = re.sub(r"^/\*+!?|\*+/$", "", comment.strip())
     words = "\n".join(re.sub(r"^\s*(?://[/!]?|\*(?!\*)|--|#+!?|;+)\s?", "", line) for line in comment.split("\n"))
-    # Make each line that explains a name an item of a list.
+    # Convert each line that explains a name to a list item.
     return re.sub(r"^(?=`[^`]+`: )", "- ", words, flags=re.M)
 
 
@@ -63,7 +63,7 @@ def without_types(text):
 
 
 def line_comments(text, sign):
-    """Yields runs of lines that begin with a sign, each with the number of its first line."""
+    """Yields the blocks of successive lines that begin with a comment mark, each with the number of its first line."""
     block, first = [], 1
     for number, line in enumerate([*text.split("\n"), ""], 1):
         if line.lstrip().startswith(sign) and not line.startswith("#!"):

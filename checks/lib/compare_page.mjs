@@ -1,7 +1,7 @@
 // Compares the page's module with the program: `node compare_page.mjs MODULE MCS4 COUNT`. Both serve the examples and COUNT random scripts. The
 // answers, the exit status and each byte of the session file must be the same. The same must hold if a script is split into two calls, with or
 // without settling the file in between, and if the file has version 1 or is damaged. (To settle a file is to replace its records with a snapshot.) If
-// the module gets the lines in pieces, as the page sends long work, the answers must be the same as in one call.
+// the module gets the lines in several calls, as the page does with long work, the answers must be the same as in one call.
 import { spawnSync } from "node:child_process";
 import { closeSync, existsSync, mkdtempSync, openSync, readFileSync, readdirSync, rmSync, writeFileSync } from "node:fs";
 import { tmpdir } from "node:os";
@@ -122,7 +122,7 @@ const BEGINNINGS = {
   count: /^count ran /, trace: /^trace ran /,
 };
 
-// Returns true if the page's function `matchAnswers` assigns the answers to the right inputs.
+// Returns true if the page's function `matchAnswers` assigns the answers to the correct inputs.
 function areAnswersMatched(input, output) {
   const answers = output.split("\n").slice(1, -1);
   const inputs = readInputs(Buffer.from(input).toString("latin1"));

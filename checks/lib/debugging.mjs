@@ -1,5 +1,5 @@
-// The main tests of checks/debugging. The client in dap_client.mjs takes the part of an editor. Prints `ok TEXT` or `failed: TEXT` for each
-// check, and `speed: TEXT` for a measurement.
+// The main tests of checks/debugging. The client in dap_client.mjs acts as the editor. Prints `ok TEXT` or `failed: TEXT` for each check, and `speed:
+// TEXT` for a measurement.
 import { execFileSync, spawn } from "node:child_process";
 import { copyFileSync, readFileSync, readdirSync, writeFileSync } from "node:fs";
 import { Client } from "./dap_client.mjs";

@@ -1,6 +1,6 @@
-// Tests of checks/debugging with wrong messages: messages with wrong lengths, requests in the wrong order, unknown requests, and some 2,000 requests
-// with wrong arguments. The adapter must answer each request once and continue, or print an error and end. Prints `ok TEXT` or `failed: TEXT` for
-// each check.
+// Tests of checks/debugging with invalid messages: messages with wrong lengths, requests in the wrong order, unknown requests, and some 2,000
+// requests with wrong arguments. The adapter must answer each request once and continue, or print an error and end. Prints `ok TEXT` or `failed:
+// TEXT` for each check.
 import { Client } from "./dap_client.mjs";
 
 const TOP = new URL("../..", import.meta.url).pathname;

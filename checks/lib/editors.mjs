@@ -1,5 +1,5 @@
-// The main tests of checks/editors. The client in lsp_client.mjs takes the part of an editor. Prints `ok TEXT` or `failed: TEXT` for each
-// check, and `speed: TEXT` for a measurement.
+// The main tests of checks/editors. The client in lsp_client.mjs acts as the editor. Prints `ok TEXT` or `failed: TEXT` for each check, and `speed:
+// TEXT` for a measurement.
 import { execFileSync } from "node:child_process";
 import { readFileSync, readdirSync } from "node:fs";
 import { Client } from "./lsp_client.mjs";

@@ -36,7 +36,7 @@ def sweep_phrases():
 
 
 def check_phrases():
-    """Yields the phrases about the number of wrong implementations that the checks must detect, the phrase about seeded boards, and the name of each
+    """Yields the phrases about the number of faulty implementations that the checks must detect, the phrase about seeded boards, and the name of each
     check."""
     yield f"{len(WRONG_BOARDS) + len(WRONG_TOOLS)} wrong readings"
     yield f"{len(WRONG_SEARCHES) + len(WRONG_LIMITS)} wrong searches"

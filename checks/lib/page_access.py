@@ -15,7 +15,7 @@ CONTROL_ROLES = {"button", "textbox", "searchbox", "combobox", "checkbox", "slid
 # The roles of regions, groups, dialogs, tables and images. Each of them except a group needs a name, so that a user of a screen reader can
 # distinguish them.
 NAMED_ROLES = {"region", "group", "tablist", "tabpanel", "dialog", "table", "log", "complementary", "image", "alertdialog"}
-# Symbols for which a screen reader says nothing useful.
+# Symbols for which a screen reader says nothing, or nothing useful.
 UNSPOKEN_SYMBOLS = re.compile("[\u25b2-\u25cf\u2713]")
 
 
@@ -115,8 +115,8 @@ def check_contrast(browser, view):
 
 
 def check_view(browser, view):
-    """Checks that what is visible has names that a screen reader can speak, and enough contrast. `view` describes it in the verdicts. Returns the
-    list of the nodes from `nodes_of`."""
+    """Checks that the visible elements have names that a screen reader can speak, and enough contrast. `view` describes the view in the verdicts.
+    Returns the list of the nodes from `nodes_of`."""
     nodes = check_names(browser, view)
     check_contrast(browser, view)
     return nodes

@@ -68,7 +68,7 @@ GET_EARLY_ANNOUNCEMENTS = "return window.saidEarly.join(' ')"
 
 
 def lamps_pattern(names):
-    """Returns a pattern that matches only this text of lamps' names and states."""
+    """Returns a pattern that matches only the complete text `names`, which lists the names and states of lamps."""
     return re.compile("^" + re.escape(names) + "$")
 
 

@@ -391,7 +391,7 @@ return [...document.querySelectorAll("#toolbar :is(button, input, select):not([r
   return left < Math.max(0, room.left) || right > Math.min(innerWidth, room.right);
 }).map(({ id }) => id)"""
 MEASURE_OVERFLOW = "return document.documentElement.scrollWidth - document.documentElement.clientWidth"
-# Returns four numbers of pixels: how much the page itself is too wide and too high, and how far a script can scroll it to the right and down.
+# Returns four numbers of pixels: by how much the page itself is too wide and too high, and how far a script can scroll it to the right and down.
 TRY_TO_SCROLL = """
 const { scrollHeight, clientHeight, scrollWidth, clientWidth } = document.documentElement;
 scrollTo(1000, 1000);

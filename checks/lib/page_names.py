@@ -28,8 +28,8 @@ GET_LABELS = "return [...document.querySelectorAll('#lines-of-program .labels')]
 GET_BREAKPOINT_LINES = """
 return document.querySelector("#program-editor .cm-editor").lineEditor.marksIn("breakpoints").map((line) => line + 1).join(" ")"""
 
-# Steps as often as the argument says. Returns for each step the program counter, and the marked source line with its number, or `not seen` if the
-# line is out of view.
+# Executes as many steps as the argument says. Returns for each step the program counter, and the marked source line with its number, or `not seen` if
+# the line is out of view.
 STEP_THROUGH = """
 // Omits the values that the page shows after a line, which are not a part of the line.
 const textOf = (line) => {

@@ -33,7 +33,7 @@ CHANGED_NOTE = "the program, the board or the text has changed since then"
 BOARD = ('# lamp 0: lit\n# test: button WALK\nlamp = [{ line = "ram0.0.0" }, { line = "ram0.0.1" }]\nrom = [{ chip = 0, port = "0000" }]\n'
          "ram = [{ bank = 0, chips = 1 }]\n")
 PROGRAM = "look:   JCN 1, on\n        LDM 0\n        JUN put\non:     LDM 1\nput:    WMP\n        INC R1\n        JUN look\n"
-# The program counts in all registers, so no search reaches an end.
+# The program counts in all registers, so no search can visit all of its states.
 COUNTING_PROGRAM = "look:   JCN 1, look\n" + "".join(f"        ISZ R{number}, look\n" for number in range(16)) + "        JUN look\n"
 
 
@@ -45,7 +45,7 @@ def start_proof(browser, states=1000000):
 
 
 def prove_to_end(browser, description, states=1000000):
-    """Starts a proof, and checks that it ends in time. Then the button has its original label again."""
+    """Starts a proof. Checks that it ends in time, and that the button then has its original label again."""
     start_proof(browser, states)
     eventually(browser, description, GET_BUTTON_LABEL, "Prove", MAX_SECONDS)
 

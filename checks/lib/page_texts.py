@@ -180,7 +180,7 @@ def check_deleting(browser, count):
 
 
 def check_notices(browser, folder):
-    """Checks that notices of different kinds are shown together, that a new notice replaces the last one of its kind, and that the status is right
+    """Checks that notices of different kinds are shown together, that a new notice replaces the last one of its kind, and that the status is correct
     after a reset."""
     choose_example(browser, "calculator")
     stop_time(browser)

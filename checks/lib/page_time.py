@@ -224,8 +224,8 @@ def check_stopwatch(browser):
 
 
 def check_going_back(browser):
-    """Checks that going back past key presses and forward again leads to the same answers and the same saved file. A new command must remove the way
-    forward."""
+    """Checks that going back past key presses and forward again leads to the same answers and the same saved file. After a new command, going forward
+    must no longer be possible."""
     open_paused_example(browser, "calculator")
     browser.click("#run")
     for legend in "12":

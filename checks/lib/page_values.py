@@ -55,8 +55,8 @@ def point_until_shown(browser, line, word, query, expected):
 
 
 def run_to_add(browser):
-    """Runs the program to ADD, the instruction after RDM. R5 is then 1, and the nibble that the program writes is 7. Also checks the texts of the
-    new session."""
+    """Runs the program to ADD, the instruction after RDM. R5 is then 1, and the nibble that the program writes is 7. Also checks texts that the page
+    shows in the new session."""
     browser.script("document.getElementById('change-place').value = 'nonsense'")
     choose_example(browser, "empty bench")
     verdict("another session resets the field for a place", browser.script("return document.getElementById('change-place').value"), "lamps")

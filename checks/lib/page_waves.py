@@ -318,7 +318,8 @@ def check_value_search(browser):
     eventually(browser, "a value that is not found is reported", get_search_status, "lamp0 = 1: not after cycle 30,000 of this recording.")
 
 
-# The point in the middle of a row's height, in the window. The arguments are the distance in pixels from the canvas's left edge, and the row.
+# Returns the point at half the height of a row, in window coordinates. The arguments are the distance in pixels from the canvas's left edge, and the
+# row.
 GET_ROW_CENTRE = """
 const { left, top } = document.getElementById("wave-canvas").getBoundingClientRect();
 return [Math.round(left + arguments[0]), Math.round(top + 26 * (1.35 + arguments[1]))]"""
@@ -427,7 +428,7 @@ def check_pictures(browser, folder):
 
 
 def check_rejected_recordings(browser):
-    """Checks that wrong numbers of cycles and a file without lines are rejected, that a recording can be cancelled, and that another session shows
+    """Checks that invalid numbers of cycles and a file without lines are rejected, that a recording can be cancelled, and that another session shows
     no recording."""
     for text in ("0", "10000001", "many", ""):
         verdict(f"{text or 'nothing'} cycles are rejected with a message", record(browser, text), "Enter a number of cycles, from 1 to 10,000,000.")

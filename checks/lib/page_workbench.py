@@ -204,8 +204,8 @@ GET_HELP_WIDTH = "return document.getElementById('help').getBoundingClientRect()
 
 
 def check_details(browser, set_size):
-    """Checks that details of the layout are right. For example, all settings of twenty keys are visible, displays have different colours in the
-    gallery, and an empty bench has one offer."""
+    """Checks details of the layout. For example, all settings of twenty keys must be visible, and displays must have different colours in the list of
+    examples. An empty bench must show only the offer of a board."""
     set_size(browser, 1440, 900)
     choose_example(browser, "calculator")
     show_text(browser, "wiring")

@@ -148,7 +148,7 @@ MAX_OPEN_CALLS = 3
 RAM_INSTRUCTIONS = {"WRM", "RDM", "ADM", "SBM", "WMP", *(f"{way}{k}" for way in ("WR", "RD") for k in range(4))}
 MISTAKES = ("code", "call", "return", "ram", "rom", "rdr", "wrr")
 # The attributes that the search adds to a board: the number of open calls, the stopwatch and its cycles, the marks and the number of marks seen. The
-# last one has the limits of the inputs.
+# last attribute has the limits of the inputs.
 CALLS, STOPWATCH, ELAPSED, MARK_SEQUENCE, SEEN, LIMITS = "calls", "stopwatch", "elapsed", "mark_sequence", "seen", "limits"
 
 
@@ -536,7 +536,8 @@ def replay_lines(question: Question, path: list[int]) -> tuple[list[str], str]:
 
 
 def excluded_input(limits: InputLimits, lines: list[str]) -> str:
-    """Returns a description of the inputs at the first run in session lines at which the limits exclude them, or "" if there is no such run."""
+    """Finds the first `run` in session lines at which the limits do not allow the inputs. Returns a description of these inputs, or "" if there is no
+    such `run`."""
     keys_down, test = LEVELS_AT_POWER_ON
     for line in lines:
         command, *words = line.split() or [""]

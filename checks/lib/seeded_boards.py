@@ -95,7 +95,8 @@ class Program:
         self.put(address, statement + self.rng.choice([["JUN"], ["JUN"], ["BBL 3"], [f"DB 0x{self.rng.choice(INVALID_CODES):02X}"], []]))
 
     def put(self, address: int, statements: list[str]) -> None:
-        """Adds statements from an address on, as far as there is room. `^4` in a jump is the target four statements before it."""
+        """Adds statements from an address on, as far as there is room. `^5` after a jump sets its target to the first of the last five statements,
+        the jump included."""
         put: list[int] = []
         for statement in statements:
             statement, _sign, back = statement.partition(" ^")
@@ -111,7 +112,7 @@ class Program:
 
     def put_end_of_page(self, page: int) -> None:
         """Adds two or three NOPs and then a jump within a page, or a FIN, at the end of a page. Adds nothing if there is no room, or if the board
-        lacks the next page. The last instruction usually refers to the next page, because the word after it is there."""
+        lacks the next page. The last instruction usually refers to the next page, because the word after it is on that page."""
         if (page >> 8) + 1 in self.wiring.pages and {page + 0xFC, page + 0xFD, page + 0xFE, page + 0xFF, page + 0x100} <= self.free:
             name = self.rng.choice(["ISZ R3", "JCN 12", "JCN 4", "JIN P2", "FIN P2"])
             self.put(page + 0xFC, [*self.rng.randrange(2, 4) * ["NOP"], name])

@@ -360,8 +360,8 @@ def limited_question(seed: int, max_states: int) -> Question:
 
 
 def lines_in_random_order(question: Question, rng: random.Random) -> list[str]:
-    """Returns the lines of a question, with the lines of its limits at random places outside the texts. One of these lines is repeated. If there is a
-    `together` line, another one with another number precedes it, because only the last one counts."""
+    """Returns the lines of a question, with the lines of its limits at random positions outside the texts. One of these lines is repeated. If there
+    is a `together` line, another one with another number precedes it, because only the last one counts."""
     limits = question.limits.lines()
     together = [line for line in limits if line.startswith("together")]
     others = [line for line in limits if line not in together]

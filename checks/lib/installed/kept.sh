@@ -1,4 +1,4 @@
-# Checks that the user's files and changed files stay after an upgrade, after runs that were stopped, and after the removal.
+# Checks that the user's files and changed files are kept by upgrades, by interrupted runs, and by the removal.
 # shellcheck shell=sh disable=SC2154
 
 make_home
@@ -23,7 +23,7 @@ change_files() {
     for each in lib/fethsaim/examples/calculator/board.toml share/man/man1/mcs4.1 lib/fethsaim/mcs4; do echo "# $1" >> "$prefix/$each"; done
 }
 change_files changed
-# Adds a file of the user with the name of a file that a new version installs.
+# Adds a file of the user that has the same name as a file that a new version installs.
 grep -v ' lib/fethsaim/tools/lib/face.txt$' "$library_folder/installed" > "$folder/list"
 cp "$folder/list" "$library_folder/installed"
 echo mine > "$library_folder/tools/lib/face.txt"
@@ -77,7 +77,7 @@ wait "$served"
 verdict "$(echo seq | "$library_folder/shipped/mcs4" open "$library_folder/served.mcs" | tail -n 1)" "seq 2" "a session that was served during ./install"
 rm "$library_folder/served.mcs"
 
-# --- interrupted, and repeated
+# --- interrupted runs, and the runs after them
 
 # Creates the folders that an interrupted run leaves, with the number of a process that has ended. The folder `old` exists if the run had
 # already exchanged lib/fethsaim.

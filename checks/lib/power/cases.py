@@ -1,5 +1,5 @@
-"""The trials of checks/power: the file systems, the cases, the wrong programs, and the combinations of these that a run of the check tries. A case
-prepares a file system for a session, and has the arguments with which the program is then started.
+"""The trials of checks/power: the file systems, the cases, the deliberately faulty programs, and the combinations of these that a run of the check
+tries. A case prepares a file system for a session, and has the arguments with which the program is then started.
 """
 
 from __future__ import annotations
@@ -110,8 +110,8 @@ OPEN_CASES = ("linked", "copied", "moved", "replaced", "long-copied", "long-move
 
 # --- the trials of a run of the check
 
-# The number of the last command that is sent to the session of a case with `gets_all_commands`. Then the numbers of commands that are sent to a
-# session that is already durable or is opened again, and to any other session.
+# ALL_COMMANDS is the number of the last command that is sent in a case with `gets_all_commands`. MORE_COMMANDS are sent to a session that is already
+# durable or is opened again, and FEW_COMMANDS to any other session.
 ALL_COMMANDS, MORE_COMMANDS, FEW_COMMANDS = 110, 24, 12
 
 

@@ -131,15 +131,16 @@ class History:
         return "beginning" if event_number < first_answer + BEGINNING else "serving"
 
     def selections_after(self, event: Event, pending: list[int]) -> list[tuple[str, dict[int, Part]]]:
-        """Returns some of the ways in which the pending writes can be on the disk after an event: for each its name, and the part of each write."""
+        """Returns some of the states in which the pending writes can be on the disk after an event. Each has a name, and the part of each write that
+        is on the disk."""
         selections: list[tuple[str, dict[int, Part]]] = [("none", {}), ("all", dict.fromkeys(pending))]
         if event.kind in ("write", "flushed"):
             selections += [("some", self.random_parts(pending)) for _ in range(PARTS * min(len(pending), MAX_PENDING))]
         return selections
 
     def random_parts(self, pending: list[int]) -> dict[int, Part]:
-        """Returns random parts of these writes: all, none, or some of the sectors or blocks of each one. Omits the writes without a part on the
-        disk."""
+        """Returns random parts of these writes: all, none, or some of the sectors or blocks of each one. Omits the writes that did not reach the disk
+        at all."""
         unit = BLOCK if self.whole_blocks else self.rng.choice((SECTOR, BLOCK))
         parts: dict[int, Part] = {}
         for write in pending:

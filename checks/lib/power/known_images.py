@@ -27,7 +27,8 @@ def event_of(kind: str, number: int) -> Event:
 
 
 def images_of(events: History, size: int) -> list[tuple[bytes, Image]]:
-    """Returns all images of a history, each after the first `size` bytes of a disk that has it. Before the history, the disk has only zeros."""
+    """Returns all images of a history, each as a pair: the first `size` bytes of a disk with this image, and the image. Before the history, the disk
+    has only zeros."""
     disk = Disk(BLOCK)
     builder = Builder(disk, events)
     images = []
@@ -73,8 +74,8 @@ def writes_at_one_place() -> bool:
 
 
 def command_bounds() -> bool:
-    """Checks the bounds of the number of commands: the commands acknowledged before the cut, and the commands sent before it. Before the first
-    answer, there is no lower bound."""
+    """Checks the bounds of the number of commands: at least the commands acknowledged before the cut, and at most the commands sent before it. Before
+    the first answer, there is no lower bound."""
     events = history_of([write_event(1, 0, A), event_of("answered", 0), event_of("sent", 1), write_event(2, 0, B), event_of("wrote", 2), event_of("flush", 3),
                     event_of("flushed", 3), event_of("answered", 1)])
     bounds_by_image = {(image.durable, len(image.parts)): (image.min_commands, image.max_commands)

@@ -173,7 +173,7 @@ class Runner:
             events.append(Event("sent", number))
             self.machine.program.send(command)
 
-    # --- looking at images
+    # --- examining images
 
     def examine(self, builder: Builder, kind: FileSystem, trial: Trial, case: Case, image: Image) -> ExaminedImage:
         """Writes an image to the disk, lets the machine examine it, and returns the result. Then undoes the writes."""
@@ -271,7 +271,7 @@ class Runner:
         print(f"    examine it again: {self.show_command} --show {name}", flush=True)
 
     def examine_stored(self, name: pathlib.Path) -> bool:
-        """Prints the contents of a stored image. Returns true if they are right."""
+        """Prints the contents of a stored image. Returns true if they are as required."""
         description = json.loads(name.with_suffix(".json").read_text())
         kind, image = FILE_SYSTEMS[description["kind"]], name.read_bytes()
         self.disk.bytes[:len(image)] = image
