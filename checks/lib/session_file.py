@@ -311,7 +311,7 @@ def file_with_snapshot(snapshot):
 
 
 def put_record(file, offset, record):
-    """Writes a record to a log, and the end of the log after it."""
+    """Writes a record to a log, followed by the byte that marks the end of the log."""
     file[offset:offset + 3 + len(record) + 1] = b"\x01" + number(len(record), 2) + record + b"\x00"
 
 

@@ -29,7 +29,7 @@ def wire_with_record(board, record):
 
 
 # Boards with their records. The first board is empty. In the second one, the order of a port's characters matters (lines 3, 2, 1, 0). The third one
-# has each part, and the last one has the maximum of each part.
+# has every kind of part, and the last one has as many of each kind as possible.
 BOARDS = [
     wire_with_record(Board(), b"\1" + NO_ROMS + bytes(11)),
     wire_with_record(TWO_KEYS, b"\1" + b"0000" + b"1i0i" + NO_ROMS[:56]

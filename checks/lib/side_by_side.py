@@ -6,10 +6,11 @@ gate runs, it is SHIPPED_PROGRAM. If that is empty, the checks start after the g
 
 As many checks run at the same time as there are processors, the longest first. While the gate runs, one check runs at a time, or more while
 processors are idle, and none on fewer than four processors. Checks that read what the gate builds run after it. Checks that type at a terminal run at
-the end, beside each other but beside no other check, because one of them measures time. The whole output of a check is printed when the check has
-ended. The output of the gate is printed line by line. On a terminal, a line shows what is running and the remaining time, estimated from the times of
-the last run (in the cache folder) or from the table below. As root, it installs missing packages with apt-get; otherwise the check counts as not run.
-A process that a check leaves is ended. FOLDER/summed gets the numbers of passed and failed verdicts, and FOLDER/left_out the lines 'not run: ..'.
+the end, in parallel with each other but with no other check, because one of them measures time. The whole output of a check is printed when the check
+has ended. The output of the gate is printed line by line. On a terminal, a line shows what is running and the remaining time, estimated from the
+times of the last run (in the cache folder) or from the table below. As root, it installs missing packages with apt-get; otherwise the check counts as
+not run. Processes that a check leaves running are ended. FOLDER/summed gets the numbers of passed and failed verdicts, and FOLDER/left_out the lines
+'not run: ..'.
 
 Status 0: all checks have ended, with any results. 130: interrupted. The results so far are printed.
 """

@@ -86,7 +86,7 @@ function testItem(id, label, uri) {
   return Object.assign(item, { children: new Items(item) });
 }
 
-/** Returns the files below a folder that match a pattern: `**` and a name or `*.ending`. */
+/** Returns the files below a folder that match a pattern of the form `**/NAME` or `**/*.EXTENSION`. */
 function filesIn(folder, pattern) {
   const [, name] = /^\*\*\/(.*)$/.exec(pattern);
   const matches = (each) => (name.startsWith("*") ? each.endsWith(name.slice(1)) : each === name);
@@ -108,8 +108,8 @@ const PLAIN = ["Location", "Diagnostic", "Hover", "CompletionItem", "SnippetStri
   "CallHierarchyItem", "CallHierarchyIncomingCall", "CallHierarchyOutgoingCall", "TestMessage", "ProcessExecution", "Task", "MarkdownString"];
 
 /**
- * @param {string} folder of the workspace
- * @param {Record<string, string>} settings of the user, by their names below `mcs4`
+ * @param {string} folder the folder of the workspace
+ * @param {Record<string, string>} settings the user's settings, by their names without the prefix `mcs4.`
  */
 export function standIn(folder, settings = {}) {
   const registered = {};

@@ -1,13 +1,13 @@
-# Checks the verdicts of mcs4 prove, and that its counterexamples fail as tests of mcs4 test. Also checks wrong provers and Ctrl-C.
-# shellcheck shell=sh disable=SC2034
+# Checks the verdicts of mcs4 prove, and that its counterexamples fail as tests of mcs4 test. Also checks provers that fail, and Ctrl-C. shellcheck
+# shell=sh disable=SC2034
 
 export MCS4_PROVE="${MCS4_PROVE:-$(. tools/lib/start.sh && find_prover && echo "$program")}"
 if [ -z "$MCS4_PROVE" ]; then
     unset MCS4_PROVE
     echo "not run: mcs4 prove, in checks/testing (its program: tools/build mcs4_prove)"
 else
-    # Prints the remark about each property that the text states, and the exit status. Omits the properties that every program gets, which begin with
-    # "no".
+    # Prints the remark about each property in the text, and the exit status. Omits the properties that are added for every program, whose names begin
+    # with "no".
     remarks() {
         sed -n '/ok [0-9]* - no /d; s/^\(not \)\{0,1\}ok .*# //p; /^status/p' "$@"
     }
@@ -50,7 +50,7 @@ status 0" "all properties are proved"
     verdict "$(outcome ./mcs4 prove examples/die.txt examples/die.txt "$folder/faces.props" --most 12 | remarks)" \
         "TODO not decided: more than 12 states; --most allows more
 status 3" "a limit on the states that is one too small"
-    # Puts a wrong pattern into the die's program. The printed test must fail on this program, and pass on the right one.
+    # Puts a wrong pattern into the die's program. The printed test must fail on this program, and pass on the original one.
     sed 's/DB 8, 1, 9, 3, 11, 7/DB 8, 1, 9, 2, 11, 7/' examples/die.txt > "$folder/wrong.txt"
     verdict "$(cmp -s examples/die.txt "$folder/wrong.txt" && echo the same)" "" "a program with a wrong pattern"
     verdict "$(outcome ./mcs4 prove "$folder/wrong.txt" "$folder/wrong.txt" "$folder/faces.props" > "$folder/out"; remarks "$folder/out")" \
@@ -62,7 +62,7 @@ $(outcome ./mcs4 test examples/die.txt examples/die.txt "$folder/found.test" | s
 status 1
 ok 1
 status 0" "the test of a wrong pattern"
-    # Checks a property that only inputs that the text excludes can break.
+    # Checks a property that only forbidden inputs can break: the text of the properties excludes these inputs.
     printf 'press THROW\nheld at most 1\nnever lamps ***.***\n' > "$folder/held.props"
     verdict "$(outcome ./mcs4 prove examples/die.txt examples/die.txt "$folder/held.props" | remarks)" \
         "TODO not decided: so far, only inputs that the text excludes break it (1 step)
@@ -139,7 +139,7 @@ status 1" "a program with mistakes"
     verdict "$(outcome env MCS4_PROVE="$folder/prover" ./mcs4 prove examples/die.txt examples/die.txt "$folder/faces.props" | remarks)" \
         "TODO not decided: the bench does not confirm the counterexample that was found
 status 3" "an invalid counterexample"
-    # Checks that mcs4 prove asks again with the limits of the text. The prover here decides only questions with these limits.
+    # Checks that mcs4 prove asks again with the limits on the inputs that the text states. The prover here decides only questions with these limits.
     printf '#!/bin/sh\nif [ "$(grep -c -x -e only -e "press 0 0" -e test -e "together 1")" = 3 ]; then echo holds 7; else echo gave up; fi\n' \
         > "$folder/prover"
     chmod +x "$folder/prover"

@@ -22,7 +22,7 @@ label             at          own  own %     calls with calls    longest
 x                 002           7   77.8
 y                 000           2   22.2
 status 0" "the cycles of a test that ends within an instruction"
-# A call after which the return addresses are the same as before counts, too. The oldest of the three open calls began in cycle 6.
+# A call counts even if it leaves the return addresses unchanged. The oldest of the three open calls began in cycle 6.
 printf 'here: JMS here\n' > "$folder/odd.asm"
 verdict "$(outcome ./mcs4 profile $three/board.toml "$folder/odd.asm" "$folder/odd.test" | sed -n '4p; $p')" "here              000           9  100.0         5          3          3
 status 0" "calls that change no return address"

@@ -1,5 +1,5 @@
-# Checks that tools report a lack of space for temporary files, wrong files, and sessions in use. Also checks that a signal ends a tool, and leaves no
-# files or processes.
+# Checks that tools report a lack of space for temporary files, invalid files, and sessions in use. Also checks that a signal ends a tool, and leaves
+# no files or processes.
 # shellcheck shell=sh
 
 new_session session < $calculator/quotient.txt
@@ -21,7 +21,7 @@ else
     echo "not run: a full folder for temporary files (a file system cannot be mounted here)"
 fi
 
-# Runs a command with wrong files: an empty file, a folder, a missing file, a file of 100 MB, a link to itself, and a name that is too long.
+# Runs a command with invalid files: an empty file, a folder, a missing file, a file of 100 MB, a link to itself, and a name that is too long.
 # Arguments: the maximum size of a file in bytes, and the command, to which the file and `last_word` are appended.
 : > "$folder/empty"
 ln -s loop "$folder/loop"
