@@ -111,9 +111,9 @@ def instruction_text(board: Board, address: int) -> str:
     if byte not in CODES:
         return f"{address:03X} {byte:02X}    DB 0x{byte:02X}"
     name, low = CODES[byte]
-    on_page = f"0x{(address + 2) % ADDRESS_COUNT & 0xF00 | second_byte:03X}"
-    far = f" 0x{256 * low + second_byte:03X}"
-    operands = {"JCN": f" {low}, {on_page}", "FIM": f" P{low}, 0x{second_byte:02X}", "ISZ": f" R{low}, {on_page}", "JUN": far, "JMS": far,
+    page_target = f"0x{(address + 2) % ADDRESS_COUNT & 0xF00 | second_byte:03X}"
+    far_target = f" 0x{256 * low + second_byte:03X}"
+    operands = {"JCN": f" {low}, {page_target}", "FIM": f" P{low}, 0x{second_byte:02X}", "ISZ": f" R{low}, {page_target}", "JUN": far_target, "JMS": far_target,
                 "LDM": f" {low}", "BBL": f" {low}", **{name: f" P{low}" for name in CODES_ON_PAIR},
                 **{name: f" R{low}" for name in CODES_ON_REGISTER}}
     return f"{address:03X} {byte:02X} {f'{second_byte:02X}' if name in TWO_WORDS else '  '} {name}{operands.get(name, '')}"
@@ -220,9 +220,9 @@ def set_key(board: Board, row: str, column: str, is_down: bool) -> str:
     return ""
 
 
-def set_membership(items: set, item: object, is_there: bool) -> str:
+def set_membership(items: set, item: object, is_member: bool) -> str:
     """Adds or removes an item of a set (a breakpoint or a watch)."""
-    (items.add if is_there else items.discard)(item)
+    (items.add if is_member else items.discard)(item)
     return ""
 
 

@@ -8,7 +8,7 @@ import subprocess
 TOP = pathlib.Path(__file__).resolve().parent.parent.parent
 # Third-party files, generated files, and boards, whose comments describe a front panel or a drawing.
 EXEMPT_FILES = re.compile(r"page/(?:codemirror|from_npm)/|page/fethsaim\.html|shipped/|examples/\w+/board\.toml")
-C_LIKE = {".js", ".mjs", ".cjs", ".ts", ".css", ".c", ".rt"}
+C_STYLE_SUFFIXES = {".js", ".mjs", ".cjs", ".ts", ".css", ".c", ".rt"}
 HASH_SUFFIXES = {".py", ".sh", ".toml", ".vim"}
 # Matches a comment. Also matches a complete string, template or regular expression, because nothing inside them is a comment.
 C_TOKEN = re.compile(r"""
@@ -32,7 +32,7 @@ def c_comments(text):
             yield text.count("\n", 0, match.start()) + 1, match[0]
 
 
-def without_signs(comment):
+def without_comment_marks(comment):
     """Returns the words of a comment, without the comment marks at its beginning, at its end, and at the beginnings of its lines."""
     comment = re.sub(r"^/\*+!?|\*+/$", "", comment.strip())
     words = "\n".join(re.sub(r"^\s*(?://[/!]?|\*(?!\*)|--|#+!?|;+)\s?", "", line) for line in comment.split("\n"))
@@ -62,11 +62,11 @@ def without_types(text):
     return "\n".join(lines)
 
 
-def line_comments(text, sign):
+def line_comments(text, mark):
     """Yields the blocks of successive lines that begin with a comment mark, each with the number of its first line."""
     block, first = [], 1
     for number, line in enumerate([*text.split("\n"), ""], 1):
-        if line.lstrip().startswith(sign) and not line.startswith("#!"):
+        if line.lstrip().startswith(mark) and not line.startswith("#!"):
             first = first if block else number
             block.append(line)
         elif block:
@@ -82,7 +82,7 @@ def python_comments(text):
             yield node.body[0].lineno, words
 
 
-def joined(comments):
+def join_line_comments(comments):
     """Yields comments with the numbers of their first lines. Joins `//` comments in successive lines."""
     block, first, last = [], 1, 0
     for number, comment in comments:
@@ -99,8 +99,8 @@ def joined(comments):
 def comments_of(path):
     """Yields the words of each comment of a file, with the number of its first line."""
     text = path.read_text(errors="replace")
-    if path.suffix in C_LIKE:
-        found = joined(c_comments(text))
+    if path.suffix in C_STYLE_SUFFIXES:
+        found = join_line_comments(c_comments(text))
     elif path.suffix == ".antt":
         found = line_comments(text, "--")
     elif path.suffix == ".py" or text.startswith("#!/usr/bin/env python3"):
@@ -108,14 +108,14 @@ def comments_of(path):
     else:
         found = line_comments(text, "#")
     for number, comment in found:
-        yield number, without_types(without_signs(comment))
+        yield number, without_types(without_comment_marks(comment))
 
 
 def is_commented(path):
     """Returns true if the comments of a file are checked."""
     if EXEMPT_FILES.search(str(path.relative_to(TOP))) or not path.is_file() or path.is_symlink():
         return False
-    return path.suffix in C_LIKE | HASH_SUFFIXES | {".antt"} or (path.suffix == "" and path.read_bytes().startswith(b"#!"))
+    return path.suffix in C_STYLE_SUFFIXES | HASH_SUFFIXES | {".antt"} or (path.suffix == "" and path.read_bytes().startswith(b"#!"))
 
 
 def commented_files():

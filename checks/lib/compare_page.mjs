@@ -23,7 +23,7 @@ function random(limit) {
   return (seed >>> 8) % limit;
 }
 const pick = (list) => list[random(list.length)];
-const either = (makers) => pick(makers)();
+const callOneOf = (makers) => pick(makers)();
 
 const examples = join(dirname(fileURLToPath(import.meta.url)), "../../examples");
 const calculator = readFileSync(join(examples, "calculator/board.toml"), "utf8");
@@ -50,7 +50,7 @@ function randomProgram() {
   const size = 1 + random(40);
   for (let n = 0; n < size; n++) {
     if (random(9) === 0) lines.push(`l${n}:`);
-    lines.push(either([() => pick(NAMES), () => pick(NAMES), () => `FIM P${random(8)}, ${random(256)}`, () => `SRC P${random(8)}`,
+    lines.push(callOneOf([() => pick(NAMES), () => pick(NAMES), () => `FIM P${random(8)}, ${random(256)}`, () => `SRC P${random(8)}`,
       () => `LDM ${random(16)}`, () => `${pick(["ADD", "SUB", "LD", "XCH", "INC"])} R${random(16)}`, () => `ISZ R${random(16)}, ${random(200)}`,
       () => `JUN ${random(300)}`, () => `JMS ${random(300)}`, () => `BBL ${random(16)}`, () => `JCN ${random(16)}, ${random(200)}`,
       () => `DB ${random(256)}, ${random(300)}`, () => `FIN P${random(8)}`, () => `JIN P${random(8)}`, () => `ORG ${random(600)}`,
@@ -60,14 +60,14 @@ function randomProgram() {
 }
 
 function randomLine() {
-  return either([() => `run ${1 + random(3000)}`, () => `run ${1 + random(100)}`, () => `run ${pick([0, 100000, 100001])}`, () => "step",
-    () => `poke ${either(PLACES)} ${random(random(4) ? 16 : 300)}`,
+  return callOneOf([() => `run ${1 + random(3000)}`, () => `run ${1 + random(100)}`, () => `run ${pick([0, 100000, 100001])}`, () => "step",
+    () => `poke ${callOneOf(PLACES)} ${random(random(4) ? 16 : 300)}`,
     () => `press ${random(10)} ${random(5)}`, () => `release ${random(10)} ${random(5)}`,
     () => `test ${random(3)}`, () => "reset", () => `break ${random(400)}`, () => `unbreak ${random(400)}`,
     () => `watch ${random(9)} ${random(3) ? random(64) : random(260)}`, () => `unwatch ${random(8)} ${random(64)}`,
     () => pick(["lamps", "regs", "breaks", "watches", "board", "seq", "state"]), () => pick(["state", "watches", "regs"]),
     () => `count ${1 + random(2000)}`,
-    () => `trace ${1 + random(300)} ${Array.from({ length: random(5) }, () => either(PROBES)).join(" ")}`,
+    () => `trace ${1 + random(300)} ${Array.from({ length: random(5) }, () => callOneOf(PROBES)).join(" ")}`,
     () => `ram ${random(9)}`, () => `list ${random(4200)} ${random(260)}`, () => `wire\n${pick(BOARDS)}.`, () => randomProgram().trimEnd(),
     () => `foo ${random(9)}`, () => "", () => "\tregs \r", () => "wire now", () => "x".repeat(250 + random(10)), () => "caf\u00e9"]);
 }
@@ -183,8 +183,8 @@ const answersTo = (engine, file, lines) => engine.ask(file, lines).answers;
 function compareSource(name, engine, file) {
   const board = answersTo(engine, file, "board\n").slice(1).map((line) => `${line}\n`).join("");
   const source = disassembleRom(engine, file);
-  const again = answersTo(engine, file, `wire\n.\nwire\n${board}.\nasm\n${source}.\n${ALL_ROM}`).slice(3);
-  verdict(`${name}: the source text from ROM gives other bytes`, again.join() === answersTo(engine, file, ALL_ROM).join());
+  const regeneratedAnswers = answersTo(engine, file, `wire\n.\nwire\n${board}.\nasm\n${source}.\n${ALL_ROM}`).slice(3);
+  verdict(`${name}: the source text from ROM gives other bytes`, regeneratedAnswers.join() === answersTo(engine, file, ALL_ROM).join());
 }
 
 // Reads a file's active slot, as docs/FORMAT.md defines it. Returns the number of commands and the version in its snapshot, and whether records
@@ -233,7 +233,7 @@ function compareFiles(name, engine, file) {
     checkSettled(`${name}: settle of version 1`, settle(engine, Uint8Array.from(old)), seqOf(engine, old));
   }
   const damaged = Uint8Array.from(file);
-  const randomOffset = () => either([() => random(24), () => 16 + random(8000), () => 16400 + random(2000)]);
+  const randomOffset = () => callOneOf([() => random(24), () => 16 + random(8000), () => 16400 + random(2000)]);
   for (let changes = 1 + random(3); changes > 0; changes--) damaged[randomOffset()] ^= 1 << random(8);
   compare(`${name}, damaged`, engine, damaged, QUERIES);
 }
@@ -244,7 +244,7 @@ function measureSeconds(act) {
   return Number(process.hrtime.bigint() - start) / 1e9;
 }
 
-const fastest = (act) => Math.min(...[1, 2, 3].map(() => measureSeconds(act)));
+const shortestTime = (act) => Math.min(...[1, 2, 3].map(() => measureSeconds(act)));
 
 // Returns the cycles per second of the page's module and of the program, with the calculator.
 function measureSpeeds(engine) {
@@ -252,8 +252,8 @@ function measureSpeeds(engine) {
   const runs = "run 100000\n".repeat(300);
   const file = engine.begin();
   engine.serve(file, board, file);
-  const page = 3e7 / fastest(() => engine.ask(file, runs));
-  const native = 3e7 / fastest(() => programResult(file, runs));
+  const page = 3e7 / shortestTime(() => engine.ask(file, runs));
+  const native = 3e7 / shortestTime(() => programResult(file, runs));
   return { page, native };
 }
 

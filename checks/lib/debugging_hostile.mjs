@@ -90,8 +90,8 @@ function mostlyValidArguments(command) {
     column: random(20), text: oneOf(TEXTS), targetId: random(4200), filters: ["calls"], filterOptions: [{ filterId: "chip", condition: oneOf(TEXTS) }],
     breakpoints: [{ line: random(120), name: oneOf(TEXTS), dataId: oneOf(["r4", "acc", oneOf(TEXTS)]), instructionReference: oneOf(["0x02C", "show"]),
       condition: oneOf(["", "r4 = 7", oneOf(TEXTS)]), hitCondition: oneOf(["", "3", oneOf(TEXTS)]) }], key: oneOf(["5", "#", "no"]), place: oneOf(["1 1", "9 9", "x"]) };
-  const all = Object.entries(valid).map(([name, validValue]) => [name, random(9) === 0 ? randomValue(0) : validValue]);
-  return command === "cancel" ? { requestId: random(2000) } : Object.fromEntries(all);
+  const allArguments = Object.entries(valid).map(([name, validValue]) => [name, random(9) === 0 ? randomValue(0) : validValue]);
+  return command === "cancel" ? { requestId: random(2000) } : Object.fromEntries(allArguments);
 }
 
 /** Returns arguments of any kind for a request. */
@@ -119,8 +119,8 @@ async function sendAll(client, count) {
       await client.next((message) => message.type === "response" && message.request_seq === seq);
       answered.set(seq, 1);
     }
-    const extra = client.received.filter(({ type, request_seq: seq }) => type === "response" && answered.has(seq));
-    for (const { request_seq: seq } of extra) answered.set(seq, answered.get(seq) + 1);
+    const extraResponses = client.received.filter(({ type, request_seq: seq }) => type === "response" && answered.has(seq));
+    for (const { request_seq: seq } of extraResponses) answered.set(seq, answered.get(seq) + 1);
     client.received = [];
   }
   return [...answered].filter(([, times]) => times !== 1);

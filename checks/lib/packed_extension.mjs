@@ -83,11 +83,11 @@ async function tryTests(editor) {
   const lock = itemsOf("lock/lock.test");
   const all = await runTests(editor, "Run", [lock]);
   verdict([all.isEnded, all.results.length, all.results.every(([kind]) => kind === "passed")], [true, lock.children.size, true], "tests of a project run");
-  const lone = [];
-  itemsOf("lone/three_lamps.test").children.forEach((item) => lone.push(item));
-  const [, failingTest] = lone;
+  const testItems = [];
+  itemsOf("lone/three_lamps.test").children.forEach((item) => testItems.push(item));
+  const [, failingTest] = testItems;
   verdict([failingTest.label, failingTest.range.start.line], ["it fails", 3], "the line of a test");
-  const { results } = await runTests(editor, "Run", lone);
+  const { results } = await runTests(editor, "Run", testItems);
   const [[, ], [kind, , message]] = results;
   const { given: [uri, at] } = message.location;
   verdict([results[0], kind, uri.fsPath, at.line], [["passed", "it begins"], "failed", join(folder, "lone", "three_lamps.test"), 5], "a failed test, and its location");
@@ -126,10 +126,10 @@ async function tryDebuggedTest(editor, configuration) {
   await client.event("stopped");
   const output = client.output();
   verdict(/three_lamps\.test:6: it fails: acc is \w+, but must be 9/.test(output), true, `a test is debugged: ${output.trim()}`);
-  const counter = async () => (await client.frames())[0].instructionPointerReference;
-  const before = await counter();
-  await client.move("stepBack");
-  verdict(before !== await counter(), true, "a step back from the failure");
+  const programCounter = async () => (await client.frames())[0].instructionPointerReference;
+  const before = await programCounter();
+  await client.runUntilStop("stepBack");
+  verdict(before !== await programCounter(), true, "a step back from the failure");
   await end();
 }
 

@@ -5,7 +5,7 @@ borders, marks and lamps in both colour schemes."""
 import re
 
 from page_in_browser import (ESCAPE, GET_TEXT_OF_EDITOR, IS_AT_COUNTER, PUT_INTO_EDITOR, TAB, choose_example, send_lines, reopen_page, show_text,
-                             step_with_marks, stop_time)
+                             step_with_marks, pause_running_time)
 from verdicts import eventually, verdict
 from web_driver import Chromium
 
@@ -30,12 +30,12 @@ def check(browser, page, _folder, _mcs4):
 def check_answers_announced(browser):
     """Checks that a screen reader announces the answer to a sent line, and an error with its message."""
     choose_example(browser, "three lamps")
-    stop_time(browser)
-    get_status = "return document.getElementById('answer-status').textContent"
+    pause_running_time(browser)
+    status_script = "return document.getElementById('answer-status').textContent"
     send_lines(browser, "poke acc 5")
-    eventually(browser, "the answer to a line is announced", get_status, re.compile(r"^ok \d+$"))
+    eventually(browser, "the answer to a line is announced", status_script, re.compile(r"^ok \d+$"))
     send_lines(browser, "poke acc 77")
-    eventually(browser, "the message about a rejected line is announced", get_status, re.compile(r"^no \d+.*: [a-z]"))
+    eventually(browser, "the message about a rejected line is announced", status_script, re.compile(r"^no \d+.*: [a-z]"))
 
 
 # Returns the id of the panel that has the focus. Outside the panels, returns the id of the focused element.
@@ -161,7 +161,7 @@ def check_board(browser):
 def check_other_views(browser):
     """Checks that the other tabs have names and enough contrast, and that an invalid field is announced as invalid."""
     choose_example(browser, "calculator")
-    stop_time(browser)
+    pause_running_time(browser)
     for name in ("board", "wiring"):
         show_text(browser, name)
         browser.script(EXPAND_ALL, "#wiring")

@@ -154,8 +154,8 @@ def check_stacker(browser):
     """Checks that the lamps of the game Stacker are a matrix of 8 rows, and that its button DROP works."""
     choose_example(browser, "stacker")
     eventually(browser, "the number of lamps of the matrix", "return document.querySelectorAll('.matrix .bulb').length", 64)
-    count_rows = "return new Set([...document.querySelectorAll('.matrix .bulb')].map((bulb) => Math.round(bulb.getBoundingClientRect().y))).size"
-    verdict("the number of rows of the matrix", browser.script(count_rows), 8)
+    row_count_script = "return new Set([...document.querySelectorAll('.matrix .bulb')].map((bulb) => Math.round(bulb.getBoundingClientRect().y))).size"
+    verdict("the number of rows of the matrix", browser.script(row_count_script), 8)
     eventually(browser, "three lamps are on at the beginning", "return document.querySelectorAll('.matrix .lit').length", 3)
     browser.touch_together([TEST_KEY], 80)
     eventually(browser, "DROP stops three lamps, and three more are on", "return document.querySelectorAll('.matrix .lit').length", 6)
@@ -223,8 +223,8 @@ def check_forced_colours(browser):
     browser.command("Emulation.setEmulatedMedia", features=[{"name": "forced-colors", "value": "active"}])
     verdict("in forced colours all lamps have one colour", len(set(browser.script(GET_RINGS))), 1)
     verdict("in forced colours only lamps that are on are filled", browser.script(ARE_ONLY_LIT_LAMPS_FILLED), True)
-    get_letters = "return [...document.querySelectorAll('#front .bulb')].map((bulb) => getComputedStyle(bulb, '::before').content).join(' ')"
-    verdict("in forced colours letters show the colours of the lamps", browser.script(get_letters), '"" "A" "" "G" "G"')
+    letters_script = "return [...document.querySelectorAll('#front .bulb')].map((bulb) => getComputedStyle(bulb, '::before').content).join(' ')"
+    verdict("in forced colours letters show the colours of the lamps", browser.script(letters_script), '"" "A" "" "G" "G"')
     browser.command("Emulation.setEmulatedMedia", features=[])
 
 

@@ -5,7 +5,7 @@ import pathlib
 import re
 import subprocess
 
-from page_in_browser import ENTER, GET_NOTICE, GET_STATUS, PUT_INTO_EDITOR, choose_example, send_lines, show_text, stop_time, until_ready
+from page_in_browser import ENTER, GET_NOTICE, GET_STATUS, PUT_INTO_EDITOR, choose_example, send_lines, show_text, pause_running_time, until_ready
 from verdicts import eventually, verdict
 
 TOP = pathlib.Path(__file__).resolve().parent.parent.parent
@@ -117,7 +117,7 @@ def go_to(browser, text):
 
 def check_marked_lines(browser, source):
     """Checks that after each of many steps, the page marks the source line that `mcs4 listing` shows at the program counter."""
-    stop_time(browser)
+    pause_running_time(browser)
     send_lines(browser, "reset")
     rows = []
     for chunk in range(STEP_COUNT // STEPS_PER_SCRIPT):

@@ -50,7 +50,7 @@ def prove_to_end(browser, description, states=1000000):
     eventually(browser, description, GET_BUTTON_LABEL, "Prove", MAX_SECONDS)
 
 
-def proved_by_tool(browser, folder, mcs4):
+def prove_with_tool(browser, folder, mcs4):
     """Runs `mcs4 prove` with the page's texts. Returns a text and a number of states for each proved property, and then for each kind of mistake."""
     names = [("board", "board.toml"), ("program", "program.asm"), ("properties", "some.props")]
     for name, file in names:
@@ -65,7 +65,7 @@ def check_example(browser, folder, mcs4):
     the page's first, short search may visit."""
     choose_example(browser, "stopwatch")
     properties = [line for line in text_of(browser, "properties").splitlines() if line.startswith(("never", "every"))]
-    results_of_tool = proved_by_tool(browser, folder, mcs4)
+    results_of_tool = prove_with_tool(browser, folder, mcs4)
     verdict("the properties that mcs4 prove proves", [text for text, _ in results_of_tool][: len(properties)], properties)
     verdict("the number of common mistakes that mcs4 prove reports", len(results_of_tool) - len(properties), MISTAKE_COUNT)
     start_proof(browser)
@@ -123,10 +123,10 @@ def check_counterexample(browser):
     verdict("the bench reports that the lamp is on", send_lines(browser, "lamps").endswith("lamps *."), True)
     browser.click("#back-instruction")
     eventually(browser, "going back turns the lamp off", COUNT_LAMPS_ON, 0)
-    get_cycle_count = "return document.getElementById('cycles').textContent.match(/[\\d,]+ cycle/)[0]"
-    eventually(browser, "going back leads to the cycle at which the session was opened", get_cycle_count, "3 cycle")
+    cycle_count_script = "return document.getElementById('cycles').textContent.match(/[\\d,]+ cycle/)[0]"
+    eventually(browser, "going back leads to the cycle at which the session was opened", cycle_count_script, "3 cycle")
     browser.click("#back-instruction")
-    eventually(browser, "going back can continue before that cycle", get_cycle_count, "2 cycle")
+    eventually(browser, "going back can continue before that cycle", cycle_count_script, "2 cycle")
 
 
 def check_all_verdicts(browser):

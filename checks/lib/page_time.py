@@ -6,7 +6,7 @@ import pathlib
 import re
 import subprocess
 
-from page_in_browser import GET_DIGITS, GET_RATE, GET_STATUS, SET_SPEED, STEPPED, choose_example, key, send_lines, stop_time, until_ready
+from page_in_browser import GET_DIGITS, GET_RATE, GET_STATUS, SET_SPEED, STEPPED, choose_example, key, send_lines, pause_running_time, until_ready
 from verdicts import eventually, verdict
 
 TOP = pathlib.Path(__file__).resolve().parent.parent.parent
@@ -84,7 +84,7 @@ def cycles_text(cycles):
 def pause_time(browser):
     """Pauses time if it is running."""
     if browser.script("return document.getElementById('run').textContent") == "Pause":
-        stop_time(browser)
+        pause_running_time(browser)
 
 
 def open_paused_example(browser, name):

@@ -35,7 +35,7 @@ REPLACEMENTS = {
     r"\w+n't|(?:it|that|let|here|there)'s|you're": "no contraction",
 }
 BETTER_WORDS = list(REPLACEMENTS.values())
-ANY_AVOIDED = re.compile("|".join(rf"\b(?P<word{n}>{words})\b" for n, words in enumerate(REPLACEMENTS)), re.I)
+AVOIDED_WORDS = re.compile("|".join(rf"\b(?P<word{n}>{words})\b" for n, words in enumerate(REPLACEMENTS)), re.I)
 # The beginnings of the sentences that are exempt, with the reasons.
 EXCEPTIONS = {
     "places are acc,": "a list of the places",
@@ -84,6 +84,6 @@ def errors_of(text):
         word_count = len(re.findall(r"\w[\w'/-]*", sentence))
         if word_count > MAX_WORDS:
             yield number, f"a sentence of {word_count} words, with a limit of {MAX_WORDS}: {sentence[:60]}.."
-        for match in ANY_AVOIDED.finditer(sentence):
+        for match in AVOIDED_WORDS.finditer(sentence):
             context = sentence[max(0, match.start() - 20):match.end() + 20]
             yield number, f"\"{match[0]}\" in \"{context}\": write {BETTER_WORDS[int(match.lastgroup.removeprefix('word'))]}"

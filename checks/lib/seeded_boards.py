@@ -161,8 +161,8 @@ class Program:
 
     def random_labels(self) -> dict[int, str]:
         """Returns labels for some of the addresses. Some of the labels look like numbers."""
-        labelled = self.rng.sample(self.begins, min(len(self.begins), self.rng.choice([0, 2, 12])))
-        return {address: NAMES[i] if i < len(NAMES) else f"l{address:03X}" for i, address in enumerate(labelled)}
+        labelled_addresses = self.rng.sample(self.begins, min(len(self.begins), self.rng.choice([0, 2, 12])))
+        return {address: NAMES[i] if i < len(NAMES) else f"l{address:03X}" for i, address in enumerate(labelled_addresses)}
 
     def target(self, address: int, name: str) -> str:
         """Returns the target of a jump as a name or a number, usually that of an instruction."""
@@ -171,11 +171,11 @@ class Program:
         page = (address + 2) % ADDRESS_COUNT >> 8 if name in ("JCN", "ISZ") else self.rng.choice(self.wiring.pages)
         candidates = [begin for begin in self.begins if begin >> 8 == page]
         # The targets up to 12 bytes before the jump, which make a short loop.
-        near = [begin for begin in candidates if address - 12 < begin <= address]
-        if name == "ISZ" and near and self.rng.random() < 0.7:
-            candidates = near
-        goal = self.rng.choice(candidates) if candidates and self.rng.random() < 0.95 else 256 * page + self.rng.randrange(256)
-        return self.names.get(goal, f"0x{goal:03X}")
+        near_targets = [begin for begin in candidates if address - 12 < begin <= address]
+        if name == "ISZ" and near_targets and self.rng.random() < 0.7:
+            candidates = near_targets
+        target_address = self.rng.choice(candidates) if candidates and self.rng.random() < 0.95 else 256 * page + self.rng.randrange(256)
+        return self.names.get(target_address, f"0x{target_address:03X}")
 
     def text(self) -> list[str]:
         """Returns the text of the program."""
@@ -193,7 +193,7 @@ class Program:
         return lines
 
 
-class Seeded:
+class SeededSession:
     """A random board and program, and random commands for a session with them."""
 
     def __init__(self, seed: int) -> None:
@@ -209,7 +209,7 @@ class Seeded:
 
     def address(self) -> int:
         """Returns an address, usually of an instruction, and often before a loop that clocks a chain, or at the end of a page."""
-        loops = [goal - 3 for goal in self.program.loops.values()]
+        loops = [target_address - 3 for target_address in self.program.loops.values()]
         if loops and self.rng.random() < 0.3:
             return self.rng.choice(loops)
         ends = [address for address in self.program.begins if address & 0xFC == 0xFC]
@@ -237,14 +237,14 @@ class Seeded:
 
     def stop_command(self, board: Board) -> str:
         """Returns a command that sets or removes a breakpoint or a watch, usually one that the program soon reaches, or at which it has stopped."""
-        ahead, visited, written = board.copy(), [board.pc], [self.ram_nibble()]
-        ahead.breaks = set()
+        board_ahead, visited, written = board.copy(), [board.pc], [self.ram_nibble()]
+        board_ahead.breaks = set()
 
         def note_address(_done: int, address: int) -> None:
             visited.append(address)
-            written.extend([(ahead.dcl, ahead.chips.bank_src[ahead.dcl])] if ahead.rom[address] == 0xE0 else [])
+            written.extend([(board_ahead.dcl, board_ahead.chips.bank_src[board_ahead.dcl])] if board_ahead.rom[address] == 0xE0 else [])
 
-        ahead.run(300, note_address)
+        board_ahead.run(300, note_address)
         address, (bank, src) = self.rng.choice([board.pc, self.address(), *visited[-20:]]), self.rng.choice(written)
         return self.rng.choice([f"break {address}"] * 2 + [f"unbreak {address}"] + [f"watch {bank} {src}"] * 2 + [f"unwatch {bank} {src}"])
 

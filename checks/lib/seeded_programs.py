@@ -29,8 +29,8 @@ def random_program(number):
     rng = random.Random(number)
     names = [f"n{i}" for i in range(8)]
     # The names that no line has defined so far. The remaining names are defined at the end, so that most programs are accepted.
-    undefined = list(names)
-    rng.shuffle(undefined)
+    undefined_names = list(names)
+    rng.shuffle(undefined_names)
 
     def value(maximum):
         return rng.choice([str(rng.randrange(maximum + 1)), f"0x{rng.randrange(maximum + 1):x}"])
@@ -46,13 +46,13 @@ def random_program(number):
             statement = rng.choice(["ORG 4096", "LDM 16", "DB 256", "DB", "NOP NOP", "ORG 4095", "JUN nowhere", "ORG 0", "n0 = 4096", "R1: NOP"])
         if rng.random() < 0.06:
             statement = f"ORG {rng.randrange(0, 4000)}"
-        if undefined and rng.random() < 0.15:
-            name = undefined.pop()
+        if undefined_names and rng.random() < 0.15:
+            name = undefined_names.pop()
             statement = f"{name}: {statement}" if rng.random() < 0.8 else f"{name} = {value(4095)}"
         return rng.choice(["", " ", "\t"]) + statement + rng.choice(["", "", " ; a comment", "\t;"])
 
     lines = [line() for _ in range(rng.randrange(1, 60))]
-    return lines + [f"{name}:" for name in undefined if rng.random() < 0.98]
+    return lines + [f"{name}:" for name in undefined_names if rng.random() < 0.98]
 
 
 # Lines with each kind of error. Some are always wrong, and others only in most programs.

@@ -108,7 +108,7 @@ class State:
     carry: int = 0
     registers: bytearray = dataclasses.field(default_factory=lambda: bytearray(16))
     counter: int = 0
-    returns: list = dataclasses.field(default_factory=lambda: [0, 0, 0])
+    return_addresses: list = dataclasses.field(default_factory=lambda: [0, 0, 0])
     bank: int = 0
     rom_source: int = 0
     bank_sources: bytearray = dataclasses.field(default_factory=lambda: bytearray(8))
@@ -125,7 +125,7 @@ class State:
         encoded = number(self.seq, 4) + (b"\x02" if version == 2 else b"") + self.board.bytes()
         encoded += self.rom + self.ram + self.status + self.ram_ports + self.rom_ports
         encoded += bytes([self.accumulator, self.carry]) + self.registers
-        encoded += b"".join(number(address, 2) for address in [self.counter, *self.returns])
+        encoded += b"".join(number(address, 2) for address in [self.counter, *self.return_addresses])
         encoded += bytes([self.bank, self.rom_source]) + self.bank_sources + bytes([self.owed])
         encoded += b"".join(self.chains) + self.keys + bytes([self.test])
         encoded += bytes([len(self.breakpoints)]) + b"".join(number(address, 2) for address in self.breakpoints)
@@ -136,7 +136,7 @@ class State:
     def regs_answer(self):
         """Returns the answer to `regs`."""
         return (f"acc {self.accumulator:X} cy {self.carry} pc {self.counter:03X} owed {self.owed} dcl {self.bank} test {self.test} "
-                f"r {''.join(f'{register:X}' for register in self.registers)} ret {' '.join(f'{address:03X}' for address in self.returns)}")
+                f"r {''.join(f'{register:X}' for register in self.registers)} ret {' '.join(f'{address:03X}' for address in self.return_addresses)}")
 
     def cycle(self):
         """Executes one cycle, with the few instructions that the checks use."""
@@ -188,7 +188,7 @@ class State:
     def reset(self):
         """Performs a power cycle. ROM, keys, TEST, breakpoints, watches and wiring stay."""
         new = State()
-        for part in ("ram", "status", "ram_ports", "rom_ports", "accumulator", "carry", "registers", "counter", "returns", "bank", "rom_source",
+        for part in ("ram", "status", "ram_ports", "rom_ports", "accumulator", "carry", "registers", "counter", "return_addresses", "bank", "rom_source",
                      "bank_sources", "owed"):
             setattr(self, part, getattr(new, part))
         self.chains = [bytearray(len(chain)) for chain in self.chains]

@@ -1,7 +1,7 @@
 """Session files of version 1 with their contents. The program of commit a1f6da2, the last one that wrote version 1, wrote these files."""
 
 from session_file import SIZE, State, poke_register, run, step
-from session_states import WORKED, zeros_except
+from session_states import WORKED_BOARD, zeros_except
 
 # A range of bytes that are not zero: an offset, bytes, and how many times these are repeated. All files have the ranges of NEW_BENCH, which are the
 # snapshot of a new bench.
@@ -25,7 +25,7 @@ def file_with(ranges, boards=()):
 
 def worked_state(program, chain=(), down=(), **parts):
     """Returns a state on the worked board with a program at address 0, ones in a chain, and pressed keys."""
-    return State(board=WORKED, rom=zeros_except(4_096, dict(enumerate(program))), chains=[zeros_except(10, dict.fromkeys(chain, 1))],
+    return State(board=WORKED_BOARD, rom=zeros_except(4_096, dict(enumerate(program))), chains=[zeros_except(10, dict.fromkeys(chain, 1))],
                  keys=zeros_except(80, {8 * row + column: 1 for row, column in down}), **parts)
 
 

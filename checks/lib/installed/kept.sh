@@ -81,15 +81,15 @@ rm "$library_folder/served.mcs"
 
 # Creates the folders that an interrupted run leaves, with the number of a process that has ended. The folder `old` exists if the run had
 # already exchanged lib/fethsaim.
-ended=$(sh -c 'echo $$')
-mkdir "$prefix/lib/.fethsaim.$ended" "$prefix/lib/.fethsaim.9$ended" "$prefix/lib/.fethsaim.${ended}9"
-mv "$library_folder" "$prefix/lib/.fethsaim.$ended/old"
-mkdir "$prefix/lib/.fethsaim.9$ended/lib"
-echo mine > "$prefix/lib/.fethsaim.${ended}9/mine"
+ended_process=$(sh -c 'echo $$')
+mkdir "$prefix/lib/.fethsaim.$ended_process" "$prefix/lib/.fethsaim.9$ended_process" "$prefix/lib/.fethsaim.${ended_process}9"
+mv "$library_folder" "$prefix/lib/.fethsaim.$ended_process/old"
+mkdir "$prefix/lib/.fethsaim.9$ended_process/lib"
+echo mine > "$prefix/lib/.fethsaim.${ended_process}9/mine"
 ./install --prefix "$prefix" > "$folder/output"
-verdict "$(ls -A "$prefix/lib" | tr '\n' ' ')" ".fethsaim.${ended}9 fethsaim " "the files of an interrupted run are removed, but no files of the user"
+verdict "$(ls -A "$prefix/lib" | tr '\n' ' ')" ".fethsaim.${ended_process}9 fethsaim " "the files of an interrupted run are removed, but no files of the user"
 verdict "$(print_user_files)" "$(cat "$folder/user_files")" "the user's files after an interrupted run"
-rm -rf "$prefix/lib/.fethsaim.${ended}9"
+rm -rf "$prefix/lib/.fethsaim.${ended_process}9"
 mkdir "$prefix/lib/.fethsaim.$$"
 check_unchanged "install: another ./install is running here, as process $$; wait until it ends, or remove $prefix/lib/.fethsaim.$$; nothing was changed" 1 ./install --prefix "$prefix"
 rmdir "$prefix/lib/.fethsaim.$$"

@@ -77,10 +77,10 @@ class Stage:
 class Runner:
     """A machine with two disks, on which trials run. Images are written to `disk`. The machine copies the session files that it finds to `out`."""
 
-    def __init__(self, machine: Machine, sessions: Sessions, keep: pathlib.Path, show_command: str, seed: int) -> None:
-        """Images with errors are stored in `keep`. `show_command` is the command line that examines a stored image again, without the name of the
-        image."""
-        self.machine, self.sessions, self.keep, self.show_command = machine, sessions, keep, show_command
+    def __init__(self, machine: Machine, sessions: Sessions, image_folder: pathlib.Path, show_command: str, seed: int) -> None:
+        """Images with errors are stored in `image_folder`. `show_command` is the command line that examines a stored image again, without the name of
+        the image."""
+        self.machine, self.sessions, self.image_folder, self.show_command = machine, sessions, image_folder, show_command
         self.disk, self.out = machine.disks["disk"], machine.disks["out"]
         self.rng = random.Random(seed)
         self.junk = random.Random(1).randbytes(MEGA)
@@ -156,7 +156,7 @@ class Runner:
         self.machine.run_successfully(STOP_AND_UNMOUNT)
         self.disk.undo_writes()
         snapshots = set() if case.name.startswith("carried") else self.sessions.snapshots
-        return History(events, stage.first, stage.is_durable, snapshots, kind.whole_blocks, self.rng)
+        return History(events, stage.first, stage.is_durable, snapshots, kind.atomic_blocks, self.rng)
 
     def serve(self, events: list[Event], stage: Stage) -> None:
         """Sends the commands of a session, one after another, and adds the events `sent` and `answered` to `events`."""
@@ -208,7 +208,7 @@ class Runner:
         if contents == "not mounted" and image.is_torn:
             return "not mounted, with a torn block"
         if image.min_commands is None:
-            is_good = contents in ALLOWED_BEFORE_NEW if case.arguments.startswith("new") and not kind.shows_stale else contents != "not mounted"
+            is_good = contents in ALLOWED_BEFORE_NEW if case.arguments.startswith("new") and not kind.shows_stale_data else contents != "not mounted"
             return f"before the first answer {contents}" if is_good else ""
         return "good" if isinstance(contents, int) and image.min_commands <= contents <= image.max_commands else ""
 
@@ -216,29 +216,29 @@ class Runner:
         """Prints the results for the images of a history, and stores some of the images with errors. Returns the number of images, the number of
         errors, and the first error."""
         notes: collections.Counter[str] = collections.Counter()
-        with_errors = []
+        images_with_errors = []
         for examined_image in examined:
             verdict = self.verdict(trial, examined_image)
             if verdict:
                 notes[verdict] += 1
             else:
-                with_errors.append(examined_image)
+                images_with_errors.append(examined_image)
         phases = collections.Counter(examined_image.image.phase for examined_image in examined)
         name = f"{trial.name}{f', opened again ({generation})' if generation else ''}"
         print(f"{name}: {history.count('sent')} commands, {history.count('write')} writes, {history.count('flush')} flushes; "
-              f"{len(examined)} images ({', '.join(f'{number} {phase}' for phase, number in phases.items())}), {len(with_errors)} errors; "
+              f"{len(examined)} images ({', '.join(f'{number} {phase}' for phase, number in phases.items())}), {len(images_with_errors)} errors; "
               f"{seconds:.1f} s", flush=True)
         del notes["good"]
         if notes:
             print("    " + "; ".join(f"{number} {note}" for note, number in sorted(notes.items())), flush=True)
-        messages = [self.error_message(examined_image, len(history.events)) for examined_image in with_errors[:MAX_REPORTED]]
-        for message, examined_image in zip(messages, with_errors):
+        messages = [self.error_message(examined_image, len(history.events)) for examined_image in images_with_errors[:MAX_REPORTED]]
+        for message, examined_image in zip(messages, images_with_errors):
             if not trial.wrong:
                 print(f"ERROR in {name}: {message}", flush=True)
                 if examined_image.contents == "not mounted":
                     print(f"    the machine's last lines:\n{self.machine.last_lines()}", flush=True)
                 self.store_image(trial, generation, builder, examined_image.image)
-        return Outcome(len(examined), len(with_errors), messages[0] if messages else "")
+        return Outcome(len(examined), len(images_with_errors), messages[0] if messages else "")
 
     @staticmethod
     def error_message(examined: ExaminedImage, event_count: int) -> str:
@@ -259,8 +259,8 @@ class Runner:
         if self.stored_count == MAX_STORED:
             return
         self.stored_count += 1
-        self.keep.mkdir(parents=True, exist_ok=True)
-        name = self.keep / f"{trial.kind}-{trial.case}-{generation}-{image.first}.image"
+        self.image_folder.mkdir(parents=True, exist_ok=True)
+        name = self.image_folder / f"{trial.kind}-{trial.case}-{generation}-{image.first}.image"
         builder.undo_all()
         builder.build(image)
         name.write_bytes(self.disk.bytes[:kind.size * MEGA])

@@ -11,7 +11,7 @@ else
     remarks() {
         sed -n '/ok [0-9]* - no /d; s/^\(not \)\{0,1\}ok .*# //p; /^status/p' "$@"
     }
-    of_every_program() {
+    remarks_for_every_program() {
         sed -n 's/^\(not \)\{0,1\}ok [0-9]* - \(no .*\)/\1\2/p'
     }
     # Proves the properties of the die: it shows only its six patterns, and changes them at least every 15 cycles.
@@ -115,7 +115,7 @@ fourth: RDR
 back:   BBL 0
 END
     echo "press WALK" > "$folder/none.props"
-    verdict "$(outcome ./mcs4 prove "$folder/wrong.toml" "$folder/wrong.asm" "$folder/none.props" > "$folder/out"; of_every_program < "$folder/out"; sed -n 's/^      expect //p; /^status/p' "$folder/out")" \
+    verdict "$(outcome ./mcs4 prove "$folder/wrong.toml" "$folder/wrong.asm" "$folder/none.props" > "$folder/out"; remarks_for_every_program < "$folder/out"; sed -n 's/^      expect //p; /^status/p' "$folder/out")" \
         "not no code outside the instruction table # broken, 2 steps
 not no fourth nested call # broken, 1 step
 not no BBL without a call # broken, 1 step
@@ -131,11 +131,11 @@ not @fourth
 not @here
 status 1" "a program with mistakes"
     # Checks provers that give an invalid counterexample, run out of memory, reject the question, are missing, or do not end.
-    prover_that() {
+    make_prover() {
         printf '#!/bin/sh\ncat > /dev/null\n%s\n' "$1" > "$folder/prover"
         chmod +x "$folder/prover"
     }
-    prover_that 'echo may fail 0 0'
+    make_prover 'echo may fail 0 0'
     verdict "$(outcome env MCS4_PROVE="$folder/prover" ./mcs4 prove examples/die.txt examples/die.txt "$folder/faces.props" | remarks)" \
         "TODO not decided: the bench does not confirm the counterexample that was found
 status 3" "an invalid counterexample"
@@ -148,16 +148,16 @@ status 3" "an invalid counterexample"
         'proved for the inputs of "press" (7 states)
 never reached, for the inputs of "press" (7 states)
 status 1' "the inputs that a text allows"
-    prover_that 'echo no 90; exit 3'
+    make_prover 'echo no 90; exit 3'
     verdict "$(outcome env MCS4_PROVE="$folder/prover" ./mcs4 prove examples/die.txt examples/die.txt "$folder/faces.props" | remarks)" \
         "TODO not decided: memory is full
 status 3" "no memory"
-    prover_that 'echo no 25; exit 3'
+    make_prover 'echo no 25; exit 3'
     check_rejected 1 "prove: the prover ended without an answer: no 25" \
         env MCS4_PROVE="$folder/prover" ./mcs4 prove examples/die.txt examples/die.txt "$folder/faces.props"
     check_rejected 1 "prove: MCS4_PROVE names $folder/none, which is not there; unset it, or name another program" \
         env MCS4_PROVE="$folder/none" ./mcs4 prove examples/die.txt examples/die.txt "$folder/faces.props"
-    prover_that "exec sleep 61.$$"
+    make_prover "exec sleep 61.$$"
     MCS4_PROVE="$folder/prover" timeout -s INT 30 node js/node/mcs4.cjs prove examples/die.txt examples/die.txt "$folder/faces.props" &
     prove_process=$!
     while ! pgrep -f "^sleep 61.$$\$" > /dev/null && kill -0 "$prove_process" 2> /dev/null; do sleep 0.1; done
