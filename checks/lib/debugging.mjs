@@ -64,7 +64,7 @@ async function machineState(client) {
   return { acc: digits("acc"), cy: values.cy, pc: digits("pc"), dcl: digits("dcl"), test: values.test, r };
 }
 
-/** Returns those values of an answer to `state` that `machineState` also returns. */
+/** Returns only the values in an answer to `state` that `machineState` returns, too. */
 const comparableState = ({ acc, cy, pc, dcl, test, r }) => ({ acc, cy, pc, dcl, test, r });
 
 /** Compares steps of the adapter in an example, forward and back, with the steps of the native program. */
@@ -119,8 +119,8 @@ async function tryBreakpoints(name) {
 
 /**
  * Goes back from each arrival at a label to the previous one, and compares these stops with those of the native program, which runs
- * forward. Does the same with a condition on a register, given by its number. Then only the arrivals at which the condition is true must be
- * stops.
+ * forward. Does the same with a condition on a register, given by its number. With the condition, the adapter must stop only at the arrivals at which
+ * it is true.
  */
 async function tryArrivals(name, label, register) {
   const { file, names } = createSession(name);

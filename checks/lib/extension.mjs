@@ -163,7 +163,8 @@ verdict(data.length % 5 === 0 && data.length > 0, true, "semantic colours");
 await tryFeatures();
 verdict(factories.mcs4.createDebugAdapterDescriptor().given, [`${TOP}mcs4`, ["dap"], { env: {} }], "the debug adapter");
 verdict(factories.provider.resolveDebugConfiguration(undefined, {}).program, "/tmp/a.asm", "F5 debugs the program in the editor");
-// The extension assigns its language to an .asm file only if board.toml is in the file's folder, or mcs4.toml is there or above, and only once.
+// The extension assigns its language to an .asm file only once. It does so only if board.toml is in the file's folder, or mcs4.toml is in that folder
+// or above it.
 const folder = mkdtempSync(join(tmpdir(), "extension."));
 for (const name of ["board", "project/deep/er", "other"]) mkdirSync(join(folder, name), { recursive: true });
 for (const name of ["board/board.toml", "project/mcs4.toml"]) writeFileSync(join(folder, name), "");

@@ -180,7 +180,8 @@ def check_other_views(browser):
 
 
 def check_tests(browser):
-    """Checks that the results of tests and of a search, and the counts beside the source, have names and enough contrast. One test fails."""
+    """Checks that the results of tests and of a search, and the counts beside the source, have names and enough contrast. One of the tests is made to
+    fail."""
     show_text(browser, "tests")
     browser.script(PUT_INTO_EDITOR, "#tests-editor", "test it is dark\n  expect display 0\n  keys 5\n  expect display 6\n")
     browser.click("#tests-editor .send")

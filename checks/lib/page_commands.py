@@ -11,7 +11,7 @@ from web_driver import Chromium
 
 CONTROL, SHIFT, UP = "\ue009", "\ue008", "\ue013"
 F1, F5, F8, F9, F10, F11 = "\ue031", "\ue035", "\ue038", "\ue039", "\ue03a", "\ue03b"
-# The messages after stepping over and out. F5 can pause time inside a subroutine or before a call, so each has two forms.
+# The messages after stepping over and out. F5 can pause time inside a subroutine or before a call, so each message has two forms.
 STEPPED_OVER = re.compile(f"{STEPPED.pattern}|^Returned to [0-9A-F]{{3}}, after ")
 STEPPED_OUT = re.compile("^Returned to |no call is open here")
 IS_PALETTE_OPEN = "const palette = document.getElementById('palette'); return palette !== null && palette.open"
@@ -24,8 +24,8 @@ return option && option.getAttribute('aria-selected') === 'true' ? [...option.pa
 GET_FOCUSED_ID = "return document.activeElement.id"
 GET_TOOLTIP = "const tip = document.getElementById('tooltip'); return tip.hidden ? '' : tip.textContent"
 GET_FRONT_TAB = "return document.querySelector('#text-tabs [aria-selected=true]').id"
-# The buttons that need no command, with the reason. They open a menu, belong to an open dialog or to the field next to them, or do the same as a
-# command.
+# The buttons that need no command, each with the reason. They open a menu, belong to an open dialog or to the field next to them, or do the same as
+# another command.
 BUTTONS_WITHOUT_COMMAND = {
     "menu-button": "opens the menu of files", "view-button": "opens the menu of panels", "cancel": "of work that goes on",
     "tour-close": "of the tour", "tour-back": "of the tour", "tour-put": "of the tour", "tour-next": "of the tour", "first-program": "as help.tour",

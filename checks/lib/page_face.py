@@ -117,7 +117,8 @@ def check_test_button(browser):
 
 
 def check_stopwatch(browser):
-    """Checks that the stopwatch's TEST is a switch, and that its display counts, has the right segments, and is announced only after it stopped."""
+    """Checks that the stopwatch's TEST is a switch, and that its display counts, has the correct segments, and is announced only after it has
+    stopped."""
     choose_example(browser, "stopwatch")
     eventually(browser, "the title of the stopwatch's front panel", GET_TITLE, "Stopwatch")
     verdict("the switch has its name and is off", [browser.text(f"{TEST_KEY} b"), browser.script(IS_TEST_PRESSED)], ["RUN", "false"])
@@ -217,7 +218,7 @@ def check_panel_errors(browser):
 
 
 def check_forced_colours(browser):
-    """Checks that in forced colours, lamps have one colour and show their own colours as letters, and that only those that are on are filled."""
+    """Checks that in forced colours, lamps have one colour and show their own colours as letters, and that only lamps that are on are filled."""
     choose_example(browser, "traffic light")
     eventually(browser, "the traffic light is green", GET_NAMES, re.compile("green, lit"))
     browser.command("Emulation.setEmulatedMedia", features=[{"name": "forced-colors", "value": "active"}])

@@ -135,7 +135,8 @@ def step_with_marks(browser):
 
 
 def check_calculator(browser):
-    """Checks that the calculator computes what is typed with the pointer and on the keyboard, even very fast, and that a reload keeps the display."""
+    """Checks that the calculator computes what is typed with the pointer and on the keyboard, even if it is typed very fast, and that a reload keeps
+    the display."""
     choose_example(browser, "calculator")
     for legend in "12+30=":
         browser.touch_together([key(legend)], 60)

@@ -301,7 +301,7 @@ for (const each of places) {
 
 
 def check_accessible_names(browser):
-    """Checks that the RAM cells and the browser tab have the right names, and that a running program causes only a few announcements."""
+    """Checks that the RAM cells and the browser tab have the correct names, and that a running program causes only a few announcements."""
     verdict("the number of RAM cells with a wrong name", browser.script(GET_WRONGLY_NAMED_CELLS), 0)
     verdict("the title of the browser tab", browser.script("return document.title"), re.compile("^three lamps"))
     choose_example(browser, "stopwatch")

@@ -349,7 +349,8 @@ def answers_in_copy(mcs4, session, lines):
 
 
 def check_opened_and_exported_files(browser, folder, mcs4):
-    """Checks that files of boards and programs can be opened, and that exported texts and ROM images are those of the files and of `mcs4 rom`."""
+    """Checks that files of boards and programs can be opened, and that exported texts and ROM images equal the opened files and the output of `mcs4
+    rom`."""
     example = TOP / "examples/three_lamps"
     for name in ("board.toml", "three_lamps.asm"):
         browser.type_into("#file", str(example / name))

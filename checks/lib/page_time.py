@@ -157,7 +157,7 @@ editor.getInputField().dispatchEvent(new KeyboardEvent("keydown", { key: "F10", 
 
 
 def check_many_steps(browser, program):
-    """Checks that a step of several instructions takes the number of cycles that the trace shows, and that a wrong number of instructions is
+    """Checks that a step of several instructions takes the number of cycles that the trace shows, and that an invalid number of instructions is
     rejected."""
     file, _ = program.session("many", texts_of("three_lamps"))
     lines = [line for line in program.tool("trace", file, 400).splitlines() if re.match(r" *\d+  [0-9A-F]{3} ", line)]

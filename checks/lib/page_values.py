@@ -117,7 +117,7 @@ def check_line_values(browser):
 
 
 def check_watched(browser):
-    """Checks that watched names, expressions and conditions show their values, which change with the machine, and that a wrong expression is
+    """Checks that watched names, expressions and conditions show their values, which change with the machine, and that an invalid expression is
     reported."""
     browser.type_into("#watched-field", "count = R16" + ENTER)
     eventually(browser, "a wrong watch expression is reported", "return document.querySelector('#watched-status').textContent",
@@ -139,7 +139,7 @@ MOVE_FOCUS = "document.activeElement.blur(); document.querySelector(arguments[0]
 
 
 def check_last_change(browser):
-    """Checks that a cell's tooltip reports its last change and what made it, and that going back to the change leads there."""
+    """Checks that a cell's tooltip reports the cell's last change and its cause, and that the user can go back to this change."""
     if browser.script("return document.getElementById('run').textContent") == "Pause":
         pause_running_time(browser)
     send_lines(browser, "run 100\npoke ram.0.0x13 5\nrun 7")

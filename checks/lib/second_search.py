@@ -21,7 +21,7 @@ from board4004 import ADDRESS_COUNT, CODES, TWO_WORDS, Board
 
 # A comparison, in the words of a question: `in` or `out`, the list, the index, the part, the minimum and the maximum.
 Comparison = tuple[str, str, int, str, int, int]
-# The condition that the next cycle makes one of these mistakes: `mistake`, then their names.
+# The condition that the next cycle makes one of these mistakes: the word `mistake`, and the names of the mistakes.
 Mistakes = tuple[str, ...]
 # A row of conditions, which is met when all its conditions are met.
 Row = list[Comparison | Mistakes]

@@ -349,7 +349,8 @@ def random_limited_question(rng: random.Random, max_states: int) -> Question:
 
 
 def limited_question(seed: int, max_states: int) -> Question:
-    """Returns a random question with limits of the inputs. If a few attempts find one, the limits change the result of a short search."""
+    """Returns a random question with limits of the inputs. Makes a few attempts to find one for which the limits change the result of a short
+    search."""
     rng = random.Random(f"limits {seed}")
     for _attempt in range(MAX_ATTEMPTS):
         question = random_limited_question(rng, max_states)

@@ -40,7 +40,7 @@ def state_with_rom_0(port):
     return State(board=Board({0: port}))
 
 
-# States that both versions can store. Each has a name, queries to a session in this state, and the answers to them.
+# States that both versions can store. Each has a name, the state, queries to a session in this state, and the answers to the queries.
 STATES = [
     ("a new state", State(), "", ""),
     ("a count of commands of four bytes", State(seq=0xFF00_0000), "seq\n", "seq 4278190080\n"),

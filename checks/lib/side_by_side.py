@@ -56,9 +56,9 @@ PACKAGES = {
 
 @dataclass(frozen=True)
 class Check:
-    """A script in checks/, with the commands and files that it needs, and those that only some parts of it need. Its times are the usual seconds,
-    and the seconds that each installed browser adds. Its arguments can differ by mode. It may type at a terminal, or read what the gate builds. If
-    the parts of a script run in parallel, each part is a separate check, named by `part`."""
+    """A script in checks/, with the commands and files that it needs, and the commands and files that only some of its parts need. Its times are the
+    usual seconds, and the seconds that each installed browser adds. Its arguments can differ by mode. It may type at a terminal, or read what the
+    gate builds. If the parts of a script run in parallel, each part is a separate check, named by `part`."""
 
     name: str
     needs: str = ""

@@ -31,8 +31,8 @@ def worked_state(program, chain=(), down=(), **parts):
 
 READ_KEYS = {"chain": (0, 1), "down": ((0, 1), (1, 2)), "rom_source": 0x10, "bank_sources": zeros_except(8, {0: 0x10}),
              "rom_ports": zeros_except(16, {0: 3})}
-# For each file: a description of the commands in it, the active slot, the file, its state, commands to execute after opening it, and queries after
-# these with their answers.
+# For each file: a description of its commands, the active slot, the file, its state, commands to execute after opening it, and then queries with
+# their answers.
 FILES = [
     ("poke r5 9", 0, file_with([(16_400, POKE, 1)]), State(seq=1, registers=zeros_except(16, {5: 9})),
      [poke_register(5, 3)], "", ""),

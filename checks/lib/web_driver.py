@@ -14,7 +14,7 @@ import urllib.request
 
 from driven import BEFORE_SCRIPTS, ELEMENT, BrowserDriver, DriverError
 
-# Scripts that dispatch the events of a touch, and of a click with the secondary mouse button, for drivers that cannot do these.
+# Scripts that dispatch the events of a touch, and of a click with the secondary mouse button, for drivers that cannot perform these actions.
 TOUCH_ELEMENT = """
 const [selector, time] = arguments;
 const node = document.querySelector(selector);

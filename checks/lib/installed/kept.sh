@@ -93,7 +93,8 @@ rm -rf "$prefix/lib/.fethsaim.${ended_process}9"
 mkdir "$prefix/lib/.fethsaim.$$"
 check_unchanged "install: another ./install is running here, as process $$; wait until it ends, or remove $prefix/lib/.fethsaim.$$; nothing was changed" 1 ./install --prefix "$prefix"
 rmdir "$prefix/lib/.fethsaim.$$"
-# Stops ./install at many different moments. Then mcs4 must work or be missing, the next run must repair everything, and the user's files must stay.
+# Stops ./install at many different moments. After each stop, mcs4 must work or be missing, the next run must repair everything, and the user's files
+# must be kept.
 stop_count=12
 while [ "$stop_count" -gt 0 ]; do
     stop_count=$((stop_count - 1))
@@ -119,7 +120,7 @@ verdict "$(outcome "$prefix/bin/mcs4" new "$folder/temporary/damaged.mcs")" "mcs
 status 126" "an installed program that is damaged"
 cp "$folder/whole" "$library_folder/shipped/mcs4"
 
-# Checks that removal leaves the user's files, and names them, and that it removes the folders that ./install has made.
+# Checks that the removal keeps the user's files and prints their names, and that it removes the folders that ./install has created.
 echo mine >> "$prefix/share/man/man1/mcs4-wave.1"
 verdict "$(outcome ./install --uninstall --prefix "$prefix" | LC_ALL=C sort)" "$(LC_ALL=C sort << END
 mcs4 was removed from $prefix

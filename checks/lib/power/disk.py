@@ -169,14 +169,14 @@ class Connection:
         self.channel.sendall(struct.pack(">IIQ", REQUEST_ANSWER, 0, handle) + data)
 
     def queue_answer(self, kind: str, handle: int, disk: Disk) -> None:
-        """Adds a write or a flush to the requests to answer. Answers one of these immediately, unless the disk is late. `kind` is the event of the
-        answer."""
+        """Adds a write or a flush to the unanswered requests. Unless the disk is late, answers one of these immediately. `kind` is the kind of the
+        event for the answer."""
         self.unanswered.append((kind, disk.count, handle))
         if not disk.is_late:
             self.answer_random_request()
 
     def answer_random_request(self) -> None:
-        """Answers one of the waiting requests, chosen at random."""
+        """Answers one of the unanswered requests, chosen at random."""
         assert self.disk is not None
         kind, number, handle = self.unanswered.pop(self.disk.rng.randrange(len(self.unanswered)))
         self.disk.add_event(kind, number)

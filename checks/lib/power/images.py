@@ -152,8 +152,8 @@ class History:
         return parts
 
     def draw(self, images: list[Image], count: int) -> list[Image]:
-        """Returns at most `count` of these images, in chronological order. Each phase has the same number of images, or more if another phase has too
-        few."""
+        """Returns at most `count` of these images, in chronological order. Takes the same number of images from each phase, and more if another phase
+        has too few."""
         groups = sorted(([image for image in images if image.phase == phase] for phase in PHASES), key=len)
         chosen_images: list[Image] = []
         for index, group in enumerate(groups):

@@ -1,4 +1,4 @@
-# Checks that the tests of the examples pass when perl's `prove` runs them, and that they find bugs that are put into some of the programs.
+# Checks that the tests of the examples pass when perl's `prove` runs them, and that they find bugs that are inserted into some of the programs.
 # shellcheck shell=sh
 
 prove_tests() {
@@ -22,7 +22,7 @@ test 1
 run 8
 lamps" "a button at TEST, by its name"
 
-# Puts a bug into a copy of a program: replaces a text in the N-th line that contains it. Arguments: the program, N, the text, the new text.
+# Inserts a bug into a copy of a program: replaces a text in the N-th line that contains it. Arguments: the program, N, the text, the new text.
 plant_bug() {
     awk -v n="$2" -v old="$3" -v new="$4" '{
         at = index($0, old)
@@ -46,7 +46,7 @@ check_tests_fail $calculator/board.toml $calculator/calculator.test "a press of 
 # A correct code does not reset the count of wrong codes.
 plant_bug $lock/lock.asm 2 "LDM 13" "LD R12"
 check_tests_fail $lock/board.toml $lock/lock.test "a right code resets the count of wrong codes"
-# Several keys down in one row count as none, so a key that stays down counts again.
+# Several pressed keys in one row count as no key, so a key that stays down counts again.
 plant_bug $lock/lock.asm 1 "several: LDM 14" "several: LDM 15"
 check_tests_fail $lock/board.toml $lock/lock.test "a key that is held counts once even if its neighbour is pressed"
 # The time for pedestrians is two seconds.

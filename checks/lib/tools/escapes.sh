@@ -4,7 +4,7 @@
 esc=$(printf '\033')
 control_characters="${esc}]0;PWNED$(printf '\007')${esc}[2J$(printf '\302\233')31m$(printf '\177')"
 shown='\x1B'
-# Creates a script that runs a command in a pseudo-terminal, and prints what the command writes there.
+# Creates a script that runs a command in a pseudo-terminal and prints the command's output.
 cat > "$folder/terminal.py" <<'program'
 import os, pty, subprocess, sys
 own, end = pty.openpty()

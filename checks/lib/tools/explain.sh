@@ -27,7 +27,7 @@ check_rejected_sources "explain --source PROGRAM $folder/ran.mcs $folder/wrong.t
 check_rejected 2 "explain: SCRIPT is missing
 usage: mcs4 explain [--source PROGRAM SESSION] SCRIPT < ANSWERS" ./mcs4 explain --source "$folder/source.asm" "$folder/ran.mcs"
 
-# Tries rejected lines, wrong lines of programs, and boards in which the wrong part depends on other parts, or other parts depend on it.
+# Tries rejected lines, invalid lines of programs, and boards in which the invalid part depends on other parts, or other parts depend on it.
 cat > "$folder/explain.txt" <<'script'
 wire
 [keys]
