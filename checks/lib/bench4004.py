@@ -23,7 +23,7 @@ PLACES: list[tuple[str, Callable[..., str]]] = [
     (r"pc", lambda board: f"{board.pc:03X}"),
     (r"dcl", lambda board: f"{board.dcl}"),
     (r"ret", lambda board: ",".join(f"{address:03X}" for address in board.ret)),
-    (r"lamps", lambda board: board.chips.marks() or "-"),
+    (r"lamps", lambda board: board.chips.lamp_marks() or "-"),
     (r"src", lambda board: f"{board.chips.rom_src:02X}"),
     (r"rom(\w+)", lambda board, chip: f"{board.chips.levels('rom', chip):X}"),
     (r"ram(\w+)\.(\w+)", lambda board, bank, chip: f"{board.chips.levels('ram', bank, chip):X}"),
@@ -144,7 +144,7 @@ def state_answer(board: Board, seq: int) -> str:
         "rams": [f"{bank}.{chip}.{latch:X}" for (bank, chip), latch in chips.ram_latch.items()],
         "chains": ["".join(str(bit) for bit in chain) for chain in chips.chains],
         "keys": [f"{row}.{column}" for row, column in sorted(chips.pressed_keys)],
-        "lamps": [chips.marks()] if chips.lamps else [],
+        "lamps": [chips.lamp_marks()] if chips.lamps else [],
         "breaks": [f"{address:03X}" for address in sorted(board.breaks)],
         "watches": [f"{bank}.{src:02X}" for bank, src in sorted(board.watches)],
     }
@@ -183,7 +183,7 @@ class Bench:
 
 QUERIES: dict[str, Callable[..., list[str]]] = {
     "seq": lambda bench: [f"seq {bench.seq}"],
-    "lamps": lambda bench: [f"lamps {bench.board.chips.marks() or '-'}"],
+    "lamps": lambda bench: [f"lamps {bench.board.chips.lamp_marks() or '-'}"],
     "regs": lambda bench: [registers_answer(bench.board, " ")],
     "breaks": lambda bench: ["breaks " + (" ".join(f"{address:03X}" for address in sorted(bench.board.breaks)) or "-")],
     "list": lambda bench, address, limit: list_answer(bench.board, parse_number(address), parse_number(limit)),

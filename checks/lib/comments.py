@@ -64,13 +64,13 @@ def without_types(text):
 
 def line_comments(text, mark):
     """Yields the blocks of successive lines that begin with a comment mark, each with the number of its first line."""
-    block, first = [], 1
+    block, first_number = [], 1
     for number, line in enumerate([*text.split("\n"), ""], 1):
         if line.lstrip().startswith(mark) and not line.startswith("#!"):
-            first = first if block else number
+            first_number = first_number if block else number
             block.append(line)
         elif block:
-            yield first, "\n".join(block)
+            yield first_number, "\n".join(block)
             block = []
 
 
@@ -84,16 +84,16 @@ def python_comments(text):
 
 def join_line_comments(comments):
     """Yields comments with the numbers of their first lines. Joins `//` comments in successive lines."""
-    block, first, last = [], 1, 0
+    block, first_number, last = [], 1, 0
     for number, comment in comments:
         if block and not (comment.startswith("//") and number == last + 1):
-            yield first, "\n".join(block)
+            yield first_number, "\n".join(block)
             block = []
-        first = first if block else number
+        first_number = first_number if block else number
         block.append(comment)
         last = number if comment.startswith("//") else 0
     if block:
-        yield first, "\n".join(block)
+        yield first_number, "\n".join(block)
 
 
 def comments_of(path):

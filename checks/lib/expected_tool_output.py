@@ -78,7 +78,7 @@ def changes_between(previous: Board, after: Board) -> list[str]:
     changes += [f"out {bank}.{chip} {latch:X}" for (bank, chip), latch in new_chips.ram_latch.items() if old_chips.ram_latch[bank, chip] != latch]
     changes += [f"rom{chip} out {latch:X}" for chip, latch in new_chips.rom_latch.items() if old_chips.rom_latch[chip] != latch]
     changes += [f"chain{n} " + "".join(str(bit) for bit in chain) for n, chain in enumerate(new_chips.chains) if old_chips.chains[n] != chain]
-    return changes + ([f"lamps {new_chips.marks()}"] if old_chips.marks() != new_chips.marks() else [])
+    return changes + ([f"lamps {new_chips.lamp_marks()}"] if old_chips.lamp_marks() != new_chips.lamp_marks() else [])
 
 
 def trace_row(board: Board, cycle: int, details: str, source: Source | None, with_lines: bool) -> str:

@@ -81,7 +81,7 @@ def end_before_other_reasons(board: Board, cycles: int, max_cycles: int, is_watc
 SKIPPED_INSTRUCTIONS = ("JCN", "FIM", "SRC", "FIN", "JIN", "JUN", "JMS", "INC", "ISZ", "ADD", "SUB", "LD", "XCH", "BBL", "LDM", "WRM", "WMP", "WRR", "SBM", "RDM",
            "RDR", "ADM", "DCL")
 CORRECT_STOP_REASON = Board.stop_reason
-WRONG_BOARDS: dict[str, Callable[[], AbstractContextManager]] = {
+BOARD_MUTANTS: dict[str, Callable[[], AbstractContextManager]] = {
     "DAA clears the carry": replace_instruction("DAA", daa_without_carry),
     "ISZ jumps on its own page": replace_instruction("ISZ", isz_on_own_page),
     "BBL leaves nothing": replace_instruction("BBL", bbl_without_address),
@@ -118,7 +118,7 @@ def levels_with_numeric_counter(board: Board, source: expected_tool_output.Sourc
 
 
 CORRECT_CHANGES_BETWEEN, CORRECT_LEVELS = expected_tool_output.changes_between, expected_tool_output.levels
-WRONG_TOOLS: dict[str, Callable[[], AbstractContextManager]] = {
+TOOL_MUTANTS: dict[str, Callable[[], AbstractContextManager]] = {
     "trace compares chains as numbers": replace_function(expected_tool_output, "changes_between", changes_compared_as_numbers),
     "wave compares addresses as numbers": replace_function(expected_tool_output, "levels", levels_with_numeric_counter),
 }
@@ -131,7 +131,7 @@ def with_incremented_number(words: list[str], index: int) -> str:
     return " ".join([*words[:index], str(int(words[index]) + 1), *words[index + 1:]])
 
 
-WRONG_ANSWERS: dict[str, tuple[str, Callable[[list[str]], list[str]]]] = {
+ANSWER_MUTANTS: dict[str, tuple[str, Callable[[list[str]], list[str]]]] = {
     "a cycle too many": ("run", lambda lines: [with_incremented_number(lines[0].split(), 3)]),
     "a count too many": ("count", lambda lines: [*lines[:-1], with_incremented_number(lines[-1].split(), 1)]),
     "a count that is left out": ("count", lambda lines: lines[:-1]),
@@ -238,8 +238,9 @@ CORRECT_ELAPSED_AFTER, CORRECT_IS_LATE = second_search.elapsed_after, second_sea
 CORRECT_MARKS_SEEN_AFTER, CORRECT_IS_MARK_SHOWN, CORRECT_IS_EARLY = second_search.marks_seen_after, second_search.is_mark_shown, second_search.is_early
 STATE_PARTS = ("accumulator", "carry", "counter", "DCL", "owed cycle", "registers", "return addresses", "SRC of the ROMs", "SRC of the banks",
          "ports of ROMs", "ports of RAM", "chains", "RAM", "open calls", "elapsed cycles", "marks")
-WRONG_SEARCHES: dict[str, Callable[[], AbstractContextManager]] = {
-    **{f"a state without its {part}": replace_function(second_search, "state_of", save_state_without(place)) for place, part in enumerate(STATE_PARTS)},
+SEARCH_MUTANTS: dict[str, Callable[[], AbstractContextManager]] = {
+    **{f"a state without its {part}": replace_function(second_search, "state_of", save_state_without(index))
+       for index, part in enumerate(STATE_PARTS)},
     "a value is left out": replace_function(second_search, "values_read", values_without_largest),
     "TEST is constant": replace_function(second_search, "values_read", values_at_constant_test),
     "JCN 9 reads nothing": replace_function(second_search, "next_instruction", lambda board: ("", 0) if CORRECT_NEXT_INSTRUCTION(board) == ("JCN", 9) else CORRECT_NEXT_INSTRUCTION(board)),
@@ -282,7 +283,7 @@ def values_with_few_lines(board: Board) -> dict[int, Levels]:
 
 
 CORRECT_ALLOWED_KEYS, CORRECT_TEST_LEVELS, CORRECT_MAX_KEYS_DOWN = second_search.allowed_keys, second_search.allowed_test_levels, second_search.max_keys_down
-WRONG_LIMITS: dict[str, Callable[[], AbstractContextManager]] = {
+LIMIT_MUTANTS: dict[str, Callable[[], AbstractContextManager]] = {
     "together is ignored": replace_function(second_search, "max_keys_down", lambda board: len(second_search.all_keys(board))),
     "one more key is down": replace_function(second_search, "max_keys_down", lambda board: CORRECT_MAX_KEYS_DOWN(board) + 1),
     "one key less is down": replace_function(second_search, "max_keys_down", lambda board: max(CORRECT_MAX_KEYS_DOWN(board) - 1, 0)),

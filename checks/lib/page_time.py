@@ -56,7 +56,7 @@ class Program:
         return int(self.tool("cycles", line, line, lines=answers).split(" ")[0])
 
 
-def texts_of(name):
+def setup_lines_of(name):
     """Returns the lines that apply an example's board and assemble its program."""
     folder = TOP / "examples" / name
     board, program = (folder / "board.toml").read_text(), (folder / f"{name}.asm").read_text()
@@ -66,7 +66,7 @@ def texts_of(name):
 def first_call(program, name):
     """Finds the first JMS that an example executes. Returns the cycles before the JMS, the cycles until its subroutine returns, its address, and its
     return address."""
-    file, _ = program.session(name, texts_of(name))
+    file, _ = program.session(name, setup_lines_of(name))
     lines = [line for line in program.tool("trace", file, 3000).splitlines() if re.match(r" *\d+  [0-9A-F]{3} ", line)]
     index = next(index for index, line in enumerate(lines) if " JMS " in line)
     cycles, address = lines[index].split()[:2]
@@ -159,7 +159,7 @@ editor.getInputField().dispatchEvent(new KeyboardEvent("keydown", { key: "F10", 
 def check_many_steps(browser, program):
     """Checks that a step of several instructions takes the number of cycles that the trace shows, and that an invalid number of instructions is
     rejected."""
-    file, _ = program.session("many", texts_of("three_lamps"))
+    file, _ = program.session("many", setup_lines_of("three_lamps"))
     lines = [line for line in program.tool("trace", file, 400).splitlines() if re.match(r" *\d+  [0-9A-F]{3} ", line)]
     open_paused_example(browser, "three lamps")
     browser.script(CHANGE_FIELD, "#step-count", "50")

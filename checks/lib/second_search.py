@@ -145,7 +145,7 @@ def cell_value(board: Board, name: str, index: int) -> int:
 # The maximum number of open calls, which is the number of the processor's return addresses.
 MAX_OPEN_CALLS = 3
 # The instructions that access a RAM chip: its nibbles, its status nibbles and its port.
-RAM_INSTRUCTIONS = {"WRM", "RDM", "ADM", "SBM", "WMP", *(f"{way}{k}" for way in ("WR", "RD") for k in range(4))}
+RAM_INSTRUCTIONS = {"WRM", "RDM", "ADM", "SBM", "WMP", *(f"{prefix}{k}" for prefix in ("WR", "RD") for k in range(4))}
 MISTAKES = ("code", "call", "return", "ram", "rom", "rdr", "wrr")
 # The attributes that the search adds to a board: the number of open calls, the stopwatch and its cycles, the marks and the number of marks seen. The
 # last attribute has the limits of the inputs.
@@ -213,9 +213,9 @@ def marks_seen(board: Board) -> int:
     return getattr(board, SEEN, 0)
 
 
-def set_marks_seen(board: Board, seen: int) -> None:
+def set_marks_seen(board: Board, seen_count: int) -> None:
     """Sets the number of marks seen."""
-    setattr(board, SEEN, seen)
+    setattr(board, SEEN, seen_count)
 
 
 def value_with(board: Board, keys_down: Iterable[Key]) -> int:

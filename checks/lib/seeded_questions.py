@@ -159,9 +159,9 @@ def random_comparison(rng: random.Random, wiring: Wiring, boards: list[dict[tupl
     return ("in", name, index, "whole", number, min(number + width, 255)) if rng.random() < 0.85 else ("out", name, index, "whole", 0, number)
 
 
-def comparisons_at_address(seen: dict[tuple[str, int], int]) -> Row:
+def comparisons_at_address(recorded_values: dict[tuple[str, int], int]) -> Row:
     """Returns comparisons that are true when the program counter has the value in a recorded state, between two instructions."""
-    return [("in", "counter", 3, "whole", 0, 0), *(("in", "counter", n, "whole", *[seen["counter", n]] * 2) for n in (4, 5))]
+    return [("in", "counter", 3, "whole", 0, 0), *(("in", "counter", n, "whole", *[recorded_values["counter", n]] * 2) for n in (4, 5))]
 
 
 def opposite_comparison(words: Comparison) -> Comparison:
@@ -197,7 +197,7 @@ def longest_time(question: Question, rng: random.Random) -> int:
         shown.append(elapsed_of(board))
         return False
 
-    for _way in range(TIMED_WALKS):
+    for _walk in range(TIMED_WALKS):
         board = power_on(dataclasses.replace(question, within=0))
         for _n in range(MAX_WALK_STATES):
             values = values_read(board)
@@ -252,15 +252,15 @@ def key_waiting_question(rng: random.Random, wiring: Wiring) -> Question:
 
 def marks_on_walk(question: Question, rng: random.Random) -> list[tuple[Board, list[Mark]]]:
     """Returns the machine at some states of a random walk, each with the marks that the next cycle shows."""
-    board, way = power_on(question), []
+    board, walk = power_on(question), []
     for _n in range(2 * MAX_WALK_STATES):
         values = values_read(board)
         levels = values[rng.choice(sorted(values))]
         board.chips.pressed_keys = set(levels[0])
         marks = [(level, row, column) for row, column in all_keys(board) for level in ("up", "down") if is_mark_shown(board, (level, row, column))]
-        way.append((copy.deepcopy(board), marks))
+        walk.append((copy.deepcopy(board), marks))
         run_to_next_state(board, levels, lambda _board: False, min(question.pause, 50))
-    return way
+    return walk
 
 
 def seeded_question(seed: int, max_states: int) -> Question:
@@ -370,7 +370,7 @@ def lines_in_random_order(question: Question, rng: random.Random) -> list[str]:
     for line in [*other_values, *rng.sample(other_values, min(len(other_values), 1))]:
         parts.insert(rng.randrange(len(parts)), [line])
     for line in together:
-        place = rng.randrange(len(parts))
-        parts.insert(place, [line])
-        parts.insert(rng.randrange(place + 1), [f"together {rng.randrange(256)}"])
+        position = rng.randrange(len(parts))
+        parts.insert(position, [line])
+        parts.insert(rng.randrange(position + 1), [f"together {rng.randrange(256)}"])
     return [line for part in parts for line in part]

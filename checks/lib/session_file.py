@@ -161,15 +161,15 @@ class State:
     def run(self, cycles):
         """Runs a number of cycles, or up to a breakpoint. Returns the part of the answer with the number of cycles and the reason for the stop."""
         start = self.loop_key()
-        done = skipped = 0
-        while done + skipped < cycles:
+        done_cycles = skipped = 0
+        while done_cycles + skipped < cycles:
             self.cycle()
-            done += 1
+            done_cycles += 1
             if not self.owed and self.counter in self.breakpoints:
-                return f" ran {done} break"
+                return f" ran {done_cycles} break"
             if self.loop_key() == start and skipped == 0:
                 # The program loops, so whole iterations are skipped.
-                skipped = (cycles - done) // done * done
+                skipped = (cycles - done_cycles) // done_cycles * done_cycles
         return f" ran {cycles} end"
 
     def loop_key(self):

@@ -319,7 +319,7 @@ class Run:
             return self.waiting.pop(0)
         return None
 
-    def turn(self):
+    def update(self):
         """Ends checks that exceed their time limit, counts the checks that have ended, and starts the next one."""
         for running in list(self.running):
             if not running.is_over() and running.is_late():
@@ -343,7 +343,7 @@ class Run:
             self.gate = Gate(self.begin(GATE, [f"checks/{GATE.name}"]).output)
         install_packages(self.checks)
         while self.waiting or self.running:
-            self.turn()
+            self.update()
             self.progress()
             time.sleep(0.2)
 
@@ -361,9 +361,9 @@ class Run:
         check_seconds = sum(seconds for check, seconds in remaining.items() if check is not GATE) / min(self.processors, max(len(remaining), 1))
         names = ", ".join(name for name in elapsed_seconds if name != GATE.label)
         gate = f"gate {self.gate.passed} of {self.gate.crates} crates, " if self.gate and not self.gate.is_over else ""
-        done = sum(check is not GATE for check in self.ended)
+        finished_count = sum(check is not GATE for check in self.ended)
         minutes = max(check_seconds, remaining.get(GATE, 0)) / 60
-        line = f"{gate}checks {done} of {len(self.checks)} done, running: {names or 'none'}, about {minutes:.0f} min left"
+        line = f"{gate}checks {finished_count} of {len(self.checks)} done, running: {names or 'none'}, about {minutes:.0f} min left"
         print(f"\r\033[K{line[: shutil.get_terminal_size().columns - 1]}", end="", flush=True)
 
     def write_totals(self):
