@@ -219,16 +219,16 @@ function compareInPieces(name, engine, file, input) {
 function compareFiles(name, engine, file) {
   compareSource(name, engine, file);
   compareInPieces(name, engine, file, randomScript());
-  const settled = settle(engine, file);
-  checkSettled(`${name}: settle`, settled, seqOf(engine, file));
-  const both = new Uint8Array(file.length);
-  engine.serve(file, "poke acc 1\npoke acc 2\n", both);
-  checkSettled(`${name}: serving and settling`, both, seqOf(engine, file) + 2);
+  const settledFile = settle(engine, file);
+  checkSettled(`${name}: settle`, settledFile, seqOf(engine, file));
+  const servedAndSettledFile = new Uint8Array(file.length);
+  engine.serve(file, "poke acc 1\npoke acc 2\n", servedAndSettledFile);
+  checkSettled(`${name}: serving and settling`, servedAndSettledFile, seqOf(engine, file) + 2);
   const output = pageResult(engine, file, QUERIES).output;
-  compare(`${name}, settled`, engine, settled, QUERIES);
-  verdict(`${name}: settling changed an answer`, pageResult(engine, settled, QUERIES).output === output);
-  const old = toVersion1(settled);
-  if (old && fitsVersion1(engine, settled)) {
+  compare(`${name}, settled`, engine, settledFile, QUERIES);
+  verdict(`${name}: settling changed an answer`, pageResult(engine, settledFile, QUERIES).output === output);
+  const old = toVersion1(settledFile);
+  if (old && fitsVersion1(engine, settledFile)) {
     compare(`${name}, of version 1`, engine, old, QUERIES);
     checkSettled(`${name}: settle of version 1`, settle(engine, Uint8Array.from(old)), seqOf(engine, old));
   }
@@ -252,9 +252,9 @@ function measureSpeeds(engine) {
   const runs = "run 100000\n".repeat(300);
   const file = engine.begin();
   engine.serve(file, board, file);
-  const page = 3e7 / shortestTime(() => engine.ask(file, runs));
-  const native = 3e7 / shortestTime(() => programResult(file, runs));
-  return { page, native };
+  const pageSpeed = 3e7 / shortestTime(() => engine.ask(file, runs));
+  const nativeSpeed = 3e7 / shortestTime(() => programResult(file, runs));
+  return { pageSpeed, nativeSpeed };
 }
 
 const engine = await Engine.load(readFileSync(modulePath));
@@ -271,7 +271,7 @@ for (let number = 1; number <= Number(count); number++) {
 for (const bytes of [Buffer.from("no session"), new Uint8Array(163856), new Uint8Array(163857)]) {
   compare(`a file of ${bytes.length} bytes`, engine, bytes, "seq\n");
 }
-const { page, native } = measureSpeeds(engine);
-const millions = [page, native].map((speed) => Math.round(speed / 1e6));
+const { pageSpeed, nativeSpeed } = measureSpeeds(engine);
+const millions = [pageSpeed, nativeSpeed].map((speed) => Math.round(speed / 1e6));
 console.log(`${passed} equal, ${failed} different; ${millions[0]} million cycles a second in node, the program ${millions[1]}`);
 process.exitCode = failed === 0 ? 0 : 1;

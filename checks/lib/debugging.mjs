@@ -249,8 +249,8 @@ async function tryMessages() {
   client.sendBytes(Buffer.alloc(16777217, 32));
   matches((await client.next(({ request_seq }) => request_seq === 0)).message, /16777217 bytes was not read/, "a message that is too long");
   await client.request("launch", example("lock"));
-  const long = await client.answer("evaluate", { expression: "x".repeat(16000000), context: "repl" });
-  matches(long.message, /65536 characters/, "a console input of 16 MB");
+  const longInputAnswer = await client.answer("evaluate", { expression: "x".repeat(16000000), context: "repl" });
+  matches(longInputAnswer.message, /65536 characters/, "a console input of 16 MB");
   verdict(client.violations, [], "each message follows the protocol");
   verdict(await client.end(), 0, "the adapter's status after errors");
   const other = new Client(MCS4);

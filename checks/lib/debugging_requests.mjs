@@ -81,9 +81,9 @@ async function tryAttach() {
   const { stopped } = await begin(client, "attach", { session: file });
   verdict([stopped.reason, (await client.request("evaluate", { expression: "state", context: "repl" })).result], ["entry", state], "the state after attach is that of the file");
   await readStop(client);
-  const stepped = answersOf(file, "step\nstep\nstep\nstate\n").pop();
+  const stateAfterSteps = answersOf(file, "step\nstep\nstep\nstate\n").pop();
   for (let step = 0; step < 3; step++) await client.runUntilStop("stepIn", { granularity: "statement" });
-  verdict((await client.request("evaluate", { expression: "state", context: "repl" })).result, stepped, "three steps after attach");
+  verdict((await client.request("evaluate", { expression: "state", context: "repl" })).result, stateAfterSteps, "three steps after attach");
   verdict(Buffer.compare(before, readFileSync(file)), 0, "the file is unchanged");
   verdict(answersOf(file, "state\n")[0], state, "`mcs4 open` opens the file while the adapter is attached to it");
   await client.runUntilStop("restart", {});
@@ -190,24 +190,24 @@ async function tryRequests() {
   await client.request("setFunctionBreakpoints", { breakpoints: [] });
   for (let step = 0; step < 5; step++) await client.runUntilStop("next");
   const { reason } = await client.runUntilStop("restartFrame", { frameId: 2 });
-  const again = await readStop(client);
-  verdict([reason, again.frames.length, again.frames[0].canRestart], ["restart", depth - 1, true], "restartFrame ends the calls above the frame");
-  const address = Number(again.frames[0].instructionPointerReference);
-  const call = Number(again.frames[1].instructionPointerReference);
+  const stopAfterRestart = await readStop(client);
+  verdict([reason, stopAfterRestart.frames.length, stopAfterRestart.frames[0].canRestart], ["restart", depth - 1, true], "restartFrame ends the calls above the frame");
+  const address = Number(stopAfterRestart.frames[0].instructionPointerReference);
+  const call = Number(stopAfterRestart.frames[1].instructionPointerReference);
   const [listingRow] = answersOf(file, `list ${call} 1\n`);
-  matches(listingRow, new RegExp(`JMS 0x${again.frames[0].instructionPointerReference.slice(2)}$`), `the restarted frame begins at ${address}, the target of its JMS`);
-  const registers = again.scopes.find(({ name }) => name === "Registers").variablesReference;
+  matches(listingRow, new RegExp(`JMS 0x${stopAfterRestart.frames[0].instructionPointerReference.slice(2)}$`), `the restarted frame begins at ${address}, the target of its JMS`);
+  const registers = stopAfterRestart.scopes.find(({ name }) => name === "Registers").variablesReference;
   const values = async (format) => (await client.request("variables", { variablesReference: registers, format })).variables.map(({ value }) => value);
   const [hexValues, decimalValues] = [await values({ hex: true }), await values({ hex: false })];
   verdict(hexValues.map(Number), decimalValues.map(Number), "registers in hexadecimal and in decimal have equal values");
   verdict([hexValues.every((value) => /^0x[0-9A-F]+$/.test(value)), decimalValues.every((value) => /^\d+$/.test(value))], [true, true], "registers: each value is in the requested base");
   const rom = Buffer.from((await client.request("readMemory", { memoryReference: "0x000", offset: 0, count: 4096 })).data, "base64");
   const bytes = Array.from({ length: 16 }, (_, page) => answersOf(file, `list ${256 * page} 256\n`)).flat();
-  const wrong = bytes.filter((line) => {
+  const differingRows = bytes.filter((line) => {
     const [at, ...rest] = line.slice(0, 9).trim().split(/ +/);
     return rest.some((byte, offset) => rom[parseInt(at, 16) + offset] !== parseInt(byte, 16));
   });
-  verdict([bytes.length > 1000, wrong], [true, []], "readMemory of the ROM has the bytes of `list`");
+  verdict([bytes.length > 1000, differingRows], [true, []], "readMemory of the ROM has the bytes of `list`");
   await client.request("writeMemory", { memoryReference: "0x10000", offset: 18, data: Buffer.from([1, 2, 3]).toString("base64") });
   await client.event("memory");
   const { result } = await client.request("evaluate", { expression: "ram 0", context: "repl" });

@@ -121,9 +121,9 @@ async function tryExits() {
   const hastyClient = new Client(MCS4);
   hastyClient.notify("exit");
   verdict(await hastyClient.ended, 1, "exit without shutdown");
-  const other = new Client(MCS4);
-  other.sendBytes("GET / HTTP/1.1\r\n\r\n");
-  verdict([await other.ended, other.stderr.split(",")[0]], [1, "lsp: a message begins with one line Content-Length: N"], "another protocol");
+  const httpClient = new Client(MCS4);
+  httpClient.sendBytes("GET / HTTP/1.1\r\n\r\n");
+  verdict([await httpClient.ended, httpClient.stderr.split(",")[0]], [1, "lsp: a message begins with one line Content-Length: N"], "another protocol");
 }
 
 /** Checks that the server answers in order if a client writes all requests before it reads any answer. */

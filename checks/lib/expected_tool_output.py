@@ -202,13 +202,13 @@ def cover_output(start: Board, cycles: int, source: Source) -> str:
         runs_text = runs[source.spans[i][0]] or "never" if i in lines else ""
         taken_text = "{}/{}".format(*directions[i]) if i in directions else ""
         rows.append(f"{runs_text:>10} {taken_text:<13}  {text}".rstrip())
-    never_run = [i for i in lines if not runs[source.spans[i][0]]]
+    lines_never_run = [i for i in lines if not runs[source.spans[i][0]]]
     taken_count = sum(1 for counts in directions.values() for taken_text in counts if taken_text)
-    rows += ["", f"{len(lines) - len(never_run)} of {len(lines)} instructions were run{percentage_of(len(lines) - len(never_run), len(lines))}, "
+    rows += ["", f"{len(lines) - len(lines_never_run)} of {len(lines)} instructions were run{percentage_of(len(lines) - len(lines_never_run), len(lines))}, "
              f"{taken_count} of {2 * len(directions)} branch directions{percentage_of(taken_count, 2 * len(directions))}"]
     one_way_lines = [f"{i + 1} ({'always' if taken else 'never'} taken)" for i, (taken, not_taken) in directions.items() if (taken == 0) != (not_taken == 0)]
-    if never_run:
-        rows.append(f"never run: line{'s' if len(never_run) > 1 else ''} {line_ranges(lines, never_run)}")
+    if lines_never_run:
+        rows.append(f"never run: line{'s' if len(lines_never_run) > 1 else ''} {line_ranges(lines, lines_never_run)}")
     if one_way_lines:
         rows.append(f"only one way: line{'s' if len(one_way_lines) > 1 else ''} {', '.join(one_way_lines)}")
     return "".join(f"{row}\n" for row in rows)

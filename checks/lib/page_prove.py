@@ -130,8 +130,8 @@ def check_counterexample(browser):
 
 
 def check_all_verdicts(browser):
-    """Checks that the page reports each kind of verdict, for a separate board and program. Also checks a proof with too few states, and that Clear
-    removes the results."""
+    """Checks that the page reports each kind of verdict, for a separate board and program. Also checks a proof that may visit too few states, and
+    that Clear removes the results."""
     choose_example(browser, "empty bench")
     set_text(browser, "board", BOARD)
     set_text(browser, "program", PROGRAM)

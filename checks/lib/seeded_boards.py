@@ -144,12 +144,12 @@ class Program:
         clock, data, _chips = self.rng.choice(self.wiring.chains)
         numbers = [int(word) for word in clock[3:].split(".")]
         up, down = (f"LDM {1 << numbers[-1] | self.rng.choice([0, 1 << int(data[-1])]) | self.rng.choice([0, 4])}", "LDM 0")
-        begin = [f"FIM P{pair}, 0x{16 * numbers[0] if clock.startswith('rom') else 64 * numbers[1]:02X}", f"SRC P{pair}"]
+        selection = [f"FIM P{pair}, 0x{16 * numbers[0] if clock.startswith('rom') else 64 * numbers[1]:02X}", f"SRC P{pair}"]
         if clock.startswith("ram"):
-            begin = [f"LDM {numbers[0]}", "DCL", *begin]
+            selection = [f"LDM {numbers[0]}", "DCL", *selection]
         write = "WRR" if clock.startswith("rom") else "WMP"
         pulse = [up, write, down, write]
-        return begin + (self.rng.randrange(1, 6) * pulse if self.rng.random() < 0.5 else [*pulse, f"ISZ R{self.rng.randrange(16)} ^5"])
+        return selection + (self.rng.randrange(1, 6) * pulse if self.rng.random() < 0.5 else [*pulse, f"ISZ R{self.rng.randrange(16)} ^5"])
 
     def any_instruction(self, value: int, pair: int) -> str:
         """Returns a random instruction of any kind. The target of a jump is added later."""

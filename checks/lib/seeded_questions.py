@@ -51,12 +51,12 @@ class ReadingProgram(Program):
         """Returns instructions that clock a chain up to three times, usually with its data line at 1."""
         numbers = [int(word) for word in clock[3:].split(".")]
         pair = self.rng.randrange(8)
-        begin = [f"FIM P{pair}, 0x{16 * numbers[0] if clock.startswith('rom') else 64 * numbers[1]:02X}", f"SRC P{pair}"]
+        selection = [f"FIM P{pair}, 0x{16 * numbers[0] if clock.startswith('rom') else 64 * numbers[1]:02X}", f"SRC P{pair}"]
         if clock.startswith("ram"):
-            begin = [f"LDM {numbers[0]}", "DCL", *begin]
+            selection = [f"LDM {numbers[0]}", "DCL", *selection]
         write = "WRR" if clock.startswith("rom") else "WMP"
         data_bit = 1 << int(data[-1]) if self.rng.random() < 0.7 else 0
-        return begin + self.rng.randrange(1, 4) * [f"LDM {data_bit}", write, f"LDM {data_bit | 1 << numbers[-1]}", write]
+        return selection + self.rng.randrange(1, 4) * [f"LDM {data_bit}", write, f"LDM {data_bit | 1 << numbers[-1]}", write]
 
     def selection_phrases(self, pair: int) -> list[str]:
         """Returns instructions that select a chip, usually one with inputs."""

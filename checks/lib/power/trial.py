@@ -100,12 +100,12 @@ class Runner:
             builder = Builder(self.disk, history)
             images = history.draw(history.all_images(), stage.images)
             with self.examining():
-                examined = [self.examine(builder, kind, trial, case, image) for image in images]
-            results = self.report_results(trial, generation, history, examined, builder, time.monotonic() - start_time)
+                examined_images = [self.examine(builder, kind, trial, case, image) for image in images]
+            results = self.report_results(trial, generation, history, examined_images, builder, time.monotonic() - start_time)
             outcome.add(results)
             if results.error_count or generation == trial.generations:
                 break
-            next_image = self.choose_next_disk(trial, generation, examined)
+            next_image = self.choose_next_disk(trial, generation, examined_images)
             builder.write_permanently(next_image.image)
             stage = self.next_stage(case, next_image.contents, max(15, trial.images // 4))
         return outcome
@@ -123,7 +123,7 @@ class Runner:
         self.machine.run_successfully(f"blockdev --flushbufs /dev/vda; mount -t {kind.type} -o {options} /dev/vda /mnt")
 
     def create_file_system(self, kind: FileSystem, trial: Trial, case: Case) -> None:
-        """Creates a new file system, whose free blocks contain other bytes than zeros, and runs the synced shell commands of the case on it."""
+        """Creates a new file system, whose free blocks contain bytes other than zeros, and runs the synced shell commands of the case on it."""
         size = kind.size * MEGA
         blank = Disk(size)
         for offset in range(0, size, MEGA):
@@ -202,10 +202,10 @@ class Runner:
             raise PowerCheckError(f"the machine cannot examine disks: {end}; its last lines:\n{self.machine.last_lines()}")
 
     @staticmethod
-    def verdict(trial: Trial, examined: ExaminedImage) -> str:
+    def verdict(trial: Trial, examined_image: ExaminedImage) -> str:
         """Returns `good` if an image has the required contents, a note if it has other contents that are allowed, or "" for an error."""
         kind, case = FILE_SYSTEMS[trial.kind], CASES[trial.case]
-        image, contents = examined.image, examined.contents
+        image, contents = examined_image.image, examined_image.contents
         if contents == "not mounted" and image.is_torn:
             return "not mounted, with a torn block"
         if image.min_commands is None:
@@ -213,21 +213,21 @@ class Runner:
             return f"before the first answer {contents}" if is_good else ""
         return "good" if isinstance(contents, int) and image.min_commands <= contents <= image.max_commands else ""
 
-    def report_results(self, trial: Trial, generation: int, history: History, examined: list[ExaminedImage], builder: Builder, seconds: float) -> Outcome:
+    def report_results(self, trial: Trial, generation: int, history: History, examined_images: list[ExaminedImage], builder: Builder, seconds: float) -> Outcome:
         """Prints the results for the images of a history, and stores some of the images with errors. Returns the number of images, the number of
         errors, and the first error."""
         notes: collections.Counter[str] = collections.Counter()
         images_with_errors = []
-        for examined_image in examined:
+        for examined_image in examined_images:
             verdict = self.verdict(trial, examined_image)
             if verdict:
                 notes[verdict] += 1
             else:
                 images_with_errors.append(examined_image)
-        phases = collections.Counter(examined_image.image.phase for examined_image in examined)
+        phases = collections.Counter(examined_image.image.phase for examined_image in examined_images)
         name = f"{trial.name}{f', opened again ({generation})' if generation else ''}"
         print(f"{name}: {history.count('sent')} commands, {history.count('write')} writes, {history.count('flush')} flushes; "
-              f"{len(examined)} images ({', '.join(f'{number} {phase}' for phase, number in phases.items())}), {len(images_with_errors)} errors; "
+              f"{len(examined_images)} images ({', '.join(f'{number} {phase}' for phase, number in phases.items())}), {len(images_with_errors)} errors; "
               f"{seconds:.1f} s", flush=True)
         del notes["good"]
         if notes:
@@ -239,14 +239,14 @@ class Runner:
                 if examined_image.contents == "not mounted":
                     print(f"    the machine's last lines:\n{self.machine.last_lines()}", flush=True)
                 self.store_image(trial, generation, builder, examined_image.image)
-        return Outcome(len(examined), len(images_with_errors), messages[0] if messages else "")
+        return Outcome(len(examined_images), len(images_with_errors), messages[0] if messages else "")
 
     @staticmethod
-    def error_message(examined: ExaminedImage, event_count: int) -> str:
+    def error_message(examined_image: ExaminedImage, event_count: int) -> str:
         """Returns the message about an image with an error. `event_count` is the number of all events in its history."""
-        image = examined.image
+        image = examined_image.image
         acknowledged = "nothing" if image.min_commands is None else f"command {image.min_commands}"
-        contents = f"{examined.contents} commands" if isinstance(examined.contents, int) else examined.contents
+        contents = f"{examined_image.contents} commands" if isinstance(examined_image.contents, int) else examined_image.contents
         range_end = f" to {image.last}" if image.last > image.first else ""
         return (f"cut at {image.first}{range_end} of {event_count} ({image.phase}): {acknowledged} acknowledged{' in the end' * bool(range_end)}, "
                 f"command {image.max_commands} sent, found: {contents}; {image.durable} writes durable, of {len(image.parts)} others {image.selection}")
@@ -283,16 +283,16 @@ class Runner:
         print(f"{name}: {description['file']} on {kind.name}: {min_commands} commands acknowledged, {max_commands} sent, found: {contents}")
         return is_good
 
-    def choose_next_disk(self, trial: Trial, generation: int, examined: list[ExaminedImage]) -> ExaminedImage:
+    def choose_next_disk(self, trial: Trial, generation: int, examined_images: list[ExaminedImage]) -> ExaminedImage:
         """Returns the image that becomes the disk of the next generation. Alternates between an image that was cut while a snapshot was
         written and one that was cut while the session was opened, if there are any. For a session of version 1, prefers one that still has
         version 1. For the first generation of a new session, prefers a blank file."""
         case = CASES[trial.case]
         is_carried = case.name.startswith("carried")
         preferred_phase: Phase = "opening" if is_carried or generation % 2 else "snapshot"
-        valid = [candidate for candidate in examined if self.verdict(trial, candidate) == "good"]
+        valid = [candidate for candidate in examined_images if self.verdict(trial, candidate) == "good"]
         if case.arguments.startswith("new") and generation == 0:
-            valid = [candidate for candidate in examined if candidate.contents == "blank"] or valid
+            valid = [candidate for candidate in examined_images if candidate.contents == "blank"] or valid
         if not valid:
             raise PowerCheckError(f"{trial.name}: no image holds a session")
 

@@ -113,16 +113,16 @@ check_same_on_module /dev/null prove $lock/board.toml $lock/lock.asm "$folder/fo
 
 # --- commands that do not work without a native program
 
-needs_program="a session file needs the native program, which cannot start: $reason. Commands without a session file run here"
+needs_program_message="a session file needs the native program, which cannot start: $reason. Commands without a session file run here"
 for words in "new $folder/new.mcs" "open $folder/session.mcs"; do
     # shellcheck disable=SC2086
-    check_rejected 1 "mcs4: $needs_program" on_other_system $words
+    check_rejected 1 "mcs4: $needs_program_message" on_other_system $words
 done
 cp "$folder/session.mcs" "$folder/before.mcs"
 for words in "back $folder/session.mcs 1" "resume $calculator/quotient.txt $folder/session.mcs" "panel $calculator/board.toml $folder/session.mcs" \
     "keys --until-stop $folder/session.mcs $calculator/board.toml 1" "debug $folder/session.mcs"; do
     # shellcheck disable=SC2086
-    check_rejected 1 "${words%% *}: $needs_program" on_other_system $words
+    check_rejected 1 "${words%% *}: $needs_program_message" on_other_system $words
 done
 verdict_of_files "$folder/session.mcs" "$folder/before.mcs" "a session is unchanged on that system"
 verdict "$(ls "$folder/new.mcs" 2> /dev/null || echo none)" none "no session file is created on that system"
