@@ -213,7 +213,8 @@ class Runner:
             return f"before the first answer {contents}" if is_good else ""
         return "good" if isinstance(contents, int) and image.min_commands <= contents <= image.max_commands else ""
 
-    def report_results(self, trial: Trial, generation: int, history: History, examined_images: list[ExaminedImage], builder: Builder, seconds: float) -> Outcome:
+    def report_results(self, trial: Trial, generation: int, history: History, examined_images: list[ExaminedImage], builder: Builder,
+                       seconds: float) -> Outcome:
         """Prints the results for the images of a history, and stores some of the images with errors. Returns the number of images, the number of
         errors, and the first error."""
         notes: collections.Counter[str] = collections.Counter()
