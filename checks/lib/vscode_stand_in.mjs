@@ -86,7 +86,7 @@ function testItem(id, label, uri) {
   return Object.assign(item, { children: new Items(item) });
 }
 
-/** Returns the files below a folder that match a pattern of the form `**/NAME` or `**/*.EXTENSION`. */
+// Returns the files below a folder that match a pattern of the form `**/NAME` or `**/*.EXTENSION`.
 function filesIn(folder, pattern) {
   const [, name] = /^\*\*\/(.*)$/.exec(pattern);
   const matches = (each) => (name.startsWith("*") ? each.endsWith(name.slice(1)) : each === name);
