@@ -103,8 +103,8 @@ def query_state(browser):
 
 
 def check_step_over(browser, program, name, example):
-    """Checks that a step over a JMS, with the button or with F10, takes the cycles that the trace shows. Steps into the subroutine and out of it
-    must take the same time. No breakpoint or watch may remain."""
+    """Checks that a step over a JMS, with the button or with F10, takes the cycles that the trace shows. A step into the subroutine and a step out of
+    it must together take the same number of cycles. No breakpoint or watch may remain."""
     cycles_before, call_cycles, address, return_address = first_call(program, example)
     open_paused_example(browser, name)
     send_lines(browser, f"run {cycles_before}")

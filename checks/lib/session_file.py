@@ -186,7 +186,7 @@ class State:
         return " ran 2 end"
 
     def reset(self):
-        """Performs a power cycle. ROM, keys, TEST, breakpoints, watches and wiring stay."""
+        """Performs a power cycle. ROM, keys, TEST, breakpoints, watches and wiring are kept."""
         new = State()
         for part in ("ram", "status", "ram_ports", "rom_ports", "accumulator", "carry", "registers", "counter", "return_addresses", "bank", "rom_source",
                      "bank_sources", "owed"):

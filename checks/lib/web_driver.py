@@ -1,5 +1,5 @@
-"""Drives browsers with WebDriver, a protocol over HTTP, using only Python's library: Chromium through chromedriver, and WebKit, the engine of Safari
-and of all browsers on an iPhone, through WebKitWebDriver."""
+"""Drives browsers with WebDriver, a protocol over HTTP, using only Python's standard library. Chromium is driven through chromedriver. WebKit, the
+engine of Safari and of all browsers on an iPhone, is driven through WebKitWebDriver."""
 
 import base64
 import glob

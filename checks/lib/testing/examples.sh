@@ -37,21 +37,21 @@ check_tests_fail() {
     verdict "$(outcome ./mcs4 test "$1" "$folder/buggy" "$2" | sed -n 's/^not ok [0-9]* - //p; /^status/p')" "$3
 status 1" "a bug found by $2"
 }
-# The comments from here on describe the bugs. A division by zero is reported as an overflow.
+# Bug: a division by zero is reported as an overflow.
 plant_bug $calculator/calculator.asm 1 "LDM 2		; division by zero" "LDM 1		; division by zero"
 check_tests_fail $calculator/board.toml $calculator/calculator.test "division by zero"
-# After several keys at once, four scans are enough.
+# Bug: after several keys at once, the calculator waits for only four scans.
 plant_bug $calculator/calculator.asm 1 "after_several = 11" "after_several = 12"
 check_tests_fail $calculator/board.toml $calculator/calculator.test "a press of 520 cycles after a press of two other keys is not accepted"
-# A correct code does not reset the count of wrong codes.
+# Bug: a correct code does not reset the count of wrong codes.
 plant_bug $lock/lock.asm 2 "LDM 13" "LD R12"
 check_tests_fail $lock/board.toml $lock/lock.test "a right code resets the count of wrong codes"
-# Several pressed keys in one row count as no key, so a key that stays down counts again.
+# Bug: several pressed keys in one row count as no key, so a key that stays down counts again.
 plant_bug $lock/lock.asm 1 "several: LDM 14" "several: LDM 15"
 check_tests_fail $lock/board.toml $lock/lock.test "a key that is held counts once even if its neighbour is pressed"
-# The time for pedestrians is two seconds.
+# Bug: the time for pedestrians is only two seconds.
 plant_bug examples/traffic_light.txt 1 "FIM P7, 0xD0" "FIM P7, 0xE0"
 check_tests_fail "$folder/buggy" examples/traffic_light.test "the phases after amber"
-# A hundredth of a second takes one more cycle.
+# Bug: a hundredth of a second takes one cycle too many.
 plant_bug examples/stopwatch.txt 1 "NOP             ; the last" "FIM P0, 0x00    ; the last"
 check_tests_fail "$folder/buggy" examples/stopwatch.test "a hundredth of a second takes 926 cycles"
