@@ -232,10 +232,10 @@ function compareFiles(name, engine, file) {
     compare(`${name}, of version 1`, engine, old, QUERIES);
     checkSettled(`${name}: settle of version 1`, settle(engine, Uint8Array.from(old)), seqOf(engine, old));
   }
-  const damaged = Uint8Array.from(file);
+  const damagedFile = Uint8Array.from(file);
   const randomOffset = () => callOneOf([() => random(24), () => 16 + random(8000), () => 16400 + random(2000)]);
-  for (let changes = 1 + random(3); changes > 0; changes--) damaged[randomOffset()] ^= 1 << random(8);
-  compare(`${name}, damaged`, engine, damaged, QUERIES);
+  for (let changes = 1 + random(3); changes > 0; changes--) damagedFile[randomOffset()] ^= 1 << random(8);
+  compare(`${name}, damaged`, engine, damagedFile, QUERIES);
 }
 
 function measureSeconds(act) {

@@ -104,7 +104,7 @@ function argumentsFor(command) {
  * each, and how often it was answered. Throws an error if a request is not answered in time.
  */
 async function sendAll(client, count) {
-  const answered = new Map();
+  const answerCounts = new Map();
   for (let done = 0; done < count; done += BATCH) {
     const batch = [];
     for (let n = 0; n < BATCH; n++) {
@@ -117,13 +117,13 @@ async function sendAll(client, count) {
     await client.answer("pause", { threadId: 1 });
     for (const seq of batch) {
       await client.next((message) => message.type === "response" && message.request_seq === seq);
-      answered.set(seq, 1);
+      answerCounts.set(seq, 1);
     }
-    const extraResponses = client.received.filter(({ type, request_seq: seq }) => type === "response" && answered.has(seq));
-    for (const { request_seq: seq } of extraResponses) answered.set(seq, answered.get(seq) + 1);
+    const extraResponses = client.received.filter(({ type, request_seq: seq }) => type === "response" && answerCounts.has(seq));
+    for (const { request_seq: seq } of extraResponses) answerCounts.set(seq, answerCounts.get(seq) + 1);
     client.received = [];
   }
-  return [...answered].filter(([, times]) => times !== 1);
+  return [...answerCounts].filter(([, times]) => times !== 1);
 }
 
 async function tryRequests() {

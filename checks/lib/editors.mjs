@@ -157,9 +157,9 @@ async function tryWrongLengths() {
   endedClient.child.stdin.end();
   shortLengthClient.sendBytes(`Content-Length: ${body.length}\r\n\r\n${body}`);
   const expected = `only ${body.length} of the ${body.length + 10} bytes that Content-Length announces have arrived`;
-  for (const [started, condition] of [[endedClient, "the client ends"], [openClient, "the stream stays open"]]) {
-    const { error } = await started.next(({ id }) => id === null);
-    verdict([error.code, error.message, await started.ended, started.stderr], [-32600, expected, 1, `lsp: ${expected}\n`], `too large a length, ${condition}`);
+  for (const [testedClient, condition] of [[endedClient, "the client ends"], [openClient, "the stream stays open"]]) {
+    const { error } = await testedClient.next(({ id }) => id === null);
+    verdict([error.code, error.message, await testedClient.ended, testedClient.stderr], [-32600, expected, 1, `lsp: ${expected}\n`], `too large a length, ${condition}`);
   }
   const { error } = await shortLengthClient.next(({ id }) => id === null);
   verdict([error.code, await shortLengthClient.ended, shortLengthClient.stderr.split(",")[0]], [-32700, 1, "lsp: a message begins with one line Content-Length: N"],

@@ -237,15 +237,15 @@ class SeededSession:
 
     def stop_command(self, board: Board) -> str:
         """Returns a command that sets or removes a breakpoint or a watch, usually one that the program soon reaches, or at which it has stopped."""
-        board_ahead, visited, written = board.copy(), [board.pc], [self.ram_nibble()]
+        board_ahead, visited, written_nibbles = board.copy(), [board.pc], [self.ram_nibble()]
         board_ahead.breaks = set()
 
         def note_address(_done: int, address: int) -> None:
             visited.append(address)
-            written.extend([(board_ahead.dcl, board_ahead.chips.bank_src[board_ahead.dcl])] if board_ahead.rom[address] == 0xE0 else [])
+            written_nibbles.extend([(board_ahead.dcl, board_ahead.chips.bank_src[board_ahead.dcl])] if board_ahead.rom[address] == 0xE0 else [])
 
         board_ahead.run(300, note_address)
-        address, (bank, src) = self.rng.choice([board.pc, self.address(), *visited[-20:]]), self.rng.choice(written)
+        address, (bank, src) = self.rng.choice([board.pc, self.address(), *visited[-20:]]), self.rng.choice(written_nibbles)
         return self.rng.choice([f"break {address}"] * 2 + [f"unbreak {address}"] + [f"watch {bank} {src}"] * 2 + [f"unwatch {bank} {src}"])
 
     def trace_place(self) -> str:
