@@ -208,7 +208,7 @@ def check_folding(browser):
     # On a busy machine, time can be paused before the first instruction, whose line is not folded.
     browser.click("#step")
     browser.until(GET_STATUS, STEPPED)
-    # Time is paused either at the loop's label, so that the line below the label stays folded, or at that line.
+    # Time is paused either at the loop's label or at the line below it. In the first case, the line below the label stays folded.
     eventually(browser, "the line at which the program is paused is unfolded", GET_FOLDED_LINES, re.compile("^\u2026 1 line(,\u2026 1 line){1,2}$"))
 
 

@@ -198,7 +198,7 @@ def check_delay(browser):
 
 def check_stopwatch(browser):
     """Checks that a hundredth of a second of the stopwatch is 926 cycles, measured between two marks. Also checks going back to a change of the
-    lamps, and missing names."""
+    lamps, and the message about an unknown name."""
     open_paused_example(browser, "stopwatch")
     send_lines(browser, "test 0")
     browser.script(CHANGE_FIELD, "#change-place", "lamps")

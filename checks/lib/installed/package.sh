@@ -2,7 +2,7 @@
 # shellcheck shell=sh disable=SC2154
 
 make_home
-# Prints everything below a folder lib/fethsaim, except the list of installed files, which differs: modes, targets of links, and checksums.
+# Prints the modes, link targets and checksums of everything below a folder lib/fethsaim, except the list of installed files, which differs.
 describe_files() {
     (cd "$1" && find . ! -path ./installed -printf '%M %p %l\n' | LC_ALL=C sort && find . -type f ! -path ./installed -exec sha256sum {} + | LC_ALL=C sort)
 }
