@@ -67,7 +67,7 @@ def tables_of(document):
 
 
 class BoardReading:
-    """A board text that is valid TOML, with methods that find its first wrong part."""
+    """A board text that is valid TOML, with methods that find its first invalid part."""
 
     def __init__(self, document):
         self.document = document
@@ -102,7 +102,7 @@ class BoardReading:
                         yield 22, section, index, key
 
     def value_errors(self):
-        """Yields error 23 for each wrong value."""
+        """Yields error 23 for each invalid value."""
         for section in SECTIONS:
             if section != "keys" and not isinstance(self.document.get(section, []), list):
                 yield 23, section, 0, None

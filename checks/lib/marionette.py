@@ -26,7 +26,7 @@ def preferences(download_folder):
 
 
 class Firefox(BrowserDriver):
-    """Firefox, which its own protocol controls."""
+    """Firefox, controlled through its own protocol."""
     name = "Firefox"
     # Firefox 153 often calls no listeners of `pagehide`, but it always calls those of `beforeunload`.
     always_calls_pagehide = False

@@ -230,7 +230,7 @@ def check_forced_colours(browser):
 
 
 def check_three_lamps(browser):
-    """Checks that the lamps of the board of the example three lamps have their names."""
+    """Checks that the lamps in the example `three lamps` have their names."""
     board_text = (TOP / "examples/three_lamps/board.toml").read_text()
     status_of(browser, "#board-editor", board_text)
     eventually(browser, "the names and states of three lamps", GET_NAMES, re.compile("^left, (lit|dark); middle, (lit|dark); right, (lit|dark)$"))

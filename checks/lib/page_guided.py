@@ -131,7 +131,7 @@ def check_digit_entry_step(browser):
 
 
 def check_printing_step(browser):
-    """Checks that the links of the fifth step run to the output of a printer code, and go back to before it was printed."""
+    """Checks that the links of the fifth step run to the output of a printer code, and go back to the time before it was printed."""
     next_step(browser, "A printed line")
     click_link(browser, "Pause")
     eventually(browser, "the link pauses the program", GET_STATUS, re.compile("^Paused"))

@@ -30,7 +30,7 @@ return [...document.querySelectorAll("button, input, select, textarea")].filter(
 
 
 def cause_failure(browser, failure):
-    """Makes the worker or its module fail in one of the ways of INSTALL_FAILURES."""
+    """Makes the worker or its module fail in one of the ways that INSTALL_FAILURES defines."""
     browser.script(REQUEST_FAILURE, failure)
 
 

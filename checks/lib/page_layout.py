@@ -352,7 +352,7 @@ return [...small].join("; ")"""
 
 
 def check_text_sizes(browser):
-    """Checks that no visible text has letters below 11 pixels."""
+    """Checks that no visible text has letters smaller than 11 pixels."""
     verdict("texts with letters below 11 pixels", browser.script(FIND_SMALL_TEXT), "")
     show_text(browser, "board")
     verdict("texts with letters below 11 pixels, with the board's text", browser.script(FIND_SMALL_TEXT), "")

@@ -51,7 +51,7 @@ class Program:
         return file, subprocess.run([self.mcs4, "new", file], input=lines, stdout=subprocess.PIPE, text=True, check=True).stdout
 
     def cycles(self, answers):
-        """Returns the cycles of the last run in some answers, as `mcs4 cycles` counts them."""
+        """Returns the number of cycles of the last run in these answers, as `mcs4 cycles` counts it."""
         line = len(answers.splitlines())
         return int(self.tool("cycles", line, line, lines=answers).split(" ")[0])
 

@@ -160,8 +160,8 @@ MAX_CONTROLS, MAX_WORDS, MIN_LINES = 60, 350, 25
 
 
 def check_first_glance(browser, page, set_size):
-    """Checks that a new user sees few controls and words, and no control below 24 pixels. The debugger's panels, the source and a recording must be
-    visible together."""
+    """Checks that a new user sees few controls and words, and no control smaller than 24 pixels. The debugger's panels, the source and a recording
+    must be visible together."""
     browser.script("localStorage.clear()")
     set_size(browser, 1440, 900)
     reopen_page(browser, page)

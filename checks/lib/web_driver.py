@@ -131,7 +131,7 @@ class WebDriver(BrowserDriver):
 
 
 class Chromium(WebDriver):
-    """Chromium, which chromedriver controls."""
+    """Chromium, controlled through chromedriver."""
     name = "Chromium"
     # With these settings, Chromium stores no site data.
     data_blocking_settings = {"profile.default_content_setting_values.cookies": 2}

@@ -79,8 +79,8 @@ rm "$library_folder/served.mcs"
 
 # --- interrupted runs, and the runs after them
 
-# Creates the folders that an interrupted run leaves, with the number of a process that has ended. The folder `old` exists if the run had
-# already exchanged lib/fethsaim.
+# Creates the folders that an interrupted run leaves, with the number of a process that has ended. The folder `old` exists if the run had already
+# moved the old lib/fethsaim away.
 ended_process=$(sh -c 'echo $$')
 mkdir "$prefix/lib/.fethsaim.$ended_process" "$prefix/lib/.fethsaim.9$ended_process" "$prefix/lib/.fethsaim.${ended_process}9"
 mv "$library_folder" "$prefix/lib/.fethsaim.$ended_process/old"

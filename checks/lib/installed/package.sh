@@ -22,8 +22,7 @@ status 1" "a package in a missing folder"
     fi
     mkdir "$folder/unpacked"
     dpkg-deb -x "$package" "$folder/unpacked"
-    # Checks the file about copyright: it must name the authors of CodeMirror, and contain its full licence and README's sentence about Fethsaim's
-    # licence.
+    # Checks the copyright file: it must name the authors of CodeMirror, and contain its full licence and README's sentence about Fethsaim's licence.
     verdict "$(sed -n 's/.*: Copyright //p' page/codemirror/LICENCE | while IFS= read -r author; do
         grep -qF -- " $author (" "$folder/unpacked/usr/share/doc/mcs4/copyright" || echo "$author"
     done)" "" "authors of CodeMirror whom the package does not name"

@@ -150,8 +150,8 @@ FAULTY_TRIALS = (
 
 
 def cases_of(kind: str) -> list[str]:
-    """Returns the names of the cases of NEW_CASES and OPEN_CASES for a kind of file system. Omits `new-link` for the kinds that show stale data,
-    because FAT has no links."""
+    """Returns the names of the cases of NEW_CASES and OPEN_CASES for a kind of file system. Omits `new-link` for the kinds that show stale data:
+    of these, only vfat is used here, and FAT has no links."""
     return [*NEW_CASES, *([] if FILE_SYSTEMS[kind].shows_stale_data else ["new-link"]), *OPEN_CASES]
 
 

@@ -17,7 +17,7 @@ from typing import Literal
 from power.disk import Disk, Event
 
 SECTOR, BLOCK = 512, 4096
-# After each write and each flush, PARTS random images are drawn for each pending write, for at most MAX_PENDING pending writes.
+# After each write and each flush, IMAGES_PER_WRITE random images are drawn for each pending write, for at most MAX_PENDING pending writes.
 IMAGES_PER_WRITE, MAX_PENDING = 12, 4
 # The phase "beginning" has this number of events, from the first answer on.
 BEGINNING_EVENTS = 20

@@ -50,7 +50,7 @@ status 0" "all properties are proved"
     verdict "$(outcome ./mcs4 prove examples/die.txt examples/die.txt "$folder/faces.props" --most 12 | remarks)" \
         "TODO not decided: more than 12 states; --most allows more
 status 3" "a limit on the states that is one too small"
-    # Puts a wrong pattern into the die's program. The printed test must fail on this program, and pass on the original one.
+    # Inserts a wrong pattern into the die's program. The printed test must fail on this program, and pass on the original one.
     sed 's/DB 8, 1, 9, 3, 11, 7/DB 8, 1, 9, 2, 11, 7/' examples/die.txt > "$folder/wrong.txt"
     verdict "$(cmp -s examples/die.txt "$folder/wrong.txt" && echo the same)" "" "a program with a wrong pattern"
     verdict "$(outcome ./mcs4 prove "$folder/wrong.txt" "$folder/wrong.txt" "$folder/faces.props" > "$folder/out"; remarks "$folder/out")" \

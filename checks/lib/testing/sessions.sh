@@ -36,7 +36,7 @@ for words in "cover --session SESSION 5000 $three/three_lamps.asm" "profile --se
     verdict "$(outcome ./mcs4 $before"$folder/stopped.mcs"$after)" "$(outcome ./mcs4 $before"$folder/free.mcs"$after)" "a session with breakpoints and watches: $words"
 done
 # Checks that a read-only session can be read.
-chmod 755 "$whole" "$folder"
+chmod 755 "$check_folder" "$folder"
 mkdir -m 777 "$folder/anyone"
 chmod 444 "$folder/stopped.mcs"
 reader=env

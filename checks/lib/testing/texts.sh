@@ -49,7 +49,7 @@ check_rejected 1 "test: $folder/again.test:1: the steps opened are already at $f
 test: $folder/again.test:3: the steps enter are already at $folder/steps.test:3" \
     ./mcs4 test $lock/board.toml $lock/lock.asm "$folder/steps.test" "$folder/again.test" "$folder/opens.test"
 
-# Checks pipes and standard input in place of files.
+# Checks pipes and standard input instead of files.
 mkfifo "$folder/board.pipe" "$folder/test.pipe"
 cat $lock/board.toml > "$folder/board.pipe" &
 cat "$folder/first.test" > "$folder/test.pipe" &
