@@ -273,7 +273,7 @@ SEARCH_MUTANTS: dict[str, Callable[[], AbstractContextManager]] = {
 }
 
 
-# ---- limits of the inputs
+# ---- limits on the inputs
 
 def values_with_few_lines(board: Board) -> dict[int, Levels]:
     """Limits the number of lines that read 1, instead of the number of keys. A port can have lines that always read 1."""

@@ -122,7 +122,7 @@ def check_marked_lines(browser, source):
     rows = []
     for chunk in range(STEP_COUNT // STEPS_PER_SCRIPT):
         rows += browser.script(STEP_THROUGH, STEPS_PER_SCRIPT)
-        # Start each chunk in another routine.
+        # Start each chunk in a different routine.
         send_lines(browser, f"run {20 + 61 * chunk}")
     expected = [[counter, with_single_spaces("{} {}".format(*source[counter]))] for counter, _ in rows]
     verdict(f"the marked source line at each of {STEP_COUNT} steps", [[counter, with_single_spaces(line)] for counter, line in rows], expected)

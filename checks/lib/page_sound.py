@@ -26,7 +26,7 @@ wait:   ISZ R3, wait
 # A sound block arrives about every 45 ms, 90 ms before it is heard. If it arrives more than MAX_BLOCK_INTERVAL seconds after the previous block, the
 # host was too busy.
 MAX_BLOCK_INTERVAL = 0.1
-# Records each block of samples that is played: its start by the audio clock, its arrival by the audio clock and by the page's clock, and its edges.
+# Records each block of samples that is played: its start on the audio clock, its arrival on the audio clock and on the page's clock, and its edges.
 RECORD_SOUND = """
 window.played = [];
 const start = AudioBufferSourceNode.prototype.start;

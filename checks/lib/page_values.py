@@ -116,7 +116,7 @@ def check_line_values(browser):
     eventually(browser, "no values of lines are shown while the program is running", GET_LINE_VALUES, [])
 
 
-def check_watched(browser):
+def check_watched_values(browser):
     """Checks that watched names, expressions and conditions show their values, which change with the machine, and that an invalid expression is
     reported."""
     browser.type_into("#watched-field", "count = R16" + ENTER)
@@ -205,7 +205,7 @@ def check(browser, page, _folder, _mcs4):
     run_to_add(browser)
     check_values_at_pointer(browser)
     check_edited_value(browser)
-    check_watched(browser)
+    check_watched_values(browser)
     check_line_values(browser)
     check_last_change(browser)
     check_heat_map(browser)

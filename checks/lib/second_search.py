@@ -148,7 +148,7 @@ MAX_OPEN_CALLS = 3
 RAM_INSTRUCTIONS = {"WRM", "RDM", "ADM", "SBM", "WMP", *(f"{prefix}{k}" for prefix in ("WR", "RD") for k in range(4))}
 MISTAKES = ("code", "call", "return", "ram", "rom", "rdr", "wrr")
 # The attributes that the search adds to a board: the number of open calls, the stopwatch and its cycles, the marks and the number of marks seen. The
-# last attribute has the limits of the inputs.
+# last attribute has the limits on the inputs.
 CALLS, STOPWATCH, ELAPSED, MARK_SEQUENCE, SEEN, LIMITS = "calls", "stopwatch", "elapsed", "mark_sequence", "seen", "limits"
 
 

@@ -295,7 +295,7 @@ def seeded_question(seed: int, max_states: int) -> Question:
     return question
 
 
-# ---- limits of the inputs
+# ---- limits on the inputs
 
 # The maximum number of questions among which `limited_question` chooses.
 MAX_ATTEMPTS = 4
@@ -313,7 +313,7 @@ def random_limits(rng: random.Random, keys: list[Key]) -> InputLimits:
 
 def chord_question(rng: random.Random, wiring: Wiring) -> Question:
     """Returns a question about a program that drives some rows and stores a number in a register after it reads a certain value. Some of these
-    programs also test TEST. The value can require several keys, so that limits of the inputs can exclude it."""
+    programs also test TEST. The value can require several keys, so that limits on the inputs can exclude it."""
     register, number = rng.randrange(12), rng.randrange(1, 16)
     program = [" FIM P7, 0", " SRC P7"]
     for _bit in range(rng.randrange(1, wiring.first + wiring.rows + 1)):
@@ -333,12 +333,12 @@ def chord_question(rng: random.Random, wiring: Wiring) -> Question:
 
 
 def without_limits(question: Question) -> Question:
-    """Returns the question without limits of the inputs."""
+    """Returns the question without limits on the inputs."""
     return dataclasses.replace(question, limits=InputLimits())
 
 
 def random_limited_question(rng: random.Random, max_states: int) -> Question:
-    """Returns a random question with limits of the inputs. Half of these questions are about keys that are down together."""
+    """Returns a random question with limits on the inputs. Half of these questions are about keys that are down together."""
     if rng.random() < 0.5:
         question = chord_question(rng, KeyWiring(rng))
         question.max_states, question.pause = max_states, rng.choice([1, 7, 100])
@@ -349,7 +349,7 @@ def random_limited_question(rng: random.Random, max_states: int) -> Question:
 
 
 def limited_question(seed: int, max_states: int) -> Question:
-    """Returns a random question with limits of the inputs. Makes a few attempts to find one for which the limits change the result of a short
+    """Returns a random question with limits on the inputs. Makes a few attempts to find one for which the limits change the result of a short
     search."""
     rng = random.Random(f"limits {seed}")
     for _attempt in range(MAX_ATTEMPTS):

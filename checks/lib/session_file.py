@@ -31,7 +31,7 @@ def rom_line(chip, line):
 
 
 def ram_line(bank, chip, line):
-    """Returns the bytes of a line of a RAM chip's port."""
+    """Returns the bytes that encode a line of a RAM chip's port."""
     return bytes([1, bank, chip, line])
 
 

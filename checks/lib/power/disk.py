@@ -18,7 +18,7 @@ MAGIC, OPTION_MAGIC, REPLY_MAGIC, REQUEST_ANSWER = 0x4E42444D41474943, 0x4948415
 FIXED_NEWSTYLE_NO_ZEROES = 3
 # NBD option codes, the kinds of their replies, and the contents of a reply with information.
 ABORT, INFO, GO = 2, 6, 7
-ACKNOWLEDGED, INFORMED, UNSUPPORTED = 1, 3, (1 << 31) + 1
+ACK_REPLY, INFO_REPLY, UNSUPPORTED_REPLY = 1, 3, (1 << 31) + 1
 EXPORT, BLOCK_SIZE = 0, 3
 # NBD transmission flags (flags are valid; the disk accepts flushes), and the types of requests.
 HAS_FLAGS, SEND_FLUSH = 1, 4
@@ -105,7 +105,7 @@ class Connection:
             pass
 
     def reply(self, option: int, kind: int, data: bytes = b"") -> None:
-        """Sends a reply to an option of the handshake. `kind` is ACKNOWLEDGED, INFORMED or UNSUPPORTED."""
+        """Sends a reply to an option of the handshake. `kind` is ACK_REPLY, INFO_REPLY or UNSUPPORTED_REPLY."""
         self.channel.sendall(struct.pack(">QIII", REPLY_MAGIC, option, kind, len(data)) + data)
 
     def serve_option(self) -> bool:
@@ -123,16 +123,16 @@ class Connection:
         if option in (INFO, GO):
             size, = struct.unpack(">I", data[:4])
             disk = self.disks[data[4:4 + size].decode()]
-            self.reply(option, INFORMED, struct.pack(">HQH", EXPORT, len(disk.bytes), HAS_FLAGS | SEND_FLUSH))
-            self.reply(option, INFORMED, struct.pack(">HIII", BLOCK_SIZE, 512, 4096, 1 << 25))
-            self.reply(option, ACKNOWLEDGED)
+            self.reply(option, INFO_REPLY, struct.pack(">HQH", EXPORT, len(disk.bytes), HAS_FLAGS | SEND_FLUSH))
+            self.reply(option, INFO_REPLY, struct.pack(">HIII", BLOCK_SIZE, 512, 4096, 1 << 25))
+            self.reply(option, ACK_REPLY)
             self.disk = disk if option == GO else None
         elif option == ABORT:
-            self.reply(option, ACKNOWLEDGED)
+            self.reply(option, ACK_REPLY)
             self.on_end(self.channel)
             return False
         else:
-            self.reply(option, UNSUPPORTED)
+            self.reply(option, UNSUPPORTED_REPLY)
         return True
 
     def serve_request(self, disk: Disk) -> bool:

@@ -24,7 +24,7 @@ from power.machine import Machine
 from power.sessions import Sessions, has_version_1
 from session_file import SIZE
 
-MEGA = 1 << 20
+MEBIBYTE = 1 << 20
 # A shell line that starts another writer on the file system, so that the file system commits between the writes of the program.
 START_OTHER_WRITER = "(cd /; n=/mnt/noise; while :; do echo noise >> $n/a; mv $n/a $n/b; sleep 0.3; mv $n/b $n/a; done) & busy=$!"
 # Shell lines. START_PROGRAM starts the program with its serial line as input and output, and reports if the program ends unexpectedly.
@@ -84,7 +84,7 @@ class Runner:
         self.machine, self.sessions, self.image_folder, self.show_command = machine, sessions, image_folder, show_command
         self.disk, self.out = machine.disks["disk"], machine.disks["out"]
         self.rng = random.Random(seed)
-        self.junk = random.Random(1).randbytes(MEGA)
+        self.junk = random.Random(1).randbytes(MEBIBYTE)
         self.stored_count = 0
 
     def run(self, trial: Trial) -> Outcome:
@@ -124,10 +124,10 @@ class Runner:
 
     def create_file_system(self, kind: FileSystem, trial: Trial, case: Case) -> None:
         """Creates a new file system, whose free blocks contain bytes other than zeros, and runs the synced shell commands of the case on it."""
-        size = kind.size * MEGA
+        size = kind.size * MEBIBYTE
         blank = Disk(size)
-        for offset in range(0, size, MEGA):
-            blank.bytes[offset:offset + MEGA] = self.junk
+        for offset in range(0, size, MEBIBYTE):
+            blank.bytes[offset:offset + MEBIBYTE] = self.junk
         command = [*kind.make_command, blank.file]
         result = subprocess.run(command, stdout=subprocess.PIPE, stderr=subprocess.STDOUT, text=True, check=False)
         if result.returncode:
@@ -265,7 +265,7 @@ class Runner:
         name = self.image_folder / f"{trial.kind}-{trial.case}-{generation}-{image.first}.image"
         builder.undo_all()
         builder.build(image)
-        name.write_bytes(self.disk.bytes[:kind.size * MEGA])
+        name.write_bytes(self.disk.bytes[:kind.size * MEBIBYTE])
         self.disk.undo_writes()
         description = {"kind": trial.kind, "options": self.options(kind, trial), "file": case.file, "least": image.min_commands,
                        "most": image.max_commands}
