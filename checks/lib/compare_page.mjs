@@ -168,7 +168,7 @@ function fitsVersion1(engine, file) {
 
 const QUERIES = "seq\nstate\nregs\nlamps\nports\nwatches\nbreaks\nboard\nram 0\nram 1\nram 7\nlist 0 256\n";
 
-const ALL_ROM = [...Array(16).keys()].map((page) => `list ${page * 256} 256\n`).join("");
+const LIST_ALL_ROM = [...Array(16).keys()].map((page) => `list ${page * 256} 256\n`).join("");
 
 // Counts the result of a check, and prints its name if it failed.
 function verdict(name, isRight) {
@@ -183,8 +183,8 @@ const answersTo = (engine, file, lines) => engine.ask(file, lines).answers;
 function compareSource(name, engine, file) {
   const board = answersTo(engine, file, "board\n").slice(1).map((line) => `${line}\n`).join("");
   const source = disassembleRom(engine, file);
-  const regeneratedAnswers = answersTo(engine, file, `wire\n.\nwire\n${board}.\nasm\n${source}.\n${ALL_ROM}`).slice(3);
-  verdict(`${name}: the source text from ROM gives other bytes`, regeneratedAnswers.join() === answersTo(engine, file, ALL_ROM).join());
+  const regeneratedAnswers = answersTo(engine, file, `wire\n.\nwire\n${board}.\nasm\n${source}.\n${LIST_ALL_ROM}`).slice(3);
+  verdict(`${name}: the source text from ROM gives other bytes`, regeneratedAnswers.join() === answersTo(engine, file, LIST_ALL_ROM).join());
 }
 
 // Reads a file's active slot, as docs/FORMAT.md defines it. Returns the number of commands and the version in its snapshot, and whether records

@@ -124,8 +124,8 @@ async function tryBreakpoints(name) {
  */
 async function tryArrivals(name, label, register) {
   const { file, names } = createSession(name);
-  const stops = "run 20000\nstate\n".repeat(40);
-  const expected = mcs4("open", file, `state\nbreak ${names.get(label)}\n${stops}`).filter((line) => line.startsWith("state ")).map(valuesOf);
+  const runLines = "run 20000\nstate\n".repeat(40);
+  const expected = mcs4("open", file, `state\nbreak ${names.get(label)}\n${runLines}`).filter((line) => line.startsWith("state ")).map(valuesOf);
   const client = new Client(MCS4);
   await client.begin(example(name));
   await client.event("stopped");

@@ -40,7 +40,7 @@ compile_crate() {
 
 # Compiles the object file of a program that was built here, if it does not exist. Arguments: the name of the crate, and the file for the kit's
 # output. Linked as the kit links it, the object file must give the same program.
-need_object() {
+ensure_object() {
     built_program=$top/crates/$1/out/$1
     if [ -f "$built_program.o" ]; then return; fi
     kit=$(dirname -- "$(rt doc)")
