@@ -325,7 +325,7 @@ def ld(board: Board, k: int, _second_byte: int) -> None:
 
 
 def xch(board: Board, k: int, _second_byte: int) -> None:
-    """Exchange the accumulator and a register."""
+    """Exchange the accumulator with a register."""
     board.acc, board.r[k] = board.r[k], board.acc
 
 

@@ -73,9 +73,9 @@ def check_palette_contents(browser):
     browser.keys([ESCAPE])
     browser.until(IS_PALETTE_OPEN, False)
     commands = (TOP / "js/page/commands/command_table.js").read_text()
-    bench = (TOP / "page/bench.html").read_text()
-    buttons = set(re.findall(r'<button[^>]* id="([\w-]+)"', bench)) 
-    tabs = set(re.findall(r'<button[^>]* role="tab" id="([\w-]+)"', bench))
+    bench_html = (TOP / "page/bench.html").read_text()
+    buttons = set(re.findall(r'<button[^>]* id="([\w-]+)"', bench_html))
+    tabs = set(re.findall(r'<button[^>]* role="tab" id="([\w-]+)"', bench_html))
     regions = {button for button in buttons if button.startswith("region-")} | {"drawer-button"}
     buttons_without_command = {button for button in buttons - tabs - regions - set(BUTTONS_WITHOUT_COMMAND) if f'"{button}"' not in commands}
     exempt_buttons = {"back-stop", "back-breakpoint", "forward"}

@@ -8,13 +8,13 @@ import copy
 import dataclasses
 import json
 
-NAME = b"MCS4BEN1"
+FORMAT_NAME = b"MCS4BEN1"
 SIZE = 163_856
 SLOTS = (16, 81_936)
 LENGTH_BYTES = 4
-SNAPSHOT_AREA = 16_384
+SNAPSHOT_AREA_BYTES = 16_384
 LOG_BYTES = 65_536
-MAX_RECORD = 8_192
+MAX_RECORD_BYTES = 8_192
 MAX_CYCLES = 4_000_000
 
 
@@ -283,19 +283,19 @@ def watch(bank, source):
 
 def read(file):
     """Returns the snapshot and the records in a file, or None if the file is damaged."""
-    if len(file) != SIZE or file[:8] != NAME or any(file[9:16]):
+    if len(file) != SIZE or file[:8] != FORMAT_NAME or any(file[9:16]):
         return None
     slot = SLOTS[file[8] % 2]
     length = int.from_bytes(file[slot:slot + LENGTH_BYTES], "big")
-    if length > SNAPSHOT_AREA - LENGTH_BYTES:
+    if length > SNAPSHOT_AREA_BYTES - LENGTH_BYTES:
         return None
     snapshot = bytes(file[slot + LENGTH_BYTES:slot + LENGTH_BYTES + length])
-    log = file[slot + SNAPSHOT_AREA:slot + SNAPSHOT_AREA + LOG_BYTES]
+    log = file[slot + SNAPSHOT_AREA_BYTES:slot + SNAPSHOT_AREA_BYTES + LOG_BYTES]
     records = []
     offset = 0
     while log[offset] == 1:
         size = int.from_bytes(log[offset + 1:offset + 3], "big")
-        if not 1 <= size <= MAX_RECORD or offset + 3 + size + 1 > LOG_BYTES:
+        if not 1 <= size <= MAX_RECORD_BYTES or offset + 3 + size + 1 > LOG_BYTES:
             return None
         records.append(bytes(log[offset + 3:offset + 3 + size]))
         offset += 3 + size
@@ -305,7 +305,7 @@ def read(file):
 def file_with_snapshot(snapshot):
     """Returns a file with a snapshot in its first slot, and no records."""
     start = SLOTS[0]
-    file = bytearray(NAME + bytes(SIZE - len(NAME)))
+    file = bytearray(FORMAT_NAME + bytes(SIZE - len(FORMAT_NAME)))
     file[start:start + LENGTH_BYTES + len(snapshot)] = number(len(snapshot), LENGTH_BYTES) + snapshot
     return file
 
@@ -327,7 +327,7 @@ class ExpectedSession:
         self.slot = slot
         self.checkpoints = 0
         self._put_snapshot(slot, version)
-        self.file[:16] = NAME + bytes([slot]) + bytes(7)
+        self.file[:16] = FORMAT_NAME + bytes([slot]) + bytes(7)
 
     def _put_snapshot(self, slot, version):
         """Writes the current state to a slot, with an empty log, and continues with this slot."""
@@ -335,8 +335,8 @@ class ExpectedSession:
         start = SLOTS[slot]
         end = start + LENGTH_BYTES + len(snapshot)
         self.file[start:end] = number(len(snapshot), LENGTH_BYTES) + snapshot
-        self.unused_ranges[slot] = (end, start + SNAPSHOT_AREA)
-        self.file[start + SNAPSHOT_AREA] = 0
+        self.unused_ranges[slot] = (end, start + SNAPSHOT_AREA_BYTES)
+        self.file[start + SNAPSHOT_AREA_BYTES] = 0
         self.slot = slot
         self.log_size = self.cycles = 0
         self.contents = (snapshot, [])
@@ -353,7 +353,7 @@ class ExpectedSession:
         record = command.record
         if self.log_size + 3 + len(record) + 1 > LOG_BYTES or self.cycles + command.cycles > MAX_CYCLES:
             self.checkpoint()
-        put_record(self.file, SLOTS[self.slot] + SNAPSHOT_AREA + self.log_size, record)
+        put_record(self.file, SLOTS[self.slot] + SNAPSHOT_AREA_BYTES + self.log_size, record)
         self.log_size += 3 + len(record)
         self.cycles += command.cycles
         self.contents[1].append(record)

@@ -5,7 +5,7 @@ commands and answers lines.
 import re
 
 import bench4004
-from session_file import MAX_CYCLES, NAME, SIZE, Board, State, read
+from session_file import MAX_CYCLES, FORMAT_NAME, SIZE, Board, State, read
 
 MAX_COMMANDS = 2**32 - 1
 # The maximum numbers of chains, and of chips in a chain, by version.
@@ -194,7 +194,7 @@ class ParsedFile:
 
     def __init__(self, file):
         """Reads a file. Raises `RejectedFile` if the program must reject the file."""
-        if len(file) != SIZE or file[:8] != NAME:
+        if len(file) != SIZE or file[:8] != FORMAT_NAME:
             raise RejectedFile(50)
         contents = read(file)
         require(contents is not None)

@@ -26,13 +26,13 @@ def event_of(kind: str, number: int) -> Event:
     return Event(kind, number)
 
 
-def images_of(events: History, size: int) -> list[tuple[bytes, Image]]:
+def images_of(history: History, size: int) -> list[tuple[bytes, Image]]:
     """Returns all images of a history, each as a pair: the first `size` bytes of a disk with this image, and the image. Before the history, the disk
     has only zeros."""
     disk = Disk(BLOCK)
-    builder = Builder(disk, events)
+    builder = Builder(disk, history)
     images = []
-    for image in events.all_images():
+    for image in history.all_images():
         builder.build(image)
         images.append((disk.bytes[:size], image))
         disk.undo_writes()

@@ -21,7 +21,7 @@ child.wait()
 sys.stdout.buffer.write(output.replace(b"\r\n", b"\n"))
 program
 
-# Puts control characters everywhere in the texts: in comments, a title, the name of a key, a test, labels, and names of files.
+# Puts control characters everywhere in the texts: in comments, a title, the name of a key, a test, labels, and file names.
 mkdir "$folder/$control_characters"
 { printf '# title: %s\n' "$control_characters" && sed "s/^# row 0: 1 /# row 0: 1$control_characters /; s/^# lamp 0: locked/&$control_characters/" $lock/board.toml; } > "$folder/board.toml"
 sed "s/^        JUN start/        JUN start ; $control_characters/" $lock/lock.asm > "$folder/lock.asm"

@@ -116,7 +116,7 @@ for wait in 60 70 80 90 100 105 110 115 120 125 130 135 140 150 160 170 180 200 
             ./mcs4 test $lock/board.toml $lock/lock.asm "$folder/long.test" > "$folder/answers" 2>&1 &
         child=$!
         # Waits until `timeout` runs, because before that the shell's background job ignores SIGINT.
-        until { read -r begun < "/proc/$child/comm" && [ "$begun" = timeout ]; } 2> /dev/null || ! kill -0 "$child" 2> /dev/null; do :; done
+        until { read -r comm < "/proc/$child/comm" && [ "$comm" = timeout ]; } 2> /dev/null || ! kill -0 "$child" 2> /dev/null; do :; done
         sleep "0.$(printf '%03d' "$wait")"
         kill -s "${each%:*}" -- "-$child"
         status=0
@@ -140,13 +140,13 @@ count_started() {
 }
 for words in "1.mcs test $lock/board.toml $lock/lock.asm $folder/longer.test" \
     "1.mcs resume $folder/longer.txt $folder/session.mcs" "- display $calculator/board.toml"; do
-    begun=${words%% *}
+    first_file=${words%% *}
     words=${words#* }
     TMPDIR=$folder/interrupted setsid env --default-signal=TERM timeout 60 ./mcs4 $words <> "$folder/silent" > "$folder/answers" 2>&1 &
     # A tool that waits for input has opened its board, but has created no files yet.
-    case $begun in
+    case $first_file in
     -) sleep 2 ;;
-    *) until ls "$folder/interrupted"/*/"$begun" > /dev/null 2>&1 || ! kill -0 "$!" 2> /dev/null; do sleep 0.05; done ;;
+    *) until ls "$folder/interrupted"/*/"$first_file" > /dev/null 2>&1 || ! kill -0 "$!" 2> /dev/null; do sleep 0.05; done ;;
     esac
     # Finds the tool, which is the child process of `timeout`.
     tool=$(sed 's/ .*//' "/proc/$!/task/$!/children")
