@@ -48,13 +48,13 @@ IS_AUDIO_CLOCK_STOPPED = "return window.played.every(({ now }) => now === 0)"
 IS_SOUND_PRESSED = "return document.getElementById('sound-button').getAttribute('aria-pressed')"
 GET_SOUND_STATUS = "return document.getElementById('sound-status').textContent"
 COUNT_PLAYED = "return window.played.length"
-# The first block must arrive more than MIN_LEAD_SECONDS before it is heard, in at least one of MAX_ATTEMPTS + 1 attempts.
-MIN_LEAD_SECONDS, MAX_ATTEMPTS = 0.08, 5
+# The first block must arrive more than MIN_LEAD_SECONDS before it is heard, in at least one of MAX_RETRIES + 1 attempts.
+MIN_LEAD_SECONDS, MAX_RETRIES = 0.08, 5
 
 
 def is_first_block_early(browser, block):
     """Returns true if the first block arrives early enough. Makes several attempts, because other work on the machine can delay the page."""
-    for _ in range(MAX_ATTEMPTS):
+    for _ in range(MAX_RETRIES):
         if block["when"] - block["now"] > MIN_LEAD_SECONDS:
             return True
         browser.click("#sound-button")

@@ -313,7 +313,7 @@ def random_limits(rng: random.Random, keys: list[Key]) -> InputLimits:
 
 def chord_question(rng: random.Random, wiring: Wiring) -> Question:
     """Returns a question about a program that drives some rows and stores a number in a register after it reads a certain value. Some of these
-    programs also test TEST. The value can require several keys, so that limits on the inputs can exclude it."""
+    programs also test the TEST pin. The value can require several keys, so that limits on the inputs can exclude it."""
     register, number = rng.randrange(12), rng.randrange(1, 16)
     program = [" FIM P7, 0", " SRC P7"]
     for _bit in range(rng.randrange(1, wiring.first + wiring.rows + 1)):

@@ -26,7 +26,7 @@ def number(value, count):
 # --- boards and states
 
 def rom_line(chip, line):
-    """Returns the bytes of a line of a ROM chip's port."""
+    """Returns the bytes that encode a line of a ROM chip's port."""
     return bytes([0, chip, line, 0])
 
 
@@ -36,7 +36,7 @@ def ram_line(bank, chip, line):
 
 
 def chain_line(chain, bit):
-    """Returns the bytes of an output of a chain."""
+    """Returns the bytes that encode an output of a chain."""
     return bytes([2, chain, bit, 0])
 
 

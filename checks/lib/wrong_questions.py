@@ -64,7 +64,7 @@ ANSWERS: list[tuple[list[str], int, str]] = [
     ([*QUESTION_LINES, "up 0 0", "open", "in counter 17 whole 1 255", "prove"], 0, "holds 1"),
     ([*QUESTION_LINES, "never", "up 0 0", "open", "in register 0 whole 9 3", "prove"], 0, "may fail"),
     ([*QUESTION_LINES, "never", "open", "in register 0 whole 9 3", "up 0 0", "prove"], 0, "may fail"),
-    # Limits of the inputs are allowed anywhere, except in a text or after the last line.
+    # Limits on the inputs are allowed anywhere, except in a text or after the last line.
     *(([*lines, "prove"], 0, "holds 1") for line in LIMIT_LINES for lines in (
         [line, *QUESTION_LINES], [*QUESTION_LINES[:2], *BOARD, line, *PROGRAM], [*QUESTION_LINES, line, line])),
     *(([*QUESTION_LINES, "never", line, "in register 0 whole 0 0", "prove"], 0, "may fail") for line in LIMIT_LINES),

@@ -208,7 +208,7 @@ find_prover() {
     fi
 }
 
-# Finds the program to start. If there is none, prints the reason, and proves and builds it. `program` is empty if no program is for this
+# Finds the program to start. If there is none, prints the reason, and proves and builds it. `program` is empty if there is no program for this
 # system. A message informs each user once that the shipped program is used.
 find_or_build() {
     find_program
@@ -227,7 +227,7 @@ find_or_build() {
     fi
 }
 
-# Finds the program to start for a session file; exits with a message if no program is for this system.
+# Finds the program to start for a session file; exits with a message if there is none for this system.
 need_program() {
     find_or_build
     if [ -n "$program" ]; then return; fi

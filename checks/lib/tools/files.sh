@@ -4,7 +4,7 @@
 
 new_session session < $calculator/quotient.txt
 
-# Checks that tools report a folder for temporary files that is full.
+# Checks that tools report a full folder for temporary files.
 small_disk=$folder/small
 mkdir "$small_disk"
 if mount -t tmpfs -o size=64k tmpfs "$small_disk" 2> /dev/null; then
