@@ -124,7 +124,7 @@ def commented_files():
     return [path for name in names.split("\0") if name and is_commented(path := TOP / name)]
 
 
-def words_texts():
+def shown_texts():
     """Yields the file, the line and the words of each text that js/words can show. Replaces each value in a text with `VALUE`. Omits programs and
     keys."""
     for path in sorted((TOP / "js/words").glob("*.js")):

@@ -131,14 +131,14 @@ async function tryArrivals(name, label, register) {
   await client.event("stopped");
   const { breakpoints: [{ id }] } = await client.request("setFunctionBreakpoints", { breakpoints: [{ name: label }] });
   for (let stop = 0; stop < 40; stop++) await client.runUntilStop("continue");
-  const back = [];
+  const stopsBack = [];
   const ids = [];
   for (let stop = 0; stop < 20; stop++) {
     const { reason, hitBreakpointIds } = await client.runUntilStop("reverseContinue");
-    back.push(await machineState(client));
+    stopsBack.push(await machineState(client));
     ids.push([reason, ...(hitBreakpointIds || [])]);
   }
-  verdict(back, expected.slice(20, 40).reverse().map(comparableState), `${name}: back to 20 arrivals at ${label}`);
+  verdict(stopsBack, expected.slice(20, 40).reverse().map(comparableState), `${name}: back to 20 arrivals at ${label}`);
   verdict(ids.filter(([reason, hit]) => reason !== "function breakpoint" || hit !== id), [], `${name}: each stop is by that breakpoint`);
   const value = expected[10].r[register];
   const matching = expected.slice(1, 20).filter(({ r }) => r[register] === value).reverse();
@@ -253,9 +253,9 @@ async function tryMessages() {
   matches(longInputAnswer.message, /65536 characters/, "a console input of 16 MB");
   verdict(client.violations, [], "each message follows the protocol");
   verdict(await client.end(), 0, "the adapter's status after errors");
-  const other = new Client(MCS4);
-  other.sendBytes("GET / HTTP/1.1\r\n\r\n");
-  verdict([await other.ended, other.stderr.split(",")[0]], [1, "dap: a message begins with one line Content-Length: N"], "another protocol");
+  const httpClient = new Client(MCS4);
+  httpClient.sendBytes("GET / HTTP/1.1\r\n\r\n");
+  verdict([await httpClient.ended, httpClient.stderr.split(",")[0]], [1, "dap: a message begins with one line Content-Length: N"], "another protocol");
   const largeClient = new Client(MCS4);
   largeClient.sendBytes("Content-Length: 99999999999\r\n\r\n");
   const { message } = await largeClient.next(({ request_seq }) => request_seq === 0);

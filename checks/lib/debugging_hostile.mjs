@@ -6,8 +6,8 @@ import { Client } from "./dap_client.mjs";
 const TOP = new URL("../..", import.meta.url).pathname;
 const ADAPTER = `${TOP}mcs4`;
 const LOCK = { program: `${TOP}examples/lock/lock.asm`, board: `${TOP}examples/lock/board.toml` };
-const REQUESTS = 2000;
-const BATCH = 50;
+const REQUEST_COUNT = 2000;
+const BATCH_SIZE = 50;
 
 function verdict(actual, expected, description) {
   const [actualText, expectedText] = [JSON.stringify(actual), JSON.stringify(expected)];
@@ -105,9 +105,9 @@ function argumentsFor(command) {
  */
 async function sendAll(client, count) {
   const answerCounts = new Map();
-  for (let done = 0; done < count; done += BATCH) {
+  for (let done = 0; done < count; done += BATCH_SIZE) {
     const batch = [];
-    for (let n = 0; n < BATCH; n++) {
+    for (let n = 0; n < BATCH_SIZE; n++) {
       const command = oneOf(COMMANDS);
       client.number += 1;
       batch.push(client.number);
@@ -141,11 +141,11 @@ async function tryRequests() {
   client.send({ seq: 1, type: "response", request_seq: 1, success: true, command: "runInTerminal" });
   client.send({ seq: 1, type: "event", event: "nothing" });
   await client.request("initialize", { adapterID: "mcs4", supportsProgressReporting: true, supportsMemoryEvent: true });
-  verdict(await sendAll(client, REQUESTS / 4), [], "requests before launch are answered once");
+  verdict(await sendAll(client, REQUEST_COUNT / 4), [], "requests before launch are answered once");
   client.received = [];
   const { success } = await client.answer("launch", LOCK);
   if (success) await client.request("configurationDone");
-  verdict(await sendAll(client, REQUESTS), [], `${REQUESTS} requests with wrong arguments are answered once`);
+  verdict(await sendAll(client, REQUEST_COUNT), [], `${REQUEST_COUNT} requests with wrong arguments are answered once`);
   verdict(client.violations, [], "each message follows the protocol");
   verdict((await client.request("threads")).threads.length, 1, "the adapter continues");
   verdict([await client.end(), client.stderr], [0, ""], "the adapter's status");

@@ -137,10 +137,10 @@ async function tryRequestsAtOnce() {
   const shutdown = hastyClient.answer("shutdown");
   hastyClient.notify("exit");
   verdict([(await shutdown).error, await hastyClient.ended], [undefined, 0], "shutdown and exit in one chunk");
-  const large = new Client(MCS4);
-  large.sendBytes("Content-Length: 99999999999\r\n\r\n");
-  const { error } = await large.next(({ id }) => id === null);
-  verdict([error.code, await large.ended, large.stderr], [-32600, 1, `lsp: ${error.message}\n`], "a length that no message can have");
+  const largeClient = new Client(MCS4);
+  largeClient.sendBytes("Content-Length: 99999999999\r\n\r\n");
+  const { error } = await largeClient.next(({ id }) => id === null);
+  verdict([error.code, await largeClient.ended, largeClient.stderr], [-32600, 1, `lsp: ${error.message}\n`], "a length that no message can have");
 }
 
 /** Checks messages with wrong lengths: the server must print an error and end. Tries a length that is too small. Also tries a length that

@@ -14,7 +14,7 @@ const COUNT = ACCEPTED + REJECTED;
 /** The number of programs in one session. */
 const BATCH_SIZE = 50;
 const ALL_ROMS = `wire\n${[...Array(16).keys()].map((chip) => `[[rom]]\nchip = ${chip}\nport = "0000"\n`).join("")}.\n`;
-const LISTS = [...Array(16).keys()].map((page) => `list ${page * 256} 256\n`).join("");
+const LIST_ALL_ROM = [...Array(16).keys()].map((page) => `list ${page * 256} 256\n`).join("");
 
 const verdict = (isRight, description) => console.log(isRight ? `ok ${description}` : `failed: ${description}`);
 
@@ -32,7 +32,7 @@ function applyEdits(text, edits) {
  * of the whole ROM.
  */
 function answersTo(texts) {
-  const input = ALL_ROMS + texts.map((text) => `map\n${text}.\nasm\n${text}.\n${LISTS}`).join("");
+  const input = ALL_ROMS + texts.map((text) => `map\n${text}.\nasm\n${text}.\n${LIST_ALL_ROM}`).join("");
   const file = `${folder}/formatted.mcs`;
   rmSync(file, { force: true });
   return execFileSync(process.env.MCS4, ["new", file], { input, encoding: "latin1", maxBuffer: 1 << 28 });

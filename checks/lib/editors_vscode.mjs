@@ -151,13 +151,13 @@ function processorTime(pid) {
  * server. Checks that an edit takes less than 20 ms of processor time.
  */
 async function measureSpeed(client) {
-  const long = { uri: uriOf("long.asm") };
+  const longDocument = { uri: uriOf("long.asm") };
   const text = `start:\n${"LDM 5\n".repeat(2728)}NOP`;
-  client.notify("textDocument/didOpen", { textDocument: { ...long, languageId: "mcs4", version: 1, text } });
+  client.notify("textDocument/didOpen", { textDocument: { ...longDocument, languageId: "mcs4", version: 1, text } });
   const edit = async (turn, letter) => {
     const range = { start: { line: turn, character: 4 }, end: { line: turn, character: 5 } };
-    client.notify("textDocument/didChange", { textDocument: { ...long, version: turn + 1 }, contentChanges: [{ range, text: letter }] });
-    return (await client.request("textDocument/diagnostic", { textDocument: long })).items.length;
+    client.notify("textDocument/didChange", { textDocument: { ...longDocument, version: turn + 1 }, contentChanges: [{ range, text: letter }] });
+    return (await client.request("textDocument/diagnostic", { textDocument: longDocument })).items.length;
   };
   for (let turn = 1; turn <= 60; turn++) await edit(turn, "6");
   const times = [];

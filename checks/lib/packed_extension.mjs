@@ -45,9 +45,9 @@ function makeWorkspace() {
 
 /** Sets PATH to an empty folder, and removes the environment variables that could lead to Fethsaim. Checks that mcs4 cannot be started. */
 function hideInstallation() {
-  const bare = join(parent, "nothing");
-  mkdirSync(bare);
-  process.env.PATH = bare;
+  const emptyFolder = join(parent, "nothing");
+  mkdirSync(emptyFolder);
+  process.env.PATH = emptyFolder;
   for (const name of ["MCS4", "MCS4_PROVE", "HOME", "XDG_CACHE_HOME"]) delete process.env[name];
   verdict(spawnSync("mcs4", ["version"]).error?.code, "ENOENT", "mcs4 cannot be started");
 }

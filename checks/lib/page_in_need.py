@@ -189,7 +189,7 @@ def check_calculator_works(browser, description):
     eventually(browser, "the bench works despite the missing feature", GET_DIGITS, "42")
 
 
-def check_poor_browsers(browser, page, folder):
+def check_missing_features(browser, page, folder):
     """Checks that the page shows only a notice if WebAssembly lacks bulk memory, and that it works without a store of sessions or without locks."""
     verdict("the notice about a browser without bulk memory", notice_after_reopening(browser, page_without_feature(page, folder, "WebAssembly.validate = () => false")),
             re.compile(r"This browser has no WebAssembly with bulk memory.*97.*102.*16"))
@@ -320,4 +320,4 @@ def check_failures_and_missing_features(browser, page, folder):
     check_long_work(browser, page)
     check_unfinished_opening(browser, page, folder)
     check_failures(browser, page, folder)
-    check_poor_browsers(browser, page, folder)
+    check_missing_features(browser, page, folder)

@@ -286,11 +286,11 @@ def make_link(name, board, program):
 def check_foreign_links(browser, page):
     """Checks that a link that would make the page hang is rejected, and that names from links are shortened and cannot mislead the user."""
     names = [f"n{number}" for number in range(12000)]
-    hanging = f"# lamp 0: {' '.join(names)}\n# grid 0: {' '.join(f'-{name}' for name in names)}\n"
+    hanging_board = f"# lamp 0: {' '.join(names)}\n# grid 0: {' '.join(f'-{name}' for name in names)}\n"
     texts_before = browser.script(GET_TEXTS)
-    open_link(browser, page, make_link("a clock", hanging, ""))
+    open_link(browser, page, make_link("a clock", hanging_board, ""))
     eventually(browser, "a link with a text that is too long is rejected with a message", GET_NOTICE, re.compile(
-        rf"^Cannot open the link: the board's text has {len(hanging):,} characters; at most 65,536 are accepted\. Nothing was changed\.$"))
+        rf"^Cannot open the link: the board's text has {len(hanging_board):,} characters; at most 65,536 are accepted\. Nothing was changed\.$"))
     verdict("the texts are unchanged", browser.script(GET_TEXTS), texts_before)
     board = f"# title: {'long words ' * 20}\n# lamp 0: {' '.join(names[:400])}\n# grid 0: {' '.join(f'-{number}' for number in range(600))}\n"
     open_link(browser, page, make_link("\u202etxe\u2066\t" + "name " * 900, board, ""))

@@ -239,10 +239,10 @@ def key_waiting_question(rng: random.Random, wiring: Wiring) -> Question:
     program += [" FIM P6, 0x10", " SRC P6", "loop: CLB", f" XCH R{register}"]
     for n in range(rng.choice([1, 1, 2])):
         column = rng.randrange(len(wiring.columns))
-        to_carry = (int(wiring.columns[column][-1]) + 1) * [" RAR"]
+        rotate_to_carry = (int(wiring.columns[column][-1]) + 1) * [" RAR"]
         if rng.random() < 0.85:
-            program += [f"up{n}: RDR", *to_carry, f" JCN 2, up{n}"]
-        program += [f"down{n}: RDR", *to_carry, f" JCN 10, down{n}"]
+            program += [f"up{n}: RDR", *rotate_to_carry, f" JCN 2, up{n}"]
+        program += [f"down{n}: RDR", *rotate_to_carry, f" JCN 10, down{n}"]
         marks += [("up", row, column), ("down", row, column)]
     if rng.random() < 0.3:
         marks[rng.randrange(len(marks))] = (rng.choice(["up", "down"]), rng.randrange(wiring.rows), rng.randrange(len(wiring.columns)))

@@ -360,10 +360,10 @@ class Run:
                      for check in [*self.checks, GATE] if check in self.waiting or check.label in elapsed_seconds}
         check_seconds = sum(seconds for check, seconds in remaining.items() if check is not GATE) / min(self.processors, max(len(remaining), 1))
         names = ", ".join(name for name in elapsed_seconds if name != GATE.label)
-        gate = f"gate {self.gate.passed} of {self.gate.crates} crates, " if self.gate and not self.gate.is_over else ""
+        gate_text = f"gate {self.gate.passed} of {self.gate.crates} crates, " if self.gate and not self.gate.is_over else ""
         finished_count = sum(check is not GATE for check in self.ended)
         minutes = max(check_seconds, remaining.get(GATE, 0)) / 60
-        line = f"{gate}checks {finished_count} of {len(self.checks)} done, running: {names or 'none'}, about {minutes:.0f} min left"
+        line = f"{gate_text}checks {finished_count} of {len(self.checks)} done, running: {names or 'none'}, about {minutes:.0f} min left"
         print(f"\r\033[K{line[: shutil.get_terminal_size().columns - 1]}", end="", flush=True)
 
     def write_totals(self):
@@ -441,8 +441,8 @@ def main():
         for running in run.running:
             end_processes(running.mark)
         ended = sum(check is not GATE for check in run.ended)
-        gate = f", and the gate {run.gate.passed} of {run.gate.crates} crates" if run.gate else ""
-        print(f"test: stopped. {ended} of {len(run.checks)} checks had ended{gate}: {run.passed} passed, {run.failed} failed so far", flush=True)
+        gate_text = f", and the gate {run.gate.passed} of {run.gate.crates} crates" if run.gate else ""
+        print(f"test: stopped. {ended} of {len(run.checks)} checks had ended{gate_text}: {run.passed} passed, {run.failed} failed so far", flush=True)
         return 130
     run.write_totals()
     store_times(arguments.mode, run.times)

@@ -14,7 +14,7 @@ import struct
 from collections.abc import Callable
 from typing import NamedTuple
 
-MAGIC, OPTION_MAGIC, REPLY_MAGIC, REQUEST_ANSWER = 0x4E42444D41474943, 0x49484156454F5054, 0x3E889045565A9, 0x67446698
+MAGIC, OPTION_MAGIC, REPLY_MAGIC, ANSWER_MAGIC = 0x4E42444D41474943, 0x49484156454F5054, 0x3E889045565A9, 0x67446698
 FIXED_NEWSTYLE_NO_ZEROES = 3
 # NBD option codes, the kinds of their replies, and the contents of a reply with information.
 ABORT, INFO, GO = 2, 6, 7
@@ -166,7 +166,7 @@ class Connection:
     def answer(self, handle: int, data: bytes = b"") -> None:
         """Sends the answer to a request, which QEMU identifies by `handle`. `data` is the data of a read."""
         self.channel.setblocking(True)
-        self.channel.sendall(struct.pack(">IIQ", REQUEST_ANSWER, 0, handle) + data)
+        self.channel.sendall(struct.pack(">IIQ", ANSWER_MAGIC, 0, handle) + data)
 
     def queue_answer(self, kind: str, handle: int, disk: Disk) -> None:
         """Adds a write or a flush to the unanswered requests. Unless the disk is late, answers one of these immediately. `kind` is the kind of the

@@ -47,8 +47,8 @@ def check_durable_after_flush() -> bool:
     the next flush."""
     first_events = [write_event(1, 0, A), event_of("wrote", 1), write_event(2, SECTOR, B), event_of("flush", 3), event_of("wrote", 2), event_of("flushed", 3)]
     later_events = [write_event(4, 0, C), event_of("flush", 5), event_of("flushed", 5)]
-    is_at_the_end = history_of(first_events + later_events[:2]).durable_at() == {1: 6}
-    return is_at_the_end and history_of(first_events).durable_at() == {1: 6} and history_of(first_events + later_events).durable_at() == {1: 6, 2: 9}
+    is_durable_at_end = history_of(first_events + later_events[:2]).durable_at() == {1: 6}
+    return is_durable_at_end and history_of(first_events).durable_at() == {1: 6} and history_of(first_events + later_events).durable_at() == {1: 6, 2: 9}
 
 
 def check_new_or_old_sectors() -> bool:
@@ -64,7 +64,7 @@ def check_atomic_blocks() -> bool:
     return {data for data, _ in images} == {OLD + OLD, A + B}
 
 
-def check_writes_at_one_place() -> bool:
+def check_writes_to_one_sector() -> bool:
     """Checks two writes to the same sector. An image has the later write, or only the earlier one. When both are durable, it has the later one."""
     events = [write_event(1, 0, A), event_of("wrote", 1), write_event(2, 0, B), event_of("wrote", 2)]
     pending_images = images_of(history_of(events), SECTOR)
@@ -103,7 +103,7 @@ def check_permanent_images() -> bool:
     return is_old and disk.bytes[:SECTOR] == B and disk.undo is None
 
 
-CHECKS = (check_durable_after_flush, check_new_or_old_sectors, check_atomic_blocks, check_writes_at_one_place, check_command_bounds,
+CHECKS = (check_durable_after_flush, check_new_or_old_sectors, check_atomic_blocks, check_writes_to_one_sector, check_command_bounds,
           check_command_bounds_of_copy, check_permanent_images)
 
 
