@@ -47,8 +47,8 @@ def check_durable_after_flush() -> bool:
     the next flush."""
     first_events = [write_event(1, 0, A), event_of("wrote", 1), write_event(2, SECTOR, B), event_of("flush", 3), event_of("wrote", 2), event_of("flushed", 3)]
     later_events = [write_event(4, 0, C), event_of("flush", 5), event_of("flushed", 5)]
-    is_durable_at_end = history_of(first_events + later_events[:2]).durable_at() == {1: 6}
-    return is_durable_at_end and history_of(first_events).durable_at() == {1: 6} and history_of(first_events + later_events).durable_at() == {1: 6, 2: 9}
+    is_durable = history_of(first_events + later_events[:2]).durable_at() == {1: 6}
+    return is_durable and history_of(first_events).durable_at() == {1: 6} and history_of(first_events + later_events).durable_at() == {1: 6, 2: 9}
 
 
 def check_new_or_old_sectors() -> bool:
