@@ -342,7 +342,7 @@ export class ClientBreakpoints {
       if (condition) commonMistakes.conditions.set(mistake, condition);
       return error ? { verified: false, message: stopsEachTime(errorInColumn(error, column)) } : { verified: true };
     });
-    // The debugger checks every instruction only in pieces of at most MAX_CYCLES_PER_CALL cycles.
+    // The debugger checks every instruction for mistakes only if a piece has at most MAX_CYCLES_PER_CALL cycles.
     if (session.maxPieceCycles >= MAX_CYCLES_PER_CALL) {
       session.maxPieceCycles = commonMistakes.stoppingKinds.size > 0 ? MAX_CYCLES_PER_CALL : MAX_PIECE_CYCLES;
     }

@@ -91,8 +91,9 @@ export class DebugAdapter {
     /** The client's number of the first line and of the first column: 0 or 1. */
     this.firstLine = 1;
     this.firstColumn = 1;
-    /** True if the client supports the event `invalidated` or `memory`. */
+    /** True if the client supports the event `invalidated`. */
     this.supportsInvalidatedEvent = false;
+    /** True if the client supports the event `memory`. */
     this.supportsMemoryEvent = false;
     this.progress = new Progress((event, body) => connection.sendEvent(event, body));
     this.moves = new MoveHandlers(this);

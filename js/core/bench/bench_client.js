@@ -27,7 +27,7 @@ import { WorkerDiedError, unpackError } from "./bench_errors.js";
  */
 
 /**
- * A client that can send the requests in `Part`, a subset of `Requests`: those that one module uses.
+ * A client that can send the requests in `Part`, which is the subset of `Requests` that one module uses.
  * @template Part
  * @typedef {{ call<Name extends CallName & keyof Part>(name: Name, parameters: Parameters<Requests[Name]>, options?: CallOptions):
  *   Promise<Awaited<ReturnType<Requests[Name]>>> }} Caller

@@ -282,7 +282,7 @@ export class SoftStopFinder {
   }
 
   /**
-   * Restores the counts from before typed lines. Called if the lines fail, because the counted events did not happen.
+   * Restores the counts that a caller saved before typed lines. Called if the lines fail, because the counted events did not happen.
    * @param {number[]} counts
    */
   restoreCounts(counts) {

@@ -502,8 +502,8 @@ export class Debugger {
   }
 
   /**
-   * Replaces the state of the session with the state at another moment, but keeps the current breakpoints. Returns a part of the result of
-   * a move.
+   * Replaces the state of the session with the state at another moment, but keeps the current breakpoints. Returns part of the result of
+   * the move.
    * @param {Present} present
    */
   enterMoment(present) {

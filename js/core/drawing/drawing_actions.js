@@ -320,7 +320,7 @@ export function reasonNotToAdd(text, part) {
 /**
  * Returns whether the page and the bench read the same board from a text. If not, the board editor cannot edit the text.
  * @param {string} text
- * @param {string[]} answers the answer to `board` after the bench has wired the text
+ * @param {string[]} answers the bench's answer to `board` after `wire` with the text
  */
 export function matchesBench(text, answers) {
   return new EditedBoard(text).draft.matchesAnswers(answers);
