@@ -336,8 +336,9 @@ export class ClientBreakpoints {
     const answers = exceptionFilters.map(({ kind, condition: text }) => {
       if (!Object.prototype.hasOwnProperty.call(KINDS, kind)) return { verified: false, message: say.noFilterMessage(kind) };
       const mistake = /** @type {MistakeKind} */ (kind);
-      const isAlways = text.trim() === "";
-      const { condition, error, column } = isAlways ? { condition: null, error: "", column: -1 } : compileCondition(text, session.names);
+      const isUnconditional = text.trim() === "";
+      const { condition, error, column } = isUnconditional ? { condition: null, error: "", column: -1 }
+        : compileCondition(text, session.names);
       commonMistakes.stoppingKinds.add(mistake);
       if (condition) commonMistakes.conditions.set(mistake, condition);
       return error ? { verified: false, message: stopsEachTime(errorInColumn(error, column)) } : { verified: true };

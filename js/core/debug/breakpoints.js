@@ -267,9 +267,9 @@ export class BreakpointList {
    * @param {[number, number][]} hits pairs of a breakpoint id and its number of new hits
    */
   count(hits) {
-    for (const [id, more] of hits) {
+    for (const [id, newHits] of hits) {
       const breakpoint = this.get(id);
-      if (breakpoint) breakpoint.hits += more;
+      if (breakpoint) breakpoint.hits += newHits;
     }
   }
 

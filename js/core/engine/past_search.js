@@ -69,7 +69,7 @@ export function searchResult(fields) {
  */
 async function findLastInstruction(engine, timeline, shouldContinue) {
   for (const cycles of [1, 2]) {
-    const moment = timeline.before(cycles);
+    const moment = timeline.momentBefore(cycles);
     if (!moment) break;
     const present = await timeline.sessionAt(engine, moment, shouldContinue);
     if (readCounter(engine.ask(present.file, "regs\n").answers[0]).owed === "0") return searchResult({ moment, present });
@@ -161,7 +161,7 @@ export async function searchPast(engine, timeline, finder, shouldContinue) {
       const { entries } = timeline.segments[to.segment - 1];
       to = { segment: to.segment - 1, entry: entries.length, cycles: 0 };
     }
-    const requestedStart = timeline.before(size, to);
+    const requestedStart = timeline.momentBefore(size, to);
     const from = requestedStart && requestedStart.segment === to.segment ? requestedStart : { segment: to.segment, entry: 0, cycles: 0 };
     finder.begin(await timeline.sessionAt(engine, from, shouldContinue));
     /** @type {BackSearchResult | null} */
