@@ -48,8 +48,8 @@ export class Console {
    * @param {Machine} machine
    * @param {ExpressionContext} context
    * @param {ErrorMessages} errorMessages the messages for the error numbers of the bench
-   * @param {{ handleBreakpointChange: () => void, handleRomChange: () => void }} callbacks for after a line has changed breakpoints
-   *   or watches, and for after a line has changed ROM
+   * @param {{ handleBreakpointChange: () => void, handleRomChange: () => void }} callbacks called after a line has changed
+   *   breakpoints or watches, and after a line has changed ROM
    */
   constructor(machine, context, errorMessages, callbacks) {
     this.callbacks = callbacks;
