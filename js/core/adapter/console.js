@@ -95,7 +95,7 @@ export class Console {
     try {
       return textResult(evaluateExpression(line, this.context, base));
     } catch (thrown) {
-      return fail(say.seeHelp(errorMessage(thrown)));
+      return fail(say.withHelpHint(errorMessage(thrown)));
     }
   }
 

@@ -431,7 +431,7 @@ export class DebugAdapter {
     if (context !== "repl") return machine.runWhenFree(() => queryHandlers.evaluate(expression, context, base));
     const task = this.progress.createTask(say.RUNNING_LINES, () => { pending.isCancelled = true; });
     const shouldContinue = async (/** @type {number} */ done) => {
-      task.reportIfDue(() => say.charactersOf(done, expression.length));
+      task.reportIfDue(() => say.characterProgress(done, expression.length));
       await this.host.pause();
       return !pending.isCancelled;
     };

@@ -40,7 +40,7 @@ function placeValue(text, { session, face }, base) {
   const place = parsePlace(name);
   const value = place ? session.values([name])[0] : "";
   if (value === "" || !place) return "";
-  if (place.name.startsWith("lamp ")) return say.lampIs(value === "*");
+  if (place.name.startsWith("lamp ")) return say.lampState(value === "*");
   if (HEX_PLACES.test(place.name)) return convertToBase(`0x${value}`, base);
   return MARK_PLACES.test(place.name) ? value : formatInBase(Number(value), base);
 }

@@ -22,10 +22,10 @@ import { cannotBeSetMessage, errorInColumn } from "../../words/conditions.js";
 export function evaluateNumber(text, session, startColumn = 0) {
   // A client can send a displayed value with its suffix, such as `0x012, line 9`.
   const valueText = text.trim().replace(/^(\w+),.*$/, "$1");
-  if (valueText === "") throw new AdapterError(say.noNumberMessage(say.NOTHING));
+  if (valueText === "") throw new AdapterError(say.notANumberMessage(say.NOTHING));
   const { expression, error, column } = compileExpression(valueText, session.names);
   if (!expression) throw new AdapterError(errorInColumn(error, startColumn + column));
-  if (!expression.number) throw new AdapterError(say.noNumberMessage(valueText));
+  if (!expression.number) throw new AdapterError(say.notANumberMessage(valueText));
   return expression.number(session.debugger.readPlaces(expression.places));
 }
 
@@ -45,7 +45,7 @@ function assignmentLines(place, text, session, startColumn = 0) {
     return `${keyLine(word === say.DOWN ? "press" : "release", key)}\n`;
   }
   const value = evaluateNumber(text, session, startColumn);
-  if (value < 0 || value > maxPlaceValue(place)) throw new AdapterError(say.valueRange(place, maxPlaceValue(place)));
+  if (value < 0 || value > maxPlaceValue(place)) throw new AdapterError(say.valueRangeMessage(place, maxPlaceValue(place)));
   return settingLines(place, value);
 }
 

@@ -274,7 +274,7 @@ function checkRom(session, engine, { program, session: file }, messages) {
   if (refusal) throw refusalError(program, refusal, messages);
   const differenceText = describeDifference(session);
   if (differenceText === "") return;
-  const message = say.notInRomOfMessage(baseName(program), baseName(file), differenceText);
+  const message = say.differsFromRomMessage(baseName(program), baseName(file), differenceText);
   throw new AdapterError(say.loadHint(message), true);
 }
 

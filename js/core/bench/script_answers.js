@@ -92,7 +92,7 @@ class AnswerMatcher {
     const [word, count] = firstLine.split(" ");
     if (!canBeginAnswer(input, firstLine)) this.message = messageAt(start);
     else if (word === "ok" && Number(count) !== this.commandCount + 1) {
-      this.message = say.wrongCommandCount(messageAt(start), this.commandCount);
+      this.message = say.wrongCommandCountMessage(messageAt(start), this.commandCount);
     }
     if (this.message !== "") return "";
     if (word === "ok") this.commandCount += 1;
@@ -120,5 +120,5 @@ export function matchScriptAnswers(script, answers) {
   const matcher = new AnswerMatcher(answers);
   const answeredInputs = inputs.map(({ input, lineNumber }) => ({ input, lineNumber, answer: matcher.takeAnswer(input, lineNumber) }));
   const { message, isDone, nextIndex } = matcher;
-  return { inputs: answeredInputs, message: message || (isDone ? "" : say.afterLastAnswer(nextIndex + 1, answers[nextIndex])) };
+  return { inputs: answeredInputs, message: message || (isDone ? "" : say.extraAnswerMessage(nextIndex + 1, answers[nextIndex])) };
 }

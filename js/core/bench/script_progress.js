@@ -108,7 +108,7 @@ export async function compareWithScript(engine, state, script, yieldToMessages) 
   const lineCount = countLinesUpTo(inputs, commandCount);
   if (lineCount < 0) {
     const acceptedCount = inputs.filter(({ answer }) => answer.startsWith("ok ")).length;
-    return { lineCount: 0, message: say.acceptedMore(commandCount, acceptedCount), differingLines: [] };
+    return { lineCount: 0, message: say.tooManyCommandsMessage(commandCount, acceptedCount), differingLines: [] };
   }
   const partialScript = script.split("\n").slice(0, lineCount).map((line) => `${line}\n`).join("");
   const partialRun = await serveScript(engine, partialScript, yieldToMessages);

@@ -69,7 +69,7 @@ function checkRange(value, node, required) {
   if (value.isConstant || !required.isConstant) return;
   const number = required.read([]);
   if (number <= value.maxValue) return;
-  fail(say.valueRange(value.name, value.maxValue, node.kind === "number" ? node.text : say.valueIs(node.text, number)), node.column);
+  fail(say.valueRangeMessage(value.name, value.maxValue, node.kind === "number" ? node.text : say.valueIs(node.text, number)), node.column);
 }
 
 /**

@@ -158,7 +158,7 @@ export function compileCycles(words, names, dependencies) {
   return {
     address: -1,
     matches: (_, extraValues) => matches(extraValues.cycles),
-    explain: (_, extraValues, isNot) => say.otherCyclesPassed(extraValues.cycles, required, isNot),
+    explain: (_, extraValues, isNot) => say.wrongCycleCountMessage(extraValues.cycles, required, isNot),
   };
 }
 

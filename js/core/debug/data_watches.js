@@ -231,8 +231,8 @@ function splitLine(plannedLine) {
 }
 
 /**
- * Finds, in advance, the stops at soft breakpoints (arrivals.js) and at data watches. The earliest stop ends the run. Callers use an object
- * of this class like an `Arrivals` object.
+ * Finds, in advance, the stops at soft breakpoints (arrivals.js) and at data watches. The earliest stop ends the run. A caller can use it
+ * in place of an `Arrivals` object.
  */
 export class SoftStopFinder {
   /**

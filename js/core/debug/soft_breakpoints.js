@@ -62,7 +62,7 @@ export function compileNote(text, names) {
     if (!match) return () => piece;
     const { note, error: bracesError, column } = compileBracedText(match[1], names);
     if (!note) {
-      error = error || errorInColumn(say.noteAsks(piece, bracesError), pieceStart + 1 + column);
+      error = error || errorInColumn(say.noteErrorMessage(piece, bracesError), pieceStart + 1 + column);
       return () => piece;
     }
     const from = places.length;

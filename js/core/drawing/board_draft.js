@@ -30,7 +30,7 @@ export class BoardDraft {
   constructor(text) {
     this.text = text;
     this.lines = text.split("\n");
-    /** The offset of the start of each line in the text, and then the text length + 1. */
+    /** The start offset of each line, followed by the length of the text + 1. */
     this.lineOffsets = [0];
     for (const line of this.lines) this.lineOffsets.push(this.lineOffsets[this.lineOffsets.length - 1] + line.length + 1);
     const { entries, keys, errors } = readBoardText(text);

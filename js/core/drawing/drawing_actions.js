@@ -196,7 +196,7 @@ function renamePart(editedBoard, part, name) {
     if (!board.buzzer || name.trim() === "") throw new ImpossibleAction(say.BUZZER_NEEDS_NAME);
     editedBoard.edit(setLineText(draft, "buzzer", board.buzzer, name));
   } else if (["rom", "ram", "chain"].includes(kind)) editedBoard.edit(setLineText(draft, "port", part.replace(" ", ""), name));
-  else throw new ImpossibleAction(say.NO_OWN_NAME);
+  else throw new ImpossibleAction(say.CANNOT_BE_NAMED);
 }
 
 /**
@@ -251,13 +251,13 @@ function perform(editedBoard, action) {
       return [action.target, say.lineWired(action.line, targetName(action.target))];
     case "port":
       setLineMode(editedBoard, action.line, action.mode);
-      return [action.line, say.lineIs(action.line, action.mode === "i" ? say.INPUT : say.outputReadsAs(action.mode))];
+      return [action.line, say.lineDirectionSet(action.line, action.mode === "i" ? say.INPUT : say.outputReadsAs(action.mode))];
     case "chips":
-      return [setChips(editedBoard, action.chain, action.chips), say.chainHas(action.chain, formatQuantity(action.chips, "chip"))];
+      return [setChips(editedBoard, action.chain, action.chips), say.chainResized(action.chain, formatQuantity(action.chips, "chip"))];
     case "rows":
       if (board.matrix && action.rows < board.matrix.rows) deletePart(editedBoard, `row ${action.rows}`);
       else setRows(editedBoard, action.rows);
-      return ["keys", say.keysHave(formatQuantity(action.rows, "row"))];
+      return ["keys", say.keyRowsSet(formatQuantity(action.rows, "row"))];
     case "column": return [addColumn(editedBoard), say.MORE_COLUMNS];
     case "delete": {
       const message = deletePart(editedBoard, action.part);
@@ -268,7 +268,7 @@ function perform(editedBoard, action) {
       return [action.part, say.partNamed(capitalize(displayedPartName(action.part)), action.name.trim())];
     case "colour":
       setColour(editedBoard, action.lamp, action.colour);
-      return [`lamp ${action.lamp}`, say.lampIs(action.lamp, action.colour || say.USUAL_RED)];
+      return [`lamp ${action.lamp}`, say.lampColoured(action.lamp, action.colour || say.USUAL_RED)];
   }
 }
 
@@ -299,7 +299,7 @@ export function applyAction(text, action) {
     const [part, message] = perform(editedBoard, action);
     const panelError = findNewPanelError(text, editedBoard.text);
     if (panelError) return { ...unchangedResult, refusal: panelError };
-    const addedPartsText = editedBoard.addedParts.length > 0 ? say.withAlso(say.listOf(editedBoard.addedParts)) : "";
+    const addedPartsText = editedBoard.addedParts.length > 0 ? say.withAddedParts(say.listOf(editedBoard.addedParts)) : "";
     const { edits, deletedChains } = editedBoard;
     return { edits, text: editedBoard.text, part, message: `${message}${addedPartsText}.`, deletedChains, refusal: "" };
   } catch (error) {

@@ -224,7 +224,7 @@ function targetForm(board, target) {
   const name = targetName(target);
   const title = name.charAt(0).toUpperCase() + name.slice(1);
   const part = kind === "row" || kind === "column" ? "keys" : `chain ${number}`;
-  return { title, part, fields: [lineField(board, target, say.IT_IS)], buttons: canDelete ? [deleteButton(target)] : [] };
+  return { title, part, fields: [lineField(board, target, say.LOCATION_LABEL)], buttons: canDelete ? [deleteButton(target)] : [] };
 }
 
 /**

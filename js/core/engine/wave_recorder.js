@@ -47,7 +47,7 @@ import { copyWithoutStops } from "./free_running_copy.js";
 class WaveRecorder {
   /**
    * @param {Engine} engine
-   * @param {Uint8Array} file the session file to run; changed
+   * @param {Uint8Array} file the session file to run; modified in place
    * @param {Texts} texts
    */
   constructor(engine, file, texts) {

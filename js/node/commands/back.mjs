@@ -27,7 +27,7 @@ async function acquireLock(session) {
     once(child.stdout, "data").then(() => true), once(child, "close").then(([status]) => status),
   ]).catch(() => null);
   if (lockResult === null) throw new CommandError(say.NO_FLOCK);
-  if (lockResult === LOCKED_STATUS) throw new CommandError(say.usedByAnother(session));
+  if (lockResult === LOCKED_STATUS) throw new CommandError(say.usedByAnotherProgramMessage(session));
   if (lockResult !== true) throw new CommandError(say.cannotWriteMessage(session));
   return async () => {
     child.stdin.end();

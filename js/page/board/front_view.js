@@ -116,7 +116,7 @@ export class FrontView {
   drawErrors(board, face) {
     const errors = sortByLine([...face.errors, ...missingParts(face, board)]);
     const root = block("face-faults");
-    const messages = errors.slice(0, MAX_LISTED_ERRORS).map(({ line, message }) => say.lineOfBoard(line, message));
+    const messages = errors.slice(0, MAX_LISTED_ERRORS).map(({ line, message }) => say.boardErrorInLine(line, message));
     const footnote = moreErrorsMessage(errors, MAX_LISTED_ERRORS);
     root.replaceChildren(...[...messages, footnote].filter(Boolean).map((message) => element("li", {}, message)));
     root.hidden = errors.length === 0;
