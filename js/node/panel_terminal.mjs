@@ -52,7 +52,7 @@ export class PanelTerminal {
   constructor() {
     const { stdin, stdout, env } = process;
     if (!stdin.isTTY || !stdout.isTTY) throw new CommandError(say.NO_TERMINAL);
-    if (isDumb(env)) throw new CommandError(say.isDumbMessage(env.TERM || ""));
+    if (isDumb(env)) throw new CommandError(say.unsuitableTerminalMessage(env.TERM || ""));
     this.input = stdin;
     this.output = stdout;
     if (!fitsPanel(this.size)) throw new CommandError(say.tooSmallMessage(MIN_SIZE_TEXT, this.size.columns, this.size.rows));

@@ -95,7 +95,7 @@ export class RejectedLines {
    */
   createReport(inputs, openingLine) {
     const openingRefusal = parseRefusal(openingLine);
-    const lines = openingRefusal ? [say.sessionWasRefusedBy(openingRefusal.number, describeRefusal(openingRefusal.number))] : [];
+    const lines = openingRefusal ? [say.rejectedWithNumber(openingRefusal.number, describeRefusal(openingRefusal.number))] : [];
     if (openingLine === "session 0") this.boardText = "";
     for (const [index, answeredInput] of inputs.entries()) {
       const { input, lineNumber, answer } = answeredInput;

@@ -1,5 +1,5 @@
 // A connection of the debug adapter protocol (DAP). It receives requests, and sends responses and events. The first request must be
-// `initialize`. The connection handles requests one after another, in the order of arrival. It handles only `cancel` at once.
+// `initialize`. The connection handles requests one after another, in the order of arrival. Only `cancel` is handled at once.
 
 import { CancelledError } from "../bench/bench_errors.js";
 import { getField } from "../server/framing.js";
@@ -42,7 +42,7 @@ export class AdapterConnection extends MessageStream {
     /** @type {Set<PendingRequest>} the requests that have no response yet, both queued and running */
     this.pendingRequests = new Set();
     /** @type {(id: string) => void} stops the task with a progress id */
-    this.stopTask = (id) => fail(say.noProgressMessage(id));
+    this.stopTask = (id) => fail(say.unknownProgressIdMessage(id));
   }
 
   /** @param {string} message */
@@ -98,7 +98,7 @@ export class AdapterConnection extends MessageStream {
       const errorText = this.lifecycleError(command);
       if (errorText) throw new AdapterError(errorText);
       const handler = Object.prototype.hasOwnProperty.call(this.requests, command) && this.requests[command];
-      if (!handler) throw new AdapterError(say.noCommandMessage(command));
+      if (!handler) throw new AdapterError(say.unsupportedRequestMessage(command));
       const result = await handler(args, pending);
       if (command === "initialize") this.isOpen = true;
       const body = result instanceof ResponseWithFollowUp ? result.body : result;

@@ -75,7 +75,7 @@ export class QueryHandlers {
 
   /** @param {any} args */
   sourceText(args) {
-    if (!this.isProgram(getField(args, "source") || args)) fail(say.oneSource(this.programName));
+    if (!this.isProgram(getField(args, "source") || args)) fail(say.onlySourceMessage(this.programName));
     return { content: this.session.program, mimeType: "text/x-asm" };
   }
 
@@ -231,7 +231,7 @@ export class QueryHandlers {
     const startAddress = addressOf(needText(args, "memoryReference")) + needNumber(args, "offset", 0);
     const count = needNumber(args, "instructionCount");
     if (!(startAddress >= 0 && startAddress <= LAST_ADDRESS)) fail(say.ADDRESSES_ARE);
-    if (!(count >= 0 && count <= MAX_ROWS)) fail(say.instructionCountRange(MAX_ROWS));
+    if (!(count >= 0 && count <= MAX_ROWS)) fail(say.instructionCountRangeMessage(MAX_ROWS));
     // Clients cannot read negative addresses, so the response omits rows before ROM.
     const rows = listInstructionRows(this.session, startAddress, needNumber(args, "instructionOffset", 0), count)
       .filter(({ address }) => address >= 0);
@@ -268,8 +268,8 @@ export class QueryHandlers {
  */
 function formatFrameName(name, isHex) {
   if (isHex === null) return name;
-  const [, label, more] = /^(.* \+ )(\d+)$/.exec(name) || [];
-  if (label) return label + formatInBase(Number(more), isHex ? "hex" : "decimal");
+  const [, label, offset] = /^(.* \+ )(\d+)$/.exec(name) || [];
+  if (label) return label + formatInBase(Number(offset), isHex ? "hex" : "decimal");
   return /^[0-9A-F]{3}$/.test(name) ? convertToBase(`0x${name}`, isHex ? "hex" : "decimal") : name;
 }
 

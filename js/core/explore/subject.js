@@ -27,7 +27,7 @@ export class RejectedTextError extends Error {
    * @param {import("../bench/answers.js").Refusal} refusal
    */
   constructor(textName, { number, line }) {
-    super(say.isRefusedMessage(textName, number, line ? `, line ${line}` : ""));
+    super(say.textRejectedMessage(textName, number, line ? `, line ${line}` : ""));
     this.textName = textName;
     this.number = number;
     this.line = line;

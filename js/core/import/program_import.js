@@ -114,7 +114,7 @@ class ProgramImport {
    */
   recordDefinition({ label, isLong }, number) {
     this.attemptLine(number, () => {
-      if (isLong) throw new LineError(say.longLine(MAX_CODE_LENGTH));
+      if (isLong) throw new LineError(say.lineTooLongMessage(MAX_CODE_LENGTH));
       if (label === "") return;
       const name = upperCase(label);
       const definingLine = this.definingLines.get(name);
@@ -283,7 +283,7 @@ class ProgramImport {
     const operandPair = kinds.length > 1 && parts.length === 1 ? /^([^ \t]+)[ \t]+(.+)$/.exec(operand) : null;
     if (operandPair) parts = [operandPair[1], operandPair[2]];
     if (word === "BBL" && parts.length === 0) parts = ["0"];
-    if (parts.length !== kinds.length) throw new LineError(say.operandCount(word, kinds.length));
+    if (parts.length !== kinds.length) throw new LineError(say.wrongOperandCountMessage(word, kinds.length));
     return [word, kinds.map((kind, at) => this.convertOperand(kind, parts[at])).join(", ")].filter(Boolean).join(" ");
   }
 

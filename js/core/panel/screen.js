@@ -117,7 +117,7 @@ export class Screen {
   /** Returns the rows above RAM, the front panel and the listing, as texts. */
   buildTopRows() {
     const { panel, title, name } = this;
-    const state = panel.isPaused ? say.paused(panel.pauseReason) : say.RUNNING;
+    const state = panel.isPaused ? say.pausedState(panel.pauseReason) : say.RUNNING;
     const titleRow = say.headLine(title, name, panel.snapshot.commandCount, state);
     return [titleRow, ...this.buildDisplayRows(), ...this.buildRegisterRows(), this.formatSourceLine()];
   }
@@ -129,7 +129,7 @@ export class Screen {
     const { display } = snapshot;
     const [number] = display.split(" ");
     const [first, ...otherRows] = largeDigitRows(number.slice(0, MAX_LARGE_CHARACTERS));
-    return [`${first.padEnd(LARGE_WIDTH)} ${say.display(escapeControls(display))}`, ...otherRows];
+    return [`${first.padEnd(LARGE_WIDTH)} ${say.displayLine(escapeControls(display))}`, ...otherRows];
   }
 
   /** Returns the three rows with the lamps, the registers, and the register pairs. */
@@ -141,7 +141,7 @@ export class Screen {
     const returnAddress = parseInt(returns[0], 16);
     const isNamed = source !== null && returnAddress > 0 && source.map.lineOf(returnAddress) > 0;
     return [
-      say.lamps(snapshot.marks || "-"),
+      say.lampsLine(snapshot.marks || "-"),
       `acc ${accumulator}  cy ${carry}  pc ${counter}  owed ${owed}  dcl ${bank}  test ${test}  ret ${returns.join(" ")}`,
       `${pairs}  ${isNamed ? say.returnTo(this.findAddressName(returnAddress)) : ""}`,
     ];
@@ -179,7 +179,7 @@ export class Screen {
     if (!chip) return "";
     if (rowInChip === CHIP_ROWS - 1) {
       const out = snapshot.ram.ports.get(chip.name);
-      return out === undefined ? "" : say.portOf(chip.name, out);
+      return out === undefined ? "" : say.portOutput(chip.name, out);
     }
     const register = snapshot.ram.registers.get(`${chip.name}.${rowInChip}`);
     return register ? `${chip.name}.${rowInChip} ${register.characters} ${register.status}` : "";

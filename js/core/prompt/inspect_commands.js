@@ -163,7 +163,7 @@ export class InspectCommands {
       if (line === 0) rejectCommand(say.NO_LINE_THERE);
       firstLine = Math.max(1, line - LIST_LENGTH / 2);
     }
-    if (firstLine > count) rejectCommand(say.sourceHas(count));
+    if (firstLine > count) rejectCommand(say.sourceLineCountMessage(count));
     callbacks.print(stateText.formatSourceLines(session, firstLine, firstLine + LIST_LENGTH - 1));
     this.lastListedLine = Math.min(count, firstLine + LIST_LENGTH - 1);
   }

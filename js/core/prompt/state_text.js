@@ -51,7 +51,7 @@ export function countSourceLines({ program }) {
  */
 export function formatSourceLines(session, firstLine, lastLine) {
   const last = Math.min(lastLine, countSourceLines(session));
-  if (firstLine > last) rejectCommand(say.sourceHas(countSourceLines(session)));
+  if (firstLine > last) rejectCommand(say.sourceLineCountMessage(countSourceLines(session)));
   return indices(last - firstLine + 1).map((at) => formatSourceLine(session, firstLine + at)).join("\n");
 }
 

@@ -126,6 +126,6 @@ export function createProgramTexts(program, addresses) {
  */
 export function describeAssembled({ size, remainingAddresses: remaining }, counter) {
   const first = remaining.length > 0 ? `0x${hex(remaining[0], 3)}` : "";
-  const remainingNote = say.bytesRemaining(formatQuantity(remaining.length, "byte"), remaining.length === 1, first);
-  return say.bytesAssembled(formatQuantity(size, "byte"), remaining.length > 0 ? ` ${remainingNote}` : "", counter);
+  const remainingNote = say.bytesRemainingMessage(formatQuantity(remaining.length, "byte"), remaining.length === 1, first);
+  return say.bytesAssembledMessage(formatQuantity(size, "byte"), remaining.length > 0 ? ` ${remainingNote}` : "", counter);
 }

@@ -53,9 +53,9 @@ function convertForeignNumber(text) {
   const number = (hexadecimal && `0x${hexadecimal[1].toUpperCase()}`) || (binary && `${parseInt(binary[1], 2)}`)
     || (letter && `0x${letter[2].charCodeAt(0).toString(16).toUpperCase()}`) || (mark && mark[1]);
   if (!number) return null;
-  if (hexadecimal) return { number, explanation: say.isHexadecimalMessage(number) };
-  if (binary) return { number, explanation: say.isBinaryMessage(number) };
-  if (letter) return { number, explanation: say.isLetterMessage(letter[2], number) };
+  if (hexadecimal) return { number, explanation: say.hexadecimalHint(number) };
+  if (binary) return { number, explanation: say.binaryHint(number) };
+  if (letter) return { number, explanation: say.characterCodeHint(letter[2], number) };
   return { number, explanation: say.withoutNumberSign(number) };
 }
 
@@ -103,9 +103,9 @@ function describeNameError(text, { instructions }) {
   const upperCaseWord = text.toUpperCase();
   if (text.length > MAX_NAME_LENGTH) return say.nameTooLong(MAX_NAME_LENGTH, text.length);
   if (!NAME.test(text)) return say.NAME_SYNTAX;
-  if (instructions.has(upperCaseWord)) return say.isInstructionMessage(text);
+  if (instructions.has(upperCaseWord)) return say.instructionAsNameMessage(text);
   if (upperCaseWord === "WPM" || DIRECTIVES.includes(upperCaseWord)) return say.cannotBeNameMessage(text);
-  return REGISTER.test(text) || PAIR.test(text) ? say.isRegisterMessage(text) : "";
+  return REGISTER.test(text) || PAIR.test(text) ? say.registerAsNameMessage(text) : "";
 }
 
 /**
@@ -119,7 +119,7 @@ function describeNameError(text, { instructions }) {
  */
 function findOperandError(head, kind, word, knownWords, isFirst) {
   const { what } = OPERAND_KINDS[kind];
-  const expectation = isFirst ? say.takes(head, what) : say.takesAfterComma(head, what);
+  const expectation = isFirst ? say.takesOperandsMessage(head, what) : say.takesAfterComma(head, what);
   const { text } = word;
   if (kind === "Pk" && PAIR.test(text)) return null;
   if (kind === "Rk" && REGISTER.test(text)) return null;

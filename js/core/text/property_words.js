@@ -18,7 +18,7 @@ import * as say from "../../words/text.js";
  */
 
 /** The titles of the manual sections that list the forms of property lines. */
-const SECTIONS = [say.MAY_CHANGE, say.MUST_HOLD];
+const SECTIONS = [say.INPUTS_TITLE, say.PROPERTIES_TITLE];
 /** Matches the first word of a line in which a condition follows that word. */
 const CONDITION_START = /^(never|always|reach)$/;
 /** The first words of the conditions that are allowed in tests but not in properties. */

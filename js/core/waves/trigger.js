@@ -91,7 +91,7 @@ function makeEdgeTrigger(name, edge, lines) {
   if (line < 0) return { trigger: null, error: say.noSuchNameMessage(name) };
   const { kind, members, width } = lines[line];
   if (kind === "pc" || kind === "label") return { trigger: null, error: say.LABEL_SYNTAX };
-  if (isDecoder(lines[line])) return { trigger: null, error: say.isDecodedLineMessage(lines[line].name) };
+  if (isDecoder(lines[line])) return { trigger: null, error: say.lineIsDecodedMessage(lines[line].name) };
   if (edge !== "changes" && width > 1) {
     return { trigger: null, error: say.numberConditionSyntax(name) };
   }

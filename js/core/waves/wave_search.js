@@ -90,8 +90,8 @@ function makeEdgeSearch(name, edge, waves, markedLine) {
   const { line, error } = findSearchLine(name || "", waves, markedLine);
   if (error) return searchError(error);
   const { width } = waves.lines[line];
-  if (edge !== "changes" && isDecoder(waves.lines[line])) return searchError(say.isDecodedMessage(waves.lines[line].name));
-  if (edge !== "changes" && width > 1) return searchError(say.isNumberMessage(waves.lines[line].name));
+  if (edge !== "changes" && isDecoder(waves.lines[line])) return searchError(say.decodedRowMessage(waves.lines[line].name));
+  if (edge !== "changes" && width > 1) return searchError(say.numberRowMessage(waves.lines[line].name));
   return { search: { line, matches: EDGE_TESTS[edge], findsEachMatch: true }, error: "" };
 }
 
@@ -128,7 +128,7 @@ function makeValueSearch(name, sign, value, waves, markedLine) {
  * @returns {{ search: Search | null, error: string }}
  */
 function makeKeySearch(decoder, line, sign, key) {
-  if (sign !== "=" || !decoder.places.includes(key)) return searchError(say.isDecodedMessage(decoder.name));
+  if (sign !== "=" || !decoder.places.includes(key)) return searchError(say.decodedRowMessage(decoder.name));
   return { search: { line, matches: (value) => parseScan(decoder, value).keys.includes(key), findsEachMatch: false }, error: "" };
 }
 

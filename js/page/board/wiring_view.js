@@ -197,7 +197,7 @@ export class WiringView {
     const hitArea = svgElement("circle", { class: "reach", ...centre, r: PIN_CLICK_RADIUS });
     const description = `${part.title}, ${pin.label}, ${this.describePin(pin)}`;
     const { number } = pin;
-    const title = svgElement("title", {}, (pin.line || say.TEST_PIN) + (number === undefined ? "" : say.pinOf(number)));
+    const title = svgElement("title", {}, (pin.line || say.TEST_PIN) + (number === undefined ? "" : say.pinSuffix(number)));
     const leg = number === undefined ? [] : [
       svgElement("rect", { class: "leg", x: isLeft ? pin.x - LEG_LENGTH : pin.x, y: pin.y - 3, width: LEG_LENGTH, height: 6 }),
       svgElement("text", {

@@ -297,7 +297,7 @@ const PANEL_COMMANDS = [...Object.entries(say.TEXTS), ...Object.entries(say.PANE
  */
 const LAYOUT_COMMANDS = [
   ...Object.entries(PANELS).flatMap(([id, name]) => [
-    labelledCommand(`panel.${id}`, say.toggledPanel(name), "show", (calls) => calls.togglePanel(id)),
+    labelledCommand(`panel.${id}`, say.togglePanel(name), "show", (calls) => calls.togglePanel(id)),
     labelledCommand(`full.${id}`, say.fullPanel(name), "show", (calls) => calls.toggleMaximizedPanel(id)),
   ]),
   labelledCommand("layout.reset", RESET_LAYOUT, "show", (calls) => calls.resetLayout()),

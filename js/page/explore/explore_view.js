@@ -59,7 +59,7 @@ class PropertyRow {
     if (!property.found || this.hasCounterexample) return;
     this.hasCounterexample = true;
     this.node.append(
-      element("details", {}, element("summary", {}, say.ITS_TEST), element("pre", { tabIndex: 0 }, property.found.test.trimEnd())),
+      element("details", {}, element("summary", {}, say.SHOW_AS_TEST), element("pre", { tabIndex: 0 }, property.found.test.trimEnd())),
       element("p", { className: "bar" },
         makeButton(say.OPEN_AS_SESSION, () => this.calls.openCounterexample(this.index), { title: say.NEW_SESSION_HINT }),
         makeButton(say.ADD_TO_TESTS, () => this.calls.addTest(this.index), { title: say.AT_END })));

@@ -67,13 +67,13 @@ export class LinkSharing {
       return;
     }
     const address = location.href.replace(/#.*$/, "") + formatUrlFragment("link", await toLink(texts));
-    const size = say.characters(address.length.toLocaleString("en"));
+    const size = say.characterCountText(address.length.toLocaleString("en"));
     if (address.length > MAX_LINK_LENGTH) {
       await this.offerFile(size);
       return;
     }
     const messages = [`${describeContents(texts)}${location.protocol === "file:" ? say.LINK_FROM_FILE : ""}`];
-    if (address.length > MAX_SAFE_LINK_LENGTH) messages.push(say.LONG);
+    if (address.length > MAX_SAFE_LINK_LENGTH) messages.push(say.LONG_LINK_WARNING);
     try {
       await navigator.clipboard.writeText(address);
       this.notice.show(say.linkCopied(size, messages.join(" ")), "share");
@@ -86,7 +86,7 @@ export class LinkSharing {
   async offerFile(size) {
     const isSaved = await this.confirmDialog.ask({
       title: say.TOO_LONG_LINK,
-      paragraphs: [say.longLink(size, MAX_LINK_LENGTH.toLocaleString("en"))],
+      paragraphs: [say.linkTooLongMessage(size, MAX_LINK_LENGTH.toLocaleString("en"))],
       acceptLabel: say.SAVE_PROJECT,
       declineLabel: say.LEAVE_IT,
     });
@@ -143,7 +143,7 @@ export class LinkSharing {
     const lines = rejectedTexts.map(({ word, answer }) => {
       const refusal = parseRefusal(answer);
       const reason = refusal ? `${answer}: ${this.errorMessages.refusalMeaning(refusal.number)}` : answer;
-      return say.benchRefusesText(word === "wire", reason);
+      return say.textRejectedMessage(word === "wire", reason);
     });
     return [
       ...(title ? [title] : []),

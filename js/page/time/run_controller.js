@@ -125,7 +125,7 @@ export class RunController {
     calls.handleRunStart();
     if (!goal) bench.call("dropGoal", []).catch(calls.reportFailure);
     this.showRunning(true);
-    this.showMessage(goal ? runningToGoal(goal) : say.isRunning(currentSession.name, calls.countInvalidBreakpoints()));
+    this.showMessage(goal ? runningToGoal(goal) : say.runningMessage(currentSession.name, calls.countInvalidBreakpoints()));
     this.clock.start();
     this.startRateMeasurement();
     bench.isRunning = this.clock.isFull;
@@ -201,7 +201,8 @@ export class RunController {
     const message = say.wasPausedFor(formatDuration(time), wasHidden);
     this.showMessage(message);
     setTimeout(() => {
-      if (this.status.text === message) this.showMessage(say.isRunning(this.currentSession.name, this.calls.countInvalidBreakpoints()));
+      if (this.status.text !== message) return;
+      this.showMessage(say.runningMessage(this.currentSession.name, this.calls.countInvalidBreakpoints()));
     }, STANDSTILL_MESSAGE_MS);
   }
 

@@ -136,7 +136,7 @@ export class Scope {
     const cycles = input.value.trim() === "0" && min === 0 ? 0 : readCycles(input.value) || -1;
     input.setAttribute("aria-invalid", String(cycles < 0));
     if (cycles < 0) {
-      this.status.set(say.howManyCycles(min, MAX_CYCLES.toLocaleString("en")));
+      this.status.set(say.cycleCountHint(min, MAX_CYCLES.toLocaleString("en")));
       byId("wave-settings", HTMLDetailsElement).open = true;
     }
     return cycles;
@@ -187,7 +187,7 @@ export class Scope {
     const cyclesAfter = maxCycles < 0 || trigger === "" ? 0 : this.readCycleField("behind", 0);
     if (maxCycles < 0 || cyclesAfter < 0) return null;
     field("behind").setAttribute("aria-invalid", String(cyclesAfter > maxCycles));
-    if (cyclesAfter > maxCycles) this.status.set(say.maxAfter(maxCycles.toLocaleString("en")));
+    if (cyclesAfter > maxCycles) this.status.set(say.tooManyCyclesAfterMessage(maxCycles.toLocaleString("en")));
     const stopsTime = byId("stops-time", HTMLInputElement).checked;
     return cyclesAfter > maxCycles ? null : { maxCycles, cyclesAfterTrigger: cyclesAfter, trigger, stopsTime };
   }
@@ -301,7 +301,7 @@ export class Scope {
     this.view.selectRowOfLine(search.line);
     const moment = findMatch(waves, search, view.moment, isForward);
     if (moment >= 0) this.view.moveCursor(moment);
-    else this.searchStatus.set(say.notFound(text.trim(), isForward, formatNumber(view.moment)));
+    else this.searchStatus.set(say.notFoundMessage(text.trim(), isForward, formatNumber(view.moment)));
   }
 
   /** Forgets the recording when another session is opened. */

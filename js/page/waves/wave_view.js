@@ -466,7 +466,7 @@ export class WaveView {
     this.canvas.setAttribute("aria-valuemax", String(view.end));
     this.canvas.setAttribute("aria-valuenow", String(view.moment));
     const { line = 0, title = "" } = this.rows[this.selectedIndex] || {};
-    this.canvas.setAttribute("aria-valuetext", (line < 0 ? say.groupIs(title) : "") + screenReaderText(view.moment, waves, this.line));
+    this.canvas.setAttribute("aria-valuetext", (line < 0 ? say.groupPrefix(title) : "") + screenReaderText(view.moment, waves, this.line));
     this.values.show(waves, view.cursors);
   }
 
