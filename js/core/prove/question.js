@@ -275,6 +275,6 @@ export function readAnswer(text) {
   if (values !== undefined) return { kind: "fails", values: values.split(" ").slice(1).map(Number) };
   const [, stateCount] = /^no room (\d+)$/.exec(line) || [];
   if (stateCount) return { kind: "full", states: Number(stateCount) };
-  const [, other = null] = FIXED_ANSWERS.find(([form]) => form.test(line)) || [];
-  return other;
+  const [, fixedAnswer = null] = FIXED_ANSWERS.find(([form]) => form.test(line)) || [];
+  return fixedAnswer;
 }
