@@ -43,11 +43,11 @@ function makePromptCalls(program, terminal) {
     printError: (words) => terminal.printError(words),
     read: (name) => readDecodedFile(expandTilde(name), MAX_SCRIPT_BYTES).text,
     files: completePath,
-    errorsOf: async (word, text, board) => {
+    findErrors: async (word, text, board) => {
       const { findTextErrors } = await import("./text_errors.mjs");
       return findTextErrors(word, text, board, { manual: manual(), wordsOf: describeRefusal });
     },
-    wordsOf: describeRefusal,
+    messageOf: describeRefusal,
     manual,
   };
 }

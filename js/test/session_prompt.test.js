@@ -50,8 +50,8 @@ function createPrompt(files = {}) {
       return files[name];
     },
     files: (prefix) => Object.keys(files).filter((name) => name.startsWith(prefix)),
-    errorsOf: (word, text, board) => findTextErrors(word, text, board, { manual, wordsOf: describeRefusal }),
-    wordsOf: describeRefusal,
+    findErrors: (word, text, board) => findTextErrors(word, text, board, { manual, wordsOf: describeRefusal }),
+    messageOf: describeRefusal,
     manual: () => manual,
   });
   const ask = async (...lines) => {

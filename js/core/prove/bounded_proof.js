@@ -115,8 +115,8 @@ export function beginProving(engine, texts, maxStates, calls) {
   const proving = new PropertyJudge(parsedTexts.subject, parsedTexts.campaign, {
     ask: (question) => queries.ask(question),
     askBySets: (question) => queries.askBySets(question),
-    confirms: async ({ isTest, text }, isGoal) => !isTest || isConfirmed(engine, texts, text, isGoal, calls.yieldToMessages),
-    reason: (answer) => queries.explainNoAnswer(answer),
+    confirm: async ({ isTest, text }, isGoal) => !isTest || isConfirmed(engine, texts, text, isGoal, calls.yieldToMessages),
+    explainNoAnswer: (answer) => queries.explainNoAnswer(answer),
     yieldToMessages: calls.yieldToMessages,
   });
   return { proving, errors: [] };

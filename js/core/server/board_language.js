@@ -5,7 +5,7 @@ import { TextErrorFinder, findFrontPanelErrors } from "../text/text_error_finder
 import { wordAt } from "../text/assembly.js";
 import { readBoardText } from "../text/board_reader.js";
 import { completeBoard } from "../text/board_completion.js";
-import { PARTS } from "../text/folding.js";
+import { FOLD_PATTERNS } from "../text/folding.js";
 import { findCommentStart } from "../text/sendable_text.js";
 import { helpForBoard } from "../text/text_help.js";
 import { tomlWords } from "../text/toml_words.js";
@@ -32,7 +32,7 @@ export class BoardLanguage {
    * @param {(number: number) => string} refusalMessage returns the message for an error number of the bench
    */
   constructor(bench, tables, refusalMessage) {
-    this.parts = PARTS.board;
+    this.foldPatterns = FOLD_PATTERNS.board;
     this.tables = tables;
     this.errorFinder = new TextErrorFinder(bench.createQueries(), { instructions: new Map(), tables }, refusalMessage);
   }

@@ -13,7 +13,7 @@ const CONTENT_LENGTH = /^content-length[ \t]*:[ \t]*(\d{1,12})[ \t]*$/i;
 
 /**
  * The text of a received message; or the size, in bytes, of a message that was skipped because it was too long.
- * @typedef {{ text: string } | { tooLong: number }} ReceivedMessage
+ * @typedef {{ text: string } | { skippedSize: number }} ReceivedMessage
  */
 
 /** The error that is thrown for a malformed stream, in which the reader cannot find the next message. */
@@ -95,7 +95,7 @@ export class MessageReader {
     const { body, size } = this;
     this.missingBytes = -1;
     this.body = null;
-    return body ? { text: this.decoder.decode(body) } : { tooLong: size };
+    return body ? { text: this.decoder.decode(body) } : { skippedSize: size };
   }
 }
 

@@ -20,7 +20,7 @@ export class MessageStream {
     try {
       for (const message of this.reader.readMessages(bytes)) {
         if ("text" in message) this.serveMessage(message.text);
-        else this.reportStreamError(messageTooLong(message.tooLong));
+        else this.reportStreamError(messageTooLong(message.skippedSize));
       }
     } catch (error) {
       if (error instanceof StreamError) this.reportStreamError(error.message);

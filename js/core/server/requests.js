@@ -124,7 +124,7 @@ export class Requests {
       "textDocument/documentLink": (params) => this.callWithLanguage(params, (language, openText) => (
         language.links ? language.links(openText) : [])),
       "textDocument/foldingRange": (params) => this.callWithLanguage(params, (language, openText) => (
-        findFolds(openText.lines, language.parts))),
+        findFolds(openText.lines, language.foldPatterns))),
       "textDocument/inlayHint": (params) => this.hints(params),
       "textDocument/semanticTokens/full": (params) => this.colours(params, (openText, words) => (
         this.tokens.encodeAllTokens(openText, words))),
@@ -266,8 +266,9 @@ export class Requests {
       if (!language.completion) return [];
       const { from, to, list } = language.completion(openText, position, trigger);
       const range = { start: { ...position, character: from }, end: { ...position, character: to } };
-      return list.map(({ text, what, kind, documentation }) => (
-        { label: text.split("\n")[0], kind, ...(what ? { detail: what.trim() } : {}), ...(documentation ? { documentation } : {}),
+      return list.map(({ text, description, kind, documentation }) => (
+        { label: text.split("\n")[0], kind, ...(description ? { detail: description.trim() } : {}),
+          ...(documentation ? { documentation } : {}),
           textEdit: { range, newText: text } }));
     });
   }
@@ -281,7 +282,7 @@ export class Requests {
     return this.callWithLanguage(params, (language, openText) => positions.map((position) => {
       const clampedPosition = openText.clampPosition(position);
       const columnRanges = language.selectionColumns ? language.selectionColumns(openText, clampedPosition) : [];
-      return selectionRangeAt(openText.lines, clampedPosition, columnRanges, language.parts);
+      return selectionRangeAt(openText.lines, clampedPosition, columnRanges, language.foldPatterns);
     }));
   }
 

@@ -207,7 +207,7 @@ function checkEnvelope(text) {
  */
 function readHead(lines) {
   let name = "";
-  const unended = new Set();
+  const unendedWords = new Set();
   /** @type {SavedBreakpoint[]} */
   const breakpoints = [];
   /** @type {string[]} */
@@ -218,22 +218,22 @@ function readHead(lines) {
     if (breakpoint) breakpoints.push(breakpoint);
     else if (match === undefined) throw lines.createLineError(say.HEAD_LINE);
     if (word === "name") name = shortenName(value);
-    if (word === "unended") unended.add(value);
+    if (word === "unended") unendedWords.add(value);
     if (word === "value") watched.push(value);
     lines.takeLine();
   }
-  return { name, unended, breakpoints, watched };
+  return { name, unended: unendedWords, breakpoints, watched };
 }
 
 /**
  * Reads the next text of a project, and returns it. Throws InvalidProject if the next line is not `word`.
  * @param {Lines} lines
  * @param {Word} word
- * @param {Set<string>} unended the words of the texts that do not end with a line feed
+ * @param {Set<string>} unendedWords the words of the texts that do not end with a line feed
  */
-function readText(lines, word, unended) {
+function readText(lines, word, unendedWords) {
   const text = lines.readUpToDot(word).map((line) => `${/^\.\.+$/.test(line) ? line.slice(1) : line}\n`).join("");
-  return unended.has(word) ? text.slice(0, -1) : text;
+  return unendedWords.has(word) ? text.slice(0, -1) : text;
 }
 
 /**

@@ -45,7 +45,7 @@ export class ExecutionRecorder {
     /** @type {OpenCall[]} the calls in progress, innermost last */
     this.openCalls = [];
     /** The last key press: its key and time, and the times of the first and last lamp change since then (0 for none), in cycles. */
-    this.lastPress = { key: "", pressed: 0, first: 0, last: 0 };
+    this.lastPress = { key: "", pressTime: 0, first: 0, last: 0 };
   }
 
   /** True if the recorder records cycles, calls and key times. */
@@ -160,20 +160,20 @@ export class ExecutionRecorder {
    */
   recordPress(key, elapsed) {
     this.finishLastPress();
-    this.lastPress = { key, pressed: elapsed, first: 0, last: 0 };
+    this.lastPress = { key, pressTime: elapsed, first: 0, last: 0 };
   }
 
   /** Adds the last key press to the key times. */
   finishLastPress() {
-    const { key, pressed, first, last } = this.lastPress;
+    const { key, pressTime, first, last } = this.lastPress;
     if (key === "") return;
     const times = this.keys.get(key) || { presses: 0, answered: 0, first: 0, last: 0 };
     this.keys.set(key, times);
     times.presses += 1;
     if (first > 0) {
       times.answered += 1;
-      times.first = Math.max(times.first, first - pressed);
-      times.last = Math.max(times.last, last - pressed);
+      times.first = Math.max(times.first, first - pressTime);
+      times.last = Math.max(times.last, last - pressTime);
     }
     this.lastPress.key = "";
   }

@@ -6,8 +6,8 @@ import { parseOperandKinds } from "./program_words.js";
 /**
  * @typedef {import("../help/manual.js").Instruction} Instruction
  *
- * A completion: the word (`text`) and its description (`what`), "" for none.
- * @typedef {{ text: string, what: string }} CompletionItem
+ * A completion: the word (`text`) and its description (`description`), "" for none.
+ * @typedef {{ text: string, description: string }} CompletionItem
  *
  * A list of completions, and the range in the line that a chosen completion replaces.
  * @typedef {{ from: number, to: number, list: CompletionItem[] }} Completion
@@ -26,7 +26,7 @@ const PAIRS = [...Array(8).keys()].map((number) => `P${number}`);
  * @returns {CompletionItem[]}
  */
 export function toCompletions(words) {
-  return words.map((text) => ({ text, what: "" }));
+  return words.map((text) => ({ text, description: "" }));
 }
 
 /**
@@ -62,7 +62,8 @@ export function completeProgram(lines, line, column, instructions) {
   // The line is cut at the caret. Otherwise, the name that the user is typing would complete itself.
   const names = findDefinedNames(lines.map((lineText, number) => (number === line ? textBefore : lineText)));
   if (!head || head.to === column) {
-    const mnemonics = [...instructions].map(([name, { form, effect }]) => ({ text: name, what: form.slice(name.length) + GAP + effect }));
+    const mnemonics = [...instructions].map(([name, { form, effect }]) => (
+      { text: name, description: form.slice(name.length) + GAP + effect }));
     return filterCompletions(text, column, [...mnemonics, ...toCompletions(DIRECTIVES)]);
   }
   const instruction = instructions.get(head.text.toUpperCase());

@@ -18,17 +18,17 @@ import * as say from "../../words/text.js";
  */
 
 /**
- * The operand kinds, by the letters that the manual uses for them. `what` describes an operand of the kind. `maxValue` is its maximum
- * value; it is 0 for registers.
- * @type {Record<string, { what: string, maxValue: number }>}
+ * The operand kinds, by the letters that the manual uses for them. `description` is the text for an operand of the kind. `maxValue` is its
+ * maximum value; it is 0 for registers.
+ * @type {Record<string, { description: string, maxValue: number }>}
  */
 const OPERAND_KINDS = {
-  Pk: { what: say.PAIR_OPERAND, maxValue: 0 },
-  Rk: { what: say.REGISTER_OPERAND, maxValue: 0 },
-  c: { what: say.CONDITION_OPERAND, maxValue: 15 },
-  d: { what: say.VALUE_OPERAND, maxValue: 15 },
-  b: { what: say.BYTE_OPERAND, maxValue: 255 },
-  t: { what: say.ADDRESS_OPERAND, maxValue: LAST_ADDRESS },
+  Pk: { description: say.PAIR_OPERAND, maxValue: 0 },
+  Rk: { description: say.REGISTER_OPERAND, maxValue: 0 },
+  c: { description: say.CONDITION_OPERAND, maxValue: 15 },
+  d: { description: say.VALUE_OPERAND, maxValue: 15 },
+  b: { description: say.BYTE_OPERAND, maxValue: 255 },
+  t: { description: say.ADDRESS_OPERAND, maxValue: LAST_ADDRESS },
 };
 
 /**
@@ -36,7 +36,7 @@ const OPERAND_KINDS = {
  * @param {string} kind the letters that the manual uses for the kind
  */
 export function describeOperand(kind) {
-  return OPERAND_KINDS[kind].what;
+  return OPERAND_KINDS[kind].description;
 }
 
 /**
@@ -118,8 +118,8 @@ function describeNameError(text, { instructions }) {
  * @returns {WordError | null}
  */
 function findOperandError(head, kind, word, knownWords, isFirst) {
-  const { what } = OPERAND_KINDS[kind];
-  const expectation = isFirst ? say.takes(head, what) : say.takesAfterComma(head, what);
+  const { description } = OPERAND_KINDS[kind];
+  const expectation = isFirst ? say.takes(head, description) : say.takesAfterComma(head, description);
   const { text } = word;
   if (kind === "Pk" && PAIR.test(text)) return null;
   if (kind === "Rk" && REGISTER.test(text)) return null;
@@ -236,7 +236,7 @@ function findFormError(parts, knownWords) {
     if (error) return error;
   }
   const extraOperand = operands[kinds.length];
-  const expectation = kinds.map((kind) => OPERAND_KINDS[kind].what).join(say.AND_AFTER);
+  const expectation = kinds.map((kind) => OPERAND_KINDS[kind].description).join(say.AND_AFTER);
   return { word: extraOperand || head, message: say.takesNoMore(upperCaseWord, expectation, Boolean(extraOperand)) };
 }
 
@@ -257,9 +257,9 @@ function findValueError({ head, operands, defines, label }, { instructions }) {
   const namedOperand = values.find(({ word }) => NAME.test(word.text));
   const wrongOperand = tooLarge || namedOperand;
   if (!wrongOperand) return null;
-  const what = upperCaseWord === "ORG" ? say.ORG_ADDRESS : wrongOperand.kind.what;
+  const description = upperCaseWord === "ORG" ? say.ORG_ADDRESS : wrongOperand.kind.description;
   const note = tooLarge ? "" : say.extraOperandNote(wrongOperand.word.text);
-  return { word: wrongOperand.word, message: say.takesOperands(upperCaseWord, what, note) };
+  return { word: wrongOperand.word, message: say.takesOperands(upperCaseWord, description, note) };
 }
 
 /**

@@ -65,7 +65,7 @@ export function testForms(manual) {
  */
 export function listFirstWords(forms) {
   const words = new Map(forms.map((form) => [form.word, form]));
-  return [...words.values()].map(({ word, form, effect }) => ({ text: word, what: `${form.slice(word.length)}   ${effect}` }));
+  return [...words.values()].map(({ word, form, effect }) => ({ text: word, description: `${form.slice(word.length)}   ${effect}` }));
 }
 
 /**

@@ -33,7 +33,7 @@ import * as say from "../../words/text.js";
  * @property {import("./line_colours.js").Colours} colours Returns the coloured ranges of a line.
  * @property {string[]} gutters The names of the gutters besides the error gutter.
  * @property {string} [indent] The indentation of a new line, by default that of the previous line.
- * @property {import("../../core/text/folding.js").Parts} [folds] The patterns of the foldable parts of the text.
+ * @property {import("../../core/text/folding.js").FoldPatterns} [folds] The patterns of the foldable parts of the text.
  * @property {(word: string) => boolean} [isInstruction] Returns true if a word in upper case is an instruction. Missing for texts without
  *   names.
  * @property {boolean} [isUnsent] True if the text is never sent to the bench.
