@@ -196,7 +196,7 @@ test("the view shows source, registers and lamps in each size, and marks changed
   assert.match((await ask("view")).join(), /^refused: the view needs a terminal/);
   assert.match((await ask("view far")).join(), /^refused: write view, view on or view off$/);
   const viewChanges = [];
-  prompt.callbacks.view = { toggle: () => "no room", turn: (isOn) => { viewChanges.push(isOn); return ""; } };
+  prompt.callbacks.view = { toggle: () => "no room", setVisible: (isOn) => { viewChanges.push(isOn); return ""; } };
   assert.deepEqual(await ask("tui enable", "layout src", "view off"), []);
   assert.deepEqual([viewChanges, await ask("view")], [[true, true, false], ["refused: no room"]]);
   const unmarked = (text) => text;

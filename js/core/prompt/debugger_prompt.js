@@ -44,7 +44,7 @@ import { stoppedAt } from "../../words/stops.js";
  * @property {(name: string, text: string) => void} write Writes a text to a file; throws an error with the reason if it cannot be written.
  * @property {(prefix: string) => string[]} files Returns the file names that start with a prefix.
  * @property {boolean} isInteractive True if a user at a terminal can interrupt an endless run.
- * @property {{ toggle: () => string, turn: (isOn: boolean) => string } | null} view Shows or hides the view (view.js); null without a
+ * @property {{ toggle: () => string, setVisible: (isOn: boolean) => string } | null} view Shows or hides the view (view.js); null without a
  *   terminal. Each function returns an error message, or "".
  */
 

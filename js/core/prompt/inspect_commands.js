@@ -77,7 +77,7 @@ export class InspectCommands {
       rejectCommand(say.VIEW_NEEDS_TERMINAL);
       return;
     }
-    const message = argumentText === "" ? view.toggle() : view.turn(!/^(off|disable)$/.test(argumentText));
+    const message = argumentText === "" ? view.toggle() : view.setVisible(!/^(off|disable)$/.test(argumentText));
     if (message) rejectCommand(message);
   }
 

@@ -192,7 +192,7 @@ export class PropertyJudge {
     const isDecided = verdict.kind === "proved" || (verdict.kind === "found" && verdict.counterexample.isAllowed);
     if (isDecided || !this.inputLimits) return verdict;
     const limitedVerdict = await search({ ...question, inputLimits: this.inputLimits });
-    // If the second search decides nothing, the verdict is the first counterexample, although the text does not allow its inputs.
+    // If the second search decides nothing, the goal counts as reached, although only inputs that the text does not allow reach it.
     return limitedVerdict.kind === "open" && verdict.kind === "found" ? verdict : limitedVerdict;
   }
 

@@ -215,7 +215,7 @@ export class LanguageServer {
 
   /**
    * Returns whether a changed text affects the errors in another text. The errors in a program depend on its board. The errors in tests and
-   * properties depend on the board, the program and other tests.
+   * properties depend on the board, the program and other tests. A project file affects all texts.
    * @param {string} uri the URI of the changed text
    * @param {string} otherUri the URI of the other text
    */
@@ -241,7 +241,7 @@ export class LanguageServer {
   }
 
   /**
-   * Checks the open texts that depend on a changed text again.
+   * Rechecks the open texts that depend on a changed text.
    * @param {(uri: string) => boolean} isDependent returns whether the text at a URI depends on the changed text
    */
   checkDependents(isDependent) {

@@ -74,11 +74,11 @@ export class ExecutionRecorder {
    * @param {() => ForecastAnswers} askAll returns a trace of all instructions in the run
    */
   recordRun(answers, elapsed, askAll) {
-    const callCount = this.count(answers.takeCounts());
+    const callAndReturnCount = this.count(answers.takeCounts());
     const lines = answers.takeTrace().lines;
     if (this.lastPress.key !== "") this.trackLampChanges(answers.takeTrace().lines, elapsed);
     // The short trace omits a JMS or BBL that does not change the return addresses.
-    this.trackCalls(lines.length === callCount ? lines : askAll().takeTrace().lines, elapsed);
+    this.trackCalls(lines.length === callAndReturnCount ? lines : askAll().takeTrace().lines, elapsed);
   }
 
   /**
@@ -86,16 +86,16 @@ export class ExecutionRecorder {
    * @param {InstructionCount[]} counts
    */
   count(counts) {
-    let callCount = 0;
+    let callAndReturnCount = 0;
     for (const { address, startCount, jumpCount } of counts) {
       const code = this.codes[address];
       this.startCounts[address] += startCount;
       this.jumpCounts[address] += Math.max(0, jumpCount);
       this.cycleCounts[address] += instructionCycles(code) * startCount;
       if (isCall(code)) this.getCallCounts(jumpTarget(this.codes, address)).callCount += startCount;
-      if (isCall(code) || isReturn(code)) callCount += startCount;
+      if (isCall(code) || isReturn(code)) callAndReturnCount += startCount;
     }
-    return callCount;
+    return callAndReturnCount;
   }
 
   /**
@@ -179,7 +179,8 @@ export class ExecutionRecorder {
   }
 
   /**
-   * Subtracts one cycle from the instruction at an address, because the test ended before the second cycle of this instruction.
+   * Subtracts one cycle from the instruction at an address, because the test ended or reset the machine before the second cycle of this
+   * instruction.
    * @param {number} address
    */
   subtractLastCycle(address) {

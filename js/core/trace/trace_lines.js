@@ -111,7 +111,7 @@ export class TraceLines {
    * Returns the lines of the trace, which combine the answers to all queries.
    * @param {Group[]} groups
    * @param {Trace} mainTrace the trace of MAIN_PLACES
-   * @param {{ elapsed: number, firstCycle: number }} from `elapsed` is the number of cycles before the run; `firstCycle` is the cycle of
+   * @param {{ elapsed: number, firstCycle: number }} run `elapsed` is the number of cycles before the run; `firstCycle` is the cycle of
    *   the run in which its first instruction starts
    */
   mergeAnswers(groups, mainTrace, { elapsed, firstCycle }) {

@@ -307,17 +307,17 @@ export class Waves {
    * @returns {Instruction}
    */
   instructionAt(moment) {
-    const sample = this.instructionIndexAt(moment);
+    const index = this.instructionIndexAt(moment);
     const { program } = this;
-    const address = this.counters.all[sample];
+    const address = this.counters.all[index];
     const line = program ? program.lines[address] : 0;
     return {
       address,
       listingLine: this.listing.get(address) || "",
       line,
       source: line > 0 ? this.sources[line - 1].trim() : "",
-      isSecond: sample === 0 && this.isOwed,
-      isEnd: sample === this.moments.count - 1 && this.moments.last === this.cycles,
+      isSecond: index === 0 && this.isOwed,
+      isEnd: index === this.moments.count - 1 && this.moments.last === this.cycles,
     };
   }
 }

@@ -49,7 +49,7 @@ const screen = { terminal: null, view: null };
 /** The functions with which the prompt controls the view. They forward each call, because the view is created later. */
 const viewCalls = {
   toggle: () => (screen.view ? screen.view.toggle() : ""),
-  turn: (/** @type {boolean} */ isOn) => (screen.view ? screen.view.turn(isOn) : ""),
+  setVisible: (/** @type {boolean} */ isOn) => (screen.view ? screen.view.setVisible(isOn) : ""),
 };
 
 /**

@@ -276,7 +276,7 @@ export class WaveView {
    * @param {string} group
    */
   toggleFold(group) {
-    this.rearrange(() => this.arrangement.fold(group));
+    this.rearrange(() => this.arrangement.toggleFold(group));
   }
 
   /**
