@@ -18,7 +18,10 @@ import { ADDRESS_COUNT, MAX_LISTING_LINES } from "../bench/rom_bytes.js";
  * instructions.
  */
 const BYTES_BEFORE = 12;
-/** The maximum number of tries. If a listing is misaligned, the next try starts one byte later. */
+/**
+ * The maximum number of tries, not counting a try that starts at the anchor. If a listing is misaligned, the next try starts one byte
+ * later.
+ */
 const MAX_TRIES = 4;
 
 /**

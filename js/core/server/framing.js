@@ -38,7 +38,7 @@ export class MessageReader {
     this.header = "";
     /** The number of bytes of the body that are still missing; -1 while the reader reads a header. */
     this.missingBytes = -1;
-    /** @type {Uint8Array | null} the buffer for the body; null while the reader skips a body */
+    /** @type {Uint8Array | null} the buffer for the body; null while the reader skips a body or reads a header */
     this.body = null;
     this.size = 0;
   }

@@ -112,12 +112,12 @@ function formatCode({ name, value, label, head, operands }, width, layout) {
  * Returns the column at which a comment starts in the formatted line.
  * @param {number} end the column at which the code before the comment ends; 0 if there is no code
  * @param {number} indent the current column of the comment
- * @param {number} last the column of the comment in the previous line; 0 if that line has no aligned comment
+ * @param {number} previousColumn the column of the comment in the previous line; 0 if that line has no aligned comment
  */
-function chooseCommentColumn(end, indent, last) {
+function chooseCommentColumn(end, indent, previousColumn) {
   if (end > 0) return Math.max(COMMENT_COLUMN, Math.ceil((end + 2) / COMMENT_STEP) * COMMENT_STEP);
   if (indent === 0) return 0;
-  return indent < MIN_COMMENT_INDENT ? STATEMENT_COLUMN : last || COMMENT_COLUMN;
+  return indent < MIN_COMMENT_INDENT ? STATEMENT_COLUMN : previousColumn || COMMENT_COLUMN;
 }
 
 /**

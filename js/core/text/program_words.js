@@ -253,12 +253,12 @@ function findValueError({ head, operands, defines, label }, { instructions }) {
   const instruction = instructions.get(upperCaseWord);
   const kinds = instruction ? parseOperandKinds(instruction.form) : operands.map(() => (upperCaseWord === "ORG" ? "t" : "b"));
   const values = operands.map((word, at) => ({ word, kind: OPERAND_KINDS[kinds[at] || "b"] })).filter(({ kind }) => kind.maxValue > 0);
-  const tooLarge = values.find(({ word, kind }) => NUMBER.test(word.text) && Number(word.text) > kind.maxValue);
+  const tooLargeOperand = values.find(({ word, kind }) => NUMBER.test(word.text) && Number(word.text) > kind.maxValue);
   const namedOperand = values.find(({ word }) => NAME.test(word.text));
-  const wrongOperand = tooLarge || namedOperand;
+  const wrongOperand = tooLargeOperand || namedOperand;
   if (!wrongOperand) return null;
   const description = upperCaseWord === "ORG" ? say.ORG_ADDRESS : wrongOperand.kind.description;
-  const note = tooLarge ? "" : say.extraOperandNote(wrongOperand.word.text);
+  const note = tooLargeOperand ? "" : say.extraOperandNote(wrongOperand.word.text);
   return { word: wrongOperand.word, message: say.takesOperands(upperCaseWord, description, note) };
 }
 
@@ -279,9 +279,9 @@ function findLastName({ operands }) {
 function findUnknownName({ operands }, { names }) {
   const word = operands.find(({ text }) => NAME.test(text) && !REGISTER.test(text) && !PAIR.test(text) && !names.has(text));
   if (!word) return null;
-  const similar = findSimilarWords(word.text, names.keys());
-  const isHex = /^[0-9A-Fa-f]+$/.test(word.text) && similar.length === 0;
-  const quickFixTexts = isHex ? [`0x${word.text.toUpperCase()}`] : similar;
+  const similarWords = findSimilarWords(word.text, names.keys());
+  const isHex = /^[0-9A-Fa-f]+$/.test(word.text) && similarWords.length === 0;
+  const quickFixTexts = isHex ? [`0x${word.text.toUpperCase()}`] : similarWords;
   const suggestion = quickFixTexts.length > 0 ? formatSuggestion(quickFixTexts) : "";
   return createError(word, say.notDefinedMessage(word.text, suggestion), quickFixTexts);
 }

@@ -74,7 +74,7 @@ export class SessionTrace {
   async* traceLast(count, cycles, names) {
     const { engine, yieldToMessages } = this;
     const stop = await runState(engine, this.startState.slice(), cycles, yieldToMessages);
-    // An instruction takes at most two cycles, and the session can start between them.
+    // An instruction takes at most two cycles, and the session can start at the second cycle of an instruction.
     const from = Math.max(0, stop.cycles - 2 * count - 2);
     const state = copyWithoutStops(engine, this.startState);
     await runState(engine, state, from, yieldToMessages);
