@@ -51,8 +51,8 @@ class ProofSession {
     return new PropertyJudge(subject, campaign, {
       ask: (question) => this.ask(question, this.limits),
       askBySets: (question) => this.ask(question, { maxStates: 0, sets: MAX_SETS }),
-      confirms: (counterexample, isGoal) => this.confirm(counterexample, isGoal),
-      reason: (answer) => this.describeNoAnswer(answer),
+      confirm: (counterexample, isGoal) => this.confirm(counterexample, isGoal),
+      explainNoAnswer: (answer) => this.describeNoAnswer(answer),
       yieldToMessages: async () => {
         await yieldToMessages();
       },

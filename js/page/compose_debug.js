@@ -127,7 +127,7 @@ export function makeSourceValues(page) {
     map: () => source.map,
     showWatched: () => page.watchView.show(),
     showLines: (lines) => editors.program.lineValues.show(lines),
-    changed: () => editors.program.scheduleDescription(),
+    onChange: () => editors.program.scheduleDescription(),
   });
 }
 

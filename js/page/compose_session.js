@@ -50,7 +50,7 @@ export function makeRomFiles(page) {
   const { runController } = page;
   return new RomFiles({
     ask: async (lines) => page.bench.call("ask", [lines]),
-    act: (lines) => page.lineServer.serveLines(lines),
+    execute: (lines) => page.lineServer.serveLines(lines),
     stop: () => runController.pause(),
   });
 }

@@ -84,7 +84,7 @@ export function makeSource(page) {
   const source = new SourceSync({
     text: () => page.programEditor.benchText,
     check: (text) => page.bench.call("checkProgram", [text]),
-    changed: (map, reason) => {
+    onChange: (map, reason) => {
       page.snapshotView.nameLines(map, reason);
       page.layout.status.showRom(map !== null, reason);
       showNibbleNames(page);

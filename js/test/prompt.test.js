@@ -27,7 +27,7 @@ async function createPrompt({ board, program } = { board: BOARD, program: PROGRA
   };
   const calls = {
     print: (words) => printed.push(...words.split("\n")),
-    complain: (words) => printed.push(`refused: ${words}`),
+    printError: (words) => printed.push(`refused: ${words}`),
     pause: async () => {},
     source: () => PROGRAM.replace("time  = 0x0C", "time  = 0x0D"),
     read: (name) => files[name] ?? assert.fail(`cannot read ${name}`),
@@ -200,7 +200,7 @@ test("the view shows source, registers and lamps in each size, and marks changed
   assert.match((await ask("view")).join(), /^refused: the view needs a terminal/);
   assert.match((await ask("view far")).join(), /^refused: write view, view on or view off$/);
   const viewChanges = [];
-  prompt.callbacks.view = { toggle: () => "no room", turn: (isOn) => { viewChanges.push(isOn); return ""; } };
+  prompt.callbacks.view = { toggle: () => "no room", setVisible: (isOn) => { viewChanges.push(isOn); return ""; } };
   assert.deepEqual(await ask("tui enable", "layout src", "view off"), []);
   assert.deepEqual([viewChanges, await ask("view")], [[true, true, false], ["refused: no room"]]);
   const unmarked = (text) => text;

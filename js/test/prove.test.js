@@ -164,14 +164,15 @@ const AT_LIT = [...AT_ADDRESS_0.slice(0, 2), "in counter 5 whole 22 22"];
 test("a property with a time becomes a question about a stopwatch with the same limit in cycles", () => {
   const stopwatchOf = (text) => questionOf(text).question.stopwatch;
   const [on, off] = [[["in ramport 0 line0 1 1"]], [["in ramport 0 line0 0 0"]]];
-  assert.deepEqual(stopwatchOf("never lamp on on for 93"), { begins: on, ends: off, within: 93 });
-  assert.deepEqual(stopwatchOf("never lamp on on for 1 ms"), { begins: on, ends: off, within: 93 });
-  assert.deepEqual(stopwatchOf("every 20 @look"), { begins: [AT_ADDRESS_0, AT_LOOK], ends: [AT_LOOK], within: 20 });
-  assert.deepEqual(stopwatchOf("@look to @lit within 7"), { begins: [AT_LOOK], ends: [AT_LIT], within: 7 });
-  assert.deepEqual(stopwatchOf("@look to @look within 7"), { begins: [AT_LOOK], ends: [AT_LOOK], within: 7 });
+  assert.deepEqual(stopwatchOf("never lamp on on for 93"), { startCondition: on, endCondition: off, maxCycles: 93 });
+  assert.deepEqual(stopwatchOf("never lamp on on for 1 ms"), { startCondition: on, endCondition: off, maxCycles: 93 });
+  assert.deepEqual(stopwatchOf("every 20 @look"), { startCondition: [AT_ADDRESS_0, AT_LOOK], endCondition: [AT_LOOK], maxCycles: 20 });
+  assert.deepEqual(stopwatchOf("@look to @lit within 7"), { startCondition: [AT_LOOK], endCondition: [AT_LIT], maxCycles: 7 });
+  assert.deepEqual(stopwatchOf("@look to @look within 7"), { startCondition: [AT_LOOK], endCondition: [AT_LOOK], maxCycles: 7 });
   // A guard is part of the condition.
-  assert.deepEqual(stopwatchOf("while r5 = 2, never lamp on on for 93").begins, [["in register 5 whole 2 2", "in ramport 0 line0 1 1"]]);
-  assert.equal(stopwatchOf("while r5 = 2, never lamp on on for 93").ends.length, 3);
+  const { startCondition, endCondition } = stopwatchOf("while r5 = 2, never lamp on on for 93");
+  assert.deepEqual(startCondition, [["in register 5 whole 2 2", "in ramport 0 line0 1 1"]]);
+  assert.equal(endCondition.length, 3);
   assert.equal(stopwatchOf("never lamp on on"), null);
 });
 
@@ -183,21 +184,21 @@ test("a condition with a time is also evaluated between the two cycles of an ins
 
 test("a condition that is always true, or never, also has both lists", () => {
   const { stopwatch: always } = questionOf("never r5 >= 0 for 9").question;
-  assert.deepEqual(always, { begins: [[]], ends: [["in register 0 whole 1 0"]], within: 9 });
+  assert.deepEqual(always, { startCondition: [[]], endCondition: [["in register 0 whole 1 0"]], maxCycles: 9 });
   const { stopwatch: never } = questionOf("never r5 > 15 for 9").question;
-  assert.deepEqual(never, { begins: [["in register 0 whole 1 0"]], ends: [[]], within: 9 });
+  assert.deepEqual(never, { startCondition: [["in register 0 whole 1 0"]], endCondition: [[]], maxCycles: 9 });
 });
 
 test("key presses become a question about the rows and columns of the key matrix", () => {
   const pressesOf = (text) => questionOf(text).question.presses;
   const on = [["in ramport 0 line0 1 1"]];
   const [a, c] = [{ kind: "matrix", row: 0, column: 0 }, { kind: "matrix", row: 0, column: 2 }];
-  assert.deepEqual(pressesOf("lamp on on only after press A, press C, press A"), { opens: on, keys: [a, c, a] });
-  assert.deepEqual(pressesOf("@lit only after press C"), { opens: [AT_LIT], keys: [c] });
+  assert.deepEqual(pressesOf("lamp on on only after press A, press C, press A"), { openCondition: on, keys: [a, c, a] });
+  assert.deepEqual(pressesOf("@lit only after press C"), { openCondition: [AT_LIT], keys: [c] });
   // A condition is evaluated between the two cycles of an instruction as well as after them. A label is reached only when an instruction
   // begins.
-  assert.deepEqual(pressesOf("@lit or @look only after press C").opens, [AT_LOOK.slice(1), AT_LIT.slice(1)]);
-  assert.deepEqual(pressesOf("r5 > 15 only after press C").opens, [["in register 0 whole 1 0"]]);
+  assert.deepEqual(pressesOf("@lit or @look only after press C").openCondition, [AT_LOOK.slice(1), AT_LIT.slice(1)]);
+  assert.deepEqual(pressesOf("r5 > 15 only after press C").openCondition, [["in register 0 whole 1 0"]]);
   assert.equal(pressesOf("never lamp on on"), null);
 });
 
@@ -217,20 +218,20 @@ test("key presses that the prover cannot count are rejected with a reason", () =
 });
 
 test("a time that is too long for the stopwatch is rejected with a reason", () => {
-  assert.equal(questionOf(`every ${MAX_STOPWATCH_CYCLES} @look`).question.stopwatch.within, MAX_STOPWATCH_CYCLES);
+  assert.equal(questionOf(`every ${MAX_STOPWATCH_CYCLES} @look`).question.stopwatch.maxCycles, MAX_STOPWATCH_CYCLES);
   assert.deepEqual(questionOf(`every ${MAX_STOPWATCH_CYCLES + 1} @look`),
     { question: null, reason: "its time is longer than 16,777,214 cycles" });
 });
 
 test("the lines of a stopwatch follow the texts", () => {
-  const stopwatch = { begins: [["in register 1 whole 0 3"], []], ends: [["out counter 1 whole 0 0"]], within: 5 };
+  const stopwatch = { startCondition: [["in register 1 whole 0 3"], []], endCondition: [["out counter 1 whole 0 0"]], maxCycles: 5 };
   const lines = questionText({ board: "rom = []\n", program: "NOP" }, { ...neverQuestion([]), stopwatch }, { maxStates: 77 }).split("\n");
   assert.deepEqual(lines.slice(8),
     ["within 5", "begin", "in register 1 whole 0 3", "begin", "end", "out counter 1 whole 0 0", "prove", ""]);
 });
 
 test("the lines of key presses follow the conditions that they enable", () => {
-  const presses = { opens: [["in register 1 whole 0 3"], []], keys: [matrixKey(0, 2), matrixKey(1, 0)] };
+  const presses = { openCondition: [["in register 1 whole 0 3"], []], keys: [matrixKey(0, 2), matrixKey(1, 0)] };
   const lines = questionText({ board: "rom = []\n", program: "NOP" }, { ...neverQuestion([]), presses }, { maxStates: 77 }).split("\n");
   assert.deepEqual(lines.slice(8), ["open", "in register 1 whole 0 3", "open", "up 0 2", "down 0 2", "up 1 0", "down 1 0", "prove", ""]);
 });

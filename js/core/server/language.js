@@ -4,7 +4,7 @@
 /**
  * @typedef {import("../text/completion.js").Completion} Completion
  * @typedef {import("../text/completion.js").CompletionItem} CompletionItem
- * @typedef {import("../text/folding.js").Parts} Parts
+ * @typedef {import("../text/folding.js").FoldPatterns} FoldPatterns
  * @typedef {import("../text/program_format.js").Layout} Layout
  * @typedef {import("./open_text.js").OpenText} OpenText
  * @typedef {import("./lsp_protocol.js").Location} Location
@@ -37,7 +37,7 @@
  *
  * The handlers for one kind of text.
  * @typedef {object} Language
- * @property {Parts} parts the patterns that delimit the foldable ranges of a text
+ * @property {FoldPatterns} foldPatterns the patterns that delimit the foldable ranges of a text
  * @property {(openText: OpenText, isWanted: () => boolean) => Promise<FoundErrors | undefined>} findErrors resolves to undefined if
  *   `isWanted` returns false during the check
  * @property {(openText: OpenText, position: Position) => Hover | null} [hover]

@@ -11,8 +11,8 @@ import * as say from "../../words/session.js";
  * The callbacks that RomFiles needs.
  * @typedef {object} RomCallbacks
  * @property {(lines: string) => Promise<string[]>} ask Resolves to the bench's answers to queries.
- * @property {(lines: string) => Promise<string | null>} act Executes bench lines that change the session. Resolves to the first answer. If
- *   this fails, reports the error and resolves to null.
+ * @property {(lines: string) => Promise<string | null>} execute Executes bench lines that change the session. Resolves to the first answer.
+ *   If this fails, reports the error and resolves to null.
  * @property {() => Promise<void>} stop Pauses the machine. Resolves when the machine is paused.
  */
 
@@ -44,7 +44,7 @@ export class RomFiles {
       throw new MissingRom(say.lacksRom(chip, hex(missingAddress, 3)));
     }
     await this.callbacks.stop();
-    const answer = await this.callbacks.act(createByteTexts(bytes).map((text) => `asm\n${text}.\n`).join(""));
+    const answer = await this.callbacks.execute(createByteTexts(bytes).map((text) => `asm\n${text}.\n`).join(""));
     const firstAddress = bytes.findIndex((byte) => byte !== NO_BYTE);
     const count = bytes.filter((byte) => byte !== NO_BYTE).length;
     return answer === null ? "" : say.bytesInRom(formatQuantity(count, "byte"), name, count === 1, hex(firstAddress, 3));

@@ -49,7 +49,7 @@ const screen = { terminal: null, view: null };
 /** The functions with which the prompt controls the view. They forward each call, because the view is created later. */
 const viewCalls = {
   toggle: () => (screen.view ? screen.view.toggle() : ""),
-  turn: (/** @type {boolean} */ isOn) => (screen.view ? screen.view.turn(isOn) : ""),
+  setVisible: (/** @type {boolean} */ isOn) => (screen.view ? screen.view.setVisible(isOn) : ""),
 };
 
 /**
@@ -87,8 +87,8 @@ async function debugFiles(names) {
   const position = { line: 0 };
   const prompt = new Prompt(launchResult, data, {
     print: (words) => process.stdout.write(`${escapeControls(words)}\n`),
-    complain: (words) => {
-      if (screen.terminal) screen.terminal.complain(words);
+    printError: (words) => {
+      if (screen.terminal) screen.terminal.printError(words);
       else process.stderr.write(`debug: line ${position.line}: ${escapeControls(words)}\n`);
     },
     pause: host.pause,

@@ -11,7 +11,7 @@ import { completeProgram } from "../../core/text/completion.js";
 import { block, button, onClick } from "../ui/dom.js";
 import { EditorView } from "./text_editor_view.js";
 import { moreErrorsMessage } from "../../core/board/face.js";
-import { PARTS } from "../../core/text/folding.js";
+import { FOLD_PATTERNS } from "../../core/text/folding.js";
 import { LiveErrors } from "./live_errors.js";
 import { readInstructions } from "../../core/help/manual.js";
 import { isProbablyNotProgram } from "../../core/text/program_errors.js";
@@ -104,7 +104,7 @@ export class Editors {
       gutters: ["breakpoints", "numbers", "addresses", "counts"],
       // A new line begins with a tab, because most statements are indented.
       indent: "\t",
-      folds: PARTS.program,
+      folds: FOLD_PATTERNS.program,
       isInstruction: (word) => this.instructions.has(word),
       describeWord: (lines, line, offset) => helpForProgram(lines, line, offset, this.instructions, this.calls.describeName),
       valuesAt: (text, offset) => this.calls.valuesAt(text, offset),
@@ -127,7 +127,7 @@ export class Editors {
       mark: "#",
       colours: colourBoardLine,
       gutters: ["numbers"],
-      folds: PARTS.board,
+      folds: FOLD_PATTERNS.board,
       describeWord: (lines, line, offset) => helpForBoard(lines, line, offset, this.tables),
       complete: (lines, line, offset) => completeBoard(lines, line, offset, this.tables),
     }, {

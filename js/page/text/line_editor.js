@@ -249,9 +249,10 @@ export class LineEditor {
     const { line, ch } = offsetToPosition(this.doc, pos);
     const { from, to, list } = this.calls.complete({ line, ch });
     if (list.length === 0) return null;
-    const options = list.map(({ text, what }) => {
+    const options = list.map(({ text, description }) => {
       const [first] = text.split("\n");
-      return { label: text, displayLabel: `${first}${what && !what.startsWith(" ") ? "   " : ""}${what}`, apply: text };
+      const gap = description && !description.startsWith(" ") ? "   " : "";
+      return { label: text, displayLabel: `${first}${gap}${description}`, apply: text };
     });
     return { from: pos - ch + from, to: pos - ch + to, options, filter: false };
   }

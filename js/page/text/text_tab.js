@@ -4,7 +4,7 @@
 import { Face, moreErrorsMessage } from "../../core/board/face.js";
 import { button, onClick } from "../ui/dom.js";
 import { EditorView } from "./text_editor_view.js";
-import { PARTS } from "../../core/text/folding.js";
+import { FOLD_PATTERNS } from "../../core/text/folding.js";
 import { LiveErrors } from "./live_errors.js";
 import { COLOURS } from "../../core/text/test_colours.js";
 
@@ -58,7 +58,7 @@ export class TextTab {
       mark: "#",
       colours: COLOURS[kind.name],
       gutters: ["numbers"],
-      folds: PARTS.tests,
+      folds: FOLD_PATTERNS.tests,
       isUnsent: true,
       describeWord: (lines, line, offset) => kind.describeWord(lines, line, offset, kind.forms),
       complete: (lines, line, offset) => kind.complete(lines, line, offset, this.names(), kind.forms),
