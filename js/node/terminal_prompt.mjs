@@ -24,7 +24,7 @@ import { isDumb, makePainter } from "./terminal.mjs";
  * @typedef {object} TerminalCallbacks
  * @property {import("node:tty").WriteStream} output the terminal that shows the prompt and the messages
  * @property {() => void} [onServed] called after the execution of a line
- * @property {() => void} [onLeave] called when the prompt returns the terminal: at Ctrl-Z and at its end
+ * @property {() => void} [onLeave] called when the prompt releases the terminal: at Ctrl-Z, and when the prompt ends
  * @property {() => void} [onReturn] called when the prompt has the terminal again after Ctrl-Z
  */
 
@@ -78,7 +78,7 @@ export class TerminalPrompt {
     this.isPasting = false;
     this.hasInputEnded = false;
     this.hasEnded = false;
-    /** True after the prompt has returned the terminal. */
+    /** True after the prompt has released the terminal. */
     this.hasReleasedTerminal = false;
     /** The exit status for the signal that ended the prompt; 0 without a signal. */
     this.status = 0;

@@ -1,5 +1,5 @@
-// Tests proofs for the inputs that a properties text allows: the limits in a question, and when the question is asked again with them. Also
-// tests counterexamples that stay within the limits, and the texts about such proofs.
+// Tests proofs that are limited to the inputs that a properties text allows: the limits in a question, and when the prover is asked again
+// with these limits. Also tests counterexamples that stay within the limits, and the texts about such proofs.
 import assert from "node:assert/strict";
 import { test } from "node:test";
 import { Engine } from "../core/engine/engine.js";

@@ -10,7 +10,7 @@ import { formatKey } from "../../core/board/key_place.js";
 /**
  * The callbacks of KeyPresser.
  * @typedef {object} KeyPresserCalls
- * @property {() => boolean} isRunning Returns true if time is running, so that presses are queued.
+ * @property {() => boolean} isRunning Returns true if time is running. Presses and releases are then queued.
  * @property {(key: Key) => boolean} isDown Returns true if a key will be down after all queued presses and releases.
  * @property {(key: Key) => void} press Queues a press of a key while time is running.
  * @property {(key: Key) => void} release Queues a release of a key while time is running.

@@ -43,7 +43,7 @@ export class WiringView {
     this.parts = new Map();
     /** @type {Map<string, string[]>} the pins at the ends of each line's wires, by line name */
     this.linePins = new Map();
-    /** @type {WeakMap<Element, string>} the part or pin to which an element belongs */
+    /** @type {WeakMap<Element, string>} the name of the part or pin to which each element belongs */
     this.names = new WeakMap();
     /**
      * @type {{ mask: string, levels: Levels }[]} the line levels of each ROM chip; `mask` is the chip's `port` string in the board's text
