@@ -29,10 +29,10 @@ function recordFirstUse() {
 
 /**
  * Starts the module. Returns the engine.
- * @param {string} words a message that says why the module is used; "" for no message
+ * @param {string} message a message that says why the module is used; "" for no message
  */
-export function startModule(words) {
+export function startModule(message) {
   const engine = new Engine(new WebAssembly.Module(readPageModule()));
-  if (words !== "" && !process.env[RUN_BY_COMMAND_VARIABLE] && recordFirstUse()) printError(`mcs4: ${words}\n`);
+  if (message !== "" && !process.env[RUN_BY_COMMAND_VARIABLE] && recordFirstUse()) printError(`mcs4: ${message}\n`);
   return engine;
 }

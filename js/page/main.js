@@ -192,11 +192,11 @@ function beginLoading() {
 async function startPage({ unpackingPromise, locksPromise, storePromise }, errorMessages, notice, pageFrame, { examples, manual }) {
   const makeBench = prepareBench(await unpackingPromise, examples);
   const bench = makeBench();
-  const startingBench = bench.start();
+  const benchStart = bench.start();
   const services = { bench, makeBench, errorMessages, notice, examples, manual };
   // The page creates its views while the worker loads the module.
   const pagePromise = createPage(services, pageFrame, locksPromise, storePromise);
-  const [{ page, guide, commands, hasSessions }] = await Promise.all([pagePromise, startingBench]);
+  const [{ page, guide, commands, hasSessions }] = await Promise.all([pagePromise, benchStart]);
   // A worker that dies before it has loaded the module is not replaced.
   bench.listener = page.listener();
   const story = readRequestedStory(location.search);

@@ -334,10 +334,10 @@ test("a condition can be true for exactly its time, whichever instruction change
     const program = `loop:   ${first}\n        NOP\n        NOP\n        ${end}\n        JUN loop\n`;
     const loopSubject = createSubject(engine, BOARD, program);
     const campaignFor = (cycles) => readCampaign(`test\nnever ${condition} for ${cycles}`, loopSubject).campaign;
-    const findFor = (cycles) => replayCounterexample(loopSubject, campaignFor(cycles), 0, [0], async () => {});
-    const found = await findFor(cycleCount - 1);
+    const findCounterexampleFor = (cycles) => replayCounterexample(loopSubject, campaignFor(cycles), 0, [0], async () => {});
+    const found = await findCounterexampleFor(cycleCount - 1);
     assert.ok(found && await doesTestFail(found, program), `${first}, ${end}`);
-    assert.equal(await findFor(cycleCount), null, `${first}, ${end}`);
+    assert.equal(await findCounterexampleFor(cycleCount), null, `${first}, ${end}`);
   }
 });
 

@@ -95,7 +95,7 @@ export class SessionsController {
       rename: (name) => calls.rename(name),
       describeStorage: () => (
         this.store.isPersistent
-          ? say.SAVED_IN_BROWSER_ONLY + (this.persistence.isPromised ? say.STORAGE_IS_PERSISTENT : "")
+          ? say.SAVED_IN_BROWSER_ONLY + (this.persistence.isGranted ? say.STORAGE_IS_PERSISTENT : "")
           : say.NOT_SAVED_ANYWHERE),
     });
   }
