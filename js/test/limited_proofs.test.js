@@ -99,7 +99,7 @@ class AnsweringEngine extends Engine {
     super(new globalThis.WebAssembly.Module(pageModule));
     this.answer = answer;
     /** @type {string[]} */
-    this.asked = [];
+    this.questions = [];
   }
 
   prove(question) {
@@ -110,7 +110,7 @@ class AnsweringEngine extends Engine {
     const [, limits] = /^pause \d+\n([^]*?)wire$/m.exec(question);
     const [kind] = ["mistake", "within", "open", "never"].filter((word) => new RegExp(`^${word}\\b`, "m").test(question));
     const count = question.split("\nnever\n").length - 1;
-    this.asked.push(`${kind} ${count} ${limits.trimEnd().replace(/\n/g, "; ") || "all"}`);
+    this.questions.push(`${kind} ${count} ${limits.trimEnd().replace(/\n/g, "; ") || "all"}`);
     return this.answer({ kind, isLimited: limits !== "", count });
   }
 }
@@ -121,13 +121,14 @@ async function prove(propertiesText, answer, { programText = PROGRAM, answerMist
   const texts = { boardText: BOARD, programText, testText: "", propertiesText };
   const { proving, errors } = beginProving(engine, texts, 10000, { reportStates: async () => {}, yieldToMessages: async () => {} });
   assert.deepEqual(errors, []);
-  const all = (await proving.judgeAll()).map((judged) => ({ ...createPropertyVerdict(judged), judged }));
+  const judgedVerdicts = (await proving.judgeAll()).map((judged) => ({ ...createPropertyVerdict(judged), judged }));
   const verdictsOf = (judgedProperties) => judgedProperties.map(({ verdict }) => verdict);
   const isAboutMistakes = (text) => text.startsWith("mistake");
   return {
-    verdicts: verdictsOf(all.filter(({ line }) => line > 0)), mistakes: verdictsOf(all.filter(({ line }) => line === 0)),
-    asked: engine.asked.filter((text) => !isAboutMistakes(text)), askedMistakes: engine.asked.filter(isAboutMistakes),
-    status: exitStatus(all.map(({ judged }) => judged)),
+    verdicts: verdictsOf(judgedVerdicts.filter(({ line }) => line > 0)),
+    mistakes: verdictsOf(judgedVerdicts.filter(({ line }) => line === 0)),
+    questions: engine.questions.filter((text) => !isAboutMistakes(text)), mistakeQuestions: engine.questions.filter(isAboutMistakes),
+    status: exitStatus(judgedVerdicts.map(({ judged }) => judged)),
   };
 }
 
@@ -135,9 +136,10 @@ const NEVER_ON = "never lamp on on\n";
 const createProvedVerdict = (states, ...limits) => ({ kind: "proved", states, bySets: false, limits, leftOut: "" });
 
 test("a property that only excluded inputs break is asked again with the limits of the text", async () => {
-  const { verdicts, asked } = await prove(`press B D\ntest\n${NEVER_ON}`, ({ isLimited }) => (isLimited ? "holds 5\n" : ANSWERS_BY_KEYS.A));
+  const { verdicts, questions } =
+    await prove(`press B D\ntest\n${NEVER_ON}`, ({ isLimited }) => (isLimited ? "holds 5\n" : ANSWERS_BY_KEYS.A));
   assert.deepEqual(verdicts, [createProvedVerdict(5, "press", "test")]);
-  assert.deepEqual(asked, ["never 1 all", "never 1 only; press 0 1; press 1 1; test"]);
+  assert.deepEqual(questions, ["never 1 all", "never 1 only; press 0 1; press 1 1; test"]);
   // Each key switches the lamp on.
   const programText = PROGRAM.replace("        RAR\n        JCN 10, look", "        JCN 4, look");
   const [{ kind, counterexample }] = (await prove(`press B\n${NEVER_ON}`,
@@ -148,34 +150,34 @@ test("a property that only excluded inputs break is asked again with the limits 
 
 test("too many states, full memory and a search that gave up are also a reason to ask again", async () => {
   for (const noAnswer of ["too many\n", "no room 12\n", "no 90\n", "gave up\n"]) {
-    const { verdicts, asked } = await prove(`together 1\n${NEVER_ON}`, ({ isLimited }) => (isLimited ? "holds 5\n" : noAnswer));
+    const { verdicts, questions } = await prove(`together 1\n${NEVER_ON}`, ({ isLimited }) => (isLimited ? "holds 5\n" : noAnswer));
     assert.deepEqual(verdicts, [createProvedVerdict(5, "together 1")]);
-    assert.deepEqual(asked, ["never 1 all", "never 1 together 1"]);
+    assert.deepEqual(questions, ["never 1 all", "never 1 together 1"]);
   }
   const { verdicts: [verdict] } = await prove(`press B\n${NEVER_ON}`, ({ isLimited }) => (isLimited ? "too many\n" : ANSWERS_BY_KEYS.A));
   assert.deepEqual([verdict.kind, verdict.reason.slice(0, 23)], ["open", "more than 10,000 states"]);
 });
 
 test("a question is not repeated without need", async () => {
-  const findAskedQuestions = async (text, answer) => (await prove(text, () => answer)).asked;
-  assert.deepEqual(await findAskedQuestions(`press A\n${NEVER_ON}`, "holds 5\n"), ["never 1 all"]);
-  assert.deepEqual(await findAskedQuestions(`press A\n${NEVER_ON}`, ANSWERS_BY_KEYS.A), ["never 1 all"]);
+  const findQuestions = async (text, answer) => (await prove(text, () => answer)).questions;
+  assert.deepEqual(await findQuestions(`press A\n${NEVER_ON}`, "holds 5\n"), ["never 1 all"]);
+  assert.deepEqual(await findQuestions(`press A\n${NEVER_ON}`, ANSWERS_BY_KEYS.A), ["never 1 all"]);
   // The limits in these texts do not restrict what one read can see.
-  assert.deepEqual(await findAskedQuestions(`together 3\nheld at most 1\n${NEVER_ON}`, ANSWERS_BY_KEYS.A), ["never 1 all"]);
-  assert.deepEqual(await findAskedQuestions(`together 9\n${NEVER_ON}`, "too many\n"), ["never 1 all"]);
+  assert.deepEqual(await findQuestions(`together 3\nheld at most 1\n${NEVER_ON}`, ANSWERS_BY_KEYS.A), ["never 1 all"]);
+  assert.deepEqual(await findQuestions(`together 9\n${NEVER_ON}`, "too many\n"), ["never 1 all"]);
 });
 
 test("a property that only inputs outside other limits break remains undecided", async () => {
-  const { verdicts, asked } = await prove(`press A\nheld at most 1\n${NEVER_ON}`, () => ANSWERS_BY_KEYS.A);
+  const { verdicts, questions } = await prove(`press A\nheld at most 1\n${NEVER_ON}`, () => ANSWERS_BY_KEYS.A);
   assert.deepEqual(verdicts, [{ kind: "open", reason: "so far, only inputs that the text excludes break it (1 step)" }]);
-  assert.deepEqual(asked, ["never 1 all", "never 1 only; press 0 0; test"]);
+  assert.deepEqual(questions, ["never 1 all", "never 1 only; press 0 0; test"]);
 });
 
 test("several properties are asked together again only if all of them are undecided", async () => {
   const properties = `press B\n${NEVER_ON}never r15 = 1\nnever r14 = 1\n`;
   const manyResult = await prove(properties, ({ isLimited }) => (isLimited ? "holds 5\n" : "too many\n"));
   assert.deepEqual(manyResult.verdicts, Array.from({ length: 3 }, () => createProvedVerdict(5, "press")));
-  assert.deepEqual(manyResult.asked, ["never 3 all", "never 3 only; press 0 1; test"]);
+  assert.deepEqual(manyResult.questions, ["never 3 all", "never 3 only; press 0 1; test"]);
   // The first property fails, so the prover is asked about each property alone, and again, with limits, about the undecided one.
   let singleQuestionCount = 0;
   const failResult = await prove(properties, ({ isLimited, count }) => {
@@ -184,12 +186,12 @@ test("several properties are asked together again only if all of them are undeci
     return count > 1 || singleQuestionCount === 1 ? ANSWERS_BY_KEYS.A : "holds 8\n";
   });
   assert.deepEqual(failResult.verdicts, [createProvedVerdict(5, "press"), createProvedVerdict(8), createProvedVerdict(8)]);
-  assert.deepEqual(failResult.asked, ["never 3 all", "never 1 all", "never 1 only; press 0 1; test", "never 1 all", "never 1 all"]);
+  assert.deepEqual(failResult.questions, ["never 3 all", "never 1 all", "never 1 only; press 0 1; test", "never 1 all", "never 1 all"]);
   // The combined question with limits fails, so the prover is asked about each property alone.
   const bothResult = await prove(properties,
     ({ isLimited, count }) => (!isLimited ? "no 90\n" : count === 1 ? "holds 5\n" : ANSWERS_BY_KEYS.B));
   assert.deepEqual(bothResult.verdicts, Array.from({ length: 3 }, () => createProvedVerdict(5, "press")));
-  assert.deepEqual(bothResult.asked.map((text) => text.slice(0, 11)),
+  assert.deepEqual(bothResult.questions.map((text) => text.slice(0, 11)),
     ["never 3 all", "never 3 onl", "never 1 onl", "never 1 onl", "never 1 onl"]);
 });
 
@@ -202,22 +204,22 @@ test("goals, times and presses are also asked again", async () => {
   assert.deepEqual(undecidedResult.verdicts.map(({ kind }) => kind), ["found"]);
   const timeResult = await prove("press B\nnever lamp on on for 9\n", answerLimited("too many\n", "holds 6\n"));
   assert.deepEqual(timeResult.verdicts, [createProvedVerdict(6, "press")]);
-  assert.deepEqual(timeResult.asked, ["within 0 all", "within 0 only; press 0 1; test"]);
+  assert.deepEqual(timeResult.questions, ["within 0 all", "within 0 only; press 0 1; test"]);
   const pressResult = await prove("lamp on on only after press B\n", answerLimited("gave up\n", "holds 7\n"));
   assert.deepEqual(pressResult.verdicts, [createProvedVerdict(7, "together 2")]);
-  assert.deepEqual(pressResult.asked, ["open 0 all", "open 0 together 2"]);
+  assert.deepEqual(pressResult.questions, ["open 0 all", "open 0 together 2"]);
 });
 
 test("common mistakes are also asked again, together if all are undecided", async () => {
   const manyResult = await prove("press B\n", () => "", { answerMistakes: ({ isLimited }) => (isLimited ? "holds 5\n" : "too many\n") });
   assert.deepEqual(manyResult.mistakes, Array.from({ length: 7 }, () => createProvedVerdict(5, "press")));
-  assert.deepEqual(manyResult.askedMistakes, ["mistake 1 all", "mistake 1 only; press 0 1; test"]);
+  assert.deepEqual(manyResult.mistakeQuestions, ["mistake 1 all", "mistake 1 only; press 0 1; test"]);
   // If A is down, the program jumps to ROM that the board lacks.
   const programText = PROGRAM.replace("end:    JUN end", "end:    JUN 0x200");
-  let askedCount = 0;
+  let questionCount = 0;
   const answerMistakes = ({ isLimited }) => {
-    askedCount += Number(!isLimited);
-    return isLimited ? "holds 5\n" : askedCount === 1 || askedCount === 6 ? ANSWERS_BY_KEYS.A : "holds 8\n";
+    questionCount += Number(!isLimited);
+    return isLimited ? "holds 5\n" : questionCount === 1 || questionCount === 6 ? ANSWERS_BY_KEYS.A : "holds 8\n";
   };
   const someResult = await prove("press B\n", () => "", { programText, answerMistakes });
   assert.deepEqual(someResult.mistakes.map(({ limits }) => limits), [[], [], [], [], ["press"], [], []]);
