@@ -71,7 +71,7 @@ export class TerminalPrompt {
     this.isDumb = isDumb(process.env);
     this.paint = makePainter(process.env);
     this.history = new PromptHistory(process.env);
-    /** @type {string[]} the pieces of input that wait for handling */
+    /** @type {string[]} the pieces of input that have not been handled yet */
     this.waitingInput = [];
     /** True during the execution or completion of a line, and before the first prompt. */
     this.isBusy = true;

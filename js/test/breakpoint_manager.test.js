@@ -233,7 +233,7 @@ for (const [length, otherText] of Object.entries(OTHER_PROGRAMS)) {
     manager.setSourceMap(MAP, "");
     manager.applyTextEdits(replacementEdit(TEXT, otherText));
     manager.setSourceMap(null, "assemble it");
-    // Load the other text into ROM. Its instructions are in other lines.
+    // Load the other text into ROM. Its instructions are on other lines.
     manager.setSourceMap(new SourceMap(["map lines 2 names 0", "line 1 000 0", "line 2 000 1"], OTHER_PROGRAMS.short), "");
     await manager.allSent;
     manager.applyTextEdits(replacementEdit(otherText, TEXT));

@@ -186,7 +186,7 @@ test("a model determines what the display must show, and its errors are reported
   const { campaign, errors } = readCampaign("press A B\npace 300 200\nmodel ./says\n", displaySubject);
   assert.deepEqual(errors, []);
   const modelInputs = [];
-  // The lamp stays on until the user presses B. This wrong model ignores B.
+  // The lamp stays on until the user presses B. This deliberately faulty model ignores B.
   const answerModel = (chains) => {
     modelInputs.push(...chains);
     return { expectedTexts: chains.map((keys) => (keys.includes("A") ? "1" : "0")), error: "" };

@@ -53,7 +53,7 @@ export class WiringView {
     this.chains = [];
     /** @type {Map<string, Levels>} the line levels of each RAM chip, by `bank.chip` */
     this.rams = new Map();
-    /** The name of the highlighted part, in the form that `mark` takes; "" for none. */
+    /** The name of the highlighted part, in the form that `mark` accepts; "" for none. */
     this.markedName = "";
     /** The name of the part or pin that the Tab key moves the focus to. */
     this.tabStop = "";
