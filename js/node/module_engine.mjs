@@ -18,9 +18,9 @@ const OWNER_ONLY_MODE = 0o600;
 function recordFirstUse() {
   try {
     const folder = joined.findCacheFolder();
-    const noteFile = join(folder, "reported_module");
-    if (folder === "" || existsSync(noteFile)) return false;
-    closeSync(openSync(noteFile, "wx", OWNER_ONLY_MODE));
+    const markerFile = join(folder, "reported_module");
+    if (folder === "" || existsSync(markerFile)) return false;
+    closeSync(openSync(markerFile, "wx", OWNER_ONLY_MODE));
     return true;
   } catch {
     return false;

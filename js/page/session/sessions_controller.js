@@ -86,9 +86,9 @@ export class SessionsController {
       restoreSessions: (records) => trash.restoreSessions(records),
       openExample: (example) => this.openExample(example),
       openStory: async (example) => {
-        const hasOpened = await this.openExample(example);
-        if (hasOpened) this.showStory(example);
-        return hasOpened;
+        const wasOpened = await this.openExample(example);
+        if (wasOpened) this.showStory(example);
+        return wasOpened;
       },
       openFile: (file) => manager.openFile(file),
       openFolder: (read) => manager.openFolder(read),
@@ -134,8 +134,8 @@ export class SessionsController {
    * @param {Example} example
    */
   async openExample(example) {
-    const hasOpened = await this.manager.openExample(example);
-    if (!hasOpened) return false;
+    const wasOpened = await this.manager.openExample(example);
+    if (!wasOpened) return false;
     this.offeredLines.offer(example.lines);
     if (example.lines !== "" && example.board === "") this.calls.showLines();
     return true;

@@ -1,5 +1,5 @@
 // The clock. At the chip's real speed or below, each animation frame runs the cycles that are due. At full speed, the worker continues on
-// its own. Below full speed, no cycles run while the page is hidden, and while the browser or the computer suspends the page. At real
+// its own. Below full speed, no cycles run while the page is hidden, or while the browser or the computer suspends the page. At real
 // speed, a key press does not wait for the next frame. The cycles until that frame are simulated early.
 
 import { CYCLES_PER_SECOND } from "../../core/time/mcs4_time.js";
