@@ -224,7 +224,7 @@ export class SessionsController {
     const message = say.notOpenedAutomaticallyMessage(shortName(record.name));
     const openAction = { word: say.OPEN_IT, act: () => this.open(record.id) };
     const deleteAction = { word: say.DELETE_IT, act: () => this.remove([record]) };
-    this.notice.show(message, "unended", openAction, deleteAction);
+    this.notice.show(message, "unopened", openAction, deleteAction);
   }
 
   /** Opens the session, example or link that the changed URL names, unless it is already open. */
