@@ -105,11 +105,11 @@ class LanguageClient {
       this.receivedBytes = this.receivedBytes.subarray(end + 4 + size);
       if (message.method === "textDocument/publishDiagnostics") this.showDiagnostics(message.params);
       if (message.method === "window/showMessage") this.showMessage(message.params);
-      const pending = message.method === undefined && this.pendingRequests.get(message.id);
-      if (!pending) continue;
+      const pendingRequest = message.method === undefined && this.pendingRequests.get(message.id);
+      if (!pendingRequest) continue;
       this.pendingRequests.delete(message.id);
-      if (message.error) pending.reject(new Error(message.error.message));
-      else pending.resolve(message.result);
+      if (message.error) pendingRequest.reject(new Error(message.error.message));
+      else pendingRequest.resolve(message.result);
     }
   }
 

@@ -301,9 +301,9 @@ test("an unchanged edit sends nothing, but discards the typed text", async () =>
 });
 
 test("a breakpoint's details are described; a plain breakpoint has no description", () => {
-  const plain = { condition: "", from: 1, note: " " };
-  assert.equal(describeDetails(plain), "");
-  assert.equal(describeDetails({ ...plain, condition: " r9 = 9 ", from: 2 }), "if r9 = 9 from hit 2 on");
-  assert.equal(describeDetails({ ...plain, note: "R9 is {r9}" }), 'logs "R9 is {r9}" and continues');
-  assert.equal(describeDetails({ ...plain, from: 3, note: "x" }), 'from hit 3 on: logs "x" and continues');
+  const plainBreakpoint = { condition: "", from: 1, note: " " };
+  assert.equal(describeDetails(plainBreakpoint), "");
+  assert.equal(describeDetails({ ...plainBreakpoint, condition: " r9 = 9 ", from: 2 }), "if r9 = 9 from hit 2 on");
+  assert.equal(describeDetails({ ...plainBreakpoint, note: "R9 is {r9}" }), 'logs "R9 is {r9}" and continues');
+  assert.equal(describeDetails({ ...plainBreakpoint, from: 3, note: "x" }), 'from hit 3 on: logs "x" and continues');
 });

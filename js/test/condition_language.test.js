@@ -150,12 +150,12 @@ const readValues = ({ places }) => session.debugger.readPlaces(places);
 
 /** The prompt of `mcs4 debug` for the session, and the prompt's last output. */
 let prompt;
-let printed = "";
+let lastOutput = "";
 before(() => {
   const launchResult = { session, kept: null, program: "p.asm", board: "b.toml", stopsOnEntry: true, isDebugged: true,
     nameOf: (name) => name };
   const capture = (text) => {
-    printed = text;
+    lastOutput = text;
   };
   const calls = { print: capture, complain: capture, pause: async () => {}, source: () => null, isInteractive: false, view: null };
   prompt = new Prompt(launchResult, readPageData(), calls);
@@ -173,14 +173,14 @@ const USES = {
     return new TestSession(engine, file, new ExecutionRecorder(new Uint8Array(4096)), async () => {}).check(action.condition).holds;
   },
   Watch: (text) => {
-    const { watch: watched, error } = parseWatch(text, names);
+    const { watch: parsedWatch, error } = parseWatch(text, names);
     const snapshot = ["state\n", "ram 0\n"].map((line) => session.debugger.session.ask(line).join("\n"));
-    return error || joinPieces(watched.pieces(new MachineState(snapshot), names)) === "true";
+    return error || joinPieces(parsedWatch.pieces(new MachineState(snapshot), names)) === "true";
   },
   "mcs4 debug": async (text) => {
     createConditionContext();
     await prompt.enterLine(`print ${text}`);
-    return /^(true|false)$/.test(printed) ? printed === "true" : printed;
+    return /^(true|false)$/.test(lastOutput) ? lastOutput === "true" : lastOutput;
   },
   breakpoint: (text) => {
     const breakpoint = { id: 1, address: 0, condition: text, from: 1, note: "", hits: 0 };

@@ -458,13 +458,14 @@ test("the same seed gives the same counterexample for each slice length", async 
 test("the results of a search are described", () => {
   const property = { text: "never lamp 0 on", line: 1, isGoal: false, applied: true, states: 0, limits: [], leftOut: "", chains: 0,
     found: null };
-  const found = { test: "", steps: 2, cycles: 1200, seed: 1 };
+  const counterexample = { test: "", steps: 2, cycles: 1200, seed: 1 };
   const createReport = (...properties) => ({ properties, steps: 2000, states: 3, seconds: 0.5, seeds: [7] });
   const goal = { ...property, isGoal: true };
   assert.equal(searchStatistics(createReport()), "2,000 steps, 4,000 a second; 3 different states; seed 7.");
   assert.equal(finalSummary(createReport(property, goal), false), "Nothing was found that breaks a property. 1 goal was not reached.");
-  assert.equal(finalSummary(createReport({ ...property, found }, { ...goal, found }), true), "Stopped. 1 property is broken.");
-  assert.equal(describePropertyResult({ ...property, found }, createReport()), "broken by 2 steps, 1,200 cycles");
+  const reportWithBoth = createReport({ ...property, found: counterexample }, { ...goal, found: counterexample });
+  assert.equal(finalSummary(reportWithBoth, true), "Stopped. 1 property is broken.");
+  assert.equal(describePropertyResult({ ...property, found: counterexample }, createReport()), "broken by 2 steps, 1,200 cycles");
   assert.equal(describePropertyResult(property, createReport()), "");
   assert.equal(describePropertyResult({ ...property, applied: false }, createReport()), "never checked");
   assert.equal(describePropertyResult({ ...property, states: 12 }, createReport()), "proved for all inputs (12 states)");

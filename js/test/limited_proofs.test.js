@@ -121,14 +121,15 @@ async function prove(propertiesText, answer, { programText = PROGRAM, answerMist
   const texts = { boardText: BOARD, programText, testText: "", propertiesText };
   const { proving, errors } = beginProving(engine, texts, 10000, { reportStates: async () => {}, yieldToMessages: async () => {} });
   assert.deepEqual(errors, []);
-  const judgedVerdicts = (await proving.judgeAll()).map((judged) => ({ ...createPropertyVerdict(judged), judged }));
-  const verdictsOf = (judgedProperties) => judgedProperties.map(({ verdict }) => verdict);
+  const judgedProperties = await proving.judgeAll();
+  const propertyVerdicts = judgedProperties.map((judged) => createPropertyVerdict(judged));
+  const verdictsWhere = (isIncluded) => propertyVerdicts.filter(isIncluded).map(({ verdict }) => verdict);
   const isAboutMistakes = (text) => text.startsWith("mistake");
   return {
-    verdicts: verdictsOf(judgedVerdicts.filter(({ line }) => line > 0)),
-    mistakes: verdictsOf(judgedVerdicts.filter(({ line }) => line === 0)),
+    verdicts: verdictsWhere(({ line }) => line > 0),
+    mistakes: verdictsWhere(({ line }) => line === 0),
     questions: engine.questions.filter((text) => !isAboutMistakes(text)), mistakeQuestions: engine.questions.filter(isAboutMistakes),
-    status: exitStatus(judgedVerdicts.map(({ judged }) => judged)),
+    status: exitStatus(judgedProperties),
   };
 }
 

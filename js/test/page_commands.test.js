@@ -50,8 +50,9 @@ test("the elements that commands use exist in the page", () => {
 });
 
 test("a command that cannot run gives the reason", () => {
-  const never = () => false;
-  const calls = { canGoForward: never, isButtonAvailable: never, isTextInFront: never, hasNotices: never, hasKeys: never };
+  const returnFalse = () => false;
+  const calls = { canGoForward: returnFalse, isButtonAvailable: returnFalse, isTextInFront: returnFalse, hasNotices: returnFalse,
+    hasKeys: returnFalse };
   const reasons = COMMANDS.map((command) => [command.id, command.unavailableReason(calls)]).filter(([, reason]) => reason);
   assert.ok(reasons.length > 30);
   assert.equal(commandById("time.redo").unavailableReason(calls), say.NOTHING_UNDONE);

@@ -23,8 +23,8 @@ test("two tabs keep each other's preferences", () => {
   const [first, second] = [new Preferences(store), new Preferences(store)];
   first.set("text", "board");
   second.set("fold.talk", "folded");
-  const reloaded = new Preferences(store);
-  assert.deepEqual([reloaded.get("text"), reloaded.get("fold.talk")], ["board", "folded"]);
+  const reloadedPreferences = new Preferences(store);
+  assert.deepEqual([reloadedPreferences.get("text"), reloadedPreferences.get("fold.talk")], ["board", "folded"]);
 });
 
 test("preferences work without a store if it is missing, blocked or damaged", () => {

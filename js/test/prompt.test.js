@@ -75,7 +75,9 @@ test("places, counts and times are parsed", async () => {
     assert.throws(() => findPlace(invalidText), /place|addresses|instruction/, invalidText);
   }
   assert.deepEqual([parseCountArgument("", 9), parseCountArgument(" 7 ", 9)], [1, 7]);
-  for (const wrong of ["0", "10", "x", "-1", "1.5"]) assert.throws(() => parseCountArgument(wrong, 9), /a count is 1 to 9/, wrong);
+  for (const invalidCount of ["0", "10", "x", "-1", "1.5"]) {
+    assert.throws(() => parseCountArgument(invalidCount, 9), /a count is 1 to 9/, invalidCount);
+  }
   assert.deepEqual([parseCycles("538"), parseCycles("20 ms"), parseCycles("1s")], [538, 1852, 92593]);
   assert.throws(() => parseCycles("soon"), /soon is not a time/);
 });

@@ -51,24 +51,24 @@ class RecordingEngine extends Engine {
 
   prove(question) {
     const bound = Number(/^most (\d+)$/m.exec(question)[1]);
-    const nevers = question.split("\nnever\n").slice(1);
+    const neverParts = question.split("\nnever\n").slice(1);
     const [, words] = /^mistake (.*)$/m.exec(question) || [];
     const [, within] = /^within (\d+)$/m.exec(question) || [];
     if (within) {
       this.timeLimits.push(Number(within));
-      assert.ok(nevers.length === 0 && !/^sets /m.test(question));
+      assert.ok(neverParts.length === 0 && !/^sets /m.test(question));
       return this.answerTimes(Number(within));
     }
     if (/^sets \d+$/m.test(question)) {
-      this.setQuestions.push(words || nevers.join());
+      this.setQuestions.push(words || neverParts.join());
       return this.answerSets(this.setQuestions[this.setQuestions.length - 1]);
     }
     if (words) {
       this.mistakeQuestions.push(words);
       return this.answerMistakes(words.split(" "));
     }
-    this.propertyQuestions.push([bound, nevers.length]);
-    return this.answer(bound, nevers);
+    this.propertyQuestions.push([bound, neverParts.length]);
+    return this.answer(bound, neverParts);
   }
 }
 
@@ -139,11 +139,11 @@ test("seven mistakes are checked for each program: together first, and separatel
 
 test("sets of states prove the absence of mistakes, and properties that the search does not decide", async () => {
   const words = "code call return ram rom rdr wrr";
-  const proved = { kind: "proved", states: 5, bySets: true, limits: [], leftOut: "" };
+  const provedVerdict = { kind: "proved", states: 5, bySets: true, limits: [], leftOut: "" };
   const allResult = await runProofs(() => "too many\n", { answerSets: () => "holds 5\n" });
   assert.deepEqual(allResult.engine.mistakeQuestions, []);
-  assert.deepEqual(allResult.mistakeVerdicts.map(({ verdict }) => verdict), Array.from({ length: 7 }, () => proved));
-  assert.deepEqual(allResult.propertyVerdicts.map(({ verdict }) => verdict), Array.from({ length: 3 }, () => proved));
+  assert.deepEqual(allResult.mistakeVerdicts.map(({ verdict }) => verdict), Array.from({ length: 7 }, () => provedVerdict));
+  assert.deepEqual(allResult.propertyVerdicts.map(({ verdict }) => verdict), Array.from({ length: 3 }, () => provedVerdict));
   // The combined question is not decided, but one of the single questions is.
   const someResult = await runProofs(() => "", { propertiesText: "", answerMistakes: () => "too many\n",
     answerSets: (question) => (question === "call" ? "holds 5\n" : "gave up\n") });

@@ -70,7 +70,7 @@ const PLACE_BY_CELL = {
 
 /** @type {(state: Uint8Array, comparison: string) => boolean} */
 function isMet(state, comparison) {
-  const [way, list, index, part, low, high] = comparison.split(" ");
+  const [relation, list, index, part, low, high] = comparison.split(" ");
   const [place] = PLACE_BY_CELL[list](Number(index));
   let value;
   if (place === "owed") value = Number(engine.ask(state, "regs\n").answers[0].split(" ")[7]);
@@ -79,7 +79,7 @@ function isMet(state, comparison) {
   // Lines 1 to 3 of ROM 1 are inputs, so their bits in the port's latch are 0.
   if (place === "rom1") value &= 1;
   if (part !== "whole") value = (value >> Number(part.slice(4))) & 1;
-  return (Number(low) <= value && value <= Number(high)) === (way === "in");
+  return (Number(low) <= value && value <= Number(high)) === (relation === "in");
 }
 
 /**
@@ -163,9 +163,9 @@ const AT_LIT = [...AT_ADDRESS_0.slice(0, 2), "in counter 5 whole 22 22"];
 
 test("a property with a time becomes a question about a stopwatch with the same limit in cycles", () => {
   const stopwatchOf = (text) => questionOf(text).question.stopwatch;
-  const [on, off] = [[["in ramport 0 line0 1 1"]], [["in ramport 0 line0 0 0"]]];
-  assert.deepEqual(stopwatchOf("never lamp on on for 93"), { begins: on, ends: off, within: 93 });
-  assert.deepEqual(stopwatchOf("never lamp on on for 1 ms"), { begins: on, ends: off, within: 93 });
+  const [lampOn, lampOff] = [[["in ramport 0 line0 1 1"]], [["in ramport 0 line0 0 0"]]];
+  assert.deepEqual(stopwatchOf("never lamp on on for 93"), { begins: lampOn, ends: lampOff, within: 93 });
+  assert.deepEqual(stopwatchOf("never lamp on on for 1 ms"), { begins: lampOn, ends: lampOff, within: 93 });
   assert.deepEqual(stopwatchOf("every 20 @look"), { begins: [AT_ADDRESS_0, AT_LOOK], ends: [AT_LOOK], within: 20 });
   assert.deepEqual(stopwatchOf("@look to @lit within 7"), { begins: [AT_LOOK], ends: [AT_LIT], within: 7 });
   assert.deepEqual(stopwatchOf("@look to @look within 7"), { begins: [AT_LOOK], ends: [AT_LOOK], within: 7 });
@@ -182,10 +182,10 @@ test("a condition with a time is also evaluated between the two cycles of an ins
 });
 
 test("a condition that is always true, or never, also has both lists", () => {
-  const { stopwatch: always } = questionOf("never r5 >= 0 for 9").question;
-  assert.deepEqual(always, { begins: [[]], ends: [["in register 0 whole 1 0"]], within: 9 });
-  const { stopwatch: never } = questionOf("never r5 > 15 for 9").question;
-  assert.deepEqual(never, { begins: [["in register 0 whole 1 0"]], ends: [[]], within: 9 });
+  const { stopwatch: alwaysTrue } = questionOf("never r5 >= 0 for 9").question;
+  assert.deepEqual(alwaysTrue, { begins: [[]], ends: [["in register 0 whole 1 0"]], within: 9 });
+  const { stopwatch: neverTrue } = questionOf("never r5 > 15 for 9").question;
+  assert.deepEqual(neverTrue, { begins: [["in register 0 whole 1 0"]], ends: [[]], within: 9 });
 });
 
 test("key presses become a question about the rows and columns of the key matrix", () => {

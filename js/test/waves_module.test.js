@@ -83,17 +83,17 @@ test("the recorded past begins with the board, and is empty for a new session", 
 test("a code that is not an instruction ends a recording, and is reported", async () => {
   const { calls, texts } = await begin("three lamps");
   await calls.serve("poke rom.0x018 0xFF\npoke rom.0x014 0xFF\n");
-  const recorded = await calls.record(100, false, texts);
-  assert.deepEqual([recorded.isStuck, recorded.program], [true, null]);
-  assert.ok(recorded.cycles < 100);
+  const recording = await calls.record(100, false, texts);
+  assert.deepEqual([recording.isStuck, recording.program], [true, null]);
+  assert.ok(recording.cycles < 100);
 });
 
 test("a recording ignores breakpoints and watches, which stay", async () => {
   const { calls, texts } = await begin("three lamps");
-  const plain = new Waves(await calls.record(3000, false, texts));
+  const wavesWithoutStops = new Waves(await calls.record(3000, false, texts));
   await calls.serve("break 0x016\nbreak 0\nwatch 0 0\n");
   const waves = new Waves(await calls.record(3000, false, texts));
-  assert.deepEqual([waves.cycles, wholeText(waves)], [3000, wholeText(plain)]);
+  assert.deepEqual([waves.cycles, wholeText(waves)], [3000, wholeText(wavesWithoutStops)]);
   assert.deepEqual(calls.ask("breaks\nwatches\n"), ["breaks 000 016", "watches 0.00"]);
 });
 

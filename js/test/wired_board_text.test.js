@@ -31,11 +31,11 @@ test("a text that the page reads differently is recognized as the wired text", (
 
 test("a board that was wired before gets its text again, and an unknown board has no text", () => {
   const other = { text: "# title: Other\n", board: OTHER_BOARD_LINES.join("\n") };
-  const stored = textsToStore(other, textsToStore(WIRED));
-  assert.deepEqual(stored, [other, WIRED]);
-  assert.deepEqual(currentWiredText(BOARD_LINES, "", stored), WIRED);
-  assert.deepEqual(currentWiredText(["board"], ROM, stored), { text: "", board: "board" });
-  assert.deepEqual(textsToStore({ ...WIRED, text: ROM }, stored).map(({ text }) => text), [ROM, "# title: Other\n"]);
+  const storedTexts = textsToStore(other, textsToStore(WIRED));
+  assert.deepEqual(storedTexts, [other, WIRED]);
+  assert.deepEqual(currentWiredText(BOARD_LINES, "", storedTexts), WIRED);
+  assert.deepEqual(currentWiredText(["board"], ROM, storedTexts), { text: "", board: "board" });
+  assert.deepEqual(textsToStore({ ...WIRED, text: ROM }, storedTexts).map(({ text }) => text), [ROM, "# title: Other\n"]);
 });
 
 test("a session without stored texts has the front panel of its current text", () => {
