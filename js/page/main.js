@@ -198,7 +198,7 @@ async function startPage({ unpackingPromise, locksPromise, storePromise }, error
   const pagePromise = createPage(services, pageFrame, locksPromise, storePromise);
   const [{ page, guide, commands, hasSessions }] = await Promise.all([pagePromise, benchStart]);
   // A worker that dies before it has loaded the module is not replaced.
-  bench.listener = page.listener();
+  bench.listener = page.makeListener();
   const story = readRequestedStory(location.search);
   const isFirstVisit = location.hash === "" && !story && !hasSessions;
   await page.sessionsController.openFirst(story);

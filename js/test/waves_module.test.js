@@ -118,18 +118,18 @@ test("recorded registers, pairs, characters and ports are those that the bench r
   await calls.serve("run 30000\npress 2 0\n");
   const values = ["acc", "cy", "r5", "p2", "src", "dcl", "ram.0.0x12", "st.0.1.2"];
   const waves = new Waves(await calls.record(700, false, { ...texts, values }));
-  const at = (name, moment) => waves.valueAt(numberOf(waves, name), moment);
+  const valueAt = (name, moment) => waves.valueAt(numberOf(waves, name), moment);
   let state = "";
   for (let moment = 0; moment <= 700; moment += 7) {
     [state] = moment === 0 ? calls.ask("state\n") : calls.ask(`run ${moment}\nstate\n`).slice(-1);
     const field = (key) => new RegExp(` ${key} (\\S+)`).exec(state)[1];
     const registers = field("r");
-    assert.deepEqual([at("acc", moment), at("cy", moment), at("r5", moment), at("p2", moment), at("src", moment), at("dcl", moment)],
+    assert.deepEqual(["acc", "cy", "r5", "p2", "src", "dcl"].map((name) => valueAt(name, moment)),
       [field("acc"), field("cy"), registers[5], registers.slice(4, 6), field("src"), field("dcl")], `cycle ${moment}`);
     const roms = field("roms").split(",").map((each) => each.split("."));
-    for (const [chip, out] of roms) if (chip === "0") assert.equal(at("rom0[3:0]", moment), out, `cycle ${moment}`);
+    for (const [chip, out] of roms) if (chip === "0") assert.equal(valueAt("rom0[3:0]", moment), out, `cycle ${moment}`);
   }
-  assert.equal(at("ram.0.0x12", 700), calls.ask("run 700\nram 0\n")[3].split(" ")[1][2]);
+  assert.equal(valueAt("ram.0.0x12", 700), calls.ask("run 700\nram 0\n")[3].split(" ")[1][2]);
 });
 
 test("a recording in pieces gives the same VCD file, also for some lines, ports and values", async () => {

@@ -128,7 +128,7 @@ async function printVcd(openedSession, cycles, words) {
  * Returns the line that drives the buzzer of the front panel. Throws a CommandError if there is no such line.
  * @param {OpenedSession} openedSession
  */
-function panelBuzzerLine({ board, boardText, face: { buzzer } }) {
+function findPanelBuzzerLine({ board, boardText, face: { buzzer } }) {
   if (!boardText) throw new CommandError(say.NO_BUZZER_GIVEN);
   if (!buzzer) throw new CommandError(say.noBuzzerMessage(boardText.name));
   if (hasOutput(board, buzzer.place)) return buzzer.place;
@@ -141,8 +141,8 @@ function panelBuzzerLine({ board, boardText, face: { buzzer } }) {
  * @param {OpenedSession} openedSession
  * @param {string | undefined} word
  */
-function buzzerLine(openedSession, word) {
-  const name = word ?? panelBuzzerLine(openedSession);
+function findBuzzerLine(openedSession, word) {
+  const name = word ?? findPanelBuzzerLine(openedSession);
   const isOutput = /^(rom|ram|chain)[\d.]*\.\d+$/.test(name) && hasOutput(openedSession.board, name);
   if (!isOutput) throw new CommandError(say.noOutputLineMessage(name));
   return name;
@@ -157,7 +157,7 @@ function buzzerLine(openedSession, word) {
  */
 async function writeWav(openedSession, cycles, word, name) {
   const { engine, state, board } = openedSession;
-  const line = buzzerLine(openedSession, word);
+  const line = findBuzzerLine(openedSession, word);
   const choice = convertLineErrors(() => chooseLines(board, "", false, [line]));
   const { lines, chosenIndexes } = linesWithMembers(choice.lines, choice.chosenIndexes);
   const edges = [];
