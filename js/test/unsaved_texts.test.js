@@ -2,7 +2,7 @@
 // the store.
 import assert from "node:assert/strict";
 import { test } from "node:test";
-import { makeRecord } from "../page/session/open_session.js";
+import { createSessionRecord } from "../page/session/open_session.js";
 import { UnsavedTexts } from "../page/session/unsaved_texts.js";
 
 /** Returns a stand-in for the browser's local storage that uses a map. */
@@ -14,7 +14,7 @@ const createStorage = (items = new Map()) => ({
 });
 
 const createRecord = (programText, revision) => (
-  { ...makeRecord("one", Uint8Array.of(1), { boardText: "# b", programText }), id: "one", revision });
+  { ...createSessionRecord("one", Uint8Array.of(1), { boardText: "# b", programText }), id: "one", revision });
 
 test("texts that the store lacks are restored at each opening until the store has a later revision", () => {
   const store = createStorage();
