@@ -73,7 +73,7 @@ class BenchCommand {
    * Returns the editor's description of a debug adapter.
    * @param {string[]} args the name of the command and its arguments
    */
-  debugAdapter(args) {
+  describeDebugAdapter(args) {
     const { program, prefix, env } = this.launchCommand;
     return new this.vscode.DebugAdapterExecutable(program, [...prefix, ...args], { env });
   }
@@ -83,7 +83,7 @@ class BenchCommand {
    * @param {string[]} args the name of the command and its arguments
    * @param {string} cwd the working directory
    */
-  execution(args, cwd) {
+  describeExecution(args, cwd) {
     const { program, prefix, env } = this.launchCommand;
     return new this.vscode.ProcessExecution(program, [...prefix, ...args], { cwd, env });
   }

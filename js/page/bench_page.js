@@ -103,7 +103,7 @@ export class Page {
    * Returns the listener for the bench worker's frames, errors and termination.
    * @returns {import("../core/bench/bench_client.js").Listener}
    */
-  listener() {
+  makeListener() {
     return {
       handleFrame: (frame) => this.runController.handleFrame(frame),
       handleFailure: (error) => this.recovery.reportFailure(error),

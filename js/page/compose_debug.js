@@ -157,8 +157,8 @@ export function makeHeatView(page) {
  * @param {Page} page
  */
 function collectExpressionNames({ snapshotView, source, breakpoints }) {
-  const watched = collectWatchNames(breakpoints.manager.watchTexts);
-  return { face: snapshotView.face, board: snapshotView.board, map: source.map, watched };
+  const watchedNames = collectWatchNames(breakpoints.manager.watchTexts);
+  return { face: snapshotView.face, board: snapshotView.board, map: source.map, watched: watchedNames };
 }
 
 /**

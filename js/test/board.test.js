@@ -92,8 +92,8 @@ test("the page's limits for boards are the limits of the bench", async () => {
   }
   const columns = (count) => roms + chain(1) + keys(Array(count).fill(column));
   assert.deepEqual([await refusalNumberOf(columns(MAX_COLUMNS)), await refusalNumberOf(columns(MAX_COLUMNS + 1))], [0, 27]);
-  const largest = boardsByCount.rom(16) + boardsByCount.ram(8).replace(/chips = 1/g, "chips = 4") + chain(8).repeat(4);
-  const lamp = (line) => `${largest}[[lamp]]\nline = "${line}"\n`;
+  const largestBoard = boardsByCount.rom(16) + boardsByCount.ram(8).replace(/chips = 1/g, "chips = 4") + chain(8).repeat(4);
+  const lamp = (line) => `${largestBoard}[[lamp]]\nline = "${line}"\n`;
   for (const line of LINE_NAMES) assert.equal(await refusalNumberOf(lamp(line)), 0, line);
   const unknownLines = ["rom16.0", "rom0.4", "rom01.0", "ram8.0.0", "ram0.4.0", "ram0.0.4", "chain4.0", "chain0.80", "chain0.00", "rom0",
     ""];

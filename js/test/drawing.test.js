@@ -210,8 +210,8 @@ for (const { name, text } of BOARDS) {
     for (const part of parts) {
       if (part === "row 0") continue;
       const result = checkAction(name, text, { kind: "delete", part });
-      const remaining = commentsOf(result.text);
-      const lostComments = commentsOf(text).filter((comment) => !remaining.includes(comment));
+      const remainingComments = commentsOf(result.text);
+      const lostComments = commentsOf(text).filter((comment) => !remainingComments.includes(comment));
       // A comment in one of the part's lines is deleted with the part.
       if (examples.some((example) => example.name === name)) assert.deepEqual(lostComments, [], `${name}: ${part}`);
       checkOtherParts(board, new Face(text), result, part);

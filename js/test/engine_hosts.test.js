@@ -28,8 +28,8 @@ const top = fileURLToPath(new URL("../..", import.meta.url));
 const program = process.env.MCS4 || join(top, "shipped/mcs4");
 const module = new Engine(new WebAssembly.Module(readPageModule()));
 const hasProgram = spawnSync(program, [], { stdio: "ignore" }).error === undefined;
-const native = hasProgram ? new NativeEngine(program) : null;
-const hosts = native ? { module, native } : { module };
+const nativeEngine = hasProgram ? new NativeEngine(program) : null;
+const hosts = nativeEngine ? { module, native: nativeEngine } : { module };
 const example = (name) => readFileSync(join(top, "examples", name), "utf8");
 
 const IMPORT = `import { NativeEngine } from ${JSON.stringify(new URL("../node/native_engine.mjs", import.meta.url).href)};`;
@@ -180,8 +180,8 @@ testOnBothHosts("a state does not share memory with the file's bytes or with cop
 
 testOnBothHosts("bytes that are not a session file are rejected with a number", (engine) => {
   const validFile = engine.bytesOf(stateAfter(engine, BOARD));
-  const damaged = validFile.slice().fill(255, 0, 4096);
-  return [new Uint8Array(10), validFile.slice(0, 1000), damaged].map((bytes) => {
+  const damagedFile = validFile.slice().fill(255, 0, 4096);
+  return [new Uint8Array(10), validFile.slice(0, 1000), damagedFile].map((bytes) => {
     try {
       return engine.ask(engine.stateOf(bytes), "seq\n");
     } catch (error) {
@@ -204,7 +204,7 @@ testOnBothHosts("tests, coverage and profile of examples", async (engine) => {
   return reports;
 });
 
-if (!native) {
+if (!nativeEngine) {
   test("the native program", { skip: `${program} does not start here; MCS4 names another one` }, () => {});
 } else {
   test("a missing program, a wrong program and a program that ends are errors with a message", () => {
@@ -264,9 +264,9 @@ if (!native) {
   });
 
   test("ending the engine removes its folder", () => {
-    const { folder } = native.starter;
+    const { folder } = nativeEngine.starter;
     assert.ok(existsSync(folder));
-    native.end();
+    nativeEngine.end();
     assert.ok(!existsSync(folder));
   });
 }

@@ -98,11 +98,11 @@ test("past changes are counted exactly, and the session stays unchanged", async 
 
 test("a short period is counted alone, and a long period as far back as the past is remembered", async () => {
   const calls = await openSessionAfter(SETUP_CYCLES + 20 * LOOP_CYCLES);
-  for (const [requested, reported, count] of [
+  for (const [requestedCycles, reportedCycles, count] of [
     [LOOP_CYCLES, LOOP_CYCLES, 1], [5, 5, 0], [3 * LOOP_CYCLES + 3, 3 * LOOP_CYCLES + 3, 3], [1e7, SETUP_CYCLES + 20 * LOOP_CYCLES, 20],
   ]) {
-    const { cycles, cells } = await calls.heat(requested);
-    assert.deepEqual([cycles, cells.reduce((sum, cell) => sum + cell.count, 0)], [reported, count]);
+    const { cycles, cells } = await calls.heat(requestedCycles);
+    assert.deepEqual([cycles, cells.reduce((sum, cell) => sum + cell.count, 0)], [reportedCycles, count]);
   }
 });
 

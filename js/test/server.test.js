@@ -142,8 +142,8 @@ test("requests in the wrong order are rejected", async () => {
   assert.ok((await initialize()).capabilities.renameProvider);
   assert.equal((await getResponse("initialize", {})).error.code, -32600);
   assert.equal((await getResponse("constructor", {})).error.code, -32601);
-  const nowhere = { textDocument: { uri: "file:///none.asm" }, position: { line: 0, character: 0 } };
-  assert.equal((await getResponse("textDocument/hover", nowhere)).error.code, -32602);
+  const unknownDocumentParams = { textDocument: { uri: "file:///none.asm" }, position: { line: 0, character: 0 } };
+  assert.equal((await getResponse("textDocument/hover", unknownDocumentParams)).error.code, -32602);
   assert.equal((await getResponse("textDocument/hover", { position: { line: -1 } })).error.code, -32602);
   connection.receive(bytesOf("Content-Length: 1\r\n\r\n{"));
   assert.equal(messages[messages.length - 1].error.code, -32700);

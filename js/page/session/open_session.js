@@ -22,7 +22,7 @@ let createdCount = 0;
  * @param {boolean} runs true if time starts when the session is opened
  * @returns {SessionRecord}
  */
-export function newRecord(name, file, content, runs = false) {
+export function createSessionRecord(name, file, content, runs = false) {
   const { boardText, programText, testText = "", propertiesText = "", breakpoints, watched, wired } = content;
   createdCount += 1;
   const id = `${Date.now().toString(36)}-${createdCount}-${Math.floor(Math.random() * 1e9).toString(36)}`;

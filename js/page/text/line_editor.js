@@ -227,9 +227,9 @@ export class LineEditor {
   breakLine(indent) {
     const { from, to } = this.state.selection.main;
     const previousLine = this.doc.lineAt(from);
-    const blanks = /^[ \t]*/.exec(previousLine.text.slice(0, from - previousLine.from)) || [""];
+    const leadingBlanks = /^[ \t]*/.exec(previousLine.text.slice(0, from - previousLine.from)) || [""];
     const trailingBlanks = /^[ \t]*/.exec(this.doc.sliceString(to, this.doc.lineAt(to).to)) || [""];
-    const insert = `\n${indent === undefined ? blanks[0] : indent}`;
+    const insert = `\n${indent === undefined ? leadingBlanks[0] : indent}`;
     this.view.dispatch({ changes: { from, to: to + trailingBlanks[0].length, insert }, selection: { anchor: from + insert.length },
       scrollIntoView: true, userEvent: "input" });
     return true;
