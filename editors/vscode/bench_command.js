@@ -14,7 +14,7 @@ class BenchCommand {
    */
   constructor(vscode, folder) {
     this.vscode = vscode;
-    this.ownScript = join(folder, "bench", "js", "node", "mcs4.cjs");
+    this.bundledScript = join(folder, "bench", "js", "node", "mcs4.cjs");
     /** True if the program in the user setting did not start. The extension's own program is then used instead. */
     this.hasSettingFailed = false;
   }
@@ -26,9 +26,9 @@ class BenchCommand {
 
   /** The program to start, its arguments before the command's name, and the variables to add to its environment. */
   get launchCommand() {
-    const { configuredCommand, ownScript } = this;
+    const { configuredCommand, bundledScript } = this;
     if (configuredCommand !== "") return { program: configuredCommand, prefix: [], env: {} };
-    return { program: process.execPath, prefix: [ownScript], env: RUN_AS_NODE_ENVIRONMENT };
+    return { program: process.execPath, prefix: [bundledScript], env: RUN_AS_NODE_ENVIRONMENT };
   }
 
   /**

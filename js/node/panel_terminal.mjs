@@ -81,7 +81,7 @@ export class PanelTerminal {
    * @param {() => void} onResize called when the terminal's size changes
    */
   begin(onResize) {
-    const markGone = () => {
+    const markTerminalGone = () => {
       this.isGone = true;
       this.wake();
     };
@@ -92,8 +92,8 @@ export class PanelTerminal {
       this.keys.push(...splitKeys(String(text)));
       this.wake();
     });
-    for (const event of ["end", "error", "close"]) this.input.on(event, markGone);
-    this.output.on("error", markGone);
+    for (const event of ["end", "error", "close"]) this.input.on(event, markTerminalGone);
+    this.output.on("error", markTerminalGone);
     this.output.on("resize", () => {
       this.drawnRows = [];
       onResize();

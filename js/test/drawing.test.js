@@ -128,8 +128,8 @@ testOnBench("a buzzer keeps its line, is deleted with it, and follows renumbered
   const atPort = text.replace("chain1.12", "rom0.3");
   assert.match(applyAction(atPort, { kind: "port", line: "rom0.3", mode: "i" }).refusal, /The buzzer is at rom0.3/);
   checkAction("horn", atPort, { kind: "port", line: "rom0.2", mode: "i" });
-  const atRam = "# buzzer ram0.1.3: horn\n[[ram]]\nbank = 0\nchips = 2\n";
-  assert.equal(firstLine(checkAction("horn", atRam, { kind: "delete", part: "ram 0.1" })), "[[ram]]");
+  const ramBuzzerBoard = "# buzzer ram0.1.3: horn\n[[ram]]\nbank = 0\nchips = 2\n";
+  assert.equal(firstLine(checkAction("horn", ramBuzzerBoard, { kind: "delete", part: "ram 0.1" })), "[[ram]]");
 });
 
 testOnBench("a buzzer is added, wired, named and deleted, and is deleted with its chip", () => {

@@ -113,9 +113,9 @@ test("errors in a text of properties are reported with the valid names", () => {
 });
 
 test("a text without inputs is an error, unless the front panel has keys or TEST", () => {
-  const bareSubject = createSubject(engine, BOARD.replace(/^#.*\n/gm, ""), PROGRAM);
-  assert.match(readCampaign("never lamp 0 on\n", bareSubject).errors[0].words, /^nothing may change/);
-  assert.deepEqual(readCampaign("test\n", bareSubject).campaign.inputs.map(({ downTestLine }) => downTestLine), ["set test 0"]);
+  const subjectWithoutPanel = createSubject(engine, BOARD.replace(/^#.*\n/gm, ""), PROGRAM);
+  assert.match(readCampaign("never lamp 0 on\n", subjectWithoutPanel).errors[0].words, /^nothing may change/);
+  assert.deepEqual(readCampaign("test\n", subjectWithoutPanel).campaign.inputs.map(({ downTestLine }) => downTestLine), ["set test 0"]);
   assert.deepEqual(campaignOf("").campaign.inputs.map(({ name }) => name), ["A", "B", "C", "D", "WALK"]);
   assert.deepEqual(campaignOf("press B\nreset\n").campaign.inputs.map(({ name }) => name), ["B"]);
 });

@@ -176,9 +176,9 @@ test("a property that only inputs outside other limits break remains undecided",
 
 test("several properties are asked together again only if all of them are undecided", async () => {
   const properties = `press B\n${NEVER_ON}never r15 = 1\nnever r14 = 1\n`;
-  const manyResult = await prove(properties, ({ isLimited }) => (isLimited ? "holds 5\n" : "too many\n"));
-  assert.deepEqual(manyResult.verdicts, Array.from({ length: 3 }, () => createProvedVerdict(5, "press")));
-  assert.deepEqual(manyResult.questions, ["never 3 all", "never 3 only; press 0 1; test"]);
+  const tooManyResult = await prove(properties, ({ isLimited }) => (isLimited ? "holds 5\n" : "too many\n"));
+  assert.deepEqual(tooManyResult.verdicts, Array.from({ length: 3 }, () => createProvedVerdict(5, "press")));
+  assert.deepEqual(tooManyResult.questions, ["never 3 all", "never 3 only; press 0 1; test"]);
   // The first property fails, so the prover is asked about each property alone, and again, with limits, about the undecided one.
   let singleQuestionCount = 0;
   const failResult = await prove(properties, ({ isLimited, count }) => {
@@ -189,10 +189,10 @@ test("several properties are asked together again only if all of them are undeci
   assert.deepEqual(failResult.verdicts, [createProvedVerdict(5, "press"), createProvedVerdict(8), createProvedVerdict(8)]);
   assert.deepEqual(failResult.questions, ["never 3 all", "never 1 all", "never 1 only; press 0 1; test", "never 1 all", "never 1 all"]);
   // The combined question with limits fails, so the prover is asked about each property alone.
-  const bothResult = await prove(properties,
+  const failedCombinationResult = await prove(properties,
     ({ isLimited, count }) => (!isLimited ? "no 90\n" : count === 1 ? "holds 5\n" : ANSWERS_BY_KEYS.B));
-  assert.deepEqual(bothResult.verdicts, Array.from({ length: 3 }, () => createProvedVerdict(5, "press")));
-  assert.deepEqual(bothResult.questions.map((text) => text.slice(0, 11)),
+  assert.deepEqual(failedCombinationResult.verdicts, Array.from({ length: 3 }, () => createProvedVerdict(5, "press")));
+  assert.deepEqual(failedCombinationResult.questions.map((text) => text.slice(0, 11)),
     ["never 3 all", "never 3 onl", "never 1 onl", "never 1 onl", "never 1 onl"]);
 });
 
@@ -222,8 +222,8 @@ test("common mistakes are also asked again, together if all are undecided", asyn
     questionCount += Number(!isLimited);
     return isLimited ? "holds 5\n" : questionCount === 1 || questionCount === 6 ? ANSWERS_BY_KEYS.A : "holds 8\n";
   };
-  const someResult = await prove("press B\n", () => "", { programText, answerMistakes });
-  assert.deepEqual(someResult.mistakes.map(({ limits }) => limits), [[], [], [], [], ["press"], [], []]);
+  const oneLimitedResult = await prove("press B\n", () => "", { programText, answerMistakes });
+  assert.deepEqual(oneLimitedResult.mistakes.map(({ limits }) => limits), [[], [], [], [], ["press"], [], []]);
   const allowedResult = await prove("press A\n", () => "", { programText, answerMistakes: () => ANSWERS_BY_KEYS.A });
   assert.deepEqual(allowedResult.mistakes.map(({ kind }) => kind), ["open", "open", "open", "open", "found", "open", "open"]);
 });
@@ -327,7 +327,7 @@ test("the prover of the page applies the limits", async () => {
   assert.equal(await judge(`press A B\n${NEVER_ON}`), "found");
   assert.deepEqual(await judge("never lamp on on and lamp on off\n"), []);
   // The lamp is switched on when A and B are down at one read.
-  const bothProgram = `${DRIVE_ROW_0}${waitForKey("look")}        RAR\n        JCN 10, look\n${SWITCH_LAMP_ON}`;
-  assert.deepEqual(await judge(`press A B\ntogether 1\n${NEVER_ON}`, bothProgram), ["press", "together 1"]);
-  assert.equal(await judge(`press A B\ntogether 2\n${NEVER_ON}`, bothProgram), "found");
+  const twoKeyProgram = `${DRIVE_ROW_0}${waitForKey("look")}        RAR\n        JCN 10, look\n${SWITCH_LAMP_ON}`;
+  assert.deepEqual(await judge(`press A B\ntogether 1\n${NEVER_ON}`, twoKeyProgram), ["press", "together 1"]);
+  assert.equal(await judge(`press A B\ntogether 2\n${NEVER_ON}`, twoKeyProgram), "found");
 });

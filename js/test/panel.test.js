@@ -171,8 +171,8 @@ test("while paused, typing a key toggles it; a key that was down before stays do
 });
 
 test("a rejected line is reported", async () => {
-  const breaks = Array.from({ length: 32 }, (_, index) => `break ${100 + index}\n`).join("");
-  const { typeKeys, text } = await openPanel(COUNTER, { lines: breaks, isPaused: true });
+  const breakLines = Array.from({ length: 32 }, (_, index) => `break ${100 + index}\n`).join("");
+  const { typeKeys, text } = await openPanel(COUNTER, { lines: breakLines, isPaused: true });
   await typeKeys("\t");
   assert.match(text(), /break 0x000 is rejected: no (\d+): words of \1\n/);
 });

@@ -36,7 +36,7 @@ import * as say from "../../words/text.js";
  * @property {import("../../core/text/folding.js").FoldPatterns} [folds] The patterns of the foldable parts of the text.
  * @property {(word: string) => boolean} [isInstruction] Returns true if a word in upper case is an instruction. Missing for texts without
  *   names.
- * @property {boolean} [isUnsent] True if the text is never sent to the bench.
+ * @property {boolean} [isNeverSent] True if the text is never sent to the bench.
  * @property {(lines: string[], line: number, offset: number) => string} describeWord Returns the description of the word at an offset in a
  *   line, or "" if there is none.
  * @property {(text: string, offset: number) => Piece[]} [valuesAt] Returns the current values of the word at an offset in the line `text`.
@@ -358,8 +358,8 @@ export class EditorView {
   updateSize() {
     clearTimeout(this.sizeTimer);
     this.sizeTimer = window.setTimeout(() => {
-      const { isUnsent } = this.language;
-      const [{ length }, limit, unit] = isUnsent
+      const { isNeverSent } = this.language;
+      const [{ length }, limit, unit] = isNeverSent
         ? [this.text, MAX_STORED_LENGTH, "characters"]
         : [this.benchText, MAX_SENT_LENGTH, "bytes"];
       this.sizeCell.set(say.textSize(length.toLocaleString("en"), limit.toLocaleString("en"), unit));

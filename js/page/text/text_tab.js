@@ -59,7 +59,7 @@ export class TextTab {
       colours: COLOURS[kind.name],
       gutters: ["numbers"],
       folds: FOLD_PATTERNS.tests,
-      isUnsent: true,
+      isNeverSent: true,
       describeWord: (lines, line, offset) => kind.describeWord(lines, line, offset, kind.forms),
       complete: (lines, line, offset) => kind.complete(lines, line, offset, this.names(), kind.forms),
     }, {
