@@ -119,7 +119,7 @@ function describeNameError(text, { instructions }) {
  */
 function findOperandError(head, kind, word, knownWords, isFirst) {
   const { what } = OPERAND_KINDS[kind];
-  const expectation = isFirst ? say.takesOperandsMessage(head, what) : say.takesAfterComma(head, what);
+  const expectation = isFirst ? say.operandExpected(head, what) : say.operandExpectedAfterComma(head, what);
   const { text } = word;
   if (kind === "Pk" && PAIR.test(text)) return null;
   if (kind === "Rk" && REGISTER.test(text)) return null;
@@ -237,7 +237,7 @@ function findFormError(parts, knownWords) {
   }
   const extraOperand = operands[kinds.length];
   const expectation = kinds.map((kind) => OPERAND_KINDS[kind].what).join(say.AND_AFTER);
-  return { word: extraOperand || head, message: say.takesNoMore(upperCaseWord, expectation, Boolean(extraOperand)) };
+  return { word: extraOperand || head, message: say.operandCountMessage(upperCaseWord, expectation, Boolean(extraOperand)) };
 }
 
 /**
@@ -259,7 +259,7 @@ function findValueError({ head, operands, defines, label }, { instructions }) {
   if (!wrongOperand) return null;
   const what = upperCaseWord === "ORG" ? say.ORG_ADDRESS : wrongOperand.kind.what;
   const note = tooLarge ? "" : say.extraOperandNote(wrongOperand.word.text);
-  return { word: wrongOperand.word, message: say.takesOperands(upperCaseWord, what, note) };
+  return { word: wrongOperand.word, message: say.wrongOperandMessage(upperCaseWord, what, note) };
 }
 
 /**
@@ -304,7 +304,7 @@ export function explainProgramLine(line, number, knownWords) {
   if (number === 34 && parts.head) {
     const word = findLastName(parts);
     const head = parts.head.text.toUpperCase();
-    return { word, message: say.otherPage(word ? word.text : say.IT, head) };
+    return { word, message: say.otherPageMessage(word ? word.text : say.IT, head) };
   }
   if (number === 35) return { word: parts.head, message: say.BYTE_TWICE };
   return null;
