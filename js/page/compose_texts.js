@@ -113,7 +113,7 @@ export function makeTextsController(page) {
       currentSession.adoptTitle(sessionTitle(boardText, page.programEditor.text));
       page.checkSource();
     },
-    source: () => page.bench.call("source", []),
+    source: () => page.bench.call("disassembleRom", []),
     isProbablyNotProgram: (text) => page.editors.isProbablyNotProgram(text),
     handleLoadedTexts: (shownName, lines) => {
       page.layout.tabs.choose(shownName);
@@ -149,7 +149,7 @@ export function makeTestsTab(page, manual) {
     texts: () => ({ boardText: page.boardEditor.text, programText: page.programEditor.text }),
     labels: () => (page.source.map ? [...page.source.map.labels.values()].flat() : []),
     findErrors: (texts) => bench.call("findTestErrors", [texts]),
-    sample: (texts) => bench.call("sampleTest", [texts]),
+    sample: (texts) => bench.call("createSampleTest", [texts]),
     run: async (texts) => {
       // The worker serves one call at a time, so time cannot run during the tests. Pausing first shows this to the user.
       await runController.pause();

@@ -41,8 +41,8 @@ export const valueRangeMessage = (place, maximum, word) => `${place} holds 0 to 
 // --- conditions/condition_language.js ---
 export const NO_CONDITION = "a condition is missing";
 /** @type {(subject: string, actual: string, expected: string, isPlural: boolean, isNot: boolean) => string} */
-export const mustBeMessage = (subject, actual, expected, isMany, isNot) => (
-  `${subject} ${isMany ? "are" : "is"} ${actual || "dark"}, but must ${isNot ? "not " : ""}be ${expected}`);
+export const mustBeMessage = (subject, actual, expected, isPlural, isNot) => (
+  `${subject} ${isPlural ? "are" : "is"} ${actual || "dark"}, but must ${isNot ? "not " : ""}be ${expected}`);
 /** @type {(passed: number, expected: string, isNot: boolean) => string} */
 export const wrongCycleCountMessage = (passed, expected, isNot) => (
   `${passed} ${passed === 1 ? "cycle has" : "cycles have"} passed, but the test ${isNot ? "does not expect" : "expects"} ${expected}`);

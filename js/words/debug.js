@@ -31,7 +31,7 @@ export const CHANGES_ALWAYS = "pc changes at each instruction";
 export const lineEnded = (pause, line) => `${pause} The line ${line} ended there.`;
 
 // --- debug/line_changes.js ---
-/** @type {(more: number) => string} */
+/** @type {(count: number) => string} */
 export const moreItems = (count) => ` and ${count} more`;
 
 // --- debug/src_selection.js ---

@@ -81,11 +81,11 @@ export const manyTimes = (count) => `${count} times`;
 export const LAST_CHANGE = ", last";
 /** @type {(count: string, cause: string) => string} */
 export const changesSeenRunning = (count, cause) => `${count} as seen while running, last seen by ${cause}`;
-/** @type {(chips: number, isAll: boolean) => string} */
+/** @type {(chips: number, isComplete: boolean) => string} */
 export const heatCounted = (chips, isComplete) => (
   `Counted while running${chips > 1 ? `, in one of ${chips} chips at a time` : ""}${isComplete ? "" : ", at full speed in samples"}.`);
 export const NOTHING_EARLIER = "No earlier cycle is remembered.";
-/** @type {(time: string, isAll: boolean) => string} */
+/** @type {(time: string, isComplete: boolean) => string} */
 export const inTheLast = (time, isComplete) => `In the last ${time}${isComplete ? "" : " (no more is remembered)"},`;
 /** @type {(period: string) => string} */
 export const nothingChangedMessage = (period) => `${period} no character of RAM has changed.`;

@@ -11,9 +11,9 @@ export const NEVER = "never";
 export const formatRange = (from, to) => `${from} to ${to}`;
 /** @type {(line: number, isTaken: boolean) => string} */
 export const describeDirection = (line, isTaken) => `${line} (${isTaken ? "always" : "never"} taken)`;
-/** @type {(lines: string, areMany: boolean) => string} */
+/** @type {(lines: string, isPlural: boolean) => string} */
 export const neverRun = (lines, isPlural) => `never run: ${isPlural ? "lines" : "line"} ${lines}`;
-/** @type {(lines: string, areMany: boolean) => string} */
+/** @type {(lines: string, isPlural: boolean) => string} */
 export const oneDirectionOnly = (lines, isPlural) => `only one way: ${isPlural ? "lines" : "line"} ${lines}`;
 
 // --- testing/last_instructions.js ---
@@ -124,7 +124,7 @@ export const knownStates = (states) => `; there is: ${states}`;
 /** @type {(state: string, hint: string) => string} */
 export const noSuchStateMessage = (state, hint) => `no earlier test saves a state ${state}${hint}`;
 export const OWN_STATE = "a test cannot begin with a state that it saves itself";
-/** @type {(word: string, areMany: boolean) => string} */
+/** @type {(word: string, isPlural: boolean) => string} */
 export const keysSyntax = (word, isPlural) => `write \`${word} ${isPlural ? "KEYS" : "KEY .."}\``;
 /** @type {(name: string, word: string) => string} */
 export const nameNorWord = (name, word) => `${name}, nor ${word}`;

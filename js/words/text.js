@@ -204,9 +204,9 @@ export const cannotBeNameMessage = (name) => `${name} cannot be a name`;
 /** @type {(name: string) => string} */
 export const registerAsNameMessage = (name) => `${name} is a register, so it cannot be a name`;
 /** @type {(instruction: string, operands: string) => string} */
-export const takesOperandsMessage = (instruction, operands) => `${instruction} takes ${operands}`;
+export const operandExpected = (instruction, operands) => `${instruction} takes ${operands}`;
 /** @type {(instruction: string, operand: string) => string} */
-export const takesAfterComma = (instruction, operand) => `${instruction} takes ${operand}, after the comma`;
+export const operandExpectedAfterComma = (instruction, operand) => `${instruction} takes ${operand}, after the comma`;
 export const NO_WPM = "this bench has no WPM: a program cannot write its ROM";
 /** @type {(name: string, number: string) => string} */
 export const nameGetsNumber = (name, number) => `define a name with =: ${name} = ${number}`;
@@ -223,12 +223,12 @@ export const COLON_SYNTAX = "a name is missing before the colon";
 /** @type {(name: string) => string} */
 export const takesNothing = (name) => `${name} takes no operand`;
 export const AND_AFTER = ", and ";
-/** @type {(name: string, operands: string, isMore: boolean) => string} */
-export const takesNoMore = (name, operands, isMore) => `${name} takes ${operands}${isMore ? ", no more" : ""}`;
+/** @type {(name: string, operands: string, hasExtraOperand: boolean) => string} */
+export const operandCountMessage = (name, operands, hasExtraOperand) => `${name} takes ${operands}${hasExtraOperand ? ", no more" : ""}`;
 export const NAME_VALUE_RANGE = "the number of a name is 0 to 4095";
 export const ORG_ADDRESS = "an address, 0 to 4095";
 /** @type {(name: string, operands: string, extra: string) => string} */
-export const takesOperands = (name, operands, extra) => `${name} takes ${operands}${extra}`;
+export const wrongOperandMessage = (name, operands, extra) => `${name} takes ${operands}${extra}`;
 /** @type {(operand: string) => string} */
 export const extraOperandNote = (operand) => `; ${operand} is more`;
 /** @type {(name: string, suggestion: string) => string} */
@@ -236,7 +236,7 @@ export const notDefinedMessage = (name, suggestion) => `${name} is not defined${
 /** @type {(name: string, line: number|undefined) => string} */
 export const definedBefore = (name, line) => `${name} is already defined in line ${line}`;
 /** @type {(name: string, head: string) => string} */
-export const otherPage = (name, head) => `${name} is on another page; ${head} reaches the page of the address after its two words`;
+export const otherPageMessage = (name, head) => `${name} is on another page; ${head} reaches the page of the address after its two words`;
 export const IT = "it";
 export const BYTE_TWICE = "an earlier line has put a byte at this address; check the ORG lines";
 

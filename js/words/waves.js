@@ -68,7 +68,7 @@ export const COLOURS = { "": "Usual colour", "red": "Red", "amber": "Amber", "gr
 export const groupPrefix = (name) => `group ${name}, `;
 
 // --- waves/measurement.js ---
-/** @type {(value: string, isWhole: boolean, time: string) => string} */
+/** @type {(value: string, isComplete: boolean, time: string) => string} */
 export const valueDuration = (value, isComplete, time) => `${value} for ${isComplete ? "" : "at least "}${time}`;
 /** @type {(text: string, time: string, frequency: string) => string} */
 export const withPeriod = (text, time, frequency) => `${text}; period ${time}, ${frequency}`;

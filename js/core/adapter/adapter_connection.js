@@ -4,7 +4,7 @@
 import { CancelledError } from "../bench/bench_errors.js";
 import { getField } from "../server/framing.js";
 import { MessageStream } from "../server/message_stream.js";
-import { AdapterError, REQUEST_CANCELLED, fail, needNumber, optionalText, errorMessage } from "./dap_protocol.js";
+import { AdapterError, REQUEST_CANCELLED, fail, requireNumber, optionalText, errorMessage } from "./dap_protocol.js";
 import * as say from "../../words/adapter.js";
 import { INITIALIZE_FIRST, INITIALIZE_ONCE, NOT_JSON } from "../../words/server.js";
 
@@ -131,8 +131,8 @@ export class AdapterConnection extends MessageStream {
    * @param {any} args
    */
   cancel(args) {
-    const [number, progress] = [needNumber(args, "requestId", 0), optionalText(args, "progressId")];
-    if (progress !== "") this.stopTask(progress);
+    const [number, progressId] = [requireNumber(args, "requestId", 0), optionalText(args, "progressId")];
+    if (progressId !== "") this.stopTask(progressId);
     for (const pending of [...this.pendingRequests].filter(({ seq, command }) => seq === number && command !== "cancel")) {
       pending.isCancelled = true;
       if (pending.hasBegun) continue;

@@ -160,7 +160,7 @@ export class Console {
     if (this.machine.isMoving) fail(say.MACHINE_IS_RUNNING);
     const target = operands.join(" ");
     /** @type {(act: () => void) => LineResult} */
-    const moveResult = (act) => ({ text: "", changes: false, move: act });
+    const moveResult = (action) => ({ text: "", changes: false, move: action });
     if (word === "forward") return moveResult(() => this.machine.goForward());
     if (word === "back" && target === "") return moveResult(() => this.machine.goBack({ kind: "instruction" }));
     if (word === "back") {

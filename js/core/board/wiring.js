@@ -328,9 +328,9 @@ function moveParts(parts, positions) {
   for (const part of parts) {
     const point = positions.get(part.id);
     if (!point) continue;
-    const [right, down] = [point.x - part.x, point.y - part.y];
+    const [dx, dy] = [point.x - part.x, point.y - part.y];
     Object.assign(part, point);
-    for (const pin of part.pins) Object.assign(pin, { x: pin.x + right, y: pin.y + down });
+    for (const pin of part.pins) Object.assign(pin, { x: pin.x + dx, y: pin.y + dy });
   }
 }
 

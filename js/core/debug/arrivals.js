@@ -117,8 +117,8 @@ export class Arrivals {
     while (cyclesRun < cycles) {
       const cyclesLeft = cycles - cyclesRun;
       const runs = Math.min(cyclesLeft, MAX_RUNS, Math.max(1, Math.round(2 * this.arrivalsPerCycle * cyclesLeft)));
-      const pair = `run ${Math.floor(cyclesLeft / runs)}\n${this.probes.lines}`;
-      const answers = new ForecastAnswers(engine.serve(file, linesBefore + pair.repeat(runs), file).answers);
+      const runWithQueries = `run ${Math.floor(cyclesLeft / runs)}\n${this.probes.lines}`;
+      const answers = new ForecastAnswers(engine.serve(file, linesBefore + runWithQueries.repeat(runs), file).answers);
       answers.skip(skippedCount);
       [linesBefore, skippedCount] = ["", 0];
       while (!answers.isEmpty) {

@@ -80,7 +80,7 @@ export class BreakpointManager {
     this.list.resetHits();
     this.lists.delete(id);
     this.lists.set(id, this.list);
-    for (const oldest of [...this.lists.keys()].slice(0, -MAX_LISTS)) this.lists.delete(oldest);
+    for (const oldestId of [...this.lists.keys()].slice(0, -MAX_LISTS)) this.lists.delete(oldestId);
     this.hasSavedList = savedBreakpoints !== undefined;
     this.map = null;
     this.mapError = "";

@@ -187,8 +187,8 @@ export class BreakpointList {
       this.storeDeleted(breakpoint, edit);
       return [];
     });
-    const isUndone = edit.origin === "undo" || edit.origin === "redo";
-    return (isUndone && this.restoreDeleted(edit, first, count)) || isMoved;
+    const isUndoOrRedo = edit.origin === "undo" || edit.origin === "redo";
+    return (isUndoOrRedo && this.restoreDeleted(edit, first, count)) || isMoved;
   }
 
   /**

@@ -316,7 +316,7 @@ export class Debugger {
   endMove() {
     this.checkLastLines();
     this.watcher = null;
-    this.session.timeline.stop();
+    this.session.timeline.recordStop();
   }
 
   /**
@@ -479,7 +479,7 @@ export class Debugger {
    * @param {(done?: number) => Promise<boolean>} shouldContinue
    * @returns {Promise<LastChange>}
    */
-  async lastChange(place, shouldContinue) {
+  async findLastChange(place, shouldContinue) {
     const { session } = this;
     const { moment, present, ...report } = await findBackTarget(session.engine, session, { kind: "change", place }, shouldContinue);
     if (!moment) return { ...report, isFound: false, cycles: 0, address: -1 };

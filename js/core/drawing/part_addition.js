@@ -149,10 +149,10 @@ export function addChain(editedBoard, chips = 1) {
  * @param {number} count
  */
 function findFreeBits(board, count) {
-  const freeNames = new Set(freeLines(board).map(({ name }) => name));
+  const freeLineNames = new Set(freeLines(board).map(({ name }) => name));
   for (const [chain, { chips }] of board.chains.entries()) {
     const starts = indices(Math.max(0, BITS_PER_CHIP * chips - count + 1));
-    const first = starts.find((bit) => indices(count).every((index) => freeNames.has(`chain${chain}.${bit + index}`)));
+    const first = starts.find((bit) => indices(count).every((index) => freeLineNames.has(`chain${chain}.${bit + index}`)));
     if (first !== undefined) return { chain, first };
   }
   return null;

@@ -71,7 +71,7 @@ export class LiveRecorder {
    * @param {Trigger | null} trigger
    * @param {LiveSetup} options
    */
-  waitFor(trigger, options) {
+  setTrigger(trigger, options) {
     this.trigger = trigger;
     this.options = options;
     this.tracedPlaces = trigger && trigger.places.length > 0 && trigger.address < 0 ? trigger.places.join(" ") : "";

@@ -46,7 +46,7 @@ export class RecordingRequests {
     const names = this.bench.collectNames(texts);
     const { trigger, error } = readTrigger(options.trigger, recorder.lines, names);
     if (error) return { recording: null, error };
-    recorder.waitFor(trigger, options);
+    recorder.setTrigger(trigger, options);
     session.recorder = recorder;
     return { recording: recorder.takeRecording(session.file), error: "" };
   }

@@ -40,9 +40,9 @@ export class SessionRequests {
    * the stored past does not lead to this session.
    * @param {import("./timeline.js").StoredSegment[]} segments
    */
-  recall(segments) {
+  restorePast(segments) {
     try {
-      return this.bench.session.timeline.recall(this.bench.engine, segments);
+      return this.bench.session.timeline.restorePast(this.bench.engine, segments);
     } catch (error) {
       // The stored bytes are not a valid session file.
       if (error instanceof BenchRefusal) return -1;

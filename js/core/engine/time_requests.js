@@ -75,7 +75,7 @@ export class TimeRequests {
   halt() {
     const frame = this.bench.takePendingFrame();
     this.bench.fullSpeed.stop();
-    this.bench.session.timeline.stop();
+    this.bench.session.timeline.recordStop();
     return frame;
   }
 }

@@ -92,12 +92,12 @@ export class Timeline {
    * entries. Returns the number of entries used from the last stored segment, or -1 if the stored past does not lead to the start of the
    * first segment.
    * @param {Engine} engine
-   * @param {StoredSegment[]} stored consecutive segments
+   * @param {StoredSegment[]} storedSegments consecutive segments
    */
-  recall(engine, stored) {
+  restorePast(engine, storedSegments) {
     const [first] = this.segments;
-    if (stored.length === 0 || first.follows) return -1;
-    const { total, entries, file } = stored[stored.length - 1];
+    if (storedSegments.length === 0 || first.follows) return -1;
+    const { total, entries, file } = storedSegments[storedSegments.length - 1];
     const expectedState = queryState(engine, first.file);
     let cycles = total + addUp(entries.map((entry) => entry.cycles));
     for (let count = entries.length, tries = 0; count >= 0 && cycles >= first.count.total && tries < MAX_TRIES; count--) {
@@ -105,7 +105,7 @@ export class Timeline {
         tries += 1;
         const end = file.slice();
         engine.serve(end, entries.slice(0, count).map(({ line }) => `${line}\n`).join(""), end);
-        if (queryState(engine, end) === expectedState) return this.prepend(stored, count);
+        if (queryState(engine, end) === expectedState) return this.prepend(storedSegments, count);
       }
       if (count > 0) cycles -= entries[count - 1].cycles;
     }
@@ -114,13 +114,13 @@ export class Timeline {
 
   /**
    * Puts stored segments before the first segment. Returns `count`.
-   * @param {StoredSegment[]} stored
+   * @param {StoredSegment[]} storedSegments
    * @param {number} count the number of entries to use from the last stored segment
    */
-  prepend(stored, count) {
+  prepend(storedSegments, count) {
     const [first, ...laterSegments] = this.segments;
-    const restoredSegments = stored.map((segment, index) => restoreSegment(
-      index === stored.length - 1 ? { ...segment, entries: segment.entries.slice(0, count) } : segment, index));
+    const restoredSegments = storedSegments.map((segment, index) => restoreSegment(
+      index === storedSegments.length - 1 ? { ...segment, entries: segment.entries.slice(0, count) } : segment, index));
     this.segments = [...restoredSegments, { ...first, follows: true }, ...laterSegments];
     return count;
   }
@@ -135,7 +135,7 @@ export class Timeline {
   }
 
   /** Records that the machine is paused, so that the next entry starts at a stop. */
-  stop() {
+  recordStop() {
     this.isStopped = true;
   }
 

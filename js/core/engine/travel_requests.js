@@ -72,18 +72,18 @@ export class TravelRequests {
    * Resolves to the last change of a place in the stored past.
    * @param {string} place a register, RAM nibble, port or other place that conditions can name
    */
-  async lastChange(place) {
+  async findLastChange(place) {
     const totalCycles = this.bench.session.timeline.cycles;
     let doneCycles = 0;
     const shouldContinue = (newCycles = 0) => this.bench.shouldContinue(doneCycles += newCycles, totalCycles);
-    return this.bench.debugger.lastChange(place, shouldContinue);
+    return this.bench.debugger.findLastChange(place, shouldContinue);
   }
 
   /**
    * Resolves to the heat map for the last `cycles` cycles.
    * @param {number} cycles
    */
-  heat(cycles) {
+  measureHeat(cycles) {
     const { engine, session } = this.bench;
     const board = readBoard(session.statusQueries.board);
     let doneCycles = 0;

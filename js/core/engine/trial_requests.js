@@ -28,7 +28,7 @@ export class TrialRequests {
    * Returns a sample test for a board and its program.
    * @param {import("../testing/test_preparation.js").Texts} texts
    */
-  sampleTest(texts) {
+  createSampleTest(texts) {
     return sampleTest(this.bench.engine, texts);
   }
 

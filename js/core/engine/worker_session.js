@@ -152,7 +152,7 @@ export class WorkerSession {
     const runEntries = servedLines.map(({ line, change }, index) => (
       { line, answer: answers[index], runs: change ? 0 : 1, cycles: cyclesOf(index) }));
     const lastAnswer = answers[answers.length - 1] || "";
-    if (isStop(lastAnswer)) this.timeline.stop();
+    if (isStop(lastAnswer)) this.timeline.recordStop();
     return {
       runEntries,
       cycles: runs.reduce((sum, run) => sum + (run ? run.cycles : 0), 0),
@@ -327,11 +327,11 @@ export class WorkerSession {
     if (from !== this.file) [this.file, this.nextFile] = [from, this.file];
     this.statusQueries = statusQueries;
     if (report.hasChangedRom) this.cachedRomBytes = null;
-    this.timeline.stop();
+    this.timeline.recordStop();
     this.count = report.count;
     this.printerCodes = printerCodes;
     if (report.acceptedCommands.length > 0) this.timeline.record([...this.unrecordedCommands.splice(0), ...report.acceptedCommands], this);
-    this.timeline.stop();
+    this.timeline.recordStop();
     // The waiting key changes belong to the old board.
     if (report.hasChangedBoard) this.queue.clear();
     if (report.hasChangedBoard) this.forgetMeters();

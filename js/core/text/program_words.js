@@ -119,7 +119,7 @@ function describeNameError(text, { instructions }) {
  */
 function findOperandError(head, kind, word, knownWords, isFirst) {
   const { description } = OPERAND_KINDS[kind];
-  const expectation = isFirst ? say.takesOperandsMessage(head, description) : say.takesAfterComma(head, description);
+  const expectation = isFirst ? say.operandExpected(head, description) : say.operandExpectedAfterComma(head, description);
   const { text } = word;
   if (kind === "Pk" && PAIR.test(text)) return null;
   if (kind === "Rk" && REGISTER.test(text)) return null;
@@ -237,7 +237,7 @@ function findFormError(parts, knownWords) {
   }
   const extraOperand = operands[kinds.length];
   const expectation = kinds.map((kind) => OPERAND_KINDS[kind].description).join(say.AND_AFTER);
-  return { word: extraOperand || head, message: say.takesNoMore(upperCaseWord, expectation, Boolean(extraOperand)) };
+  return { word: extraOperand || head, message: say.operandCountMessage(upperCaseWord, expectation, Boolean(extraOperand)) };
 }
 
 /**
@@ -259,7 +259,7 @@ function findValueError({ head, operands, defines, label }, { instructions }) {
   if (!wrongOperand) return null;
   const description = upperCaseWord === "ORG" ? say.ORG_ADDRESS : wrongOperand.kind.description;
   const note = tooLargeOperand ? "" : say.extraOperandNote(wrongOperand.word.text);
-  return { word: wrongOperand.word, message: say.takesOperands(upperCaseWord, description, note) };
+  return { word: wrongOperand.word, message: say.wrongOperandMessage(upperCaseWord, description, note) };
 }
 
 /**
@@ -304,7 +304,7 @@ export function explainProgramLine(line, number, knownWords) {
   if (number === 34 && parts.head) {
     const word = findLastName(parts);
     const head = parts.head.text.toUpperCase();
-    return { word, message: say.otherPage(word ? word.text : say.IT, head) };
+    return { word, message: say.otherPageMessage(word ? word.text : say.IT, head) };
   }
   if (number === 35) return { word: parts.head, message: say.BYTE_TWICE };
   return null;

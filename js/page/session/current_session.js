@@ -107,7 +107,7 @@ export class CurrentSession {
   async restoreHistory() {
     const { bench, storedHistory } = this;
     const segments = storedHistory.takeStoredSegments();
-    const count = segments.length > 0 ? await bench.call("recall", [segments]).catch(() => -1) : -1;
+    const count = segments.length > 0 ? await bench.call("restorePast", [segments]).catch(() => -1) : -1;
     if (count >= 0) storedHistory.continueFrom(segments, count);
   }
 

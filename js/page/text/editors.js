@@ -189,7 +189,7 @@ export class Editors {
     if (!(await this.hasNoErrors("program"))) return;
     await this.calls.pauseTime();
     const { benchText } = this.program;
-    const { size, remainingAddresses } = await this.bench.call("leftovers", [benchText]);
+    const { size, remainingAddresses } = await this.bench.call("findLeftovers", [benchText]);
     const lines = createProgramTexts(benchText, remainingAddresses).map((text) => `asm\n${text}.\n`).join("");
     const answer = await this.calls.serveLines(`${lines}reset\n`);
     if (answer === null) return;
@@ -209,7 +209,7 @@ export class Editors {
     if (answer === null) return;
     const refusal = parseRefusal(answer);
     if (!refusal) await this.calls.handleAssembly(false);
-    const leftovers = await this.bench.call("leftovers", [benchText]);
+    const leftovers = await this.bench.call("findLeftovers", [benchText]);
     this.program.showMessage(refusal ? this.describeRefusal(refusal) : describeAssembled(leftovers, this.calls.counter()));
   }
 

@@ -73,7 +73,7 @@ export class RunController {
     this.pendingKeys = new PendingKeys();
     this.sound = new Sound({
       listenToLine: (line) => {
-        bench.call("listenTo", [line]).catch(calls.reportFailure);
+        bench.call("watchBuzzer", [line]).catch(calls.reportFailure);
       },
       isRealTime: () => this.clock.speed === REAL_TIME_SPEED,
     });
