@@ -13,7 +13,7 @@
  * @typedef {import("./lsp_protocol.js").TextEdit} TextEdit
  * @typedef {import("./token_codes.js").ColouredWord} ColouredWord
  *
- * The errors in a text. `isComplete` is false if the text can contain errors that `errors` lacks.
+ * The errors in a text. `isComplete` is false if the text can contain errors that are not in `errors`.
  * @typedef {{ errors: import("./diagnostics.js").ShownError[], isComplete: boolean }} FoundErrors
  *
  * The help at a position, as plain text and in Markdown.
