@@ -177,9 +177,9 @@ test("a property with a time becomes a question about a stopwatch with the same 
 });
 
 test("a condition with a time is also evaluated between the two cycles of an instruction", () => {
-  const { begins, ends } = questionOf("never @look for 9").question.stopwatch;
-  assert.deepEqual(begins, [AT_LOOK.slice(1)]);
-  assert.ok(ends.flat().every((comparison) => !comparison.startsWith("in counter 3 ")));
+  const { startCondition, endCondition } = questionOf("never @look for 9").question.stopwatch;
+  assert.deepEqual(startCondition, [AT_LOOK.slice(1)]);
+  assert.ok(endCondition.flat().every((comparison) => !comparison.startsWith("in counter 3 ")));
 });
 
 test("a condition that is always true, or never, also has both lists", () => {

@@ -30,7 +30,7 @@ test("a message that is too long is skipped, and the next message is read", () =
   assert.deepEqual([...reader.readMessages(bytesOf(`Content-Length: ${MAX_MESSAGE + 1}\r\n\r\n`))], []);
   assert.deepEqual([...reader.readMessages(new Uint8Array(MAX_MESSAGE))], []);
   const results = [...reader.readMessages(new Uint8Array([32, ...frameMessage({ id: 1 })]))];
-  assert.deepEqual(results.map((result) => result.tooLong || JSON.parse(result.text).id), [MAX_MESSAGE + 1, 1]);
+  assert.deepEqual(results.map((result) => result.skippedSize || JSON.parse(result.text).id), [MAX_MESSAGE + 1, 1]);
 });
 
 test("an impossible size is an error at once, after the messages before it", () => {

@@ -17,9 +17,9 @@ import * as say from "../../words/import.js";
  * An error in a line; `line` counts from 1.
  * @typedef {{ line: number, words: string }} ImportError
  *
- * The rules for the value of an operand. `from` and `to` are its lowest and highest value. `modulus` is added to negative numbers from
- * -`modulus` / 2 on; 0 means that negative numbers are not allowed. `isNumber` is true if the output must contain the value of a name
- * instead of the name.
+ * The rules for the value of an operand. `from` and `to` are its lowest and highest value. Negative numbers down to -`modulus` / 2 are
+ * allowed, and `modulus` is added to them. If `modulus` is 0, negative numbers are not allowed. `isNumber` is true if the output must
+ * contain the value of a name instead of the name.
  * @typedef {{ from?: number, to: number, modulus?: number, isNumber?: boolean }} OperandRules
  */
 

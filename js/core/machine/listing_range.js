@@ -1,5 +1,5 @@
-// Finds start addresses for a disassembled listing, and selects the visible lines. The bench disassembles from a start address on. If that
-// address is not the start of an instruction, the lines are misaligned. They are aligned if a line starts at an address where an
+// Finds start addresses for a disassembled listing, and selects the visible lines. The bench disassembles from a start address onwards. If
+// that address is not the start of an instruction, the lines are misaligned. They are aligned if a line starts at an address where an
 // instruction is known to start (the anchor).
 
 import { indices } from "../bench/numbers.js";

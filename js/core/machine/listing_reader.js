@@ -31,7 +31,7 @@ export class ListingReader {
   }
 
   /**
-   * Resolves to the disassembled lines from an address on.
+   * Resolves to the disassembled lines, starting at an address.
    * @param {number} start the address of the first line
    * @param {number} count the number of lines
    */

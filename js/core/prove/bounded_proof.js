@@ -49,8 +49,8 @@ class ProverQueries {
   }
 
   /**
-   * Asks the prover repeatedly with increasing limits on the number of states. Resolves to the first answer that decides the question, or
-   * to the last answer.
+   * Asks the prover repeatedly with increasing limits on the number of states. Resolves to the first answer that decides the question or,
+   * if there is none, to the last answer.
    * @param {Question} question
    * @returns {Promise<Answer>}
    */

@@ -136,7 +136,7 @@ export class BoardLanguage {
    * @param {OpenText} openText
    * @returns {ColouredWord[]}
    */
-  colours({ lines, text }) {
+  semanticTokens({ lines, text }) {
     const headers = new Set(readBoardText(text).entries.map(({ line }) => line));
     /** @type {ColouredWord[]} */
     const comments = lines.map((lineText, line) => ({ line, from: findCommentStart(lineText, "#"), to: lineText.length, type: "comment" }));

@@ -235,7 +235,7 @@ export class ProgramLanguage {
    * @param {OpenText} openText
    * @returns {ColouredWord[]}
    */
-  colours({ lines }) {
+  semanticTokens({ lines }) {
     const names = findDefinedNames(lines);
     const isConstant = (/** @type {string} */ name) => splitStatement(lines[(names.get(name) || 1) - 1]).defines;
     return lines.flatMap((text, line) => tokenizeLine(text, this.isInstruction).flatMap(({ kind, text: word, from, to }) => {

@@ -108,7 +108,7 @@ export class PropertyLanguage extends DependentLanguage {
    * Returns the words to colour.
    * @param {OpenText} openText
    */
-  colours({ lines }) {
+  semanticTokens({ lines }) {
     return colouredWords(lines, COLOURS.properties);
   }
 

@@ -126,11 +126,11 @@ export class Requests {
       "textDocument/foldingRange": (params) => this.callWithLanguage(params, (language, openText) => (
         findFolds(openText.lines, language.foldPatterns))),
       "textDocument/inlayHint": (params) => this.hints(params),
-      "textDocument/semanticTokens/full": (params) => this.colours(params, (openText, words) => (
+      "textDocument/semanticTokens/full": (params) => this.serveSemanticTokens(params, (openText, words) => (
         this.tokens.encodeAllTokens(openText, words))),
-      "textDocument/semanticTokens/full/delta": (params) => this.colours(params, (openText, words) => (
+      "textDocument/semanticTokens/full/delta": (params) => this.serveSemanticTokens(params, (openText, words) => (
         this.tokens.encodeChangedTokens(openText, words, getField(params, "previousResultId")))),
-      "textDocument/semanticTokens/range": (params) => this.colours(params, (openText, words) => (
+      "textDocument/semanticTokens/range": (params) => this.serveSemanticTokens(params, (openText, words) => (
         this.tokens.encodeTokensInRange(words, requireRange(getField(params, "range"))))),
       "textDocument/diagnostic": (params) => this.diagnostic(params),
     };
@@ -142,8 +142,9 @@ export class Requests {
    * @param {(openText: OpenText, words: import("./token_codes.js").ColouredWord[]) => object} callback returns the response for the words
    *   to colour
    */
-  colours(params, callback) {
-    return this.callWithLanguage(params, (language, openText) => callback(openText, language.colours ? language.colours(openText) : []));
+  serveSemanticTokens(params, callback) {
+    return this.callWithLanguage(params, (language, openText) => (
+      callback(openText, language.semanticTokens ? language.semanticTokens(openText) : [])));
   }
 
   /**

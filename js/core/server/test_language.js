@@ -116,7 +116,7 @@ export class TestLanguage extends DependentLanguage {
    * Returns the words to colour.
    * @param {OpenText} openText
    */
-  colours({ lines }) {
+  semanticTokens({ lines }) {
     return colouredWords(lines, COLOURS.tests);
   }
 

@@ -201,7 +201,7 @@ function checkEnvelope(text) {
 }
 
 /**
- * Reads the lines before the first text: the name, the breakpoints and the watch expressions. In the result, `unended` contains the words
+ * Reads the lines before the first text: the name, the breakpoints and the watch expressions. In the result, `unendedWords` has the words
  * of the texts that do not end with a line feed. Throws InvalidProject if a line is invalid.
  * @param {Lines} lines
  */
@@ -222,7 +222,7 @@ function readHead(lines) {
     if (word === "value") watched.push(value);
     lines.takeLine();
   }
-  return { name, unended: unendedWords, breakpoints, watched };
+  return { name, unendedWords, breakpoints, watched };
 }
 
 /**
@@ -244,10 +244,10 @@ function readText(lines, word, unendedWords) {
  * @returns {TextsWithBreakpoints}
  */
 export function readTexts(lines, acceptsLongTexts = false) {
-  const { name, unended, breakpoints, watched } = readHead(lines);
-  const [boardText, programText] = [readText(lines, "wire", unended), readText(lines, "asm", unended)];
+  const { name, unendedWords, breakpoints, watched } = readHead(lines);
+  const [boardText, programText] = [readText(lines, "wire", unendedWords), readText(lines, "asm", unendedWords)];
   const [testText, propertiesText] = (/** @type {Word[]} */ (["test", "properties"])).map((word) => (
-    lines.nextLine === word ? readText(lines, word, unended) : ""));
+    lines.nextLine === word ? readText(lines, word, unendedWords) : ""));
   const texts = { name, boardText, programText, testText, propertiesText };
   const message = tooLongMessage(texts);
   if (message && !acceptsLongTexts) throw new TextTooLong(message);

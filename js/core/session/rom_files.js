@@ -32,7 +32,7 @@ export class RomFiles {
 
   /**
    * Pauses the machine and loads an image into ROM. Changes nothing else in the session. Resolves to a message about the loaded bytes, or
-   * to "" if `act` has reported an error. Throws MissingRom if the board lacks a ROM for the image.
+   * to "" if `execute` has reported an error. Throws MissingRom if the board lacks a ROM for the image.
    * @param {string} name the name of the image file
    * @param {Int16Array} bytes the bytes by address, NO_BYTE where the image has none
    */

@@ -17,7 +17,7 @@ const COUNT_WIDTH = 10;
 const DIRECTIONS_WIDTH = 13;
 
 /**
- * Returns a line in which blanks up to the next tab stop replace each tab.
+ * Replaces each tab of a line with blanks up to the next tab stop.
  * @param {string} text
  */
 function expandTabs(text) {

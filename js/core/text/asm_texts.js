@@ -60,7 +60,7 @@ function createClearingTexts(addresses) {
 const RESERVED_LENGTH = PAGE_NUMBERS.length * formatStatements(0, [255], 1).length;
 
 /**
- * Returns statements that store one byte in each ROM to which only the other texts store bytes: the last byte for that ROM.
+ * Returns statements that store one byte in each ROM that only the other texts use. This byte is the last one for that ROM.
  * @param {Int16Array} bytes the bytes by address; negative for no byte
  * @param {Set<number>} pages the ROMs to which this text stores bytes
  */

@@ -63,7 +63,7 @@ export function toggleComments(lines, mark) {
 }
 
 /**
- * Returns a line in which a blank replaces each non-ASCII character of the comment. Positions in the line stay the same.
+ * Replaces each non-ASCII character in the comment of a line with a blank. Positions in the line stay the same.
  * @param {string} line
  * @param {CommentMark} mark
  */
@@ -109,8 +109,8 @@ function mapLines(text, change) {
 }
 
 /**
- * Returns a text in which a blank replaces each non-ASCII character in comments. Positions in the result are therefore valid in the
- * original text.
+ * Replaces each non-ASCII character in the comments of a text with a blank. Positions in the result are therefore valid in the original
+ * text.
  * @param {string} text
  * @param {CommentMark} mark
  */

@@ -179,7 +179,7 @@ export function helpForTest(lines, line, column, { steps, conditions }) {
 }
 
 /**
- * Returns a word in which 0 replaces each number and each single capital letter, which is a placeholder for a number in the manual. A label
+ * Replaces each number in a word with 0. Also replaces each single capital letter, which stands for a number in the manual, with 0. A label
  * becomes `@`. The results for `ram.1.0x20` and `ram.B.S` are therefore equal.
  * @param {string} word
  */

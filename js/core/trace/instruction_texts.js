@@ -114,7 +114,7 @@ export class InstructionTexts {
   }
 
   /**
-   * Returns a listing line in which the label of the target, if any, replaces the target address of a jump.
+   * Replaces the target address of a jump in a listing line with the label of the target, if it has one.
    * @param {string} text
    */
   replaceTarget(text) {
@@ -124,8 +124,8 @@ export class InstructionTexts {
   }
 
   /**
-   * Returns a listing line in which the number and the text of the source line replace the instruction. If no instruction of the source
-   * starts at the address, adds only the line number. Returns the listing line unchanged if the trace shows no source line for the address.
+   * Replaces the instruction in a listing line with the number and the text of the source line. If no instruction of the source starts at
+   * the address, adds only the line number. Returns the listing line unchanged if the trace shows no source line for the address.
    * @param {string} text the listing line
    * @param {number} address
    */

@@ -24,7 +24,7 @@ export function countUpTo(numbers, limit) {
 
 /** @template {Numbers} Kind */
 export class NumberQueue {
-  /** @param {Kind} numbers the initial numbers; the queue takes over the array */
+  /** @param {Kind} numbers the initial numbers; the queue takes ownership of the array */
   constructor(numbers) {
     this.numbers = numbers;
     this.from = 0;

@@ -37,7 +37,7 @@ function findLabelsBelow(labels) {
 }
 
 export class Waves {
-  /** @param {Recording} recorded the recording; this object takes over the arrays */
+  /** @param {Recording} recording the recording; this object takes ownership of the arrays */
   constructor({ from, cycles, isStuck, isOwed, lines, tracks, moments, counters, listing, program }) {
     /** The moments at which the recording starts and ends. */
     this.from = from;
