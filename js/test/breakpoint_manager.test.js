@@ -39,7 +39,7 @@ function createManager(savedBreakpoints, breaks = []) {
 function replacementEdit(oldText, newText) {
   const removed = oldText.split("\n");
   const to = { line: removed.length - 1, ch: removed[removed.length - 1].length };
-  return [{ from: { line: 0, ch: 0 }, to, text: newText.split("\n"), removed, isWhole: true }];
+  return [{ from: { line: 0, ch: 0 }, to, text: newText.split("\n"), removed, replacesAll: true }];
 }
 const linesAndAddresses = ({ list }) => list.all.map(({ line, address }) => [line, address]);
 

@@ -344,9 +344,11 @@ test("if the whole text is replaced, breakpoints keep their addresses", () => {
   const [removed, text] = [["a", "b", "c", "d"], ["new", "lines", "here", "x"]];
   // In the first case, neither text ends with a line feed. In the second, both do. In the third, lines below the edit stay, so the edit
   // does not replace the whole text.
-  for (const [end, isWhole, lines] of [[[], true, [[3, -1], [0, 4]]], [[""], true, [[3, -1], [0, 4]]], [[], false, [[2, 4], [3, -1]]]]) {
+  const cases = [[[], true, [[3, -1], [0, 4]]], [[""], true, [[3, -1], [0, 4]]], [[], false, [[2, 4], [3, -1]]]];
+  for (const [end, replacesAll, lines] of cases) {
     const list = new BreakpointList([{ line: 2, address: 4 }, { line: 3 }]);
-    list.applyEdit({ from: position(0), to: position(3 + end.length), text: [...text, ...end], removed: [...removed, ...end], isWhole });
+    const range = { from: position(0), to: position(3 + end.length) };
+    list.applyEdit({ ...range, text: [...text, ...end], removed: [...removed, ...end], replacesAll });
     assert.deepEqual(list.all.map(({ line, address }) => [line, address]), lines);
   }
 });

@@ -68,8 +68,9 @@ function editsOfTransaction(transaction) {
   const edits = [];
   transaction.changes.iterChanges((from, to, _from, _to, inserted) => {
     const removed = doc.slice(from, to).toJSON();
-    const isWhole = from === 0 && to === doc.length;
-    edits.unshift({ from: offsetToPosition(doc, from), to: offsetToPosition(doc, to), text: inserted.toJSON(), removed, origin, isWhole });
+    const replacesAll = from === 0 && to === doc.length;
+    const range = { from: offsetToPosition(doc, from), to: offsetToPosition(doc, to) };
+    edits.unshift({ ...range, text: inserted.toJSON(), removed, origin, replacesAll });
   });
   return edits;
 }
