@@ -111,7 +111,7 @@ export const lineLocation = (line, first, name, last) => (
 
 // --- prompt/state_text.js ---
 export const NO_RAM = "the board has no RAM";
-export const THE_CALL = ", the call";
+export const CALL_SUFFIX = ", the call";
 export const NO_NAMES = "the source has no names";
 export const NO_BREAKPOINTS = "there are no breakpoints";
 /** @type {(place: string) => string} */

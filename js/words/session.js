@@ -91,7 +91,7 @@ export const ABOUT_PROJECT =
   "# A board, its program and a session of the bench Fethsaim. Its page opens this file; mcs4 project splits it.";
 export const HEAD_LINE = "a line of the head: `name`, `unended`, `break`, `value`, `#`, or `wire`, which starts the board's text";
 export const BOARD_TEXT = "the board's text";
-export const SOURCE_TEXT = "the source";
+export const THE_SOURCE = "the source";
 export const TESTS_TEXT = "the tests' text";
 export const PROPERTIES_TEXT = "the properties' text";
 /** @type {(text: string, size: string, maximum: string) => string} */

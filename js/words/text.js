@@ -297,7 +297,7 @@ export const TAB_INDENTS = "Tab indents. Escape and then Tab leaves the text.";
 // --- text/sendable_text.js ---
 /** @type {(character: string) => string} */
 export const otherQuote = (character) => `${character} is not the ASCII quotation mark "`;
-export const NON_BREAKING_SPACE = "a non-breaking space (U+00A0); write a plain space";
+export const NON_BREAKING_SPACE_HINT = "a non-breaking space (U+00A0); write a plain space";
 /** @type {(code: string) => string} */
 export const invisibleCharacter = (code) => `an invisible character (U+${code}); delete it`;
 export const CONTROL_CHARACTER = "a control character; only tabs and printable ASCII characters can be sent";

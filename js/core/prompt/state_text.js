@@ -162,7 +162,7 @@ export function formatLineInfo(session, { line, address }) {
  */
 export function formatFrames(session) {
   return readStackFrames(session).map(({ address, line, name }, at) => (
-    `#${at}  ${hex(address, 3)}  ${name}${line > 0 ? `, line ${line}` : ""}${at > 0 ? say.THE_CALL : ""}`)).join("\n");
+    `#${at}  ${hex(address, 3)}  ${name}${line > 0 ? `, line ${line}` : ""}${at > 0 ? say.CALL_SUFFIX : ""}`)).join("\n");
 }
 
 /**

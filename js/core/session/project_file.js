@@ -46,7 +46,7 @@ export class TextTooLong extends InvalidProject {}
  * @param {{ boardText: string, programText: string, testText?: string, propertiesText?: string }} texts
  */
 export function tooLongMessage({ boardText, programText, testText = "", propertiesText = "" }) {
-  const namedTexts = [[say.BOARD_TEXT, boardText], [say.SOURCE_TEXT, programText], [say.TESTS_TEXT, testText],
+  const namedTexts = [[say.BOARD_TEXT, boardText], [say.THE_SOURCE, programText], [say.TESTS_TEXT, testText],
     [say.PROPERTIES_TEXT, propertiesText]];
   const [textName, text] = namedTexts.find(([, candidate]) => candidate.length > MAX_STORED_LENGTH) || namedTexts[0];
   const [size, maxLength] = [text.length, MAX_STORED_LENGTH].map((count) => count.toLocaleString("en"));

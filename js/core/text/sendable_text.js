@@ -135,7 +135,7 @@ export function sentText(text, mark) {
  */
 function describeCharacter(character) {
   if (/[\u2018\u2019\u201c\u201d\u00ab\u00bb]/.test(character)) return say.otherQuote(character);
-  if (character === "\u00a0") return say.NON_BREAKING_SPACE;
+  if (character === "\u00a0") return say.NON_BREAKING_SPACE_HINT;
   if (/[\p{Cf}\p{Zs}\p{Zl}\p{Zp}\p{Cc}]/u.test(character) && character >= "\u0080") {
     const code = (character.codePointAt(0) || 0).toString(16).toUpperCase().padStart(4, "0");
     return say.invisibleCharacter(code);
