@@ -66,7 +66,7 @@ function fileOf(calls, { file, size }) {
   return Buffer.from(new Uint8Array(calls.memory.buffer, Number(file), Number(size)).slice());
 }
 
-// Serves the input by the call `name`. Returns 0 if it was served, otherwise the number of the error.
+// Serves the input with the call `name`. Returns 0 if it was served, otherwise the number of the error.
 function serve(calls, name, { file, size, lines, count, answers, report }) {
   const isServed = calls[name](file, size, lines, count, answers, 4096n, report);
   return isServed ? 0 : new DataView(calls.memory.buffer, Number(report)).getUint32(0, true);
@@ -93,22 +93,22 @@ function tryWithoutMemory(calls) {
   for (let size = BLOCK; size >= 16n; size /= 2n) {
     for (let block = calls.bench_buffer(size); block !== 0n; block = calls.bench_buffer(size)) blocks.push(block);
   }
-  const before = fileOf(calls, buffers);
+  const fileBefore = fileOf(calls, buffers);
   for (const name of ["bench_serve", "bench_serve_and_settle", "bench_ask"]) {
     expect(`${name} without memory`, serve(calls, name, buffers), NO_MEMORY);
   }
   expect("settle without memory", calls.bench_settle(buffers.file, buffers.size), 0);
   expect("begin without memory", calls.bench_begin(buffers.file, buffers.size), 0);
-  expect("the file without memory is as it was", fileOf(calls, buffers).equals(before), true);
+  expect("the file is unchanged without memory", fileOf(calls, buffers).equals(fileBefore), true);
   for (const block of blocks) calls.bench_buffer_back(block);
   expect("serve with memory again", serve(calls, "bench_serve", buffers), 0);
-  expect("the file has changed then", fileOf(calls, buffers).equals(before), false);
+  expect("the file has changed with memory", fileOf(calls, buffers).equals(fileBefore), false);
 }
 
 // Returns a question to the prover about a program that counts in `registers` registers and turns its lamp on while TEST is 0. The question is
 // whether the program never reaches the output `unwantedOutput` of its port. The lamp is line 0; line 1 is always 0. The prover may visit at most
 // `maxStates` states.
-function question(maxStates, registers, unwantedOutput) {
+function formatQuestion(maxStates, registers, unwantedOutput) {
   const counts = [...Array(registers).keys()].map((register) => `ISZ R${register}, look\n`).join("");
   return `most ${maxStates}\nwire\n[[rom]]\nchip = 0\nport = "0000"\n[[ram]]\nbank = 0\nchips = 1\n.\nasm\n`
     + `look: JCN 1, on\nLDM 0\nWMP\n${counts}JUN look\non: LDM 1\nWMP\n${counts}JUN look\n.\nnever\nin ramport 0 ${unwantedOutput}\nprove\n`;
@@ -129,15 +129,15 @@ function prove(calls, text, answerSize = 4096n) {
 }
 
 function tryProver(calls) {
-  expect("a proof", prove(calls, question(1000, 1, "line1 1 1")), "0 holds 32");
-  expect("a question of too many states", prove(calls, question(10, 1, "line1 1 1")), "0 too many");
-  expect("a way to what is never to be", prove(calls, question(1000, 1, "line0 1 1")), "0 may fail 0");
-  expect("a way that has no room", prove(calls, question(1000, 1, "line0 1 1"), 4n), "nothing: 0 10");
+  expect("a proof", prove(calls, formatQuestion(1000, 1, "line1 1 1")), "0 holds 32");
+  expect("a question about too many states", prove(calls, formatQuestion(10, 1, "line1 1 1")), "0 too many");
+  expect("a path to the unwanted output", prove(calls, formatQuestion(1000, 1, "line0 1 1")), "0 may fail 0");
+  expect("an answer that does not fit into its buffer", prove(calls, formatQuestion(1000, 1, "line0 1 1"), 4n), "nothing: 0 10");
   expect("no question", prove(calls, "most 3\n"), "2 no question");
   expect("no board", prove(calls, "wire\nrom = 5\n.\nasm\n.\nprove\n"), "3 no 23");
-  expect("bytes that are no text", prove(calls, Buffer.from([255])), "2 no question");
-  expect("states without memory", prove(calls, question(4000000000, 16, "line1 1 1")).replace(/\d{4,}$/, "N"), "0 no room N");
-  expect("a proof with memory again", prove(calls, question(1000, 1, "line1 1 1")), "0 holds 32");
+  expect("bytes that are not a text", prove(calls, Buffer.from([255])), "2 no question");
+  expect("states without memory", prove(calls, formatQuestion(4000000000, 16, "line1 1 1")).replace(/\d{4,}$/, "N"), "0 no room N");
+  expect("a proof with memory again", prove(calls, formatQuestion(1000, 1, "line1 1 1")), "0 holds 32");
 }
 
 function tryShortStack(calls) {

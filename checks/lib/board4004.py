@@ -99,7 +99,7 @@ class Chips:
         """Returns the level of an input line: 1 if a pressed key connects the line to a driven row."""
         return int(any(self.columns[column] == line and self.chains[self.keys["chain"]][self.keys["first"] + row] for row, column in self.pressed_keys))
 
-    def marks(self) -> str:
+    def lamp_marks(self) -> str:
         """Returns the lamps in the format of `lamps`: `*` for on, `.` for off."""
         return "".join("*" if self.level(lamp) else "." for lamp in self.lamps)
 
@@ -325,7 +325,7 @@ def ld(board: Board, k: int, _second_byte: int) -> None:
 
 
 def xch(board: Board, k: int, _second_byte: int) -> None:
-    """Exchange the accumulator and a register."""
+    """Exchange the accumulator with a register."""
     board.acc, board.r[k] = board.r[k], board.acc
 
 

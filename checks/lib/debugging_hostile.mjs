@@ -1,13 +1,13 @@
-// Tests of checks/debugging with wrong messages: messages with wrong lengths, requests in the wrong order, unknown requests, and some 2,000 requests
-// with wrong arguments. The adapter must answer each request once and continue, or print an error and end. Prints `ok TEXT` or `failed: TEXT` for
-// each check.
+// Tests of checks/debugging with invalid messages: messages with wrong lengths, requests in the wrong order, unknown requests, and some 2,000
+// requests with wrong arguments. The adapter must answer each request once and continue, or print an error and end. Prints `ok TEXT` or `failed:
+// TEXT` for each check.
 import { Client } from "./dap_client.mjs";
 
 const TOP = new URL("../..", import.meta.url).pathname;
 const ADAPTER = `${TOP}mcs4`;
 const LOCK = { program: `${TOP}examples/lock/lock.asm`, board: `${TOP}examples/lock/board.toml` };
-const REQUESTS = 2000;
-const BATCH = 50;
+const REQUEST_COUNT = 2000;
+const BATCH_SIZE = 50;
 
 function verdict(actual, expected, description) {
   const [actualText, expectedText] = [JSON.stringify(actual), JSON.stringify(expected)];
@@ -90,8 +90,8 @@ function mostlyValidArguments(command) {
     column: random(20), text: oneOf(TEXTS), targetId: random(4200), filters: ["calls"], filterOptions: [{ filterId: "chip", condition: oneOf(TEXTS) }],
     breakpoints: [{ line: random(120), name: oneOf(TEXTS), dataId: oneOf(["r4", "acc", oneOf(TEXTS)]), instructionReference: oneOf(["0x02C", "show"]),
       condition: oneOf(["", "r4 = 7", oneOf(TEXTS)]), hitCondition: oneOf(["", "3", oneOf(TEXTS)]) }], key: oneOf(["5", "#", "no"]), place: oneOf(["1 1", "9 9", "x"]) };
-  const all = Object.entries(valid).map(([name, validValue]) => [name, random(9) === 0 ? randomValue(0) : validValue]);
-  return command === "cancel" ? { requestId: random(2000) } : Object.fromEntries(all);
+  const allArguments = Object.entries(valid).map(([name, validValue]) => [name, random(9) === 0 ? randomValue(0) : validValue]);
+  return command === "cancel" ? { requestId: random(2000) } : Object.fromEntries(allArguments);
 }
 
 /** Returns arguments of any kind for a request. */
@@ -104,10 +104,10 @@ function argumentsFor(command) {
  * each, and how often it was answered. Throws an error if a request is not answered in time.
  */
 async function sendAll(client, count) {
-  const answered = new Map();
-  for (let done = 0; done < count; done += BATCH) {
+  const answerCounts = new Map();
+  for (let done = 0; done < count; done += BATCH_SIZE) {
     const batch = [];
-    for (let n = 0; n < BATCH; n++) {
+    for (let n = 0; n < BATCH_SIZE; n++) {
       const command = oneOf(COMMANDS);
       client.number += 1;
       batch.push(client.number);
@@ -117,13 +117,13 @@ async function sendAll(client, count) {
     await client.answer("pause", { threadId: 1 });
     for (const seq of batch) {
       await client.next((message) => message.type === "response" && message.request_seq === seq);
-      answered.set(seq, 1);
+      answerCounts.set(seq, 1);
     }
-    const extra = client.received.filter(({ type, request_seq: seq }) => type === "response" && answered.has(seq));
-    for (const { request_seq: seq } of extra) answered.set(seq, answered.get(seq) + 1);
+    const extraResponses = client.received.filter(({ type, request_seq: seq }) => type === "response" && answerCounts.has(seq));
+    for (const { request_seq: seq } of extraResponses) answerCounts.set(seq, answerCounts.get(seq) + 1);
     client.received = [];
   }
-  return [...answered].filter(([, times]) => times !== 1);
+  return [...answerCounts].filter(([, times]) => times !== 1);
 }
 
 async function tryRequests() {
@@ -141,11 +141,11 @@ async function tryRequests() {
   client.send({ seq: 1, type: "response", request_seq: 1, success: true, command: "runInTerminal" });
   client.send({ seq: 1, type: "event", event: "nothing" });
   await client.request("initialize", { adapterID: "mcs4", supportsProgressReporting: true, supportsMemoryEvent: true });
-  verdict(await sendAll(client, REQUESTS / 4), [], "requests before launch are answered once");
+  verdict(await sendAll(client, REQUEST_COUNT / 4), [], "requests before launch are answered once");
   client.received = [];
   const { success } = await client.answer("launch", LOCK);
   if (success) await client.request("configurationDone");
-  verdict(await sendAll(client, REQUESTS), [], `${REQUESTS} requests with wrong arguments are answered once`);
+  verdict(await sendAll(client, REQUEST_COUNT), [], `${REQUEST_COUNT} requests with wrong arguments are answered once`);
   verdict(client.violations, [], "each message follows the protocol");
   verdict((await client.request("threads")).threads.length, 1, "the adapter continues");
   verdict([await client.end(), client.stderr], [0, ""], "the adapter's status");

@@ -55,7 +55,7 @@ class BrowserDriver:
         self.click_element(self.find(selector))
 
     def hold(self, selector, milliseconds_down):
-        """Presses the mouse button on an element for a time in milliseconds."""
+        """Holds the mouse button down on an element for a time in milliseconds."""
         self.scroll_to(selector)
         time.sleep(self.settle_seconds)
         self.actions({
@@ -130,7 +130,7 @@ class BrowserDriver:
         self.set_window_size(1280, 900)
 
     def until(self, code, expected, seconds=30):
-        """Repeats a script until it returns the expected value, or a text that matches a pattern, or until the time in seconds is over. Returns the
+        """Repeats a script until it returns the expected value, or a text that matches a pattern, but for at most this number of seconds. Returns the
         last result. A script that fails is also repeated, because scripts fail while the browser leaves the page."""
         deadline = time.monotonic() + seconds
         while True:

@@ -1,6 +1,6 @@
 // Drives Kate's language client on a virtual display: `node editors_kate.mjs FOLDER`. FOLDER/home has Kate's settings as the manual describes them.
-// FOLDER/bin has a wrapper of `mcs4` that copies everything that Kate sends to FOLDER/sent, and everything that Kate receives to FOLDER/received. The
-// script prints a line for each result. It waits until these files or the screen have the expected contents, never for a fixed time.
+// FOLDER/bin has a wrapper for `mcs4` that copies everything that Kate sends to FOLDER/sent, and everything that Kate receives to FOLDER/received.
+// The script prints a line for each result. It waits until these files or the screen have the expected contents, never for a fixed time.
 import { spawn, spawnSync } from "node:child_process";
 import { cpSync, existsSync, mkdirSync, readFileSync, rmSync, writeFileSync } from "node:fs";
 import { MessageClient } from "./message_client.mjs";

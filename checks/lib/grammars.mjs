@@ -26,7 +26,7 @@ const LETTERS_OF_PAGE = { comment: "c", instruction: "i", directive: "d", regist
 function highlightAsPage() {
   if (isBoard) {
     const letters = { comment: "c", class: "t", property: "p", string: "s", number: "n" };
-    const colours = new BoardLanguage({ createQueries: () => ({}) }, new Map(), () => "").colours({ lines, text });
+    const colours = new BoardLanguage({ createQueries: () => ({}) }, new Map(), () => "").semanticTokens({ lines, text });
     return lines.map((line, index) => lettersOf(line, colours.filter((range) => range.line === index).map((range) => ({ ...range, letter: letters[range.type] }))));
   }
   const instructions = readInstructions(readPageData().manual);

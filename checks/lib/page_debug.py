@@ -33,7 +33,7 @@ JUN_LINE, WMP_LINE, INC_LINE = (LINES.index(next(line for line in LINES if text 
 
 SET_PROGRAM = """
 document.querySelector("#program-editor .cm-editor").lineEditor.setValue(arguments[0])"""
-# Inserts a line before the line with this number, like an edit of the user. The arguments are the number, from 1, and the text.
+# Inserts a line before the line with this number, as an edit by the user does. The arguments are the number, from 1, and the text.
 INSERT_LINE = """
 const editor = document.querySelector("#program-editor .cm-editor").lineEditor;
 editor.replaceRange(`        ${arguments[1]}\\n`, { line: arguments[0] - 1, ch: 0 }, undefined, "paste")"""
@@ -73,7 +73,7 @@ const editor = document.querySelector("#program-editor .cm-editor").lineEditor;
 editor.setCursor({ line: arguments[0], ch: 0 });
 editor.getInputField().dispatchEvent(new KeyboardEvent("keydown", { key: "F9", keyCode: 120, shiftKey: true, bubbles: true }))"""
 GET_LINE_ABOVE_FOCUSED_ROW = "const row = document.activeElement.closest('.breakpoint-row'); return row ? row.previousElementSibling.textContent : ''"
-ROW_LINE = re.compile("INC R9")
+INC_LINE_PATTERN = re.compile("INC R9")
 # Returns the text of the line above the breakpoint form, or "" if there is no form.
 GET_LINE_ABOVE_ROW = "const row = document.querySelector('.breakpoint-row'); return row ? row.previousElementSibling.textContent : ''"
 IS_FOCUS_IN_SOURCE = "return document.activeElement.closest('#program-editor .cm-content') !== null"
@@ -150,7 +150,7 @@ def check_conditions_and_counts(browser):
     breakpoint with an error must always stop, and a disabled breakpoint must stay in the list."""
     load_program(browser)
     browser.script(OPEN_CONDITION_ROW, INC_LINE - 1)
-    eventually(browser, "Shift+F9 sets a breakpoint, and its condition has the caret, below the line", GET_LINE_ABOVE_FOCUSED_ROW, ROW_LINE)
+    eventually(browser, "Shift+F9 sets a breakpoint, and its condition has the caret, below the line", GET_LINE_ABOVE_FOCUSED_ROW, INC_LINE_PATTERN)
     verdict("the line of the breakpoint with the condition", browser.script(GET_BREAKPOINT_LINES), str(INC_LINE))
     browser.keys([*"r9 = 9", ENTER])
     eventually(browser, "a breakpoint with a condition has its own mark", GET_BREAKPOINTS, re.compile("^\u25c6 "))
@@ -254,7 +254,7 @@ def check_replaced_source(browser, folder):
     """Checks that restoring a replaced source also restores its breakpoints with their details, through the notice and through Ctrl+Z."""
     load_program(browser)
     browser.script(OPEN_CONDITION_ROW, INC_LINE - 1)
-    browser.until(GET_LINE_ABOVE_FOCUSED_ROW, ROW_LINE)
+    browser.until(GET_LINE_ABOVE_FOCUSED_ROW, INC_LINE_PATTERN)
     browser.keys([*"r9 = 9", ENTER])
     browser.script(CLICK_MARGIN, WMP_LINE)
     both_lines = f"{WMP_LINE} {INC_LINE}"
@@ -288,11 +288,11 @@ def check_breakpoint_form(browser):
     """Checks that a breakpoint's details are edited below its line. Enter applies them, Escape cancels, and an error stays at its field."""
     load_program(browser)
     browser.script(OPEN_CONDITION_ROW, INC_LINE - 1)
-    browser.until(GET_LINE_ABOVE_FOCUSED_ROW, ROW_LINE)
+    browser.until(GET_LINE_ABOVE_FOCUSED_ROW, INC_LINE_PATTERN)
     browser.keys([*"r44 = 9", ENTER])
     eventually(browser, "an error in a condition is shown in the row", GET_ROW_ERROR,
                "It stops every time, because of an error: r44: no such place; the registers are r0 to r15 (column 1).")
-    verdict("the form keeps the focus after an error", browser.script(GET_LINE_ABOVE_FOCUSED_ROW), ROW_LINE)
+    verdict("the form keeps the focus after an error", browser.script(GET_LINE_ABOVE_FOCUSED_ROW), INC_LINE_PATTERN)
     browser.keys([*[BACKSPACE] * 7, *"r9 = 9", TAB, *"0", ENTER])
     eventually(browser, "an invalid hit count is marked", "return document.activeElement.getAttribute('aria-invalid')", "true")
     verdict("nothing is applied after an error", browser.script(GET_BREAKPOINT_DETAILS), "if r44 = 9")
@@ -306,19 +306,19 @@ def check_breakpoint_form(browser):
     verdict("a field that lost the focus is not applied yet", browser.script(GET_BREAKPOINT_DETAILS), "if r9 = 9 from hit 2 on")
     browser.keys([F10, F10])
     eventually(browser, "steps keep the form open with its values", GET_ROW_VALUES, "at loop; 2; seen")
-    verdict("the form keeps the focus", browser.script(GET_LINE_ABOVE_FOCUSED_ROW), ROW_LINE)
+    verdict("the form keeps the focus", browser.script(GET_LINE_ABOVE_FOCUSED_ROW), INC_LINE_PATTERN)
     browser.keys([ESCAPE])
     eventually(browser, "Escape closes the form", GET_ROW_VALUES, "")
     verdict("Escape restores the condition", browser.script(GET_BREAKPOINT_DETAILS), "if r9 = 9 from hit 2 on")
     browser.script(OPEN_CONDITION_ROW, INC_LINE - 1)
-    browser.until(GET_LINE_ABOVE_FOCUSED_ROW, ROW_LINE)
+    browser.until(GET_LINE_ABOVE_FOCUSED_ROW, INC_LINE_PATTERN)
     browser.keys([*"at wait"])
     browser.click("#step")
     eventually(browser, "a click outside the form applies it", GET_BREAKPOINT_DETAILS, "if at wait from hit 2 on")
     browser.script("document.querySelector('#program-editor .cm-editor').lineEditor.replaceRange('\\n NOP', { line: arguments[0], ch: Infinity })", INC_LINE - 1)
-    eventually(browser, "a line inserted after the breakpoint's line is below the form", GET_LINE_ABOVE_ROW, ROW_LINE)
+    eventually(browser, "a line inserted after the breakpoint's line is below the form", GET_LINE_ABOVE_ROW, INC_LINE_PATTERN)
     browser.script(INSERT_LINE, 1, "NOP")
-    eventually(browser, "the form moves with its line", GET_LINE_ABOVE_ROW, ROW_LINE)
+    eventually(browser, "the form moves with its line", GET_LINE_ABOVE_ROW, INC_LINE_PATTERN)
     browser.script("document.querySelector('#program-editor .cm-editor').lineEditor.replaceRange('', { line: arguments[0], ch: 0 }, { line: arguments[0] + 1, ch: 0 })", INC_LINE)
     eventually(browser, "the form disappears with its line", GET_LINE_ABOVE_ROW, "")
 
@@ -330,7 +330,7 @@ def check_menu(browser):
     browser.script(OPEN_MARGIN_MENU, INC_LINE)
     eventually(browser, "the margin menu has the focus", GET_FOCUSED_TEXT, "Add breakpointF9")
     browser.keys([DOWN, DOWN, DOWN, ENTER])
-    eventually(browser, "Log message sets a breakpoint and opens its form", GET_LINE_ABOVE_FOCUSED_ROW, ROW_LINE)
+    eventually(browser, "Log message sets a breakpoint and opens its form", GET_LINE_ABOVE_FOCUSED_ROW, INC_LINE_PATTERN)
     browser.keys([*"R9 is {r9}", ENTER])
     eventually(browser, "the breakpoint has the log message", GET_BREAKPOINT_DETAILS, 'logs "R9 is {r9}" and continues')
     browser.script(OPEN_MARGIN_MENU, INC_LINE)

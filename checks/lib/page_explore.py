@@ -1,8 +1,8 @@
 """The part of checks/page about the search for counterexamples to properties.
 
-The check puts an error into an example's program, and the page must find it. The counterexample must be the same as that of `mcs4 explore` with the
-same seed, and the session must keep running during the search. The counterexample opens as a session. Its test can be added to the tests, where it
-fails. A search can be stopped. Errors in properties, seconds and boards are reported. The check also covers a program with so few states that its
+The check inserts an error into an example's program, and the page must find it. The counterexample must be the same as that of `mcs4 explore` with
+the same seed, and the session must keep running during the search. The counterexample opens as a session. Its test can be added to the tests, where
+it fails. A search can be stopped. Errors in properties, seconds and boards are reported. The check also covers a program with so few states that its
 properties are proved, and a search from a saved state. It also covers the keyboard, a phone's width, and saving the text with the session and in a
 project."""
 

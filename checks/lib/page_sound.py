@@ -26,7 +26,7 @@ wait:   ISZ R3, wait
 # A sound block arrives about every 45 ms, 90 ms before it is heard. If it arrives more than MAX_BLOCK_INTERVAL seconds after the previous block, the
 # host was too busy.
 MAX_BLOCK_INTERVAL = 0.1
-# Records each block of samples that is played: its start by the audio clock, its arrival by the audio clock and by the page's clock, and its edges.
+# Records each block of samples that is played: its start on the audio clock, its arrival on the audio clock and on the page's clock, and its edges.
 RECORD_SOUND = """
 window.played = [];
 const start = AudioBufferSourceNode.prototype.start;
@@ -48,13 +48,13 @@ IS_AUDIO_CLOCK_STOPPED = "return window.played.every(({ now }) => now === 0)"
 IS_SOUND_PRESSED = "return document.getElementById('sound-button').getAttribute('aria-pressed')"
 GET_SOUND_STATUS = "return document.getElementById('sound-status').textContent"
 COUNT_PLAYED = "return window.played.length"
-# The first block must arrive more than MIN_LEAD_SECONDS before it is heard, in at least one of MAX_ATTEMPTS + 1 attempts.
-MIN_LEAD_SECONDS, MAX_ATTEMPTS = 0.08, 5
+# The first block must arrive more than MIN_LEAD_SECONDS before it is heard, in at least one of MAX_RETRIES + 1 attempts.
+MIN_LEAD_SECONDS, MAX_RETRIES = 0.08, 5
 
 
 def is_first_block_early(browser, block):
     """Returns true if the first block arrives early enough. Makes several attempts, because other work on the machine can delay the page."""
-    for _ in range(MAX_ATTEMPTS):
+    for _ in range(MAX_RETRIES):
         if block["when"] - block["now"] > MIN_LEAD_SECONDS:
             return True
         browser.click("#sound-button")
@@ -82,13 +82,13 @@ def check_tone(browser):
         eventually(browser, "several blocks are played with the page's clock", COUNT_PLAYED, re.compile("^[5-9]$|^..$"))
     time.sleep(1)
     played = browser.script("return window.played")
-    lengths = [block["count"] / block["rate"] for block in played]
-    edges = sum(len(block["edges"]) for block in played)
-    pitch = edges / 2 / sum(lengths)
+    block_seconds = [block["count"] / block["rate"] for block in played]
+    edge_count = sum(len(block["edges"]) for block in played)
+    pitch = edge_count / 2 / sum(block_seconds)
     verdict(f"the pitch is within 1 % of the expected one: {pitch:.1f} Hz", abs(pitch - EXPECTED_PITCH) < EXPECTED_PITCH / 100, True)
     verdict("the sample rate is that of the cycles", sorted({block["rate"] for block in played}), [92593])
     verdict("the first block arrives early enough", is_first_block_early(browser, played[0]), True)
-    gaps = [(previous, following) for previous, following, length in zip(played, played[1:], lengths) if abs(previous["when"] + length - following["when"]) > 1e-6]
+    gaps = [(previous, following) for previous, following, length in zip(played, played[1:], block_seconds) if abs(previous["when"] + length - following["when"]) > 1e-6]
     intervals = [f"{following['at'] - previous['at']:.3f} s" for previous, following in gaps]
     verdict(f"gaps between {len(played)} blocks are only where the host was too slow: {intervals}",
             all(following["at"] - previous["at"] > MAX_BLOCK_INTERVAL for previous, following in gaps), True)

@@ -29,7 +29,7 @@ data.items.add(new File([arguments[1]], arguments[0]));
 document.body.dispatchEvent(new DragEvent("drop", { dataTransfer: data, bubbles: true, cancelable: true }))"""
 
 
-def go_by_tab(browser, description, code, max_presses=90):
+def press_tab_until(browser, description, code, max_presses=90):
     """Presses the Tab key until a script about the focused element `e` returns true. Checks that this happens within `max_presses` presses."""
     verdict(f"the Tab key reaches {description}", move_focus_until(browser, TAB, code, max_presses), True)
 
@@ -45,7 +45,7 @@ def choose_by_keyboard(browser, name):
     move_focus_until(browser, TAB, "e.id === 'sessions-button'", 5)
     browser.keys([ENTER])
     browser.until(IS_SESSIONS_OPEN, True)
-    go_by_tab(browser, f"the example {name}", f"e.getAttribute('aria-label') === 'new session: {name}'")
+    press_tab_until(browser, f"the example {name}", f"e.getAttribute('aria-label') === 'new session: {name}'")
     browser.keys([ENTER])
     eventually(browser, f"Enter opens the example {name}", GET_NAME, name)
     browser.until(IS_SESSIONS_OPEN, False)
@@ -55,14 +55,14 @@ def go_to_source(browser):
     """Moves the focus to the program's editor by keyboard."""
     browser.script("document.querySelector('#text-tabs [aria-selected=true]').focus()")
     browser.keys([HOME], 5, 5)
-    go_by_tab(browser, "the source", IS_IN_SOURCE)
+    press_tab_until(browser, "the source", IS_IN_SOURCE)
 
 
 def check_offered_board(browser):
     """Checks that an empty bench offers a board, and that the keyboard can choose it."""
     choose_by_keyboard(browser, "empty bench")
     verdict("an empty bench offers a board", browser.script(IS_BOARD_OFFERED), True)
-    go_by_tab(browser, "a board to begin with", "e.id === 'first-board'")
+    press_tab_until(browser, "a board to begin with", "e.id === 'first-board'")
     browser.keys([ENTER])
     eventually(browser, "the board has four lamps", GET_LAMPS, "....")
     verdict("the board is not offered again", browser.script(IS_BOARD_OFFERED), False)
@@ -122,7 +122,7 @@ def check_breakpoint(browser):
 
 def check_restored_source(browser):
     """Checks that Ctrl+Z restores a source that was replaced by a disassembly of ROM."""
-    own_source = browser.script(GET_PROGRAM_TEXT)
+    typed_source = browser.script(GET_PROGRAM_TEXT)
     browser.script("document.getElementById('from-rom').focus()")
     browser.keys([ENTER])
     browser.until(GET_QUESTION, "Replace the source?")
@@ -132,7 +132,7 @@ def check_restored_source(browser):
     eventually(browser, "the source that is disassembled from ROM has no comment", GET_PROGRAM_TEXT, re.compile(r"^\s*LDM 3\s+WRR\s+RDR\s+WMP\s+JUN 0x002\s*$"))
     go_to_source(browser)
     browser.press_chord(CONTROL, "z")
-    eventually(browser, "Ctrl+Z restores the text", GET_PROGRAM_TEXT, own_source)
+    eventually(browser, "Ctrl+Z restores the text", GET_PROGRAM_TEXT, typed_source)
 
 
 def save_by_keyboard(browser):

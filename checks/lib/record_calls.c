@@ -11,7 +11,7 @@
      cut K       before a read, the file is truncated to its first K bytes
      other K     before a read, the byte of the file at offset K is changed
 
-   CALL_MOST=M limits each read or write of a file to M bytes. With CALL_AGAIN=1, each call on a file first fails once with EINTR. These failures
+   CALL_MAX_BYTES=M limits each read or write of a file to M bytes. With CALL_AGAIN=1, each call on a file first fails once with EINTR. These failures
    are not recorded. */
 #define _GNU_SOURCE
 #include <dlfcn.h>
@@ -82,7 +82,7 @@ static int must_interrupt(int fd) {
 }
 
 static size_t limited_length(size_t length) {
-    const char *limit = getenv("CALL_MOST");
+    const char *limit = getenv("CALL_MAX_BYTES");
     return limit && (size_t)atol(limit) < length ? (size_t)atol(limit) : length;
 }
 

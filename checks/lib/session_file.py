@@ -8,13 +8,13 @@ import copy
 import dataclasses
 import json
 
-NAME = b"MCS4BEN1"
+FORMAT_NAME = b"MCS4BEN1"
 SIZE = 163_856
 SLOTS = (16, 81_936)
 LENGTH_BYTES = 4
-SNAPSHOT_AREA = 16_384
+SNAPSHOT_AREA_BYTES = 16_384
 LOG_BYTES = 65_536
-MAX_RECORD = 8_192
+MAX_RECORD_BYTES = 8_192
 MAX_CYCLES = 4_000_000
 
 
@@ -26,17 +26,17 @@ def number(value, count):
 # --- boards and states
 
 def rom_line(chip, line):
-    """Returns the bytes of a line of a ROM chip's port."""
+    """Returns the bytes that encode a line of a ROM chip's port."""
     return bytes([0, chip, line, 0])
 
 
 def ram_line(bank, chip, line):
-    """Returns the bytes of a line of a RAM chip's port."""
+    """Returns the bytes that encode a line of a RAM chip's port."""
     return bytes([1, bank, chip, line])
 
 
 def chain_line(chain, bit):
-    """Returns the bytes of an output of a chain."""
+    """Returns the bytes that encode an output of a chain."""
     return bytes([2, chain, bit, 0])
 
 
@@ -108,7 +108,7 @@ class State:
     carry: int = 0
     registers: bytearray = dataclasses.field(default_factory=lambda: bytearray(16))
     counter: int = 0
-    returns: list = dataclasses.field(default_factory=lambda: [0, 0, 0])
+    return_addresses: list = dataclasses.field(default_factory=lambda: [0, 0, 0])
     bank: int = 0
     rom_source: int = 0
     bank_sources: bytearray = dataclasses.field(default_factory=lambda: bytearray(8))
@@ -125,7 +125,7 @@ class State:
         encoded = number(self.seq, 4) + (b"\x02" if version == 2 else b"") + self.board.bytes()
         encoded += self.rom + self.ram + self.status + self.ram_ports + self.rom_ports
         encoded += bytes([self.accumulator, self.carry]) + self.registers
-        encoded += b"".join(number(address, 2) for address in [self.counter, *self.returns])
+        encoded += b"".join(number(address, 2) for address in [self.counter, *self.return_addresses])
         encoded += bytes([self.bank, self.rom_source]) + self.bank_sources + bytes([self.owed])
         encoded += b"".join(self.chains) + self.keys + bytes([self.test])
         encoded += bytes([len(self.breakpoints)]) + b"".join(number(address, 2) for address in self.breakpoints)
@@ -136,7 +136,7 @@ class State:
     def regs_answer(self):
         """Returns the answer to `regs`."""
         return (f"acc {self.accumulator:X} cy {self.carry} pc {self.counter:03X} owed {self.owed} dcl {self.bank} test {self.test} "
-                f"r {''.join(f'{register:X}' for register in self.registers)} ret {' '.join(f'{address:03X}' for address in self.returns)}")
+                f"r {''.join(f'{register:X}' for register in self.registers)} ret {' '.join(f'{address:03X}' for address in self.return_addresses)}")
 
     def cycle(self):
         """Executes one cycle, with the few instructions that the checks use."""
@@ -161,15 +161,15 @@ class State:
     def run(self, cycles):
         """Runs a number of cycles, or up to a breakpoint. Returns the part of the answer with the number of cycles and the reason for the stop."""
         start = self.loop_key()
-        done = skipped = 0
-        while done + skipped < cycles:
+        done_cycles = skipped = 0
+        while done_cycles + skipped < cycles:
             self.cycle()
-            done += 1
+            done_cycles += 1
             if not self.owed and self.counter in self.breakpoints:
-                return f" ran {done} break"
+                return f" ran {done_cycles} break"
             if self.loop_key() == start and skipped == 0:
                 # The program loops, so whole iterations are skipped.
-                skipped = (cycles - done) // done * done
+                skipped = (cycles - done_cycles) // done_cycles * done_cycles
         return f" ran {cycles} end"
 
     def loop_key(self):
@@ -186,9 +186,9 @@ class State:
         return " ran 2 end"
 
     def reset(self):
-        """Performs a power cycle. ROM, keys, TEST, breakpoints, watches and wiring stay."""
+        """Performs a power cycle. ROM, keys, TEST, breakpoints, watches and wiring are kept."""
         new = State()
-        for part in ("ram", "status", "ram_ports", "rom_ports", "accumulator", "carry", "registers", "counter", "returns", "bank", "rom_source",
+        for part in ("ram", "status", "ram_ports", "rom_ports", "accumulator", "carry", "registers", "counter", "return_addresses", "bank", "rom_source",
                      "bank_sources", "owed"):
             setattr(self, part, getattr(new, part))
         self.chains = [bytearray(len(chain)) for chain in self.chains]
@@ -283,19 +283,19 @@ def watch(bank, source):
 
 def read(file):
     """Returns the snapshot and the records in a file, or None if the file is damaged."""
-    if len(file) != SIZE or file[:8] != NAME or any(file[9:16]):
+    if len(file) != SIZE or file[:8] != FORMAT_NAME or any(file[9:16]):
         return None
     slot = SLOTS[file[8] % 2]
     length = int.from_bytes(file[slot:slot + LENGTH_BYTES], "big")
-    if length > SNAPSHOT_AREA - LENGTH_BYTES:
+    if length > SNAPSHOT_AREA_BYTES - LENGTH_BYTES:
         return None
     snapshot = bytes(file[slot + LENGTH_BYTES:slot + LENGTH_BYTES + length])
-    log = file[slot + SNAPSHOT_AREA:slot + SNAPSHOT_AREA + LOG_BYTES]
+    log = file[slot + SNAPSHOT_AREA_BYTES:slot + SNAPSHOT_AREA_BYTES + LOG_BYTES]
     records = []
     offset = 0
     while log[offset] == 1:
         size = int.from_bytes(log[offset + 1:offset + 3], "big")
-        if not 1 <= size <= MAX_RECORD or offset + 3 + size + 1 > LOG_BYTES:
+        if not 1 <= size <= MAX_RECORD_BYTES or offset + 3 + size + 1 > LOG_BYTES:
             return None
         records.append(bytes(log[offset + 3:offset + 3 + size]))
         offset += 3 + size
@@ -305,13 +305,13 @@ def read(file):
 def file_with_snapshot(snapshot):
     """Returns a file with a snapshot in its first slot, and no records."""
     start = SLOTS[0]
-    file = bytearray(NAME + bytes(SIZE - len(NAME)))
+    file = bytearray(FORMAT_NAME + bytes(SIZE - len(FORMAT_NAME)))
     file[start:start + LENGTH_BYTES + len(snapshot)] = number(len(snapshot), LENGTH_BYTES) + snapshot
     return file
 
 
 def put_record(file, offset, record):
-    """Writes a record to a log, and the end of the log after it."""
+    """Writes a record to a log, followed by the byte that marks the end of the log."""
     file[offset:offset + 3 + len(record) + 1] = b"\x01" + number(len(record), 2) + record + b"\x00"
 
 
@@ -327,7 +327,7 @@ class ExpectedSession:
         self.slot = slot
         self.checkpoints = 0
         self._put_snapshot(slot, version)
-        self.file[:16] = NAME + bytes([slot]) + bytes(7)
+        self.file[:16] = FORMAT_NAME + bytes([slot]) + bytes(7)
 
     def _put_snapshot(self, slot, version):
         """Writes the current state to a slot, with an empty log, and continues with this slot."""
@@ -335,8 +335,8 @@ class ExpectedSession:
         start = SLOTS[slot]
         end = start + LENGTH_BYTES + len(snapshot)
         self.file[start:end] = number(len(snapshot), LENGTH_BYTES) + snapshot
-        self.unused_ranges[slot] = (end, start + SNAPSHOT_AREA)
-        self.file[start + SNAPSHOT_AREA] = 0
+        self.unused_ranges[slot] = (end, start + SNAPSHOT_AREA_BYTES)
+        self.file[start + SNAPSHOT_AREA_BYTES] = 0
         self.slot = slot
         self.log_size = self.cycles = 0
         self.contents = (snapshot, [])
@@ -353,7 +353,7 @@ class ExpectedSession:
         record = command.record
         if self.log_size + 3 + len(record) + 1 > LOG_BYTES or self.cycles + command.cycles > MAX_CYCLES:
             self.checkpoint()
-        put_record(self.file, SLOTS[self.slot] + SNAPSHOT_AREA + self.log_size, record)
+        put_record(self.file, SLOTS[self.slot] + SNAPSHOT_AREA_BYTES + self.log_size, record)
         self.log_size += 3 + len(record)
         self.cycles += command.cycles
         self.contents[1].append(record)

@@ -103,7 +103,7 @@ continue_session() {
 }
 
 # Runs the parts of a check that the arguments name, or all parts. The parts are the scripts in the check's folder in checks/lib/. Each part runs in a
-# subshell, and with its own folder below the check's temporary folder (`whole`).
+# subshell, and with its own folder below the check's temporary folder (`check_folder`).
 run_parts() {
     parts=$(cd "checks/lib/${0##*/}" && echo *.sh | sed 's/\.sh//g')
     for part in "$@"; do
@@ -117,7 +117,7 @@ run_parts() {
     done
     # shellcheck disable=SC2086
     if [ $# -eq 0 ]; then set -- $parts; fi
-    whole=$folder
+    check_folder=$folder
     for part in "$@"; do run_part; done
 }
 
@@ -127,7 +127,7 @@ run_part() {
     (
         set -e
         trap 'exit 1' HUP INT TERM
-        folder=$whole/$part
+        folder=$check_folder/$part
         mkdir -- "$folder"
         passed=0
         failed=0
@@ -136,14 +136,14 @@ run_part() {
     )
     status=$?
     set -e
-    if [ -e "$whole/$part.counted" ]; then
-        read -r part_passed part_failed < "$whole/$part.counted"
+    if [ -e "$check_folder/$part.counted" ]; then
+        read -r part_passed part_failed < "$check_folder/$part.counted"
         passed=$((passed + part_passed))
         failed=$((failed + part_failed))
     else
         count_failure "the part $part ended with status $status"
     fi
-    rm -rf -- "${whole:?}/$part"
+    rm -rf -- "${check_folder:?}/$part"
 }
 
 # Prints the numbers of passed and failed verdicts, and exits: with status 0 if none failed, otherwise with 1.

@@ -1,4 +1,4 @@
-"""Wrong input for mcs4-prove, with the expected answers: invalid lines, rejected texts, and texts at the limits that are accepted."""
+"""Invalid and unusual input for mcs4-prove, with the expected answers: invalid lines, rejected texts, and texts at the limits that are accepted."""
 
 from __future__ import annotations
 
@@ -64,7 +64,7 @@ ANSWERS: list[tuple[list[str], int, str]] = [
     ([*QUESTION_LINES, "up 0 0", "open", "in counter 17 whole 1 255", "prove"], 0, "holds 1"),
     ([*QUESTION_LINES, "never", "up 0 0", "open", "in register 0 whole 9 3", "prove"], 0, "may fail"),
     ([*QUESTION_LINES, "never", "open", "in register 0 whole 9 3", "up 0 0", "prove"], 0, "may fail"),
-    # Limits of the inputs are allowed anywhere, except in a text or after the last line.
+    # Limits on the inputs are allowed anywhere, except in a text or after the last line.
     *(([*lines, "prove"], 0, "holds 1") for line in LIMIT_LINES for lines in (
         [line, *QUESTION_LINES], [*QUESTION_LINES[:2], *BOARD, line, *PROGRAM], [*QUESTION_LINES, line, line])),
     *(([*QUESTION_LINES, "never", line, "in register 0 whole 0 0", "prove"], 0, "may fail") for line in LIMIT_LINES),
@@ -85,7 +85,7 @@ ANSWERS: list[tuple[list[str], int, str]] = [
 ]
 
 
-# ---- what limits of the inputs allow
+# ---- what limits on the inputs allow
 
 # A question about a board with two keys in a driven row, whose columns are lines 0 and 1 of a port. Line 3 of the port always reads 1. The program
 # stores the port in R2. It stores 1 in R3 if TEST is 1.
@@ -94,7 +94,7 @@ KEYS_QUESTION = [
     'data = "rom0.1"', "chips = 1", "[keys]", "chain = 0", "first = 0", "rows = 1", 'columns = ["rom1.0", "rom1.1"]', ".",
     "asm", " LDM 2", " WRR", " LDM 3", " WRR", " FIM P0, 0x10", " SRC P0", "loop: JCN 1, read", " LDM 1", " XCH R3", "read: RDR", " XCH R2",
     " JUN loop", "."]
-# The conditions that the program reads no key, each key, both keys, and a 1 at TEST.
+# The conditions that are true after the program has read no key, each of the keys, both keys, or a 1 at TEST.
 READS = {"none": "in register 2 whole 8 8", "first": "in register 2 line0 1 1", "second": "in register 2 line1 1 1",
          "both": "in register 2 whole 11 11", "test": "in register 3 whole 1 1"}
 ALL_READS, ALL_BUT_BOTH = {*READS}, {"none", "first", "second", "test"}

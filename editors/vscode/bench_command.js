@@ -14,7 +14,7 @@ class BenchCommand {
    */
   constructor(vscode, folder) {
     this.vscode = vscode;
-    this.ownScript = join(folder, "bench", "js", "node", "mcs4.cjs");
+    this.bundledScript = join(folder, "bench", "js", "node", "mcs4.cjs");
     /** True if the program in the user setting did not start. The extension's own program is then used instead. */
     this.hasSettingFailed = false;
   }
@@ -26,9 +26,9 @@ class BenchCommand {
 
   /** The program to start, its arguments before the command's name, and the variables to add to its environment. */
   get launchCommand() {
-    const { configuredCommand, ownScript } = this;
+    const { configuredCommand, bundledScript } = this;
     if (configuredCommand !== "") return { program: configuredCommand, prefix: [], env: {} };
-    return { program: process.execPath, prefix: [ownScript], env: RUN_AS_NODE_ENVIRONMENT };
+    return { program: process.execPath, prefix: [bundledScript], env: RUN_AS_NODE_ENVIRONMENT };
   }
 
   /**
@@ -73,7 +73,7 @@ class BenchCommand {
    * Returns the editor's description of a debug adapter.
    * @param {string[]} args the name of the command and its arguments
    */
-  debugAdapter(args) {
+  describeDebugAdapter(args) {
     const { program, prefix, env } = this.launchCommand;
     return new this.vscode.DebugAdapterExecutable(program, [...prefix, ...args], { env });
   }
@@ -83,7 +83,7 @@ class BenchCommand {
    * @param {string[]} args the name of the command and its arguments
    * @param {string} cwd the working directory
    */
-  execution(args, cwd) {
+  describeExecution(args, cwd) {
     const { program, prefix, env } = this.launchCommand;
     return new this.vscode.ProcessExecution(program, [...prefix, ...args], { cwd, env });
   }

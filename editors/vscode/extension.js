@@ -44,7 +44,7 @@ exports.activate = (context) => {
   context.subscriptions.push(
     client,
     new ProgramLanguage(vscode).register(),
-    vscode.debug.registerDebugAdapterDescriptorFactory("mcs4", { createDebugAdapterDescriptor: () => bench.debugAdapter(["dap"]) }),
+    vscode.debug.registerDebugAdapterDescriptorFactory("mcs4", { createDebugAdapterDescriptor: () => bench.describeDebugAdapter(["dap"]) }),
     vscode.debug.registerDebugConfigurationProvider("mcs4", { resolveDebugConfiguration: resolveConfiguration }),
     vscode.commands.registerCommand("mcs4.pressKey", pressKey),
     new Tasks(vscode, bench).register(),

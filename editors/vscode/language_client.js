@@ -105,11 +105,11 @@ class LanguageClient {
       this.receivedBytes = this.receivedBytes.subarray(end + 4 + size);
       if (message.method === "textDocument/publishDiagnostics") this.showDiagnostics(message.params);
       if (message.method === "window/showMessage") this.showMessage(message.params);
-      const pending = message.method === undefined && this.pendingRequests.get(message.id);
-      if (!pending) continue;
+      const pendingRequest = message.method === undefined && this.pendingRequests.get(message.id);
+      if (!pendingRequest) continue;
       this.pendingRequests.delete(message.id);
-      if (message.error) pending.reject(new Error(message.error.message));
-      else pending.resolve(message.result);
+      if (message.error) pendingRequest.reject(new Error(message.error.message));
+      else pendingRequest.resolve(message.result);
     }
   }
 
@@ -215,7 +215,7 @@ class LanguageClient {
     const { languages } = this.vscode;
     const selector = this.languages.map((language) => ({ language }));
     this.disposables.push(
-      languages.registerHoverProvider(selector, { provideHover: (document, position) => this.hover(document, position) }),
+      languages.registerHoverProvider(selector, { provideHover: (document, position) => this.requestHover(document, position) }),
       languages.registerDefinitionProvider(selector, {
         provideDefinition: async (document, position) => {
           const location = await this.request("textDocument/definition", this.positionParams(document, position));
@@ -233,10 +233,10 @@ class LanguageClient {
           this.toWorkspaceEdit(await this.request("textDocument/rename", { ...this.positionParams(document, position), newName }))),
       }),
       languages.registerCompletionItemProvider(selector, {
-        provideCompletionItems: (document, position, _, context) => this.completion(document, position, context),
+        provideCompletionItems: (document, position, _, context) => this.requestCompletion(document, position, context),
       }, ...capabilities.completionProvider.triggerCharacters),
-      languages.registerDocumentSymbolProvider(selector, { provideDocumentSymbols: (document) => this.symbols(document) }),
-      languages.registerCodeActionsProvider(selector, { provideCodeActions: (document, range) => this.actions(document, range) }),
+      languages.registerDocumentSymbolProvider(selector, { provideDocumentSymbols: (document) => this.requestSymbols(document) }),
+      languages.registerCodeActionsProvider(selector, { provideCodeActions: (document, range) => this.requestActions(document, range) }),
     );
     this.registerColours(selector, capabilities.semanticTokensProvider.legend);
     this.disposables.push(...new LanguageFeatures(this, selector).register());
@@ -262,14 +262,14 @@ class LanguageClient {
     }, legend));
   }
 
-  async hover(document, position) {
+  async requestHover(document, position) {
     const hover = await this.request("textDocument/hover", this.positionParams(document, position));
     if (!hover) return null;
     const markdown = new this.vscode.MarkdownString(hover.contents.value);
     return new this.vscode.Hover(markdown, hover.range && this.toEditorRange(hover.range));
   }
 
-  async completion(document, position, { triggerKind = 0, triggerCharacter } = {}) {
+  async requestCompletion(document, position, { triggerKind = 0, triggerCharacter } = {}) {
     // The editor numbers trigger kinds from 0, the protocol from 1.
     const context = { triggerKind: triggerKind + 1, triggerCharacter };
     const list = (await this.request("textDocument/completion", { ...this.positionParams(document, position), context })) || [];
@@ -284,13 +284,13 @@ class LanguageClient {
     });
   }
 
-  async symbols(document) {
+  async requestSymbols(document) {
     const list = (await this.request("textDocument/documentSymbol", { textDocument: { uri: document.uri.toString() } })) || [];
     return list.map(({ name, detail, kind, range, selectionRange }) => (
       new this.vscode.DocumentSymbol(name, detail || "", kind - 1, this.toEditorRange(range), this.toEditorRange(selectionRange))));
   }
 
-  async actions(document, range) {
+  async requestActions(document, range) {
     const context = { diagnostics: [] };
     const params = { textDocument: { uri: document.uri.toString() }, range: this.toProtocolRange(range), context };
     return ((await this.request("textDocument/codeAction", params)) || []).map(({ title, edit }) => {

@@ -19,27 +19,29 @@ class LanguageFeatures {
     const { selector } = this;
     return [
       languages.registerDocumentFormattingEditProvider(selector, {
-        provideDocumentFormattingEdits: (document, options) => this.edits("textDocument/formatting", document, { options }),
+        provideDocumentFormattingEdits: (document, options) => this.requestEdits("textDocument/formatting", document, { options }),
       }),
       languages.registerDocumentRangeFormattingEditProvider(selector, {
         provideDocumentRangeFormattingEdits: (document, range, options) => (
-          this.edits("textDocument/rangeFormatting", document, { range: this.client.toProtocolRange(range), options })),
+          this.requestEdits("textDocument/rangeFormatting", document, { range: this.client.toProtocolRange(range), options })),
       }),
-      languages.registerInlayHintsProvider(selector, { provideInlayHints: (document, range) => this.hints(document, range) }),
-      languages.registerFoldingRangeProvider(selector, { provideFoldingRanges: (document) => this.folds(document) }),
+      languages.registerInlayHintsProvider(selector, { provideInlayHints: (document, range) => this.requestHints(document, range) }),
+      languages.registerFoldingRangeProvider(selector, { provideFoldingRanges: (document) => this.requestFolds(document) }),
       languages.registerSelectionRangeProvider(selector, {
-        provideSelectionRanges: (document, positions) => this.selections(document, positions),
+        provideSelectionRanges: (document, positions) => this.requestSelections(document, positions),
       }),
       languages.registerSignatureHelpProvider(selector, {
-        provideSignatureHelp: (document, position) => this.signature(document, position),
+        provideSignatureHelp: (document, position) => this.requestSignature(document, position),
       }, " ", ","),
-      languages.registerCodeLensProvider(selector, { provideCodeLenses: (document) => this.lenses(document) }),
-      languages.registerDocumentLinkProvider([...selector, { pattern: "**/mcs4.toml" }], { provideDocumentLinks: (document) => this.links(document) }),
-      languages.registerWorkspaceSymbolProvider({ provideWorkspaceSymbols: (query) => this.workspaceSymbols(query) }),
+      languages.registerCodeLensProvider(selector, { provideCodeLenses: (document) => this.requestLenses(document) }),
+      languages.registerDocumentLinkProvider([...selector, { pattern: "**/mcs4.toml" }], {
+        provideDocumentLinks: (document) => this.requestLinks(document),
+      }),
+      languages.registerWorkspaceSymbolProvider({ provideWorkspaceSymbols: (query) => this.requestWorkspaceSymbols(query) }),
       languages.registerCallHierarchyProvider(selector, {
-        prepareCallHierarchy: (document, position) => this.routines(document, position),
-        provideCallHierarchyIncomingCalls: (item) => this.calls("callHierarchy/incomingCalls", item, "from"),
-        provideCallHierarchyOutgoingCalls: (item) => this.calls("callHierarchy/outgoingCalls", item, "to"),
+        prepareCallHierarchy: (document, position) => this.requestRoutines(document, position),
+        provideCallHierarchyIncomingCalls: (item) => this.requestCalls("callHierarchy/incomingCalls", item, "from"),
+        provideCallHierarchyOutgoingCalls: (item) => this.requestCalls("callHierarchy/outgoingCalls", item, "to"),
       }),
       commands.registerCommand("mcs4.runTest", (...commandArguments) => (
         this.client.request("workspace/executeCommand", { command: "mcs4.runTest", arguments: commandArguments }))),
@@ -51,32 +53,33 @@ class LanguageFeatures {
     return (await this.client.request(method, { textDocument: { uri: document.uri.toString() }, ...params })) || [];
   }
 
-  position({ line, character }) {
+  toEditorPosition({ line, character }) {
     return new this.vscode.Position(line, character);
   }
 
-  async edits(method, document, params) {
-    return (await this.request(method, document, params)).map(({ range, newText }) => new this.vscode.TextEdit(this.client.toEditorRange(range), newText));
+  async requestEdits(method, document, params) {
+    const edits = await this.request(method, document, params);
+    return edits.map(({ range, newText }) => new this.vscode.TextEdit(this.client.toEditorRange(range), newText));
   }
 
-  async hints(document, range) {
+  async requestHints(document, range) {
     const hints = await this.request("textDocument/inlayHint", document, { range: this.client.toProtocolRange(range) });
     return hints.map(({ position, label, paddingLeft }) => (
-      Object.assign(new this.vscode.InlayHint(this.position(position), label), { paddingLeft })));
+      Object.assign(new this.vscode.InlayHint(this.toEditorPosition(position), label), { paddingLeft })));
   }
 
-  async folds(document) {
+  async requestFolds(document) {
     return (await this.request("textDocument/foldingRange", document)).map(({ startLine, endLine, kind }) => (
       new this.vscode.FoldingRange(startLine, endLine, kind === "comment" ? this.vscode.FoldingRangeKind.Comment : undefined)));
   }
 
-  async selections(document, positions) {
+  async requestSelections(document, positions) {
     const protocolPositions = positions.map(({ line, character }) => ({ line, character }));
     const selectionOf = ({ range, parent }) => new this.vscode.SelectionRange(this.client.toEditorRange(range), parent && selectionOf(parent));
     return (await this.request("textDocument/selectionRange", document, { positions: protocolPositions })).map(selectionOf);
   }
 
-  async signature(document, position) {
+  async requestSignature(document, position) {
     const help = await this.client.request("textDocument/signatureHelp", this.client.positionParams(document, position));
     if (!help) return null;
     const { vscode } = this;
@@ -87,25 +90,25 @@ class LanguageFeatures {
     return Object.assign(new vscode.SignatureHelp(), { ...help, signatures });
   }
 
-  async lenses(document) {
+  async requestLenses(document) {
     return (await this.request("textDocument/codeLens", document)).map(({ range, command }) => (
-      new this.vscode.CodeLens(this.client.toEditorRange(range), this.command(command))));
+      new this.vscode.CodeLens(this.client.toEditorRange(range), this.toEditorCommand(command))));
   }
 
   /** Converts a command of the server to a command of the editor. The arguments of the editor's own commands must have the editor's classes. */
-  command({ title, command, arguments: serverArguments = [] }) {
+  toEditorCommand({ title, command, arguments: serverArguments = [] }) {
     if (command !== "editor.action.showReferences") return { title, command, arguments: serverArguments };
     const [uri, position, locations] = serverArguments;
-    const editorArguments = [this.vscode.Uri.parse(uri), this.position(position), locations.map((location) => this.client.toEditorLocation(location))];
-    return { title, command, arguments: editorArguments };
+    const editorLocations = locations.map((location) => this.client.toEditorLocation(location));
+    return { title, command, arguments: [this.vscode.Uri.parse(uri), this.toEditorPosition(position), editorLocations] };
   }
 
-  async links(document) {
+  async requestLinks(document) {
     return (await this.request("textDocument/documentLink", document)).map(({ range, target, tooltip }) => (
       Object.assign(new this.vscode.DocumentLink(this.client.toEditorRange(range), this.vscode.Uri.parse(target)), { tooltip })));
   }
 
-  async workspaceSymbols(query) {
+  async requestWorkspaceSymbols(query) {
     return ((await this.client.request("workspace/symbol", { query })) || []).map(({ name, kind, containerName, location }) => (
       new this.vscode.SymbolInformation(name, kind - 1, containerName, this.client.toEditorLocation(location))));
   }
@@ -117,12 +120,12 @@ class LanguageFeatures {
     return new vscode.CallHierarchyItem(kind - 1, name, detail, vscode.Uri.parse(uri), client.toEditorRange(range), client.toEditorRange(selectionRange));
   }
 
-  async routines(document, position) {
+  async requestRoutines(document, position) {
     const items = await this.client.request("textDocument/prepareCallHierarchy", this.client.positionParams(document, position));
     return (items || []).map((item) => this.toHierarchyItem(item));
   }
 
-  async calls(method, { uri, range, selectionRange }, end) {
+  async requestCalls(method, { uri, range, selectionRange }, end) {
     const { vscode, client } = this;
     const item = { uri: uri.toString(), range: client.toProtocolRange(range), selectionRange: client.toProtocolRange(selectionRange) };
     const Call = end === "from" ? vscode.CallHierarchyIncomingCall : vscode.CallHierarchyOutgoingCall;

@@ -26,13 +26,13 @@ function parseResults(text) {
   for (const line of text.split(/\r?\n/)) {
     const [isResult, not, name] = RESULT_LINE.exec(line) || [];
     if (isResult) results.push({ name: name.replace(/\\([\\#])/g, "$1"), hasPassed: !not, message: "", location: null, details: [] });
-    const last = results[results.length - 1];
-    if (isResult || !last || !line.startsWith("  ")) continue;
+    const lastResult = results[results.length - 1];
+    if (isResult || !lastResult || !line.startsWith("  ")) continue;
     const [, key, value] = DETAIL_LINE.exec(line) || [];
-    if (key === "message") last.message = unquote(value);
-    else if (key === "at") last.location = parseLocation(unquote(value));
-    else if (key) last.details.push(`${key}: ${unquote(value)}`);
-    else if (!/^ {2}(---|\.\.\.)$/.test(line)) last.details.push(line.slice(2));
+    if (key === "message") lastResult.message = unquote(value);
+    else if (key === "at") lastResult.location = parseLocation(unquote(value));
+    else if (key) lastResult.details.push(`${key}: ${unquote(value)}`);
+    else if (!/^ {2}(---|\.\.\.)$/.test(line)) lastResult.details.push(line.slice(2));
   }
   return results;
 }

@@ -24,22 +24,22 @@ class Tasks {
 
   async listTasks() {
     const files = await this.vscode.workspace.findFiles(`**/${PROJECT}`, "**/node_modules/**");
-    return files.flatMap((uri) => TASK_COMMANDS.map((command) => this.task({ type: TASK_TYPE, command, folder: dirname(uri.fsPath) }, uri)));
+    return files.flatMap((uri) => TASK_COMMANDS.map((command) => this.makeTask({ type: TASK_TYPE, command, folder: dirname(uri.fsPath) }, uri)));
   }
 
-  task(definition, uri) {
+  makeTask(definition, uri) {
     const { vscode, bench } = this;
     const { command, folder } = definition;
     const scope = vscode.workspace.getWorkspaceFolder(uri) || vscode.TaskScope.Workspace;
     const name = `${command} ${basename(folder)}`;
-    const task = new vscode.Task(definition, scope, name, "MCS-4", bench.execution([command, "-C", folder], folder), PROBLEM_MATCHERS);
+    const task = new vscode.Task(definition, scope, name, "MCS-4", bench.describeExecution([command, "-C", folder], folder), PROBLEM_MATCHERS);
     if (command === "test") task.group = vscode.TaskGroup.Test;
     return task;
   }
 
   /**
-   * Returns a task of tasks.json that the editor can run. If the task names no folder, the task runs in the workspace folder. Returns
-   * undefined if the command is unknown or there is no folder.
+   * Completes a task from tasks.json so that the editor can run it. Returns the new task. If the task names no folder, the task runs in the
+   * workspace folder. Returns undefined if the command is unknown or there is no folder.
    */
   completeTask({ definition, scope }) {
     const { vscode } = this;
@@ -47,7 +47,7 @@ class Tasks {
     const { uri } = scope && scope.uri ? scope : first || { uri: null };
     const folder = definition.folder || (uri ? uri.fsPath : "");
     if (!TASK_COMMANDS.includes(definition.command) || folder === "") return undefined;
-    const task = this.task({ ...definition, folder }, uri || vscode.Uri.file(folder));
+    const task = this.makeTask({ ...definition, folder }, uri || vscode.Uri.file(folder));
     // The editor recognises a task by its definition object, so the new task must have the original object.
     task.definition = definition;
     return task;

@@ -85,23 +85,23 @@ class TestExplorer {
 
   /** Returns the tests that a request selects: a map from the item of each test file to the items of its selected tests. */
   selectedTests({ include, exclude = [] }) {
-    const selected = new Map();
+    const testsByFile = new Map();
     const add = (file, tests) => {
-      const included = tests.filter((test) => !exclude.includes(test) && !exclude.includes(file));
-      selected.set(file, [...(selected.get(file) || []), ...included]);
+      const includedTests = tests.filter((test) => !exclude.includes(test) && !exclude.includes(file));
+      testsByFile.set(file, [...(testsByFile.get(file) || []), ...includedTests]);
     };
     const childrenOf = (item) => {
       const children = [];
       item.children.forEach((child) => children.push(child));
       return children;
     };
-    const all = [];
-    this.controller.items.forEach((item) => all.push(item));
-    for (const item of include || all) {
+    const fileItems = [];
+    this.controller.items.forEach((item) => fileItems.push(item));
+    for (const item of include || fileItems) {
       if (item.parent) add(item.parent, [item]);
       else add(item, childrenOf(item));
     }
-    return selected;
+    return testsByFile;
   }
 
   async run(request, token) {

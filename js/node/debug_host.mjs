@@ -5,7 +5,7 @@ import { dirname, isAbsolute, join, resolve, sep } from "node:path";
 import { findLockHolder, readUnlocked } from "./file_locks.mjs";
 import { CommandError, errorMessage } from "./output.mjs";
 import { openProgram } from "./session_process.mjs";
-import { heldBy } from "../words/adapter.js";
+import { heldByMessage } from "../words/adapter.js";
 import { isInside, readUserFile, readUserText, prepareReplacement } from "./user_files.mjs";
 
 /** The maximum size of a session file in bytes. */
@@ -89,7 +89,7 @@ async function openSessionFile(name) {
     return await openProgram("open", name);
   } catch (error) {
     const holder = error instanceof CommandError && existsSync(name) ? findLockHolder(name) : "";
-    throw holder === "" ? error : new CommandError(`${errorMessage(error)}; ${heldBy(holder)}`);
+    throw holder === "" ? error : new CommandError(`${errorMessage(error)}; ${heldByMessage(holder)}`);
   }
 }
 
@@ -99,7 +99,7 @@ export const host = {
     const path = isAbsolute(name) ? name : resolve(folder || ".", name);
     return toSlashes(existsSync(path) ? realpathSync(path) : path);
   },
-  beside: (name, other) => toSlashes(join(dirname(other), name)),
+  resolveFrom: (name, other) => toSlashes(join(dirname(other), name)),
   read: (name) => {
     try {
       return readUserText(name);
@@ -118,7 +118,7 @@ export const host = {
   fileExists: existsSync,
   isInside: (name, folder) => !existsSync(name) || isInside(name, folder),
   open: async (name) => new SessionFile(name, await openSessionFile(name)),
-  make: async (name) => new SessionFile(name, await openProgram("new", name)),
+  create: async (name) => new SessionFile(name, await openProgram("new", name)),
   readSession: async (name) => readUnlocked(name, MAX_SESSION_BYTES),
   pause: () => new Promise((finish) => {
     setImmediate(finish);

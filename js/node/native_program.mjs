@@ -10,7 +10,8 @@ import { CommandError } from "./output.mjs";
 import { loadChildProcess } from "./lazy_child_process.mjs";
 import { TOP } from "./top_folder.mjs";
 import {
-  NO_PROGRAM_IN_COPY, inUse, needsProgram, noNamedProverMessage, noProverMessage, notForSystemMessage, otherProgram, runsOnModule, sessionRefused,
+  NO_PROGRAM_IN_COPY, sessionInUseMessage, needsNativeProgramMessage, noNamedProverMessage, noProverMessage, unsupportedSystemMessage,
+  otherProgramMessage, runsOnModuleMessage, sessionRejectedMessage,
 } from "../words/commands.js";
 
 /**
@@ -47,7 +48,7 @@ function runStarter(script) {
 
 /** @returns {FoundProgram} the result if the starter cannot run: an editor extension does not contain it, and Windows has no shell for it */
 const createNoProgramResult = () => (
-  { program: "", reason: hasStarter ? notForSystemMessage(type(), process.arch) : NO_PROGRAM_IN_COPY, isUnsupported: true });
+  { program: "", reason: hasStarter ? unsupportedSystemMessage(type(), process.arch) : NO_PROGRAM_IN_COPY, isUnsupported: true });
 
 /** @type {FoundProgram | null} the cached result of the search for the program */
 let foundProgram = null;
@@ -64,7 +65,7 @@ function findProgram() {
 /** Returns the program's path. Throws an error if there is no program for this system. */
 export function findProgramPath() {
   const { program, reason } = findProgram();
-  if (program === "") throw new CommandError(needsProgram(reason));
+  if (program === "") throw new CommandError(needsNativeProgramMessage(reason));
   return program;
 }
 
@@ -98,7 +99,7 @@ export async function startEngine() {
   const { program, reason } = knownEngine ? { program: knownEngine.starter.program, reason: "" } : findProgram();
   if (program === "") {
     const { startModule } = await import("./module_engine.mjs");
-    return startModule(hasStarter ? runsOnModule(reason) : "");
+    return startModule(hasStarter ? runsOnModuleMessage(reason) : "");
   }
   const engine = knownEngine || new NativeEngine(program);
   nativeEngine = engine;
@@ -146,14 +147,14 @@ export async function openSession(engine, texts, session) {
   // A pipe without a writer would block the process forever, and signals could not end it. Also, the file is read twice, which a pipe does not allow.
   if (statInput(session)?.isFIFO()) throw new CommandError(`cannot read ${session}: it is not a regular file`);
   const bytes = texts.read(session, MAX_TEXT_BYTES);
-  if (!bytes.equals(texts.read(session, MAX_TEXT_BYTES))) throw new CommandError(inUse(session));
+  if (!bytes.equals(texts.read(session, MAX_TEXT_BYTES))) throw new CommandError(sessionInUseMessage(session));
   const state = engine.stateOf(bytes);
   try {
     engine.ask(state, "seq\n");
   } catch (error) {
     if (!(error instanceof BenchRefusal)) throw error;
     const { describeRefusal } = await import("./rejected_texts.mjs");
-    throw new CommandError(sessionRefused(session, error.number, describeRefusal(error.number)));
+    throw new CommandError(sessionRejectedMessage(session, error.number, describeRefusal(error.number)));
   }
   return state;
 }
@@ -181,7 +182,7 @@ export async function readCheckedMap(engine, codes, program) {
   if (errors.length > 0) throw await createRejectedTextsError(engine, { program }, errors);
   if (!otherByte) return map;
   const { address, romByte, line, sourceByte } = otherByte;
-  throw new CommandError(otherProgram(program.name, address, romByte, line + program.linesBefore, sourceByte));
+  throw new CommandError(otherProgramMessage(program.name, address, romByte, line + program.linesBefore, sourceByte));
 }
 
 /** Lets signal handlers run between the pieces of a long computation. Resolves to true. */

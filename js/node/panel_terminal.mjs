@@ -52,7 +52,7 @@ export class PanelTerminal {
   constructor() {
     const { stdin, stdout, env } = process;
     if (!stdin.isTTY || !stdout.isTTY) throw new CommandError(say.NO_TERMINAL);
-    if (isDumb(env)) throw new CommandError(say.isDumbMessage(env.TERM || ""));
+    if (isDumb(env)) throw new CommandError(say.unsuitableTerminalMessage(env.TERM || ""));
     this.input = stdin;
     this.output = stdout;
     if (!fitsPanel(this.size)) throw new CommandError(say.tooSmallMessage(MIN_SIZE_TEXT, this.size.columns, this.size.rows));
@@ -81,7 +81,7 @@ export class PanelTerminal {
    * @param {() => void} onResize called when the terminal's size changes
    */
   begin(onResize) {
-    const markGone = () => {
+    const markTerminalGone = () => {
       this.isGone = true;
       this.wake();
     };
@@ -92,8 +92,8 @@ export class PanelTerminal {
       this.keys.push(...splitKeys(String(text)));
       this.wake();
     });
-    for (const event of ["end", "error", "close"]) this.input.on(event, markGone);
-    this.output.on("error", markGone);
+    for (const event of ["end", "error", "close"]) this.input.on(event, markTerminalGone);
+    this.output.on("error", markTerminalGone);
     this.output.on("resize", () => {
       this.drawnRows = [];
       onResize();

@@ -1,5 +1,5 @@
-// Creates the report of `mcs4 explain`. For each rejected line of a script, the report contains the reason, and the line itself or the
-// wrong line in the text after it.
+// Creates the report of `mcs4 explain`. For each rejected line of a script, the report contains the reason and the line. If a text follows a rejected
+// command, the report contains the line of the text with the error instead, if this line is known.
 import { parseRefusal } from "../core/bench/answers.js";
 import { INVALID_CHARACTER, LINE_TOO_LONG, MAX_LINE_LENGTH, NOT_ASCII, opensText } from "../core/bench/inputs.js";
 import { parseNumber } from "../core/bench/numbers.js";
@@ -95,7 +95,7 @@ export class RejectedLines {
    */
   createReport(inputs, openingLine) {
     const openingRefusal = parseRefusal(openingLine);
-    const lines = openingRefusal ? [say.sessionWasRefusedBy(openingRefusal.number, describeRefusal(openingRefusal.number))] : [];
+    const lines = openingRefusal ? [say.rejectedWithNumber(openingRefusal.number, describeRefusal(openingRefusal.number))] : [];
     if (openingLine === "session 0") this.boardText = "";
     for (const [index, answeredInput] of inputs.entries()) {
       const { input, lineNumber, answer } = answeredInput;

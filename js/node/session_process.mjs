@@ -5,7 +5,7 @@ import { parseRefusal } from "../core/bench/answers.js";
 import { SEQ_ANSWER, isSeqQuery } from "../core/bench/inputs.js";
 import { findProgramPath } from "./native_program.mjs";
 import { CommandError } from "./output.mjs";
-import { programEnded, sessionWasRefused } from "../words/commands.js";
+import { programEnded, sessionRejectedForReason } from "../words/commands.js";
 
 /** The number that shells add to the number of a signal to form an exit status. */
 const SIGNAL_STATUS_OFFSET = 128;
@@ -143,5 +143,5 @@ export async function openProgram(word, name) {
   program.openingLine = firstLine;
   if (firstLine.startsWith("session ")) return program;
   await program.end();
-  throw new CommandError(sessionWasRefused(name, [await addRefusalMessage(firstLine), program.errorOutput.trim()].filter(Boolean).join("; ")));
+  throw new CommandError(sessionRejectedForReason(name, [await addRefusalMessage(firstLine), program.errorOutput.trim()].filter(Boolean).join("; ")));
 }

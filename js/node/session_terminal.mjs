@@ -14,7 +14,7 @@ import { TerminalPrompt } from "./terminal_prompt.mjs";
 /**
  * Returns the callbacks of the prompt for a program and a terminal.
  * @param {SessionProcess} program
- * @param {{ print: (words: string) => void, complain: (words: string) => void }} terminal
+ * @param {{ print: (message: string) => void, printError: (message: string) => void }} terminal
  * @returns {import("../core/prompt/bench_prompt.js").SessionPromptCallbacks}
  */
 function makePromptCalls(program, terminal) {
@@ -39,15 +39,15 @@ function makePromptCalls(program, terminal) {
       await program.serve(`${line}\n`, (answerLine) => lines.push(answerLine));
       return lines;
     },
-    print: (words) => terminal.print(words),
-    complain: (words) => terminal.complain(words),
+    print: (message) => terminal.print(message),
+    printError: (message) => terminal.printError(message),
     read: (name) => readDecodedFile(expandTilde(name), MAX_SCRIPT_BYTES).text,
     files: completePath,
-    errorsOf: async (word, text, board) => {
+    findErrors: async (word, text, board) => {
       const { findTextErrors } = await import("./text_errors.mjs");
       return findTextErrors(word, text, board, { manual: manual(), wordsOf: describeRefusal });
     },
-    wordsOf: describeRefusal,
+    messageOf: describeRefusal,
     manual,
   };
 }
@@ -77,7 +77,7 @@ export async function servePrompt(word, name) {
     print(`${firstLine}\n`);
     if (firstLine.startsWith("session ")) {
       const prompt = new SessionPrompt(makePromptCalls(program, {
-        print: (words) => terminal.print(words), complain: (words) => terminal.complain(words),
+        print: (message) => terminal.print(message), printError: (message) => terminal.printError(message),
       }));
       /** @type {TerminalPrompt} */
       const terminal = new TerminalPrompt(prompt, { output: process.stderr });

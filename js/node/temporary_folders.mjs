@@ -2,7 +2,7 @@
 import { accessSync, constants, mkdtempSync, rmSync } from "node:fs";
 import { tmpdir } from "node:os";
 import { join } from "node:path";
-import { noFolderInMessage } from "../words/commands.js";
+import { cannotMakeFolderMessage } from "../words/commands.js";
 import { CommandError } from "./output.mjs";
 
 /** @type {Set<string>} the existing folders */
@@ -34,7 +34,7 @@ export function createTemporaryFolder(name) {
     folders.add(folder);
     return folder;
   } catch {
-    throw new CommandError(noFolderInMessage(root));
+    throw new CommandError(cannotMakeFolderMessage(root));
   }
 }
 

@@ -38,7 +38,7 @@ export class TerminalView {
    * Shows or hides the view. Returns the reason why the view cannot be shown, or "".
    * @param {boolean} isOn
    */
-  turn(isOn) {
+  setVisible(isOn) {
     if (isOn === this.isOn) return "";
     if (isOn && !this.size) return NO_ROOM_MESSAGE;
     this.isOn = isOn;
@@ -49,7 +49,7 @@ export class TerminalView {
 
   /** Toggles the view. Returns the reason why it cannot be shown, or "". */
   toggle() {
-    return this.turn(!this.isOn);
+    return this.setVisible(!this.isOn);
   }
 
   /** Clears the terminal, and limits scrolling to the rows below the view. */

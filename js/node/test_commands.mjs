@@ -2,7 +2,7 @@
 // instructions.
 import { runTests } from "../core/testing/test_suite.js";
 import { failureLine } from "../core/testing/tap.js";
-import { excludeEachOther, otherProgram, sessionStopped } from "../words/commands.js";
+import { excludeEachOther, otherProgramMessage, sessionStopped } from "../words/commands.js";
 import { parseCount, requireProjectFiles, checkArguments, findProject } from "./arguments.mjs";
 import { InputTexts } from "./input_texts.mjs";
 import { yieldToMessages, createRejectedTextsError, openSession, startEngine } from "./native_program.mjs";
@@ -87,7 +87,7 @@ export async function countCycles({ name, RecorderClass, checkNames = () => {}, 
   const { errors, otherByte, counts } = await countSession(engine, state, program.text, cycles, RecorderClass);
   if (otherByte) {
     const { address, romByte, line, sourceByte } = otherByte;
-    throw new CommandError(otherProgram(programName, address, romByte, line + program.linesBefore, sourceByte));
+    throw new CommandError(otherProgramMessage(programName, address, romByte, line + program.linesBefore, sourceByte));
   }
   if (!counts) throw await createRejectedTextsError(engine, { program }, errors);
   if (counts.stop !== "end") printError(`${name}: ${sessionStopped(counts.elapsed, counts.stop)}\n`);

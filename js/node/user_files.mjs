@@ -26,7 +26,7 @@ export class UserFileError extends CommandError {}
 /** The reason for a UserFileError, without the file's name. `withFileError` adds the name. */
 class FileErrorReason extends Error {}
 
-/** @type {Record<string, string>} the messages, by error code of the system */
+/** @type {Record<string, string>} the messages, by system error code */
 const REASONS = {
   ENOENT: "there is no such file", EACCES: "no permission", EPERM: "no permission", ENOSPC: "no space left on the device",
   EDQUOT: "the disk quota is used up", EFBIG: "it would exceed the size limit for files", EROFS: "the file system is read-only",
@@ -41,7 +41,7 @@ function describeFileError(error) {
 }
 
 /**
- * Calls `operation` and returns its result. Converts an error of the system into a UserFileError.
+ * Calls `operation` and returns its result. Converts a system error into a UserFileError.
  * @template Result
  * @param {string} failureText the beginning of the message, such as `cannot read NAME`
  * @param {() => Result} operation
@@ -319,16 +319,16 @@ function readBeginning(name, count) {
  */
 export function checkOutputFile(name, begin, reason, inputs) {
   const stat = withFileError(`cannot write ${name}`, () => statSync(name, { throwIfNoEntry: false }));
-  if (inputs.some((input) => isSameFile(name, input))) throw new UserFileError(say.isInputFileMessage(name));
-  if (stat && stat.isDirectory()) throw new UserFileError(say.isFolderMessage(name));
+  if (inputs.some((input) => isSameFile(name, input))) throw new UserFileError(say.outputIsInputMessage(name));
+  if (stat && stat.isDirectory()) throw new UserFileError(say.fileIsFolderMessage(name));
   withFileError(`cannot write ${name}`, () => {
     if (stat && !stat.isFile()) return accessSync(name, constants.W_OK);
     const target = followLinks(name);
-    if (!isWritable(dirname(target))) throw new UserFileError(say.noFolderToWriteMessage(name));
+    if (!isWritable(dirname(target))) throw new UserFileError(say.folderNotWritableMessage(name));
     return stat && checkWritable(target, stat);
   });
   const hasContents = stat && stat.isFile() && stat.size > 0;
-  if (hasContents && readBeginning(name, begin.length) !== begin) throw new UserFileError(say.isOtherKindMessage(name, reason));
+  if (hasContents && readBeginning(name, begin.length) !== begin) throw new UserFileError(say.fileOfOtherKindMessage(name, reason));
 }
 
 // --- new files in a folder ---
@@ -380,7 +380,7 @@ function replaceTargets(replacements) {
 export function writeNewFiles(folder, files, names) {
   const withFolderError = (/** @type {() => any} */ operation) => withFileError(`cannot write in ${folder}`, operation);
   const stat = withFolderError(() => statSync(folder, { throwIfNoEntry: false }));
-  if (stat && !stat.isDirectory()) throw new UserFileError(say.isNotFolderMessage(folder));
+  if (stat && !stat.isDirectory()) throw new UserFileError(say.notAFolderMessage(folder));
   const existingPath = withFolderError(() => names.map((name) => join(folder, name)).find((name) => lstatSync(name, { throwIfNoEntry: false })));
   if (existingPath) throw new UserFileError(say.alreadyExists(existingPath));
   const createdFolders = withFileError(`cannot make ${folder}`, () => makeFolder(folder));

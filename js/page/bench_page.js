@@ -103,11 +103,11 @@ export class Page {
    * Returns the listener for the bench worker's frames, errors and termination.
    * @returns {import("../core/bench/bench_client.js").Listener}
    */
-  listener() {
+  makeListener() {
     return {
-      frame: (frame) => this.runController.handleFrame(frame),
-      failed: (error) => this.recovery.reportFailure(error),
-      died: () => this.recovery.restart(),
+      handleFrame: (frame) => this.runController.handleFrame(frame),
+      handleFailure: (error) => this.recovery.reportFailure(error),
+      handleTermination: () => this.recovery.restart(),
     };
   }
 

@@ -42,7 +42,7 @@ export function makeSnapshotView(page) {
       page.bench.call("watchLamps", [face, number]).catch((error) => page.recovery.reportFailure(error));
     },
     setPrinter: (printer) => {
-      page.bench.call("printOn", [printer]).catch((error) => page.recovery.reportFailure(error));
+      page.bench.call("watchPrinter", [printer]).catch((error) => page.recovery.reportFailure(error));
     },
     clear: () => {
       page.currentSession.markChanged();

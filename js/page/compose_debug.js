@@ -101,7 +101,7 @@ function makeLastChangeView({ bench, snapshotView, source, runController, recove
     editableCellAt: (cell) => snapshotView.editor.editableCells.get(cell),
     describeLastChange: async ({ place, name }, signal) => {
       try {
-        return lastChangeText(name, await bench.call("lastChange", [place], { signal }), source.map);
+        return lastChangeText(name, await bench.call("findLastChange", [place], { signal }), source.map);
       } catch (error) {
         if (!(error instanceof CancelledError) && !(error instanceof WorkerDiedError)) recovery.reportFailure(error);
         return "";
@@ -127,7 +127,7 @@ export function makeSourceValues(page) {
     map: () => source.map,
     showWatched: () => page.watchView.show(),
     showLines: (lines) => editors.program.lineValues.show(lines),
-    changed: () => editors.program.scheduleDescription(),
+    onChange: () => editors.program.scheduleDescription(),
   });
 }
 
@@ -139,7 +139,7 @@ export function makeHeatView(page) {
   const { bench, snapshotView, runController, recovery } = page;
   return new HeatView(page.layout.preferences, {
     isRunning: () => runController.clock.isRunning,
-    countChanges: (cycles, signal) => bench.call("heat", [cycles], { signal }).catch((error) => {
+    countChanges: (cycles, signal) => bench.call("measureHeat", [cycles], { signal }).catch((error) => {
       if (!(error instanceof CancelledError) && !(error instanceof WorkerDiedError)) recovery.reportFailure(error);
       return null;
     }),
@@ -157,8 +157,8 @@ export function makeHeatView(page) {
  * @param {Page} page
  */
 function collectExpressionNames({ snapshotView, source, breakpoints }) {
-  const watched = collectWatchNames(breakpoints.manager.watchTexts);
-  return { face: snapshotView.face, board: snapshotView.board, map: source.map, watched };
+  const watchedNames = collectWatchNames(breakpoints.manager.watchTexts);
+  return { face: snapshotView.face, board: snapshotView.board, map: source.map, watched: watchedNames };
 }
 
 /**

@@ -3,7 +3,7 @@
 import { Guide } from "./help/guide.js";
 import { forgetStory } from "./session/address.js";
 import { ExportView } from "./session/export_view.js";
-import { newRecord } from "./session/open_session.js";
+import { createSessionRecord } from "./session/open_session.js";
 import { RomFiles } from "../core/session/rom_files.js";
 import { SessionsController } from "./session/sessions_controller.js";
 import { LinkSharing } from "./session/link_sharing.js";
@@ -50,7 +50,7 @@ export function makeRomFiles(page) {
   const { runController } = page;
   return new RomFiles({
     ask: async (lines) => page.bench.call("ask", [lines]),
-    act: (lines) => page.lineServer.serveLines(lines),
+    execute: (lines) => page.lineServer.serveLines(lines),
     stop: () => runController.pause(),
   });
 }
@@ -76,7 +76,8 @@ export function makeLinkSharing(page) {
   return new LinkSharing(page.bench, page.confirmDialog, page.notice, page.errorMessages, {
     currentTexts: () => currentSession.session && currentSession.session.record,
     showSessionAddress: () => currentSession.showName(),
-    openTexts: (texts, file, runs) => sessionsController.manager.openNew(async () => newRecord(texts.name || "session", file, texts, runs)),
+    openTexts: (texts, file, runs) => (
+      sessionsController.manager.openNew(async () => createSessionRecord(texts.name || "session", file, texts, runs))),
     save: () => sessionsController.manager.save(),
   });
 }

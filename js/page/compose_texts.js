@@ -9,7 +9,7 @@ import { keyScanSource, routineInsertion } from "../core/drawing/scan_routine.js
 import { nibbleNames } from "../core/machine/ram_names.js";
 import { SourceSync } from "../core/machine/source_sync.js";
 import { sessionTitle } from "../core/session/session_summary.js";
-import { newRecord } from "./session/open_session.js";
+import { createSessionRecord } from "./session/open_session.js";
 import { TextsController } from "./session/texts_controller.js";
 import { TestsTab } from "./testing/tests_tab.js";
 import { Editors } from "./text/editors.js";
@@ -84,7 +84,7 @@ export function makeSource(page) {
   const source = new SourceSync({
     text: () => page.programEditor.benchText,
     check: (text) => page.bench.call("checkProgram", [text]),
-    changed: (map, reason) => {
+    onChange: (map, reason) => {
       page.snapshotView.nameLines(map, reason);
       page.layout.status.showRom(map !== null, reason);
       showNibbleNames(page);
@@ -113,7 +113,7 @@ export function makeTextsController(page) {
       currentSession.adoptTitle(sessionTitle(boardText, page.programEditor.text));
       page.checkSource();
     },
-    source: () => page.bench.call("source", []),
+    source: () => page.bench.call("disassembleRom", []),
     isProbablyNotProgram: (text) => page.editors.isProbablyNotProgram(text),
     handleLoadedTexts: (shownName, lines) => {
       page.layout.tabs.choose(shownName);
@@ -149,7 +149,7 @@ export function makeTestsTab(page, manual) {
     texts: () => ({ boardText: page.boardEditor.text, programText: page.programEditor.text }),
     labels: () => (page.source.map ? [...page.source.map.labels.values()].flat() : []),
     findErrors: (texts) => bench.call("findTestErrors", [texts]),
-    sample: (texts) => bench.call("sampleTest", [texts]),
+    sample: (texts) => bench.call("createSampleTest", [texts]),
     run: async (texts) => {
       // The worker serves one call at a time, so time cannot run during the tests. Pausing first shows this to the user.
       await runController.pause();
@@ -161,7 +161,7 @@ export function makeTestsTab(page, manual) {
       else page.programEditor.counts.clear();
     },
     goTo: (address) => page.snapshotView.goTo.show(address),
-    open: (name, file, texts) => page.sessionsController.manager.openNew(async () => newRecord(name, file, texts)),
+    open: (name, file, texts) => page.sessionsController.manager.openNew(async () => createSessionRecord(name, file, texts)),
     showMark: (label, isGood) => page.layout.tabs.setMark("tests", label, isGood),
     handleEdit: () => page.textsController.handleEdit(),
     reportFailure: (error) => page.recovery.reportFailure(error),
@@ -192,7 +192,7 @@ async function openWithLines(page, { name, lines, message }, texts) {
   const { boardText, programText } = texts;
   const makeRecord = async () => {
     const example = { name, title: "", board: boardText, program: programText, tests: "", properties: "", lines: "", project: "" };
-    return newRecord(name, await page.bench.call("createFile", [example]), { ...texts, testText: page.testsTab.editor.text });
+    return createSessionRecord(name, await page.bench.call("createFile", [example]), { ...texts, testText: page.testsTab.editor.text });
   };
   const { sessionsController } = page;
   const previousSession = page.currentSession.session;
@@ -225,7 +225,7 @@ export function makeExploreTab(page, manual, makeBench) {
     },
     open: (name, file, texts) => {
       const testText = page.testsTab.editor.text;
-      page.sessionsController.manager.openNew(async () => newRecord(name, file, { ...texts, testText }));
+      page.sessionsController.manager.openNew(async () => createSessionRecord(name, file, { ...texts, testText }));
     },
     prove: prover.prove.bind(prover),
     openWithLines: (name, lines, texts, message) => openWithLines(page, { name, lines, message }, texts),

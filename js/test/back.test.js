@@ -37,11 +37,11 @@ test("the last change of a place is reported without going back, and is the chan
   const calls = await openExample("three lamps");
   await calls.serve("run 5000\npoke r9 3\nrun 100\n");
   const snapshot = calls.ask(ALL_QUERIES);
-  const { line, cycles, address } = await calls.lastChange("r9");
+  const { line, cycles, address } = await calls.findLastChange("r9");
   assert.deepEqual([line, cycles, address], ["poke r9 3", 100, -1]);
-  const lamps = await calls.lastChange("lamps");
-  assert.equal((await calls.lastChange("r15")).isFound, false);
-  assert.equal((await calls.lastChange("ram.7.0")).reason, "lacks");
+  const lamps = await calls.findLastChange("lamps");
+  assert.equal((await calls.findLastChange("r15")).isFound, false);
+  assert.equal((await calls.findLastChange("ram.7.0")).reason, "lacks");
   assert.deepEqual(calls.ask(ALL_QUERIES), snapshot);
   const travel = await calls.goBack({ kind: "change", place: "lamps" });
   assert.deepEqual([lamps.from, lamps.to, lamps.cycles], [travel.from, travel.to, travel.cycles]);
@@ -124,8 +124,8 @@ test("a timeline keeps the stops of a long past, and limits its segments and for
   for (let piece = 0; piece < 100; piece++) run(5000000);
   assert.ok(timeline.segments.length <= 48);
   assert.deepEqual(timeline.lastStop(), { segment: 0, entry: 0, cycles: 0 });
-  assert.deepEqual(timeline.before(5000001), { segment: timeline.segments.length - 3, entry: 0, cycles: 4999999 });
-  assert.equal(timeline.before(400000000), null);
-  for (let move = 0; move < 100; move++) timeline.goBack(timeline.before(1), current);
+  assert.deepEqual(timeline.momentBefore(5000001), { segment: timeline.segments.length - 3, entry: 0, cycles: 4999999 });
+  assert.equal(timeline.momentBefore(400000000), null);
+  for (let move = 0; move < 100; move++) timeline.goBack(timeline.momentBefore(1), current);
   assert.equal(timeline.future.length, MAX_FORWARD_MOVES);
 });

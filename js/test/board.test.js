@@ -10,7 +10,7 @@ import { TextBench } from "../core/server/text_bench.js";
 import { createBoardError } from "../core/text/board_error.js";
 import { BoardReader, readBoardText } from "../core/text/board_reader.js";
 import { completeBoard } from "../core/text/board_completion.js";
-import { commentAt } from "../core/text/sendable_text.js";
+import { findCommentStart } from "../core/text/sendable_text.js";
 import { readProjectToml } from "../core/project/project_toml.js";
 import { openExample, pageModule } from "./page_session.js";
 import { boardTables, helpForBoard, tableAt } from "../core/text/text_help.js";
@@ -92,8 +92,8 @@ test("the page's limits for boards are the limits of the bench", async () => {
   }
   const columns = (count) => roms + chain(1) + keys(Array(count).fill(column));
   assert.deepEqual([await refusalNumberOf(columns(MAX_COLUMNS)), await refusalNumberOf(columns(MAX_COLUMNS + 1))], [0, 27]);
-  const largest = boardsByCount.rom(16) + boardsByCount.ram(8).replace(/chips = 1/g, "chips = 4") + chain(8).repeat(4);
-  const lamp = (line) => `${largest}[[lamp]]\nline = "${line}"\n`;
+  const largestBoard = boardsByCount.rom(16) + boardsByCount.ram(8).replace(/chips = 1/g, "chips = 4") + chain(8).repeat(4);
+  const lamp = (line) => `${largestBoard}[[lamp]]\nline = "${line}"\n`;
   for (const line of LINE_NAMES) assert.equal(await refusalNumberOf(lamp(line)), 0, line);
   const unknownLines = ["rom16.0", "rom0.4", "rom01.0", "ram8.0.0", "ram0.4.0", "ram0.0.4", "chain4.0", "chain0.80", "chain0.00", "rom0",
     ""];
@@ -160,7 +160,7 @@ test("parts that the board lacks, and lines of the wrong direction, are reported
 test("the reader reports the line of each key", () => {
   const { entries } = readBoardText(`${ROM}# a comment\n`);
   assert.deepEqual(entries[0].keys.map(({ name, line, value }) => [name, line, value.inner]), [["chip", 2, 0], ["port", 3, "iii0"]]);
-  assert.equal(commentAt('a = "#" # b', "#"), 8);
+  assert.equal(findCommentStart('a = "#" # b', "#"), 8);
 });
 
 test("the keys of a board's tables are those of the manual", () => {

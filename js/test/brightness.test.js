@@ -91,7 +91,7 @@ test("the lit times and the changes of lamps are reported exactly", async () => 
 
 test("the perceived brightness is the share of lit cycles in the trace, within 2 %", async () => {
   const calls = await openSession(PULSE_EXAMPLE);
-  const expectedShares = countLitCycles(calls, 3800).map((lit) => lit / 3800);
+  const expectedShares = countLitCycles(calls, 3800).map((litCycles) => litCycles / 3800);
   const brightness = new Brightness(new Face(PULSE_EXAMPLE.board), 4);
   for (let frame = 0; frame < 30; frame++) {
     brightness.add(calls.advance(FRAME_CYCLES).litShares, FRAME_MS);
@@ -138,7 +138,7 @@ test("each multiplexed digit shows the pattern that it has longest while it is l
 
 test("the edges of a line are reported exactly, and its sound samples have the right pitch", async () => {
   const calls = await openSession(PULSE_EXAMPLE);
-  calls.listenTo("rom0.0");
+  calls.watchBuzzer("rom0.0");
   let level = -1;
   for (const cycles of [3, 40, FRAME_CYCLES, 1]) {
     const lampLines = calls.ask(`lamps\n${"run 1\nlamps\n".repeat(cycles)}`).filter((line) => line.startsWith("lamps")).slice(0, cycles);
@@ -156,7 +156,7 @@ test("the edges of a line are reported exactly, and its sound samples have the r
   }
   // An iteration of the program's loop takes 41 cycles.
   assert.ok(Math.abs(rises / count - 1 / 41) < 0.01 / 41, `${rises} in ${count}`);
-  calls.listenTo("");
+  calls.watchBuzzer("");
   assert.equal(calls.advance(100).buzzerLevels, null);
 });
 

@@ -132,7 +132,7 @@ async function setRandomState(random) {
 }
 
 /** Returns the context in which the page parses conditions: the session with all names, including those in the watch list. */
-function conditionContext() {
+function createConditionContext() {
   Object.defineProperty(session, "names", { configurable: true, value: names });
   return { session, face: names.face, instructions: new Map(), frontPanelText: () => "" };
 }
@@ -150,14 +150,14 @@ const readValues = ({ places }) => session.debugger.readPlaces(places);
 
 /** The prompt of `mcs4 debug` for the session, and the prompt's last output. */
 let prompt;
-let printed = "";
+let lastOutput = "";
 before(() => {
   const launchResult = { session, kept: null, program: "p.asm", board: "b.toml", stopsOnEntry: true, isDebugged: true,
     nameOf: (name) => name };
   const capture = (text) => {
-    printed = text;
+    lastOutput = text;
   };
-  const calls = { print: capture, complain: capture, pause: async () => {}, source: () => null, isInteractive: false, view: null };
+  const calls = { print: capture, printError: capture, pause: async () => {}, source: () => null, isInteractive: false, view: null };
   prompt = new Prompt(launchResult, readPageData(), calls);
 });
 
@@ -173,14 +173,14 @@ const USES = {
     return new TestSession(engine, file, new ExecutionRecorder(new Uint8Array(4096)), async () => {}).check(action.condition).holds;
   },
   Watch: (text) => {
-    const { watch: watched, error } = parseWatch(text, names);
+    const { watch: parsedWatch, error } = parseWatch(text, names);
     const snapshot = ["state\n", "ram 0\n"].map((line) => session.debugger.session.ask(line).join("\n"));
-    return error || joinPieces(watched.pieces(new MachineState(snapshot), names)) === "true";
+    return error || joinPieces(parsedWatch.pieces(new MachineState(snapshot), names)) === "true";
   },
   "mcs4 debug": async (text) => {
-    conditionContext();
+    createConditionContext();
     await prompt.enterLine(`print ${text}`);
-    return /^(true|false)$/.test(printed) ? printed === "true" : printed;
+    return /^(true|false)$/.test(lastOutput) ? lastOutput === "true" : lastOutput;
   },
   breakpoint: (text) => {
     const breakpoint = { id: 1, address: 0, condition: text, from: 1, note: "", hits: 0 };
@@ -191,9 +191,9 @@ const USES = {
     const { note, error } = compileNote(`{${text}}`, names);
     return error || note.textOf(readValues(note)) === "true";
   },
-  evaluate: (text) => resultOrError(() => evaluateExpression(text, conditionContext()) === "true"),
+  evaluate: (text) => resultOrError(() => evaluateExpression(text, createConditionContext()) === "true"),
   console: (text) => resultOrError(async () => (
-    (await new Console({ isMoving: false }, conditionContext(), null, {}).serveLine(text)).text === "true")),
+    (await new Console({ isMoving: false }, createConditionContext(), null, {}).serveLine(text)).text === "true")),
   trigger: (text) => {
     const { trigger, error } = readTrigger(text, createBoardLines(names.board, BOARD, true, []), names);
     return error || trigger.holds(readValues(trigger));

@@ -63,9 +63,9 @@ test("a session in memory: breakpoints at lines, steps, values, and going back a
   assert.equal((await session.runToGoal({ kind: "over" })).message, "At 003 (turn, line 4), after 2 cycles, 0.022 ms.");
   await session.stepInto();
   assert.deepEqual([session.line, session.returns[0]], [LINE.show, 5]);
-  const out = await session.runToGoal({ kind: "out" });
-  assert.deepEqual([out.reason, out.endsAtReturn, session.line], ["goal", true, LINE.increment]);
-  assert.match(out.message, /^Returned to 005 \(turn \+ 2, line 6\), after 37 cycles/);
+  const stopAfterReturn = await session.runToGoal({ kind: "out" });
+  assert.deepEqual([stopAfterReturn.reason, stopAfterReturn.endsAtReturn, session.line], ["goal", true, LINE.increment]);
+  assert.match(stopAfterReturn.message, /^Returned to 005 \(turn \+ 2, line 6\), after 37 cycles/);
   assert.deepEqual(session.values(["lamp 0"]), ["*"]);
   const back = await session.goBack({ kind: "instruction" });
   assert.deepEqual([back.isDone, session.line], [true, LINE.back]);
@@ -85,10 +85,10 @@ async function collectValuesAtStops(session, count, place) {
 
 test("conditions, hit counts and log messages, which the session file does not contain", async () => {
   const session = openSession();
-  const conditional = session.breakpoints.add({ line: LINE.write, condition: "r4 > 9 and lamp two off" });
+  const conditionalBreakpoint = session.breakpoints.add({ line: LINE.write, condition: "r4 > 9 and lamp two off" });
   await session.applyBreakpoints();
   assert.deepEqual(await collectValuesAtStops(session, 4, "r4"), [..."ADEA"]);
-  assert.equal(session.breakpoints.get(conditional.id).hits, 4);
+  assert.equal(session.breakpoints.get(conditionalBreakpoint.id).hits, 4);
   const countedSession = openSession();
   const { id } = countedSession.breakpoints.add({ line: LINE.show, from: 5 });
   countedSession.breakpoints.add({ line: LINE.increment, note: "R4 is {r4}, lamps {lamps}, two {two}" });
@@ -126,30 +126,30 @@ test("conditional breakpoints stop at the same cycles as plain ones, for each fr
 test("a breakpoint stops a step; an invalid one reports its error, and stops every time until it is corrected", async () => {
   const session = openSession();
   session.breakpoints.add({ line: LINE.write, condition: "r4 = 0" });
-  const invalid = session.breakpoints.add({ line: LINE.increment, condition: "r44 = 0" });
-  const absentPort = session.breakpoints.add({ line: LINE.wait, note: "{rom3}" });
+  const invalidBreakpoint = session.breakpoints.add({ line: LINE.increment, condition: "r44 = 0" });
+  const portBreakpoint = session.breakpoints.add({ line: LINE.wait, note: "{rom3}" });
   const { errors } = await session.applyBreakpoints();
-  assert.deepEqual(errors, [[invalid.id, "r44: no such place; the registers are r0 to r15 (column 1)"],
-    [absentPort.id, "the note asks for {rom3}: the board has no ROM 3 (column 2)"]]);
+  assert.deepEqual(errors, [[invalidBreakpoint.id, "r44: no such place; the registers are r0 to r15 (column 1)"],
+    [portBreakpoint.id, "the note asks for {rom3}: the board has no ROM 3 (column 2)"]]);
   await session.runToGoal({ kind: "here", address: 3 });
   const stop = await session.runToGoal({ kind: "over" });
   assert.deepEqual([stop.reason, session.line], ["break", LINE.write]);
   const stops = [];
   for (let round = 0; round < 4; round++) stops.push([(await session.runToGoal()).id, session.line]);
-  assert.deepEqual(stops, [[absentPort.id, LINE.wait], [absentPort.id, LINE.wait], [absentPort.id, LINE.wait], [absentPort.id, LINE.wait]]);
-  session.breakpoints.change(absentPort.id, { note: "{rom0}" });
-  session.breakpoints.change(invalid.id, { condition: "accu = 1" });
+  assert.deepEqual(stops, Array(4).fill([portBreakpoint.id, LINE.wait]));
+  session.breakpoints.change(portBreakpoint.id, { note: "{rom0}" });
+  session.breakpoints.change(invalidBreakpoint.id, { condition: "accu = 1" });
   await session.applyBreakpoints();
   const errorStop = await session.runToGoal();
-  assert.deepEqual([errorStop.id, session.line], [invalid.id, LINE.increment]);
+  assert.deepEqual([errorStop.id, session.line], [invalidBreakpoint.id, LINE.increment]);
   assert.equal(errorStop.message, "Paused at 005 (turn + 2, line 6), at a breakpoint that has an error, "
     + "accu: no such place; the accumulator is acc (column 1).");
-  assert.equal((await session.runToGoal()).id, invalid.id);
-  session.breakpoints.change(invalid.id, { condition: "R4 == 0b11 || r4 >= 0xF" });
+  assert.equal((await session.runToGoal()).id, invalidBreakpoint.id);
+  session.breakpoints.change(invalidBreakpoint.id, { condition: "R4 == 0b11 || r4 >= 0xF" });
   await session.applyBreakpoints();
   const stopsAfterFix = [];
   for (let round = 0; round < 3; round++) stopsAfterFix.push([(await session.runToGoal()).id, session.values(["r4"])[0]]);
-  assert.deepEqual(stopsAfterFix, [[invalid.id, "3"], [invalid.id, "F"], [1, "0"]]);
+  assert.deepEqual(stopsAfterFix, [[invalidBreakpoint.id, "3"], [invalidBreakpoint.id, "F"], [1, "0"]]);
   assert.match(stop.message, /^Paused at 009 \(show \+ 1, line 9\), at a breakpoint, when r4 = 0, after 3 cycles, .*; the return .* not/);
 });
 
@@ -344,9 +344,11 @@ test("if the whole text is replaced, breakpoints keep their addresses", () => {
   const [removed, text] = [["a", "b", "c", "d"], ["new", "lines", "here", "x"]];
   // In the first case, neither text ends with a line feed. In the second, both do. In the third, lines below the edit stay, so the edit
   // does not replace the whole text.
-  for (const [end, isWhole, lines] of [[[], true, [[3, -1], [0, 4]]], [[""], true, [[3, -1], [0, 4]]], [[], false, [[2, 4], [3, -1]]]]) {
+  const cases = [[[], true, [[3, -1], [0, 4]]], [[""], true, [[3, -1], [0, 4]]], [[], false, [[2, 4], [3, -1]]]];
+  for (const [end, replacesAll, lines] of cases) {
     const list = new BreakpointList([{ line: 2, address: 4 }, { line: 3 }]);
-    list.applyEdit({ from: position(0), to: position(3 + end.length), text: [...text, ...end], removed: [...removed, ...end], isWhole });
+    const range = { from: position(0), to: position(3 + end.length) };
+    list.applyEdit({ ...range, text: [...text, ...end], removed: [...removed, ...end], replacesAll });
     assert.deepEqual(list.all.map(({ line, address }) => [line, address]), lines);
   }
 });

@@ -28,8 +28,8 @@ const top = fileURLToPath(new URL("../..", import.meta.url));
 const program = process.env.MCS4 || join(top, "shipped/mcs4");
 const module = new Engine(new WebAssembly.Module(readPageModule()));
 const hasProgram = spawnSync(program, [], { stdio: "ignore" }).error === undefined;
-const native = hasProgram ? new NativeEngine(program) : null;
-const hosts = native ? { module, native } : { module };
+const nativeEngine = hasProgram ? new NativeEngine(program) : null;
+const hosts = nativeEngine ? { module, native: nativeEngine } : { module };
 const example = (name) => readFileSync(join(top, "examples", name), "utf8");
 
 const IMPORT = `import { NativeEngine } from ${JSON.stringify(new URL("../node/native_engine.mjs", import.meta.url).href)};`;
@@ -60,8 +60,8 @@ function stateAfter(engine, lines) {
 
 testOnBothHosts("a new session has no commands, and queries do not change it", (engine) => {
   const state = engine.begin();
-  const { status, opened, answers } = engine.ask(state, "seq\nregs\nlamps\nseq\n");
-  assert.deepEqual([status, opened, answers[0], answers[3]], [0, "session 0", "seq 0", "seq 0"]);
+  const { status, openingAnswer, answers } = engine.ask(state, "seq\nregs\nlamps\nseq\n");
+  assert.deepEqual([status, openingAnswer, answers[0], answers[3]], [0, "session 0", "seq 0", "seq 0"]);
   assert.deepEqual(state, engine.begin());
   return answers;
 });
@@ -69,8 +69,8 @@ testOnBothHosts("a new session has no commands, and queries do not change it", (
 testOnBothHosts("commands produce a new state; the previous state is unchanged", (engine) => {
   const before = stateAfter(engine, BOARD + PROGRAM);
   const after = new Uint8Array(engine.size);
-  const { opened, answers } = engine.serve(before, "run 10\nlamps\n", after);
-  assert.equal(opened, "session 2");
+  const { openingAnswer, answers } = engine.serve(before, "run 10\nlamps\n", after);
+  assert.equal(openingAnswer, "session 2");
   assert.equal(answers[0], "ok 3 ran 10 end");
   assert.deepEqual(engine.ask(before, "seq\n").answers, ["seq 2"]);
   assert.deepEqual(engine.ask(after, "seq\n").answers, ["seq 3"]);
@@ -180,8 +180,8 @@ testOnBothHosts("a state does not share memory with the file's bytes or with cop
 
 testOnBothHosts("bytes that are not a session file are rejected with a number", (engine) => {
   const validFile = engine.bytesOf(stateAfter(engine, BOARD));
-  const damaged = validFile.slice().fill(255, 0, 4096);
-  return [new Uint8Array(10), validFile.slice(0, 1000), damaged].map((bytes) => {
+  const damagedFile = validFile.slice().fill(255, 0, 4096);
+  return [new Uint8Array(10), validFile.slice(0, 1000), damagedFile].map((bytes) => {
     try {
       return engine.ask(engine.stateOf(bytes), "seq\n");
     } catch (error) {
@@ -204,7 +204,7 @@ testOnBothHosts("tests, coverage and profile of examples", async (engine) => {
   return reports;
 });
 
-if (!native) {
+if (!nativeEngine) {
   test("the native program", { skip: `${program} does not start here; MCS4 names another one` }, () => {});
 } else {
   test("a missing program, a wrong program and a program that ends are errors with a message", () => {
@@ -264,9 +264,9 @@ if (!native) {
   });
 
   test("ending the engine removes its folder", () => {
-    const { folder } = native.starter;
+    const { folder } = nativeEngine.starter;
     assert.ok(existsSync(folder));
-    native.end();
+    nativeEngine.end();
     assert.ok(!existsSync(folder));
   });
 }

@@ -113,9 +113,9 @@ test("errors in a text of properties are reported with the valid names", () => {
 });
 
 test("a text without inputs is an error, unless the front panel has keys or TEST", () => {
-  const bareSubject = createSubject(engine, BOARD.replace(/^#.*\n/gm, ""), PROGRAM);
-  assert.match(readCampaign("never lamp 0 on\n", bareSubject).errors[0].words, /^nothing may change/);
-  assert.deepEqual(readCampaign("test\n", bareSubject).campaign.inputs.map(({ downTestLine }) => downTestLine), ["set test 0"]);
+  const subjectWithoutPanel = createSubject(engine, BOARD.replace(/^#.*\n/gm, ""), PROGRAM);
+  assert.match(readCampaign("never lamp 0 on\n", subjectWithoutPanel).errors[0].words, /^nothing may change/);
+  assert.deepEqual(readCampaign("test\n", subjectWithoutPanel).campaign.inputs.map(({ downTestLine }) => downTestLine), ["set test 0"]);
   assert.deepEqual(campaignOf("").campaign.inputs.map(({ name }) => name), ["A", "B", "C", "D", "WALK"]);
   assert.deepEqual(campaignOf("press B\nreset\n").campaign.inputs.map(({ name }) => name), ["B"]);
 });
@@ -186,7 +186,7 @@ test("a model determines what the display must show, and its errors are reported
   const { campaign, errors } = readCampaign("press A B\npace 300 200\nmodel ./says\n", displaySubject);
   assert.deepEqual(errors, []);
   const modelInputs = [];
-  // The lamp stays on until the user presses B. This wrong model ignores B.
+  // The lamp stays on until the user presses B. This deliberately faulty model ignores B.
   const answerModel = (chains) => {
     modelInputs.push(...chains);
     return { expectedTexts: chains.map((keys) => (keys.includes("A") ? "1" : "0")), error: "" };
@@ -268,7 +268,7 @@ test("keys that are down at the start are released in time, one after the other"
 });
 
 // After a press of A, the program counts for 99,940 cycles. After that, a press of B makes it switch the lamp named `on` on.
-const LATE = `${DRIVE_ROW_0}first:  SRC P2
+const LATE_PROGRAM = `${DRIVE_ROW_0}first:  SRC P2
         RDR
         RAR
         JCN 10, first
@@ -294,7 +294,7 @@ stay:   JUN stay
 `;
 
 test("a counterexample is minimised to short presses, and long waits are single runs", async () => {
-  const lateSubject = createSubject(engine, BOARD, LATE);
+  const lateSubject = createSubject(engine, BOARD, LATE_PROGRAM);
   const { campaign } = readCampaign("press A B\ntogether 1\nheld at most 1000\nwait 100 to 100000\nnever lamp on on\n", lateSubject);
   const run = new CampaignRun(lateSubject, campaign, 3, () => true, 4 * MAX_MINIMISING_CYCLES);
   while (run.counterexamples[0] === null) await run.runFor(20);
@@ -373,10 +373,10 @@ test("encoded files are decoded unchanged", () => {
   const files = new DeltaFiles(subject.file);
   const otherFile = subject.file.slice();
   engine.serve(otherFile, "press 0 1\nrun 500\n", otherFile);
-  const encoded = files.encode(otherFile);
-  assert.ok(encoded.indexes.length < 500);
+  const encodedFile = files.encode(otherFile);
+  assert.ok(encodedFile.indexes.length < 500);
   assert.deepEqual(files.decode(files.encode(subject.file)), subject.file);
-  assert.deepEqual(files.decode(encoded), otherFile);
+  assert.deepEqual(files.decode(encodedFile), otherFile);
 });
 
 test("joined reports have the shortest counterexamples and the combined coverage", async () => {
@@ -406,12 +406,12 @@ test("coverage is reported with the lines that were not run", () => {
   assert.equal(new Coverage(coverage.text).text, "107");
   const createInstruction = (line, address, isBranch) => ({ line, address, isBranch });
   assert.deepEqual(coverage.summarise([createInstruction(1, 0, false), createInstruction(2, 2, true), createInstruction(3, 4, true)]),
-    { run: 2, all: 3, ways: 2, allWays: 4, unexecutedLines: [3], oneWay: [] });
+    { executed: 2, total: 3, directions: 2, allDirections: 4, unexecutedLines: [3], oneDirectionLines: [] });
 });
 
-const SAVING = "test it is lit\n  press A\n  run 400\n  save lit\n\n"
+const SAVING_TESTS = "test it is lit\n  press A\n  run 400\n  save lit\n\n"
   + "test it is dark again # by B\n  from lit\n  press B\n  run 200\n  save both\n";
-const texts = { boardText: BOARD, programText: PROGRAM, testText: SAVING };
+const texts = { boardText: BOARD, programText: PROGRAM, testText: SAVING_TESTS };
 const pause = async () => {};
 
 test("a search can begin from a state that a test saves, and each counterexample starts with the test's lines", async () => {
@@ -430,7 +430,7 @@ test("a search can begin from a state that a test saves, and each counterexample
 });
 
 test("errors of the start state are reported", async () => {
-  const errorOf = async (line, testText = SAVING) => {
+  const errorOf = async (line, testText = SAVING_TESTS) => {
     const { errors } = await prepareSearch(engine, { ...texts, testText, propertiesText: `${line}\n` });
     return errors.map(({ line: errorLine, words }) => `${errorLine}: ${words}`).join();
   };
@@ -438,9 +438,9 @@ test("errors of the start state are reported", async () => {
   assert.equal(await errorOf("from lit", ""), "1: there are no tests, so none saves the state lit");
   assert.match(await errorOf("from lit of"), /^1: write `from STATE` or `from STATE of FILE.test`/);
   assert.match(await errorOf("from lit\nfrom both"), /^2: an earlier line already says from which state it begins/);
-  const error = await errorOf("from lit", SAVING.replace("run 400", "rune 400"));
+  const error = await errorOf("from lit", SAVING_TESTS.replace("run 400", "rune 400"));
   assert.match(error, /^1: its tests have an error in line 3: a line of a test cannot begin/);
-  const failingTests = SAVING.replace("run 400", "expect lamp on on");
+  const failingTests = SAVING_TESTS.replace("run 400", "expect lamp on on");
   assert.match(await errorOf("from lit", failingTests), /^1: line 3 of its tests fails: expect lamp on on: /);
 });
 
@@ -458,13 +458,14 @@ test("the same seed gives the same counterexample for each slice length", async 
 test("the results of a search are described", () => {
   const property = { text: "never lamp 0 on", line: 1, isGoal: false, applied: true, states: 0, limits: [], leftOut: "", chains: 0,
     found: null };
-  const found = { test: "", steps: 2, cycles: 1200, seed: 1 };
+  const counterexample = { test: "", steps: 2, cycles: 1200, seed: 1 };
   const createReport = (...properties) => ({ properties, steps: 2000, states: 3, seconds: 0.5, seeds: [7] });
   const goal = { ...property, isGoal: true };
   assert.equal(searchStatistics(createReport()), "2,000 steps, 4,000 a second; 3 different states; seed 7.");
   assert.equal(finalSummary(createReport(property, goal), false), "Nothing was found that breaks a property. 1 goal was not reached.");
-  assert.equal(finalSummary(createReport({ ...property, found }, { ...goal, found }), true), "Stopped. 1 property is broken.");
-  assert.equal(describePropertyResult({ ...property, found }, createReport()), "broken by 2 steps, 1,200 cycles");
+  const reportWithBoth = createReport({ ...property, found: counterexample }, { ...goal, found: counterexample });
+  assert.equal(finalSummary(reportWithBoth, true), "Stopped. 1 property is broken.");
+  assert.equal(describePropertyResult({ ...property, found: counterexample }, createReport()), "broken by 2 steps, 1,200 cycles");
   assert.equal(describePropertyResult(property, createReport()), "");
   assert.equal(describePropertyResult({ ...property, applied: false }, createReport()), "never checked");
   assert.equal(describePropertyResult({ ...property, states: 12 }, createReport()), "proved for all inputs (12 states)");
@@ -487,17 +488,17 @@ test("a search ends when its time is up, it is stopped, or its worker dies; erro
   const reports = [];
   const run = (explorer, { signal } = new AbortController()) => (
     explorer.explore({}, { seconds: 0.05, seed: 1 }, signal, (report) => reports.push(report)));
-  const endingAnswers = { explore: () => [], exploreOn: () => ({ isDone: reports.length === 2 }) };
+  const endingAnswers = { explore: () => [], continueSearch: () => ({ isDone: reports.length === 2 }) };
   const endEvents = [];
   assert.deepEqual(await run(createExplorer(endingAnswers, endEvents)), { errors: [], isStopped: false });
   assert.deepEqual([reports.length, endEvents], [3, ["ended"]]);
   assert.deepEqual(await run(createExplorer({ ...endingAnswers, explore: () => ["a fault"] })), { errors: ["a fault"], isStopped: false });
-  const dyingAnswers = { ...endingAnswers, exploreOn: () => Promise.reject(new WorkerDiedError()) };
+  const dyingAnswers = { ...endingAnswers, continueSearch: () => Promise.reject(new WorkerDiedError()) };
   assert.deepEqual(await run(createExplorer(dyingAnswers)), { errors: [], isStopped: true });
   const controller = new AbortController();
   controller.signal.addEventListener("abort", () => reports.push("stopped"));
   const stoppedExplorer =
-    createExplorer({ ...endingAnswers, exploreOn: () => (controller.abort(), Promise.reject(new WorkerDiedError())) }, endEvents);
+    createExplorer({ ...endingAnswers, continueSearch: () => (controller.abort(), Promise.reject(new WorkerDiedError())) }, endEvents);
   assert.deepEqual(await run(stoppedExplorer, controller), { errors: [], isStopped: true });
   assert.equal(endEvents.length, 3);
 });

@@ -94,7 +94,7 @@ test("an image is loaded into the ROMs of the board, and saved to a file", async
   const actions = [];
   const rom = new RomFiles({
     ask: async (query) => (query === "board\n" ? board : lines),
-    act: async (actionLines) => {
+    execute: async (actionLines) => {
       actions.push(actionLines);
       return "ok 1 bytes 1";
     },

@@ -2,7 +2,7 @@
 import assert from "node:assert/strict";
 import { readFileSync } from "node:fs";
 import { test } from "node:test";
-import { PARTS, findFoldStart, findFoldEnd } from "../core/text/folding.js";
+import { FOLD_PATTERNS, findFoldStart, findFoldEnd } from "../core/text/folding.js";
 
 /** Returns the first and last line of each foldable range. Lines count from 1. */
 function findFolds(text, parts) {
@@ -36,29 +36,30 @@ last:   NOP
 `;
 
 test("subroutines with their loops, loops alone, and comment lines can be folded", () => {
-  assert.deepEqual(findFolds(PROGRAM, PARTS.program), [[1, 2], [7, 14], [8, 14], [17, 18], [20, 22]]);
+  assert.deepEqual(findFolds(PROGRAM, FOLD_PATTERNS.program), [[1, 2], [7, 14], [8, 14], [17, 18], [20, 22]]);
 });
 
 test("a loop ends where another label or another part begins", () => {
-  assert.deepEqual(findFolds("a: NOP\nb: NOP\n NOP\nc: NOP\n NOP\n\nd: NOP\n NOP\n", PARTS.program), [[1, 5], [2, 3], [4, 5], [7, 8]]);
+  const program = "a: NOP\nb: NOP\n NOP\nc: NOP\n NOP\n\nd: NOP\n NOP\n";
+  assert.deepEqual(findFolds(program, FOLD_PATTERNS.program), [[1, 5], [2, 3], [4, 5], [7, 8]]);
 });
 
 test("tables of a board and tests can be folded", () => {
   const board = "# face\n# more\n[[rom]]\nchip = 0\n\n[[ram]]\nbank = 0\nchips = 1\n\n# about keys\n[keys]\nfirst = 0\n";
-  assert.deepEqual(findFolds(board, PARTS.board), [[1, 2], [3, 4], [6, 8], [11, 12]]);
-  assert.deepEqual(findFolds("# a\ntest one\n  run 1\ntest two\n  run 2\n  expect cycles 2\n", PARTS.tests), [[2, 3], [4, 6]]);
-  assert.deepEqual(findFolds("", PARTS.program), []);
+  assert.deepEqual(findFolds(board, FOLD_PATTERNS.board), [[1, 2], [3, 4], [6, 8], [11, 12]]);
+  assert.deepEqual(findFolds("# a\ntest one\n  run 1\ntest two\n  run 2\n  expect cycles 2\n", FOLD_PATTERNS.tests), [[2, 3], [4, 6]]);
+  assert.deepEqual(findFolds("", FOLD_PATTERNS.program), []);
 });
 
 test("a line belongs to the innermost part that contains it", () => {
   const lines = PROGRAM.split("\n");
-  const foldStartOf = (line) => findFoldStart((index) => lines[index], line - 1, PARTS.program) + 1;
+  const foldStartOf = (line) => findFoldStart((index) => lines[index], line - 1, FOLD_PATTERNS.program) + 1;
   assert.deepEqual([2, 3, 7, 9, 14, 16, 21].map(foldStartOf), [1, 0, 7, 8, 8, 0, 20]);
 });
 
 test("two parts are separate, or one contains the other", () => {
   const text = readFileSync(new URL("../../examples/calculator/calculator.asm", import.meta.url), "utf8");
-  const folds = findFolds(text, PARTS.program);
+  const folds = findFolds(text, FOLD_PATTERNS.program);
   assert.ok(folds.length > 50);
   for (const [first, last] of folds) {
     for (const [otherFirst, otherLast] of folds) {

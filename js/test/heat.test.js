@@ -64,7 +64,7 @@ test("while the machine is running, frames report the same changes as a search o
     assert.deepEqual([chipHeat.cycles, chipHeat.chipCount], [cycles, 1]);
     recentHeat.add(chipHeat, cycles, 20 * FRAME_CYCLES);
   }
-  assert.deepEqual(recentHeat.heat, await calls.heat(20 * FRAME_CYCLES));
+  assert.deepEqual(recentHeat.heat, await calls.measureHeat(20 * FRAME_CYCLES));
   const emptyHeat = { cycles: FRAME_CYCLES, cells: [], chipCount: 1 };
   for (let frame = 0; frame < 20; frame++) recentHeat.add(emptyHeat, FRAME_CYCLES, 20 * FRAME_CYCLES);
   assert.deepEqual(recentHeat.heat, { cycles: 20 * FRAME_CYCLES, cells: [] }, "old changes are forgotten");
@@ -88,7 +88,7 @@ test("each frame reports one of several chips, and full speed reports samples", 
 test("past changes are counted exactly, and the session stays unchanged", async () => {
   const calls = await openSessionAfter(SETUP_CYCLES + 20 * LOOP_CYCLES);
   const answersBefore = calls.ask(ALL_QUERIES);
-  const { cycles, cells } = await calls.heat(SETUP_CYCLES + 20 * LOOP_CYCLES);
+  const { cycles, cells } = await calls.measureHeat(SETUP_CYCLES + 20 * LOOP_CYCLES);
   assert.equal(cycles, SETUP_CYCLES + 20 * LOOP_CYCLES);
   assert.deepEqual(cells, [
     { place: "ram.0.0x12", count: 20, cyclesAgo: 6, address: 0x009, line: "" },
@@ -98,18 +98,18 @@ test("past changes are counted exactly, and the session stays unchanged", async 
 
 test("a short period is counted alone, and a long period as far back as the past is remembered", async () => {
   const calls = await openSessionAfter(SETUP_CYCLES + 20 * LOOP_CYCLES);
-  for (const [requested, reported, count] of [
+  for (const [requestedCycles, reportedCycles, count] of [
     [LOOP_CYCLES, LOOP_CYCLES, 1], [5, 5, 0], [3 * LOOP_CYCLES + 3, 3 * LOOP_CYCLES + 3, 3], [1e7, SETUP_CYCLES + 20 * LOOP_CYCLES, 20],
   ]) {
-    const { cycles, cells } = await calls.heat(requested);
-    assert.deepEqual([cycles, cells.reduce((sum, cell) => sum + cell.count, 0)], [reported, count]);
+    const { cycles, cells } = await calls.measureHeat(requestedCycles);
+    assert.deepEqual([cycles, cells.reduce((sum, cell) => sum + cell.count, 0)], [reportedCycles, count]);
   }
 });
 
 test("`poke` lines are reported, also in a bank that no SRC has selected", async () => {
   const calls = await openSessionAfter(SETUP_CYCLES);
   await calls.serve("poke st.2.5.3 9\npoke ram.2.0x7F 1\npoke ram.2.0x7F 1\nrun 2\n");
-  const { cells } = await calls.heat(100);
+  const { cells } = await calls.measureHeat(100);
   assert.deepEqual(cells.filter(({ line }) => line), [
     { place: "ram.2.0x7F", count: 1, cyclesAgo: 2, address: -1, line: "poke ram.2.0x7F 1" },
     { place: "st.2.5.3", count: 1, cyclesAgo: 2, address: -1, line: "poke st.2.5.3 9" },
@@ -119,7 +119,7 @@ test("`poke` lines are reported, also in a bank that no SRC has selected", async
 test("long runs are searched in parts, with the same result", async () => {
   const longRun = await openExample("three lamps");
   await longRun.serve(`wire\n${BOARD}.\nasm\n${PROGRAM}.\nreset\nrun 100000\nrun 63\n`);
-  const { cycles, cells } = await longRun.heat(1e7);
+  const { cycles, cells } = await longRun.measureHeat(1e7);
   const iterations = Math.floor((100063 - SETUP_CYCLES) / LOOP_CYCLES);
   assert.deepEqual([cycles, cells[0].place], [100063, "ram.0.0x12"]);
   assert.ok(cells[0].count === iterations || cells[0].count === iterations + 1, `${cells[0].count} of ${iterations}`);
@@ -128,10 +128,10 @@ test("long runs are searched in parts, with the same result", async () => {
 test("the count can be cancelled, and a board without RAM has no changes", async () => {
   const calls = await openSessionAfter(SETUP_CYCLES + 20 * LOOP_CYCLES);
   calls.bench.shouldContinue = async () => false;
-  await assert.rejects(calls.heat(1000), CancelledError);
+  await assert.rejects(calls.measureHeat(1000), CancelledError);
   const boardWithoutRam = await openExample("three lamps");
   await boardWithoutRam.serve("wire\n[[rom]]\nchip = 0\nport = \"0000\"\n.\nrun 20\n");
-  assert.deepEqual(await boardWithoutRam.heat(1000), { cycles: 0, cells: [] });
+  assert.deepEqual(await boardWithoutRam.measureHeat(1000), { cycles: 0, cells: [] });
 });
 
 const HEAT = {

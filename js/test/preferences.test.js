@@ -13,9 +13,9 @@ function createFakeStore(text = null) {
 test("a preference is stored for the next visit", () => {
   const store = createFakeStore();
   new Preferences(store).set("fold.memory", "folded");
-  const reloaded = new Preferences(store);
-  assert.equal(reloaded.get("fold.memory"), "folded");
-  assert.equal(reloaded.get("fold.ports"), "");
+  const reloadedPreferences = new Preferences(store);
+  assert.equal(reloadedPreferences.get("fold.memory"), "folded");
+  assert.equal(reloadedPreferences.get("fold.ports"), "");
 });
 
 test("two tabs keep each other's preferences", () => {
@@ -23,8 +23,8 @@ test("two tabs keep each other's preferences", () => {
   const [first, second] = [new Preferences(store), new Preferences(store)];
   first.set("text", "board");
   second.set("fold.talk", "folded");
-  const reloaded = new Preferences(store);
-  assert.deepEqual([reloaded.get("text"), reloaded.get("fold.talk")], ["board", "folded"]);
+  const reloadedPreferences = new Preferences(store);
+  assert.deepEqual([reloadedPreferences.get("text"), reloadedPreferences.get("fold.talk")], ["board", "folded"]);
 });
 
 test("preferences work without a store if it is missing, blocked or damaged", () => {

@@ -24,7 +24,7 @@ async function openCalculator(file = null, stored = {}) {
   await calls.load(pageModule, []);
   const tape = { calls, printed: null };
   recordReport(tape, calls.open(file || calls.createFile(EXAMPLE), stored.total, stored.reset, stored.printed));
-  calls.printOn(printer);
+  calls.watchPrinter(printer);
   return tape;
 }
 
@@ -83,7 +83,7 @@ test("a long series of lines prints, and cancelled lines print nothing", async (
   const calls = new BenchCalls(async () => shouldContinue);
   await calls.load(pageModule, []);
   const tape = recordReport({ calls, printed: null }, calls.open(calls.createFile(EXAMPLE)));
-  calls.printOn(printer);
+  calls.watchPrinter(printer);
   const runLines = "run 100\n".repeat(3000);
   const [nine, equals] = [PLACE_BY_LEGEND.get("9"), PLACE_BY_LEGEND.get("=")];
   const lines = `press ${nine}\nrun 2000\nrelease ${nine}\n${runLines}press ${equals}\n${runLines}`;
@@ -106,8 +106,8 @@ test("a reload keeps the printout; clearing it and another printer remove it", a
   reloadedTape.calls.clearPrintout();
   await pressKeys(reloadedTape, "1 =", true);
   assert.deepEqual(printedLines(reloadedTape), ["1=", "9"]);
-  reloadedTape.calls.printOn({ strobe: "rom0.1", port: "ram0.2" });
-  reloadedTape.calls.printOn(printer);
+  reloadedTape.calls.watchPrinter({ strobe: "rom0.1", port: "ram0.2" });
+  reloadedTape.calls.watchPrinter(printer);
   recordReport(reloadedTape, reloadedTape.calls.advance(100));
   assert.deepEqual(printedLines(reloadedTape), []);
 });

@@ -27,7 +27,7 @@ async function createPrompt({ board, program } = { board: BOARD, program: PROGRA
   };
   const calls = {
     print: (words) => printed.push(...words.split("\n")),
-    complain: (words) => printed.push(`refused: ${words}`),
+    printError: (words) => printed.push(`refused: ${words}`),
     pause: async () => {},
     source: () => PROGRAM.replace("time  = 0x0C", "time  = 0x0D"),
     read: (name) => files[name] ?? assert.fail(`cannot read ${name}`),
@@ -71,11 +71,13 @@ test("places, counts and times are parsed", async () => {
   assert.deepEqual(findPlace("*0x016").address, 0x016);
   assert.deepEqual(findPlace("three_lamps.asm:1").address, 0);
   assert.deepEqual(findPlace("").address, 0);
-  for (const wrong of ["nothing", "0x1000", "999", "wait + x", "-1"]) {
-    assert.throws(() => findPlace(wrong), /place|addresses|instruction/, wrong);
+  for (const invalidText of ["nothing", "0x1000", "999", "wait + x", "-1"]) {
+    assert.throws(() => findPlace(invalidText), /place|addresses|instruction/, invalidText);
   }
   assert.deepEqual([parseCountArgument("", 9), parseCountArgument(" 7 ", 9)], [1, 7]);
-  for (const wrong of ["0", "10", "x", "-1", "1.5"]) assert.throws(() => parseCountArgument(wrong, 9), /a count is 1 to 9/, wrong);
+  for (const invalidCount of ["0", "10", "x", "-1", "1.5"]) {
+    assert.throws(() => parseCountArgument(invalidCount, 9), /a count is 1 to 9/, invalidCount);
+  }
   assert.deepEqual([parseCycles("538"), parseCycles("20 ms"), parseCycles("1s")], [538, 1852, 92593]);
   assert.throws(() => parseCycles("soon"), /soon is not a time/);
 });
@@ -85,8 +87,12 @@ test("steps forward and back", async () => {
   const state = () => session.debugger.session.ask("state\n")[0].replace(/^state seq \d+/, "");
   const stateBefore = state();
   assert.deepEqual(await ask("step 3"), ["3 instructions were done, after 4 cycles, 0.043 ms.", ">    7  004          XCH R4"]);
-  await ask("reverse-step 3");
+  assert.match((await ask("reverse-step 3"))[0], /^Back at 000 \(.*\), 4 cycles, 0\.043 ms earlier: this instruction has not run yet\.$/);
   assert.equal(state(), stateBefore);
+  await ask("step 2");
+  assert.match((await ask("reverse-step 3"))[0], /^Back at 000 .* earlier, after 2 of 3 instructions: the remembered past begins here\.$/);
+  assert.equal(state(), stateBefore);
+  assert.deepEqual(await ask("reverse-step 3"), ["refused: Nothing was done: the remembered past reaches no further back."]);
   await ask("until wait");
   assert.equal(session.address, 0x014);
   assert.match((await ask("backtrace"))[1], /^#1 {2}007 {2}next \+ 2, line \d+, the call$/);
@@ -196,11 +202,11 @@ test("the view shows source, registers and lamps in each size, and marks changed
   assert.match((await ask("view")).join(), /^refused: the view needs a terminal/);
   assert.match((await ask("view far")).join(), /^refused: write view, view on or view off$/);
   const viewChanges = [];
-  prompt.callbacks.view = { toggle: () => "no room", turn: (isOn) => { viewChanges.push(isOn); return ""; } };
+  prompt.callbacks.view = { toggle: () => "no room", setVisible: (isOn) => { viewChanges.push(isOn); return ""; } };
   assert.deepEqual(await ask("tui enable", "layout src", "view off"), []);
   assert.deepEqual([viewChanges, await ask("view")], [[true, true, false], ["refused: no room"]]);
-  const unmarked = (text) => text;
-  const marks = { head: unmarked, nextInstruction: (text) => `[${text}]`, changedValue: (text) => `{${text}}` };
+  const leaveUnmarked = (text) => text;
+  const marks = { head: leaveUnmarked, nextInstruction: (text) => `[${text}]`, changedValue: (text) => `{${text}}` };
   const view = new View(prompt);
   assert.deepEqual(viewSize(24, 80), { rows: 14, columns: 79 });
   assert.deepEqual([viewSize(11, 80), viewSize(24, 39), viewSize(undefined, undefined)], [null, null, null]);
@@ -215,7 +221,7 @@ test("the view shows source, registers and lamps in each size, and marks changed
   assert.deepEqual(lines.slice(-3), ["lamps ..* right", "r4 = 0x1", "-".repeat(79)]);
   for (const [rows, columns] of [[12, 40], [24, 60], [50, 200]]) {
     const size = viewSize(rows, columns);
-    const printed = view.lines(size, { head: unmarked, nextInstruction: unmarked, changedValue: unmarked });
+    const printed = view.lines(size, { head: leaveUnmarked, nextInstruction: leaveUnmarked, changedValue: leaveUnmarked });
     assert.equal(printed.length, size.rows);
     assert.deepEqual(printed.filter((line) => line.length > size.columns), []);
     assert.match(printed.join("\n"), /acc 1/);

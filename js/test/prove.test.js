@@ -70,7 +70,7 @@ const PLACE_BY_CELL = {
 
 /** @type {(state: Uint8Array, comparison: string) => boolean} */
 function isMet(state, comparison) {
-  const [way, list, index, part, low, high] = comparison.split(" ");
+  const [relation, list, index, part, low, high] = comparison.split(" ");
   const [place] = PLACE_BY_CELL[list](Number(index));
   let value;
   if (place === "owed") value = Number(engine.ask(state, "regs\n").answers[0].split(" ")[7]);
@@ -79,7 +79,7 @@ function isMet(state, comparison) {
   // Lines 1 to 3 of ROM 1 are inputs, so their bits in the port's latch are 0.
   if (place === "rom1") value &= 1;
   if (part !== "whole") value = (value >> Number(part.slice(4))) & 1;
-  return (Number(low) <= value && value <= Number(high)) === (way === "in");
+  return (Number(low) <= value && value <= Number(high)) === (relation === "in");
 }
 
 /**
@@ -120,7 +120,7 @@ test("comparisons have the same meaning as their condition", () => {
       for (const state of states) {
         const values = condition.places.map((place) => engine.ask(state, `trace 1 ${place}\n`).answers[0].split(" ").slice(6).join(" "));
         const owed = engine.ask(state, "regs\n").answers[0].split(" ")[7];
-        const holds = condition.holds(values, { test: "", owed, keys: "", cycles: 0, seen: [], printed: [] });
+        const holds = condition.holds(values, { test: "", owed, keys: "", cycles: 0, lampForecast: [], printed: [] });
         const isBroken = lists.some((comparisons) => comparisons.every((comparison) => isMet(state, comparison)));
         assert.equal(isBroken, holds === expected, `${text}, ${expected}: ${JSON.stringify(lists)} ${values}`);
       }
@@ -163,41 +163,42 @@ const AT_LIT = [...AT_ADDRESS_0.slice(0, 2), "in counter 5 whole 22 22"];
 
 test("a property with a time becomes a question about a stopwatch with the same limit in cycles", () => {
   const stopwatchOf = (text) => questionOf(text).question.stopwatch;
-  const [on, off] = [[["in ramport 0 line0 1 1"]], [["in ramport 0 line0 0 0"]]];
-  assert.deepEqual(stopwatchOf("never lamp on on for 93"), { begins: on, ends: off, within: 93 });
-  assert.deepEqual(stopwatchOf("never lamp on on for 1 ms"), { begins: on, ends: off, within: 93 });
-  assert.deepEqual(stopwatchOf("every 20 @look"), { begins: [AT_ADDRESS_0, AT_LOOK], ends: [AT_LOOK], within: 20 });
-  assert.deepEqual(stopwatchOf("@look to @lit within 7"), { begins: [AT_LOOK], ends: [AT_LIT], within: 7 });
-  assert.deepEqual(stopwatchOf("@look to @look within 7"), { begins: [AT_LOOK], ends: [AT_LOOK], within: 7 });
+  const [lampOn, lampOff] = [[["in ramport 0 line0 1 1"]], [["in ramport 0 line0 0 0"]]];
+  assert.deepEqual(stopwatchOf("never lamp on on for 93"), { startCondition: lampOn, endCondition: lampOff, maxCycles: 93 });
+  assert.deepEqual(stopwatchOf("never lamp on on for 1 ms"), { startCondition: lampOn, endCondition: lampOff, maxCycles: 93 });
+  assert.deepEqual(stopwatchOf("every 20 @look"), { startCondition: [AT_ADDRESS_0, AT_LOOK], endCondition: [AT_LOOK], maxCycles: 20 });
+  assert.deepEqual(stopwatchOf("@look to @lit within 7"), { startCondition: [AT_LOOK], endCondition: [AT_LIT], maxCycles: 7 });
+  assert.deepEqual(stopwatchOf("@look to @look within 7"), { startCondition: [AT_LOOK], endCondition: [AT_LOOK], maxCycles: 7 });
   // A guard is part of the condition.
-  assert.deepEqual(stopwatchOf("while r5 = 2, never lamp on on for 93").begins, [["in register 5 whole 2 2", "in ramport 0 line0 1 1"]]);
-  assert.equal(stopwatchOf("while r5 = 2, never lamp on on for 93").ends.length, 3);
+  const { startCondition, endCondition } = stopwatchOf("while r5 = 2, never lamp on on for 93");
+  assert.deepEqual(startCondition, [["in register 5 whole 2 2", "in ramport 0 line0 1 1"]]);
+  assert.equal(endCondition.length, 3);
   assert.equal(stopwatchOf("never lamp on on"), null);
 });
 
 test("a condition with a time is also evaluated between the two cycles of an instruction", () => {
-  const { begins, ends } = questionOf("never @look for 9").question.stopwatch;
-  assert.deepEqual(begins, [AT_LOOK.slice(1)]);
-  assert.ok(ends.flat().every((comparison) => !comparison.startsWith("in counter 3 ")));
+  const { startCondition, endCondition } = questionOf("never @look for 9").question.stopwatch;
+  assert.deepEqual(startCondition, [AT_LOOK.slice(1)]);
+  assert.ok(endCondition.flat().every((comparison) => !comparison.startsWith("in counter 3 ")));
 });
 
 test("a condition that is always true, or never, also has both lists", () => {
-  const { stopwatch: always } = questionOf("never r5 >= 0 for 9").question;
-  assert.deepEqual(always, { begins: [[]], ends: [["in register 0 whole 1 0"]], within: 9 });
-  const { stopwatch: never } = questionOf("never r5 > 15 for 9").question;
-  assert.deepEqual(never, { begins: [["in register 0 whole 1 0"]], ends: [[]], within: 9 });
+  const { stopwatch: alwaysTrue } = questionOf("never r5 >= 0 for 9").question;
+  assert.deepEqual(alwaysTrue, { startCondition: [[]], endCondition: [["in register 0 whole 1 0"]], maxCycles: 9 });
+  const { stopwatch: neverTrue } = questionOf("never r5 > 15 for 9").question;
+  assert.deepEqual(neverTrue, { startCondition: [["in register 0 whole 1 0"]], endCondition: [[]], maxCycles: 9 });
 });
 
 test("key presses become a question about the rows and columns of the key matrix", () => {
   const pressesOf = (text) => questionOf(text).question.presses;
   const on = [["in ramport 0 line0 1 1"]];
   const [a, c] = [{ kind: "matrix", row: 0, column: 0 }, { kind: "matrix", row: 0, column: 2 }];
-  assert.deepEqual(pressesOf("lamp on on only after press A, press C, press A"), { opens: on, keys: [a, c, a] });
-  assert.deepEqual(pressesOf("@lit only after press C"), { opens: [AT_LIT], keys: [c] });
+  assert.deepEqual(pressesOf("lamp on on only after press A, press C, press A"), { openCondition: on, keys: [a, c, a] });
+  assert.deepEqual(pressesOf("@lit only after press C"), { openCondition: [AT_LIT], keys: [c] });
   // A condition is evaluated between the two cycles of an instruction as well as after them. A label is reached only when an instruction
   // begins.
-  assert.deepEqual(pressesOf("@lit or @look only after press C").opens, [AT_LOOK.slice(1), AT_LIT.slice(1)]);
-  assert.deepEqual(pressesOf("r5 > 15 only after press C").opens, [["in register 0 whole 1 0"]]);
+  assert.deepEqual(pressesOf("@lit or @look only after press C").openCondition, [AT_LOOK.slice(1), AT_LIT.slice(1)]);
+  assert.deepEqual(pressesOf("r5 > 15 only after press C").openCondition, [["in register 0 whole 1 0"]]);
   assert.equal(pressesOf("never lamp on on"), null);
 });
 
@@ -217,20 +218,20 @@ test("key presses that the prover cannot count are rejected with a reason", () =
 });
 
 test("a time that is too long for the stopwatch is rejected with a reason", () => {
-  assert.equal(questionOf(`every ${MAX_STOPWATCH_CYCLES} @look`).question.stopwatch.within, MAX_STOPWATCH_CYCLES);
+  assert.equal(questionOf(`every ${MAX_STOPWATCH_CYCLES} @look`).question.stopwatch.maxCycles, MAX_STOPWATCH_CYCLES);
   assert.deepEqual(questionOf(`every ${MAX_STOPWATCH_CYCLES + 1} @look`),
     { question: null, reason: "its time is longer than 16,777,214 cycles" });
 });
 
 test("the lines of a stopwatch follow the texts", () => {
-  const stopwatch = { begins: [["in register 1 whole 0 3"], []], ends: [["out counter 1 whole 0 0"]], within: 5 };
+  const stopwatch = { startCondition: [["in register 1 whole 0 3"], []], endCondition: [["out counter 1 whole 0 0"]], maxCycles: 5 };
   const lines = questionText({ board: "rom = []\n", program: "NOP" }, { ...neverQuestion([]), stopwatch }, { maxStates: 77 }).split("\n");
   assert.deepEqual(lines.slice(8),
     ["within 5", "begin", "in register 1 whole 0 3", "begin", "end", "out counter 1 whole 0 0", "prove", ""]);
 });
 
 test("the lines of key presses follow the conditions that they enable", () => {
-  const presses = { opens: [["in register 1 whole 0 3"], []], keys: [matrixKey(0, 2), matrixKey(1, 0)] };
+  const presses = { openCondition: [["in register 1 whole 0 3"], []], keys: [matrixKey(0, 2), matrixKey(1, 0)] };
   const lines = questionText({ board: "rom = []\n", program: "NOP" }, { ...neverQuestion([]), presses }, { maxStates: 77 }).split("\n");
   assert.deepEqual(lines.slice(8), ["open", "in register 1 whole 0 3", "open", "up 0 2", "down 0 2", "up 1 0", "down 1 0", "prove", ""]);
 });
@@ -334,10 +335,10 @@ test("a condition can be true for exactly its time, whichever instruction change
     const program = `loop:   ${first}\n        NOP\n        NOP\n        ${end}\n        JUN loop\n`;
     const loopSubject = createSubject(engine, BOARD, program);
     const campaignFor = (cycles) => readCampaign(`test\nnever ${condition} for ${cycles}`, loopSubject).campaign;
-    const findFor = (cycles) => replayCounterexample(loopSubject, campaignFor(cycles), 0, [0], async () => {});
-    const found = await findFor(cycleCount - 1);
+    const findCounterexampleFor = (cycles) => replayCounterexample(loopSubject, campaignFor(cycles), 0, [0], async () => {});
+    const found = await findCounterexampleFor(cycleCount - 1);
     assert.ok(found && await doesTestFail(found, program), `${first}, ${end}`);
-    assert.equal(await findFor(cycleCount), null, `${first}, ${end}`);
+    assert.equal(await findCounterexampleFor(cycleCount), null, `${first}, ${end}`);
   }
 });
 
@@ -362,26 +363,27 @@ test("simultaneous key changes can be part of a counterexample with a time", asy
   assert.ok(found && await doesTestFail(found));
 });
 
-// Programs for the board above. `made` has the common mistakes of each program: the number of cycles before the mistake, by the mistake's
-// name. The numbers of cycles follow from the instruction table.
+// Programs for the board above. `mistakes` has the common mistakes of each program: the number of cycles before the mistake, by the
+// mistake's name. The numbers of cycles follow from the instruction table.
 const PROGRAMS_WITH_MISTAKES = [
-  { program: "FIM P1, 0x80\nSRC P1\nWR2", made: { ram: 3 } }, { program: "LDM 1\nDCL\nRDM", made: { ram: 2 } },
-  { program: "LDM 1\nDCL\nFIM P1, 0x40\nSRC P1\nLDM 0\nDCL\nRDM", made: {} },
-  { program: "FIM P1, 0x40\nSRC P1\nWMP\nFIM P1, 0xC0\nSRC P1\nSBM", made: { ram: 7 } },
-  { program: "JUN 0x2FF", made: { rom: 2 } }, { program: "FIM P0, 0x20\nJUN 0x1FF\nORG 0x1FF\nFIN P2", made: { rom: 4 } },
-  { program: "JUN 0x1FF\nORG 0x1FF\nDB 0x40", made: { rom: 2 } }, { program: "JUN 0x1FF\nORG 0x1FF\nCLB", made: { rom: 3 } },
-  { program: "RDR", made: { rdr: 0 } }, { program: "FIM P1, 0x20\nSRC P1\nWRR\nRDR", made: { wrr: 3, rdr: 4 } },
-  { program: "FIM P1, 0x10\nSRC P1\nWRR\nRDR", made: {} },
+  { program: "FIM P1, 0x80\nSRC P1\nWR2", mistakes: { ram: 3 } }, { program: "LDM 1\nDCL\nRDM", mistakes: { ram: 2 } },
+  { program: "LDM 1\nDCL\nFIM P1, 0x40\nSRC P1\nLDM 0\nDCL\nRDM", mistakes: {} },
+  { program: "FIM P1, 0x40\nSRC P1\nWMP\nFIM P1, 0xC0\nSRC P1\nSBM", mistakes: { ram: 7 } },
+  { program: "JUN 0x2FF", mistakes: { rom: 2 } }, { program: "FIM P0, 0x20\nJUN 0x1FF\nORG 0x1FF\nFIN P2", mistakes: { rom: 4 } },
+  { program: "JUN 0x1FF\nORG 0x1FF\nDB 0x40", mistakes: { rom: 2 } }, { program: "JUN 0x1FF\nORG 0x1FF\nCLB", mistakes: { rom: 3 } },
+  { program: "RDR", mistakes: { rdr: 0 } }, { program: "FIM P1, 0x20\nSRC P1\nWRR\nRDR", mistakes: { wrr: 3, rdr: 4 } },
+  { program: "FIM P1, 0x10\nSRC P1\nWRR\nRDR", mistakes: {} },
 ];
 
 test("mistakes are detected before the instruction that makes them", () => {
-  for (const { program, made } of PROGRAMS_WITH_MISTAKES) {
+  for (const { program, mistakes } of PROGRAMS_WITH_MISTAKES) {
     const mistakeSubject = createSubject(engine, BOARD, `${program}\n${program.includes("ORG") ? "" : "end: JUN end\n"}`);
     for (const word of ["ram", "rom", "rdr", "wrr"]) {
-      assert.equal(countCyclesToMistake(mistakeSubject, mistakeSubject.file, word, 20), made[word] === undefined ? -1 : made[word],
+      assert.equal(countCyclesToMistake(mistakeSubject, mistakeSubject.file, word, 20), mistakes[word] === undefined ? -1 : mistakes[word],
         `${program}: ${word}`);
-      if (!(made[word] > 0)) continue;
-      assert.equal(countCyclesToMistake(mistakeSubject, mistakeSubject.file, word, made[word] - 1), -1, `${program}: ${word}, too late`);
+      if (!(mistakes[word] > 0)) continue;
+      const cycleCount = countCyclesToMistake(mistakeSubject, mistakeSubject.file, word, mistakes[word] - 1);
+      assert.equal(cycleCount, -1, `${program}: ${word}, too late`);
     }
   }
 });

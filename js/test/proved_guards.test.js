@@ -113,8 +113,8 @@ test("the question about a property omits guards that depend on the past", () =>
     const textWithoutGuards = text.replace(/(once|after press) [^,]*, /g, "");
     assert.deepEqual(questionOf(text), questionOf(textWithoutGuards), text);
   }
-  const guarded = propertyOf("once r0 = 1, after press START within 9, once r0 = 2, never r1 = 1");
-  assert.equal(nameOmittedGuards(guarded), '"once" and "after press"');
+  const guardedProperty = propertyOf("once r0 = 1, after press START within 9, once r0 = 2, never r1 = 1");
+  assert.equal(nameOmittedGuards(guardedProperty), '"once" and "after press"');
   assert.equal(nameOmittedGuards(propertyOf("while r0 = 1, never r1 = 1")), "");
   // The cells that a guard reads do not matter, because the prover ignores the guard.
   assert.notEqual(questionOf("once rom1 in 8, never r1 = 1").question, null);

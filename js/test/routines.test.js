@@ -45,8 +45,8 @@ test("the routine at a line, and the number of references to labels", () => {
   assert.equal(routines.routineAt(10), null);
   assert.equal(routines.getByName("four"), null);
   assert.equal(routines.getByName("none"), null);
-  const uses = routines.countUses();
-  assert.deepEqual([uses.get("show"), uses.get("loop"), uses.get("unused"), uses.has("four")],
+  const useCounts = routines.countUses();
+  assert.deepEqual([useCounts.get("show"), useCounts.get("loop"), useCounts.get("unused"), useCounts.has("four")],
     [{ calls: 2, otherUses: 0 }, { calls: 0, otherUses: 1 }, { calls: 0, otherUses: 0 }, false]);
 });
 

@@ -30,7 +30,7 @@ test("a message that is too long is skipped, and the next message is read", () =
   assert.deepEqual([...reader.readMessages(bytesOf(`Content-Length: ${MAX_MESSAGE + 1}\r\n\r\n`))], []);
   assert.deepEqual([...reader.readMessages(new Uint8Array(MAX_MESSAGE))], []);
   const results = [...reader.readMessages(new Uint8Array([32, ...frameMessage({ id: 1 })]))];
-  assert.deepEqual(results.map((result) => result.tooLong || JSON.parse(result.text).id), [MAX_MESSAGE + 1, 1]);
+  assert.deepEqual(results.map((result) => result.skippedSize || JSON.parse(result.text).id), [MAX_MESSAGE + 1, 1]);
 });
 
 test("an impossible size is an error at once, after the messages before it", () => {
@@ -142,8 +142,8 @@ test("requests in the wrong order are rejected", async () => {
   assert.ok((await initialize()).capabilities.renameProvider);
   assert.equal((await getResponse("initialize", {})).error.code, -32600);
   assert.equal((await getResponse("constructor", {})).error.code, -32601);
-  const nowhere = { textDocument: { uri: "file:///none.asm" }, position: { line: 0, character: 0 } };
-  assert.equal((await getResponse("textDocument/hover", nowhere)).error.code, -32602);
+  const unknownDocumentParams = { textDocument: { uri: "file:///none.asm" }, position: { line: 0, character: 0 } };
+  assert.equal((await getResponse("textDocument/hover", unknownDocumentParams)).error.code, -32602);
   assert.equal((await getResponse("textDocument/hover", { position: { line: -1 } })).error.code, -32602);
   connection.receive(bytesOf("Content-Length: 1\r\n\r\n{"));
   assert.equal(messages[messages.length - 1].error.code, -32700);

@@ -44,14 +44,14 @@ function createPrompt(files = {}) {
     },
     ask: async (line) => engine.ask(state, `${line}\n`).answers,
     print: (text) => output.push(...text.split("\n").map((line) => `(${line})`)),
-    complain: (text) => output.push(...text.split("\n").map((line) => `(${line})`)),
+    printError: (text) => output.push(...text.split("\n").map((line) => `(${line})`)),
     read: (name) => {
       if (files[name] === undefined) throw new Error(`cannot read ${name}: there is no such file`);
       return files[name];
     },
     files: (prefix) => Object.keys(files).filter((name) => name.startsWith(prefix)),
-    errorsOf: (word, text, board) => findTextErrors(word, text, board, { manual, wordsOf: describeRefusal }),
-    wordsOf: describeRefusal,
+    findErrors: (word, text, board) => findTextErrors(word, text, board, { manual, wordsOf: describeRefusal }),
+    messageOf: describeRefusal,
     manual: () => manual,
   });
   const ask = async (...lines) => {

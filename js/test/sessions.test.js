@@ -3,12 +3,12 @@ import assert from "node:assert/strict";
 import { test } from "node:test";
 import { formatUrlFragment, readUrlFragment } from "../page/session/address.js";
 import { Trash, formatNames } from "../page/session/trash.js";
-import { OpenSession, newRecord } from "../page/session/open_session.js";
+import { OpenSession, createSessionRecord } from "../page/session/open_session.js";
 import { Persistence } from "../page/session/persistence.js";
 import { MemoryStore } from "../page/session/store.js";
 import { TextsController, formatLineCount } from "../page/session/texts_controller.js";
 
-const createRecord = (name = "die") => newRecord(name, Uint8Array.of(1, 2), { boardText: "# b", programText: "; p" });
+const createRecord = (name = "die") => createSessionRecord(name, Uint8Array.of(1, 2), { boardText: "# b", programText: "; p" });
 const AVAILABLE_LOCKS = { acquire: async () => () => {} };
 
 test("addresses are formatted and parsed", () => {
@@ -26,9 +26,9 @@ test("addresses are formatted and parsed", () => {
 test("breakpoints and watches are stored in a new session, if there are any", () => {
   const texts = { boardText: "", programText: "" };
   const breakpoints = [{ line: 2, address: -1, isOn: true, condition: "r4 = 7", from: 1, note: "" }];
-  const newSession = newRecord("die", Uint8Array.of(1), { ...texts, breakpoints, watched: ["count = R5"] });
+  const newSession = createSessionRecord("die", Uint8Array.of(1), { ...texts, breakpoints, watched: ["count = R5"] });
   assert.deepEqual([newSession.breakpoints, newSession.watched], [breakpoints, ["count = R5"]]);
-  assert.deepEqual(["breakpoints", "watched"].filter((key) => key in newRecord("die", Uint8Array.of(1), texts)), []);
+  assert.deepEqual(["breakpoints", "watched"].filter((key) => key in createSessionRecord("die", Uint8Array.of(1), texts)), []);
 });
 
 test("a session of an example is not saved before it is changed", async () => {
@@ -77,13 +77,13 @@ test("a session that is open in another tab is not deleted; a failed restoration
 test("the browser is asked once for persistent storage", async () => {
   let requestCount = 0;
   const persistence = new Persistence({ persist: async () => { requestCount += 1; return true; } });
-  assert.equal(persistence.isPromised, false);
+  assert.equal(persistence.isGranted, false);
   await persistence.request();
   await persistence.request();
-  assert.deepEqual([requestCount, persistence.isPromised], [1, true]);
+  assert.deepEqual([requestCount, persistence.isGranted], [1, true]);
   const blockedPersistence = new Persistence({ persist: async () => { throw new Error("blocked"); } });
   await blockedPersistence.request();
-  assert.equal(blockedPersistence.isPromised, false);
+  assert.equal(blockedPersistence.isGranted, false);
   await new Persistence(null).request();
 });
 

@@ -13,12 +13,12 @@ const calculator = {
 
 /** Runs an action as in a browser that lacks the given stream classes. Resolves to its result. */
 async function withoutGlobals(names, action) {
-  const originals = names.map((name) => globalThis[name]);
+  const originalValues = names.map((name) => globalThis[name]);
   names.forEach((name) => { globalThis[name] = undefined; });
   try {
     return await action();
   } finally {
-    names.forEach((name, index) => { globalThis[name] = originals[index]; });
+    names.forEach((name, index) => { globalThis[name] = originalValues[index]; });
   }
 }
 

@@ -17,7 +17,7 @@ function createSync(text, checkResult) {
       log.checkCount += 1;
       return current.checkResult;
     },
-    changed: (map, reason) => log.changes.push([map !== null, reason]),
+    onChange: (map, reason) => log.changes.push([map !== null, reason]),
     describeRefusal: (number) => `words of ${number}`,
   });
   sync.editor = {

@@ -1,7 +1,7 @@
 // Tests saving with a stand-in for IndexedDB that answers when the test requests it.
 import assert from "node:assert/strict";
 import { test } from "node:test";
-import { OpenSession, newRecord } from "../page/session/open_session.js";
+import { OpenSession, createSessionRecord } from "../page/session/open_session.js";
 import { MemoryStore, StoreError, Store, describeStoreError } from "../page/session/store.js";
 
 /** A stand-in for the part of IndexedDB that the store uses. The stand-in executes transactions in order, each in its own task. */
@@ -50,7 +50,7 @@ class FakeDatabase {
   }
 }
 
-const createRecord = () => newRecord("calculator", Uint8Array.of(1, 2), { boardText: "# b", programText: "; p" });
+const createRecord = () => createSessionRecord("calculator", Uint8Array.of(1, 2), { boardText: "# b", programText: "; p" });
 
 test("a record is stored as it is at the call, before the promise resolves", async () => {
   const database = new FakeDatabase();
@@ -107,7 +107,7 @@ test("a store that does not answer is reported after a time limit", async (conte
   const database = new FakeDatabase();
   database.transaction = () => ({ objectStore: () => ({ put: () => {}, getAll: () => ({}), get: () => ({}) }), commit: () => {} });
   const store = new Store(database, true);
-  const session = new OpenSession(store, newRecord("one", Uint8Array.of(1), { boardText: "", programText: "" }), () => {});
+  const session = new OpenSession(store, createSessionRecord("one", Uint8Array.of(1), { boardText: "", programText: "" }), () => {});
   const results = [session.save(), session.save(), store.all().catch(describeStoreError), store.get("one").catch(describeStoreError)];
   for (let turn = 0; turn < 5; turn++) await Promise.resolve();
   context.mock.timers.tick(10000);

@@ -51,7 +51,7 @@ async function reopenPage(store, { bench: { session: { file, count } } }, name =
 
 /** Sends a copy of the history to the worker, as postMessage does. */
 function sendHistory(calls, storedSegments) {
-  return calls.recall(structuredClone(storedSegments));
+  return calls.restorePast(structuredClone(storedSegments));
 }
 
 const LINES = ["run 1000\n", "poke r5 9\npoke r6 3\n", "break 0x010\nrun 50000\n", "press 0 0\nrun 7\n", "step\n"];
@@ -82,7 +82,7 @@ test("going back works across two reloads, also by instructions and to changes",
   secondPage.history.saveOnLeave();
   const thirdPage = await reopenPage(store, secondPage.calls);
   assert.ok(sendHistory(thirdPage.calls, thirdPage.storedSegments) >= 0);
-  assert.equal((await thirdPage.calls.lastChange("r5")).isFound, true);
+  assert.equal((await thirdPage.calls.findLastChange("r5")).isFound, true);
   assert.equal((await thirdPage.calls.goBack({ kind: "stop" })).isDone, true);
   assert.deepEqual(thirdPage.calls.ask(ALL_QUERIES), states[states.length - 1]);
   assert.equal((await thirdPage.calls.goBack({ kind: "instruction" })).isDone, true);

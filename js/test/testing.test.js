@@ -17,7 +17,7 @@ const boardText = example("board.toml");
 const programText = example("three_lamps.asm");
 const textsOf = (name) => ({ boardText: readExample(`${name}/board.toml`), programText: readExample(`${name}/${name}.asm`) });
 const texts = (testText, program = programText) => ({ boardText, programText: program, testText });
-const always = async () => true;
+const alwaysContinue = async () => true;
 
 /** @type {Engine} */
 let engine;
@@ -26,7 +26,7 @@ before(async () => {
 });
 
 test("tests pass, and their coverage and profile are counted", async () => {
-  const { errors, outcomes, coverage, profile } = await runTests(engine, texts(example("three_lamps.test")), always);
+  const { errors, outcomes, coverage, profile } = await runTests(engine, texts(example("three_lamps.test")), alwaysContinue);
   assert.deepEqual(errors, []);
   assert.deepEqual(outcomes.map(({ failure, cycles }) => [failure, cycles]), [[null, 1621], [null, 538]]);
   assert.equal(formatCoverageSummary(coverage), "20 of 20 instructions were run (100.0 %), 6 of 6 branch directions (100.0 %)");
@@ -34,12 +34,12 @@ test("tests pass, and their coverage and profile are counted", async () => {
   assert.equal(profile.total, 2159);
   assert.deepEqual(profile.rows.map(({ label, ownCycles }) => [label, ownCycles]),
     [["turn", 2084], ["next", 60], ["wait", 8], ["first", 4], ["", 3]]);
-  assert.deepEqual(profile.rows[2].calls, { times: 4, withCalls: 2092, longest: 523 });
+  assert.deepEqual(profile.rows[2].calls, { callCount: 4, cyclesWithCalls: 2092, longestCall: 523 });
 });
 
 test("a failing test reports its line and its trace, and provides the session at the failure", async () => {
   const fasterProgram = programText.replace("0x0C", "0x0D");
-  const { outcomes } = await runTests(engine, texts(example("three_lamps.test"), fasterProgram), always);
+  const { outcomes } = await runTests(engine, texts(example("three_lamps.test"), fasterProgram), alwaysContinue);
   const { failure } = outcomes[1];
   const words = "536 cycles have passed, but the test expects 538";
   assert.deepEqual([failure.line, failure.text, failure.words], [14, "expect cycles 538", words]);
@@ -51,7 +51,7 @@ test("a failing test reports its line and its trace, and provides the session at
 
 test("a test whose start state was never saved is not run", async () => {
   const text = "test one\n expect acc 1\n save there\ntest two\n from there\n run 1\n";
-  const { outcomes } = await runTests(engine, texts(text), always);
+  const { outcomes } = await runTests(engine, texts(text), alwaysContinue);
   assert.equal(outcomes[0].failure.words, "acc is 0, but must be 1");
   assert.equal(outcomes[1].failure.words, "the state there is missing, because the test `one` did not reach its `save`");
   assert.equal(outcomes[1].failure.file, null);
@@ -61,12 +61,12 @@ test("a comment can follow a line unless its mark is the name of a key", async (
   const text = "test a # 1 ; 2\n run 5   # a moment\n mark ;\n run 10 us ; # ;\n expect cycles 1 #\n expect lamps #none\n";
   const { errors } = parseTestedTexts(engine, texts(text));
   assert.deepEqual(errors.map(({ line, words }) => `${line}: ${words.slice(0, 26)}`), ["6: the board has no lamp #non"]);
-  const { outcomes } = await runTests(engine, texts(text.replace("#none", "... ; dark")), always);
+  const { outcomes } = await runTests(engine, texts(text.replace("#none", "... ; dark")), alwaysContinue);
   assert.deepEqual(outcomes.map(({ name, failure }) => [name, failure]), [["a # 1 ; 2", null]]);
   const lock = textsOf("lock");
   const keys = "test b\n press 1 # 2 ; keys\n release # ; the key #\n keys # ; #\n press x ; y\n";
-  const [error, ...more] = parseTestedTexts(engine, { ...lock, testText: keys }).errors;
-  assert.deepEqual([error.line, more], [5, []]);
+  const [error, ...moreErrors] = parseTestedTexts(engine, { ...lock, testText: keys }).errors;
+  assert.deepEqual([error.line, moreErrors], [5, []]);
 });
 
 test("failures in `repeat` and shared steps have their iteration and the last passed label", async () => {
@@ -76,7 +76,7 @@ test("failures in `repeat` and shared steps have their iteration and the last pa
     " mark", " repeat 2", "  repeat 5", "   do wait", "   expect cycles at most 2000", "  end", " end",
     "test b", " run 9", " until @first within 4",
   ];
-  const { outcomes } = await runTests(engine, texts(text.join("\n")), always);
+  const { outcomes } = await runTests(engine, texts(text.join("\n")), alwaysContinue);
   assert.deepEqual([outcomes[0].cycles, outcomes[0].failure.line], [7 + 13 * 538, 15]);
   assert.equal(outcomes[0].failure.words,
     "2152 cycles have passed, but the test expects at most 2000; in turn 4 of 5 of line 13, in turn 1 of 2 of line 12");
@@ -86,7 +86,7 @@ test("failures in `repeat` and shared steps have their iteration and the last pa
 
 test("`until` reads `owed` at the end of an instruction, where it is 0", async () => {
   const text = "test a\n until owed = 1 within 100\ntest b\n run 1\n until owed = 0 within 1\n";
-  const { outcomes } = await runTests(engine, texts(text), always);
+  const { outcomes } = await runTests(engine, texts(text), alwaysContinue);
   assert.match(outcomes[0].failure.words, /^it did not become true within 100 cycles: owed is 0, but must be 1;/);
   assert.deepEqual([outcomes[1].failure, outcomes[1].cycles], [null, 2]);
 });
@@ -99,7 +99,7 @@ test("a test with many repetitions can be cancelled", async () => {
 });
 
 test("if the texts have errors, they are reported and no test is run", async () => {
-  const report = await runTests(engine, texts("test a\n  until lamps green within 10 ms\n  press x\n  run 10 years\n"), always);
+  const report = await runTests(engine, texts("test a\n  until lamps green within 10 ms\n  press x\n  run 10 years\n"), alwaysContinue);
   assert.deepEqual(report.errors.map(({ text, line, words }) => `${text}:${line}: ${words}`), [
     "tests:2: the board has no lamp green; it has: left middle right (column 9)",
     "tests:3: the board has no key x; its text names no keys (`# row 0: NAME ..`)",
@@ -127,7 +127,7 @@ test("long work is cancelled between pieces", async () => {
 test("ROM bytes that a test sets are counted only in its own run", async () => {
   // With NOP instead of ISZ R3, the instruction takes one cycle.
   const text = "test a\n set rom.0x016 0\n set rom.0x017 0\n run 20\n save s\ntest b\n from s\n run 20\ntest c\n run 20\n";
-  const { outcomes, profile } = await runTests(engine, texts(text), always);
+  const { outcomes, profile } = await runTests(engine, texts(text), alwaysContinue);
   assert.deepEqual(outcomes.map(({ failure }) => failure), [null, null, null]);
   assert.equal(profile.total, profile.rows.reduce((sum, { ownCycles }) => sum + ownCycles, 0) + profile.earlierInstructionCycles);
 });
@@ -140,7 +140,7 @@ test("tenths are rounded half to even, as by printf", () => {
 test("the sample test presses the first key and expects what the bench shows then, so it passes", async () => {
   const sampleOf = async (sampleTexts) => {
     const testText = await sampleTest(engine, sampleTexts);
-    const { errors, outcomes } = await runTests(engine, { ...sampleTexts, testText }, always);
+    const { errors, outcomes } = await runTests(engine, { ...sampleTexts, testText }, alwaysContinue);
     assert.deepEqual([errors, outcomes.map(({ failure }) => failure)], [[], [null]]);
     return testText.split("\n").slice(2, -1).map((line) => line.trim());
   };

@@ -2,7 +2,7 @@
 // the store.
 import assert from "node:assert/strict";
 import { test } from "node:test";
-import { newRecord } from "../page/session/open_session.js";
+import { createSessionRecord } from "../page/session/open_session.js";
 import { UnsavedTexts } from "../page/session/unsaved_texts.js";
 
 /** Returns a stand-in for the browser's local storage that uses a map. */
@@ -14,7 +14,7 @@ const createStorage = (items = new Map()) => ({
 });
 
 const createRecord = (programText, revision) => (
-  { ...newRecord("one", Uint8Array.of(1), { boardText: "# b", programText }), id: "one", revision });
+  { ...createSessionRecord("one", Uint8Array.of(1), { boardText: "# b", programText }), id: "one", revision });
 
 test("texts that the store lacks are restored at each opening until the store has a later revision", () => {
   const store = createStorage();
@@ -31,9 +31,9 @@ test("texts that the store lacks are restored at each opening until the store ha
     nextUnsavedTexts.markStored(record);
     nextUnsavedTexts.saveOnLeave(record);
   }
-  const written = createRecord("; after", 5);
-  new UnsavedTexts(store).restore(written);
-  assert.equal(written.programText, "; after");
+  const writtenRecord = createRecord("; after", 5);
+  new UnsavedTexts(store).restore(writtenRecord);
+  assert.equal(writtenRecord.programText, "; after");
   assert.equal(store.items.size, 0);
 });
 

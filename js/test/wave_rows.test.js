@@ -34,11 +34,11 @@ test("a group has the position of its first row, can be folded, and moves as a w
   const rows = new WaveRows();
   for (const name of ["b", "e"]) rows.change(name, { group: "g" });
   assert.equal(rowsOf(rows), "a [g b e c d");
-  rows.fold("g");
+  rows.toggleFold("g");
   assert.equal(rowsOf(rows), "a ]g c d");
   assert.equal(moveRow(rows, 1, 3), "a c d ]g");
   assert.equal(moveRow(rows, 3, 0), "]g a c d");
-  rows.fold("g");
+  rows.toggleFold("g");
   assert.equal(rowsOf(rows), "[g b e a c d");
   assert.equal(moveRow(rows, 0, 1), "[g b e a c d");
 });
@@ -62,10 +62,10 @@ test("names and colours are stored by line name", () => {
   const rows = new WaveRows();
   rows.change("b", { title: "clock" });
   rows.change("b", { colour: "red" });
-  rows.fold("x");
-  const stored = JSON.parse(JSON.stringify(rows.storedRows));
-  assert.deepEqual(stored, { order: [], looks: { b: { title: "clock", colour: "red" } }, folded: ["x"] });
-  assert.deepEqual(new WaveRows(stored).arrange(LINES, [1]), [
+  rows.toggleFold("x");
+  const storedRows = JSON.parse(JSON.stringify(rows.storedRows));
+  assert.deepEqual(storedRows, { order: [], looks: { b: { title: "clock", colour: "red" } }, folded: ["x"] });
+  assert.deepEqual(new WaveRows(storedRows).arrange(LINES, [1]), [
     { line: 1, name: "b", title: "clock", colour: "red", group: "", isFolded: false }]);
 });
 

@@ -126,10 +126,10 @@ function answersOf({ groups }, levels, instructions = []) {
     return { cycles, address, before, after: { ...now } };
   });
   const head = (lines, row) => [`trace ran 9 end lines ${lines.length}${row}`, ...lines];
-  const changed = (group) => rows.filter(({ before, after }) => rowOf(group, before) !== rowOf(group, after))
+  const formatChanges = (group) => rows.filter(({ before, after }) => rowOf(group, before) !== rowOf(group, after))
     .map(({ cycles, address, after }) => `${cycles} ${address}${rowOf(group, after)}`);
   return [...head(rows.map(({ cycles, address }) => `${cycles} ${address}`), ""),
-    ...groups.flatMap((group) => head(changed(group), rowOf(group, levels)))];
+    ...groups.flatMap((group) => head(formatChanges(group), rowOf(group, levels)))];
 }
 
 /** Returns a recording that begins with a state. `values` names the values to record besides the lines. */
@@ -146,7 +146,7 @@ function addRun(builder, levels, instructions, answer, changes) {
   return builder;
 }
 
-const textOf = (waves, chosen) => [...vcdParts(waves, chosen)].join("");
+const textOf = (waves, chosenLines) => [...vcdParts(waves, chosenLines)].join("");
 
 const PROGRAM = [[0, "00A", { "rom0.1": 0 }], [1, "00B", { "ram0.0.3": 1 }], [2, "00C", {}], [4, "00A", { "rom0.1": 1 }]];
 
@@ -239,17 +239,17 @@ test("registers, pairs and RAM characters are recorded", () => {
 });
 
 test("a recording can be extended, and cut at both ends", () => {
-  const whole = wavesOf(recordProgram(4));
+  const wholeWaves = wavesOf(recordProgram(4));
   const builder = beginRecording();
   addRun(builder, LEVELS, PROGRAM.slice(0, 1), "ok 9 ran 1 end", { pc: "00B" });
   const recording = wavesOf(builder);
   const after = { ...LEVELS, "rom0.1": 0 };
-  const shifted = PROGRAM.slice(1, 3).map(([cycles, ...rest]) => [cycles - 1, ...rest]);
+  const shiftedProgram = PROGRAM.slice(1, 3).map(([cycles, ...rest]) => [cycles - 1, ...rest]);
   const pc = lineIndexOf(recording.lines, "pc");
   assert.deepEqual([...recording.changesOf(pc)], [1]);
-  addRun(builder, after, shifted, "ok 10 ran 3 end", { pc: "00A" });
+  addRun(builder, after, shiftedProgram, "ok 10 ran 3 end", { pc: "00A" });
   recording.append({ ...builder.take(), listing: [] });
-  assert.equal(textOf(recording, recording.lines.map((_, line) => line)), textOf(whole, whole.lines.map((_, line) => line)));
+  assert.equal(textOf(recording, recording.lines.map((_, line) => line)), textOf(wholeWaves, wholeWaves.lines.map((_, line) => line)));
   recording.beginAt(2);
   const data = lineIndexOf(recording.lines, "rom0.1");
   assert.deepEqual([recording.from, recording.length, recording.valueAt(data, 2), [...recording.changesOf(pc)]], [2, 2, "0", [4]]);

@@ -70,14 +70,14 @@ test("if a piece of long work fails or is cancelled, nothing is changed", async 
 
 test("the effects of lines are reported", async () => {
   const { session } = startWorkerSession();
-  const of = async (lines) => {
-    const { hasChangedRom, wires } = await session.serve(lines, shouldContinue);
-    return [hasChangedRom, wires];
+  const effectsOf = async (lines) => {
+    const { hasChangedRom, hasChangedBoard } = await session.serve(lines, shouldContinue);
+    return [hasChangedRom, hasChangedBoard];
   };
-  assert.deepEqual(await of("step\nseq\n"), [false, false]);
-  assert.deepEqual(await of("poke r5 9\n"), [true, false]);
+  assert.deepEqual(await effectsOf("step\nseq\n"), [false, false]);
+  assert.deepEqual(await effectsOf("poke r5 9\n"), [true, false]);
   session.queue.press(matrixKey(0, 1));
-  assert.deepEqual(await of("wire\n.\n"), [true, true]);
+  assert.deepEqual(await effectsOf("wire\n.\n"), [true, true]);
   assert.deepEqual(session.queue.plan(1).map(({ line }) => line), ["run 1"]);
 });
 

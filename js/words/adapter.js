@@ -3,23 +3,23 @@
 // --- adapter/adapter_connection.js ---
 export const MESSAGE_SYNTAX = "a message has a number seq, the type \"request\" and a command";
 /** @type {(command: string) => string} */
-export const noCommandMessage = (command) => `unsupported request: ${command}`;
+export const unsupportedRequestMessage = (command) => `unsupported request: ${command}`;
 
 // --- adapter/progress.js ---
 /** @type {(id: string) => string} */
-export const noProgressMessage = (id) => `no work in progress has the progressId ${id}`;
+export const unknownProgressIdMessage = (id) => `no work in progress has the progressId ${id}`;
 
 // --- adapter/query_handlers.js ---
 export const ROM_CONTENTS = "the contents of ROM";
 export const DISASSEMBLED_FROM_ROM = "disassembled from ROM";
 /** @type {(name: string) => string} */
-export const oneSource = (name) => `there is one source, ${name}`;
+export const onlySourceMessage = (name) => `there is one source, ${name}`;
 export const NO_REFERENCE = "this reference is unknown";
 export const NO_FRAME = "there is no such frame; frameId is one of stackTrace";
 export const NO_LINE = "text has no such line";
 export const ADDRESSES_ARE = "addresses are 0x000 to 0xFFF";
 /** @type {(maximum: number) => string} */
-export const instructionCountRange = (maximum) => `instructionCount is 0 to ${maximum}`;
+export const instructionCountRangeMessage = (maximum) => `instructionCount is 0 to ${maximum}`;
 /** @type {(part: string) => string} */
 export const boardHasNo = (part) => `the board has no ${part}`;
 export const COUNT_RANGE = "count is 0 or more";
@@ -49,7 +49,7 @@ R4, P2, ram.0.0x12, rom1, lamps, display, a name, a condition (r9 = 9 or lamp op
 /** @type {(maximum: number) => string} */
 export const tooLongMessage = (maximum) => `a line has at most ${maximum} characters`;
 /** @type {(reason: string) => string} */
-export const seeHelp = (reason) => `${reason}; help shows what a line can be`;
+export const withHelpHint = (reason) => `${reason}; help shows what a line can be`;
 /** @type {(word: string) => string} */
 export const keySyntax = (word) => `write ${word} KEY`;
 /** @type {(count: number) => string} */
@@ -71,7 +71,7 @@ export const PATHS_ONLY = "pathFormat must be \"path\"; URIs are not supported";
 export const EXCEPTION_CONDITION_HINT = "a condition, as in r5 > 8 and lamp open on: it pauses only if this holds before the instruction";
 export const RUNNING_LINES = "Running lines";
 /** @type {(done: number, total: number) => string} */
-export const charactersOf = (done, total) => `${done.toLocaleString("en")} of ${total.toLocaleString("en")} characters`;
+export const characterProgress = (done, total) => `${done.toLocaleString("en")} of ${total.toLocaleString("en")} characters`;
 export const CONFIGURED_ONCE = "configurationDone can be sent only once";
 export const LAUNCH_ONCE = "launch can be sent only once";
 /** @type {(reason: string) => string} */
@@ -82,7 +82,7 @@ export const NO_DEBUG = "this runs without a debugger (noDebug)";
 
 // --- node/file_locks.mjs, node/debug_host.mjs ---
 /** @type {(holder: string) => string} */
-export const heldBy = (holder) => `it is open in ${holder}`;
+export const heldByMessage = (holder) => `it is open in ${holder}`;
 /** @type {(name: string, holder: string) => string} */
 export const sessionInUse = (name, holder) => `${name} is in use by ${holder || "another program"}; wait until that has ended`;
 
@@ -111,7 +111,7 @@ export const PROGRAM_HAS_ERRORS = "the program has errors";
 /** @type {(hasRom: boolean, address: string) => string} */
 export const romDiffers = (hasRom, address) => `ROM has ${hasRom ? "another byte" : "no chip"} at 0x${address}`;
 /** @type {(program: string, session: string, reason: string) => string} */
-export const notInRomOfMessage = (program, session, reason) => `${program} differs from the ROM of ${session}: ${reason}`;
+export const differsFromRomMessage = (program, session, reason) => `${program} differs from the ROM of ${session}: ${reason}`;
 /** @type {(difference: string) => string} */
 export const loadHint = (difference) => (
   `${difference}. "load": true puts the program into ROM; without "program" the source is disassembled from ROM`);
@@ -151,7 +151,7 @@ export const mustBeListMessage = (name) => `${name} must be a list`;
 
 // --- adapter/scopes.js ---
 /** @type {(chips: number, isSelected: boolean) => string} */
-export const chipsOf = (chips, isSelected) => `${chips === 1 ? "1 chip" : `${chips} chips`}${isSelected ? ", selected by DCL" : ""}`;
+export const chipCountText = (chips, isSelected) => `${chips === 1 ? "1 chip" : `${chips} chips`}${isSelected ? ", selected by DCL" : ""}`;
 /** @type {(chip: number, register: number) => string} */
 export const chipRegister = (chip, register) => `chip ${chip}, register ${register}`;
 /** @type {(byte: string, chip: number) => string} */
@@ -163,22 +163,22 @@ export const LAMPS = "Lamps";
 export const KEYS = "Keys";
 export const NAMES = "Names";
 /** @type {(isOn: boolean) => string} */
-export const lampIs = (isOn) => (isOn ? "on" : "off");
+export const lampState = (isOn) => (isOn ? "on" : "off");
 /** The two values of a key, as the editor shows and accepts them. */
 export const DOWN = "down";
 export const UP = "up";
 /** @type {(name: string) => string} */
 export const notFoundHereMessage = (name) => `there is no ${name} here`;
 /** @type {(name: string) => string} */
-export const nothingSetsMessage = (name) => `${name} cannot be set: only the machine changes it`;
+export const readOnlyMessage = (name) => `${name} cannot be set: only the machine changes it`;
 
 // --- adapter/place_assignment.js ---
 /** @type {(text: string) => string} */
-export const noNumberMessage = (text) => `${text} is neither a number (10, 0x0A, 0b1010) nor a name`;
+export const notANumberMessage = (text) => `${text} is neither a number (10, 0x0A, 0b1010) nor a name`;
 export const NOTHING = "nothing";
 export const KEY_VALUE_SYNTAX = "a key is down or up";
 /** @type {(place: string, maximum: number) => string} */
-export const valueRange = (place, maximum) => `${place} holds 0 to ${maximum}`;
+export const valueRangeMessage = (place, maximum) => `${place} holds 0 to ${maximum}`;
 /** @type {(place: string, answer: string) => string} */
 export const cannotBeSetMessage = (place, answer) => `${place} cannot be set: the bench answered ${answer}`;
 

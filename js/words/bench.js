@@ -7,14 +7,14 @@ export const FIRST_IS_SESSION = "the first line of the answers must be `session 
 export const noAnswerMessage = (answerLine, answer, scriptLine, scriptText) => (
   `line ${answerLine} of the answers, \`${answer}\`, does not answer line ${scriptLine} of the script, \`${scriptText}\``);
 /** @type {(mismatch: string, commands: number) => string} */
-export const wrongCommandCount = (mismatch, commands) => `${mismatch}: ${commands} commands were accepted before it`;
+export const wrongCommandCountMessage = (mismatch, commands) => `${mismatch}: ${commands} commands were accepted before it`;
 /** @type {(answerLine: number, answer: string) => string} */
-export const afterLastAnswer = (answerLine, answer) => (
+export const extraAnswerMessage = (answerLine, answer) => (
   `line ${answerLine} of the answers, \`${answer}\`, comes after the answer to the last line of the script`);
 
 // --- bench/script_progress.js ---
 /** @type {(commands: number, maximum: number) => string} */
-export const acceptedMore = (commands, maximum) => `it has accepted ${commands} commands, but the whole script makes ${maximum}`;
+export const tooManyCommandsMessage = (commands, maximum) => `it has accepted ${commands} commands, but the whole script makes ${maximum}`;
 /** @type {(commands: number) => string} */
 export const answersDiffer = (commands) => `after ${commands} commands some answers differ`;
 
@@ -35,11 +35,12 @@ export const NO_BYTE = "it has no byte";
 /** @type {(bytes: string, capacity: string) => string} */
 export const tooManyBytesMessage = (bytes, capacity) => `it has ${bytes} bytes, and ROM has ${capacity}`;
 /** @type {(bytes: string, freeBytes: string, first: string) => string} */
-export const tooManyFromMessage = (bytes, freeBytes, first) => `it has ${bytes} bytes, and only ${freeBytes} fit from the address ${first}`;
+export const tooManyBytesFromMessage = (bytes, freeBytes, first) => (
+  `it has ${bytes} bytes, and only ${freeBytes} fit from the address ${first}`);
 export const BEGINS_WITH_COLON = "a record of Intel HEX begins with `:`";
 export const RECORD_SYNTAX = "a record has `:`, ten hexadecimal digits and two for each byte";
 /** @type {(count: number, bytes: number) => string} */
-export const wrongByteCount = (count, bytes) => `it announces ${count} bytes and has ${bytes}`;
+export const wrongByteCountMessage = (count, bytes) => `it announces ${count} bytes and has ${bytes}`;
 /** @type {(actual: string, expected: string) => string} */
 export const wrongChecksum = (actual, expected) => `the checksum is ${actual}, and ${expected} would be right`;
 export const PAST_LAST = "past the last address, FFF";
@@ -50,10 +51,10 @@ export const addressPastLast = (type) => `type 0${type} with a value other than 
 /** @type {(type: string, size: number) => string} */
 export const wrongRecordSize = (type, size) => `a record of type ${type} has ${["no", "one", "two", "three", "four"][size]} bytes`;
 /** @type {(type: string) => string} */
-export const noTypeMessage = (type) => `type ${type}, which has no meaning for a 4004`;
+export const unknownTypeMessage = (type) => `type ${type}, which has no meaning for a 4004`;
 export const AFTER_LAST = "a record after the last one (type 01)";
 /** @type {(line: number, error: string) => string} */
-export const imageLine = (line, error) => `line ${line}: ${error}`;
+export const imageErrorInLine = (line, error) => `line ${line}: ${error}`;
 export const NO_LAST_RECORD = "it has no last record (:00000001FF), so a part of it is missing";
 
 // --- bench/rom_formats.js ---
@@ -71,9 +72,9 @@ export const UNKNOWN_REFUSAL = "no refusal has this number; the manual lists the
 /** @type {(error: string) => string} */
 export const moduleStopped = (error) => `the module stopped inside a call (${error}) and was started again`;
 /** @type {(error: string) => string} */
-export const startedAgain = (error) => `${error} and was started again`;
+export const restartedMessage = (error) => `${error} and was started again`;
 export const WAS_CANCELLED = "It was cancelled. The session is as it was before.";
 /** @type {(reason: string) => string} */
-export const wasNotDone = (reason) => `It was not done: ${reason}. The session is as it was before.`;
+export const notDoneMessage = (reason) => `It was not done: ${reason}. The session is as it was before.`;
 /** @type {(reason: string) => string} */
 export const pageFailed = (reason) => `The page failed: ${reason}. What was answered ok is kept.`;

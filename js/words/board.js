@@ -27,7 +27,7 @@ export const averagedBrightness = (milliseconds) => (
   `Brightness is averaged over ${milliseconds} ms, as by the eye.`);
 export const AT_INSTANT = "Paused: lamps show this instant.";
 /** @type {(line: number, error: string) => string} */
-export const lineOfBoard = (line, error) => `line ${line} of the board's text: ${error}`;
+export const boardErrorInLine = (line, error) => `line ${line} of the board's text: ${error}`;
 
 // --- board/lamps_view.js ---
 /** @type {(name: string) => string} */
@@ -52,7 +52,7 @@ export const soundOf = (name) => `Sound of ${name}`;
 /** @type {(chain: number) => string} */
 export const clocksChain = (chain) => `clocks chain ${chain}`;
 /** @type {(chain: number) => string} */
-export const isDataOfChain = (chain) => `is the data of chain ${chain}`;
+export const dataOfChain = (chain) => `is the data of chain ${chain}`;
 /** @type {(lamp: number) => string} */
 export const lightsLamp = (lamp) => `lights lamp ${lamp}`;
 export const SOUNDS_BUZZER = "sounds the buzzer";
@@ -99,7 +99,7 @@ export const readAt = (label, line) => `${label} is read at ${line}`;
 /** @type {(rows: number, columns: number) => string} */
 export const keysTitle = (rows, columns) => `Keys · ${rows} × ${columns}`;
 /** @type {(label: string, line: string) => string} */
-export const isAt = (label, line) => `${label} is at ${line}`;
+export const labelIsAt = (label, line) => `${label} is at ${line}`;
 /** @type {(count: number) => string} */
 export const lampsTitle = (count) => `Lamps · ${count}`;
 /** @type {(name: string, place: string) => string} */
@@ -110,7 +110,7 @@ export const BUZZER = "Buzzer";
 export const PARTS_AND_WIRES = "The board's parts and wires";
 export const TEST_PIN = "the TEST pin";
 /** @type {(number: number) => string} */
-export const pinOf = (number) => ` (pin ${number})`;
+export const pinSuffix = (number) => ` (pin ${number})`;
 /** @type {(connections: string) => string} */
 export const wiredTo = (connections) => `wired to ${connections}`;
 export const NOT_WIRED = "not wired";
@@ -121,9 +121,9 @@ export const wiredAt = (line) => `at ${line}`;
 /** @type {(board: string) => string} */
 export const hasNoDisplayMessage = (board) => `${board} has no display: a comment \`# display 0: 4 digits\` makes one`;
 /** @type {(line: number, answer: string) => string} */
-export const isRefusalMessage = (line, answer) => `line ${line} of the answers is a refusal: ${answer}; mcs4 explain says why`;
+export const answerIsRefusalMessage = (line, answer) => `line ${line} of the answers is a refusal: ${answer}; mcs4 explain says why`;
 /** @type {(line: number, board: string) => string} */
-export const isInstantMessage = (line, board) => (
+export const answerShowsInstantMessage = (line, board) => (
   `line ${line} of the answers has the lamps at an instant, and the digits of ${board} are multiplexed; `
   + `\`trace ${EYE_CYCLES} lamps\` reports what is perceived in ${EYE_PERSISTENCE_MS} ms`);
 /** @type {(line: number, count: number, board: string, needed: number) => string} */

@@ -646,15 +646,14 @@ export const argumentsMissing = (names, hasNoProject) => {
 export const notInRangeMessage = (name, word, maximum) => `${name}: '${word}' is not a decimal number from 1 to ${maximum}`;
 /** @type {(file: string, kind: string) => string} */
 export const projectLacks = (file, kind) => `${file} names no ${kind}; name some there, or after the command`;
-/** @type {(version: string) => string} */
-export const oldNode = (version) => `it needs node 18 or later; this is ${version}`;
 /** @type {(first: string, second: string) => string} */
 export const excludeEachOther = (first, second) => `${first} and ${second} exclude each other`;
 
 // --- errors of several commands ---
 
 /** @type {(session: string) => string} */
-export const inUse = (session) => `${session} is in use: it changed while it was read; end the program that uses it, or try again`;
+export const sessionInUseMessage = (session) => (
+  `${session} is in use: it changed while it was read; end the program that uses it, or try again`);
 /** @type {(name: string) => string} */
 export const noNamedProverMessage = (name) => `MCS4_PROVE names ${name}, which is not there; unset it, or name another program`;
 /** @type {(error: string) => string} */
@@ -662,17 +661,17 @@ export const noProverMessage = (error) => (
   `the program that searches, shipped/mcs4-prove, could not be started: ${error}; tools/build mcs4_prove proves and builds it`);
 export const NO_PROGRAM_IN_COPY = "this copy of the bench has no native program";
 /** @type {(platform: string, machine: string) => string} */
-export const notForSystemMessage = (platform, machine) => `it is for Linux on x86-64, and this is ${platform} on ${machine}`;
+export const unsupportedSystemMessage = (platform, machine) => `it is for Linux on x86-64, and this is ${platform} on ${machine}`;
 /** @type {(error: string) => string} */
-export const needsProgram = (error) => (
+export const needsNativeProgramMessage = (error) => (
   `a session file needs the native program, which cannot start: ${error}. Commands without a session file run here`);
 /** @type {(error: string) => string} */
-export const runsOnModule = (error) => (
+export const runsOnModuleMessage = (error) => (
   `commands run on the proved module, more slowly, because the native program cannot start: ${error}. This message appears once`);
 /** @type {(session: string, number: number, meaning: string) => string} */
-export const sessionRefused = (session, number, meaning) => `the session ${session} was rejected: no ${number}: ${meaning}`;
+export const sessionRejectedMessage = (session, number, meaning) => `the session ${session} was rejected: no ${number}: ${meaning}`;
 /** @type {(program: string, address: string, romByte: string, line: number, sourceByte: string) => string} */
-export const otherProgram = (program, address, romByte, line, sourceByte) => (
+export const otherProgramMessage = (program, address, romByte, line, sourceByte) => (
   `the session has another program than ${program}: ${address} has ${romByte}, and line ${line} makes ${sourceByte}`);
 /** @type {(cycles: number, reason: string) => string} */
 export const sessionStopped = (cycles, reason) => `the session stopped after ${cycles} cycles: ${reason}`;
@@ -681,13 +680,13 @@ export const sessionStopped = (cycles, reason) => `the session stopped after ${c
 
 export const NOT_AN_LCOV_FILE = "does not begin like an LCOV file (TN:)";
 /** @type {(name: string) => string} */
-export const isFolderMessage = (name) => `${name} is a folder, not a file`;
+export const fileIsFolderMessage = (name) => `${name} is a folder, not a file`;
 /** @type {(name: string) => string} */
-export const isInputFileMessage = (name) => `${name} is an input of this command, so it is not written; name another file`;
+export const outputIsInputMessage = (name) => `${name} is an input of this command, so it is not written; name another file`;
 /** @type {(name: string, reason: string) => string} */
-export const isOtherKindMessage = (name, reason) => `${name} exists, and ${reason}; name another file, or move it away`;
+export const fileOfOtherKindMessage = (name, reason) => `${name} exists, and ${reason}; name another file, or move it away`;
 /** @type {(name: string) => string} */
-export const noFolderToWriteMessage = (name) => `cannot write ${name}: its folder does not exist or cannot be written`;
+export const folderNotWritableMessage = (name) => `cannot write ${name}: its folder does not exist or cannot be written`;
 
 // --- wave ---
 
@@ -721,16 +720,16 @@ export const notUtf8Message = (name) => `${name} is not a text in UTF-8`;
 /** @type {(file: string, count: number, kind: string) => string} */
 export const tooManyTextsMessage = (file, count, kind) => `${file} names ${count} texts of ${kind}; a project of the page has one`;
 /** @type {(name: string) => string} */
-export const noSessionFileMessage = (name) => `${name} is not a session file`;
+export const notASessionFileMessage = (name) => `${name} is not a session file`;
 /** @type {(name: string) => string} */
-export const emptyName = (name) => `${name} is empty; it must have the name of the session`;
+export const emptySessionNameMessage = (name) => `${name} is empty; it must have the name of the session`;
 /** @type {(name: string) => string} */
 export const noSessionToDebugMessage = (name) => `there is no file ${name}; mcs4 debug BOARD PROGRAM ${name} begins a session in it`;
 /** @type {(folder: string) => string} */
 export const noFolderMessage = (folder) => `there is no folder ${folder}`;
 export const NOT_A_PROJECT = "is not a project";
 /** @type {(folder: string) => string} */
-export const isNotFolderMessage = (folder) => `${folder} exists and is not a folder`;
+export const notAFolderMessage = (folder) => `${folder} exists and is not a folder`;
 /** @type {(name: string) => string} */
 export const alreadyExists = (name) => `${name} already exists; name another folder, or move it away`;
 
@@ -738,14 +737,14 @@ export const alreadyExists = (name) => `${name} already exists; name another fol
 
 export const LOAD_ASK_OR_SAVE = "load, ask or save is missing";
 /** @type {(word: string) => string} */
-export const noRomActionMessage = (word) => `'${word}' is not load, ask or save`;
+export const unknownRomActionMessage = (word) => `'${word}' is not load, ask or save`;
 /** @type {(action: string, format: string) => string} */
 export const unsupportedFormat = (action, format) => `rom ${action} takes no --${format}`;
 export const ADDRESS_RANGE = "ADDRESS is 0 to 4095, decimal or with 0x";
 export const NUMBERS_OF_RANGE = "FIRST and COUNT are numbers, decimal or with 0x";
 export const BYTE_RANGE_SYNTAX = "FIRST is 0 to 4095, COUNT is at least 1, and 4096 is the address after the last one";
 /** @type {(name: string) => string} */
-export const textNoImage = (name) => (
+export const textIsNotImageMessage = (name) => (
   `${name} is a text, but not Intel HEX, S-records or BNPF; if its characters are the bytes of an image: rom load --binary`);
 export const BINARY_HINT = " (is it a binary file? --binary)";
 export const NO_TERMINAL = "an image cannot be shown at a terminal; write it to a file (> IMAGE), or as --hex";
@@ -767,11 +766,11 @@ export const benchRejected = (answer, meaning) => `the bench answered: ${answer}
 /** @type {(output: string) => string} */
 export const programEnded = (output) => `the session has ended: ${output || "no answer"}`;
 /** @type {(session: string, reason: string) => string} */
-export const sessionWasRefused = (session, reason) => `the session ${session} was rejected: ${reason}`;
+export const sessionRejectedForReason = (session, reason) => `the session ${session} was rejected: ${reason}`;
 
 // --- names ---
 /** @type {(line: number, message: string) => string} */
-export const inLine = (line, message) => `line ${line}: ${message.replace(/\.$/, "")}`;
+export const errorInLine = (line, message) => `line ${line}: ${message.replace(/\.$/, "")}`;
 
 // --- answers on standard input ---
 /** @type {(command: string) => string} */
@@ -794,7 +793,7 @@ export const byteHint = (digits) => `: the byte ${digits}`;
 export const rejectedLine = (line, refusal, textLine, meaning) =>
   `line ${line}: no ${refusal}${textLine > 0 ? `, line ${textLine} of the text` : ""}: ${meaning}`;
 /** @type {(number: number, meaning: string) => string} */
-export const sessionWasRefusedBy = (number, meaning) => `the session was rejected: no ${number}: ${meaning}`;
+export const rejectedWithNumber = (number, meaning) => `the session was rejected: no ${number}: ${meaning}`;
 /** @type {(line: number, isLast: boolean) => string} */
 export const notAnsweredMessage = (line, isLast) => `line ${line} ${isLast ? "was" : "and those after it were"} not answered`;
 
@@ -810,7 +809,7 @@ export const changedMeanwhile = (session) => `${session} is in use: it changed m
 // --- back ---
 export const NO_FLOCK = "the program flock is not found; on Debian: apt-get install util-linux";
 /** @type {(session: string) => string} */
-export const usedByAnother = (session) => `${session} is in use by another program; wait until that has ended`;
+export const usedByAnotherProgramMessage = (session) => `${session} is in use by another program; wait until that has ended`;
 /** @type {(name: string) => string} */
 export const cannotWriteMessage = (name) => `cannot write ${name}`;
 /** @type {(commands: number, records: number) => string} */
@@ -829,7 +828,7 @@ export const wouldDiffer = (session, expected, actual) => `${session} would not 
 
 // --- temporary_folders.mjs ---
 /** @type {(parent: string) => string} */
-export const noFolderInMessage = (parent) => `cannot make a folder in ${parent}; TMPDIR names another place for temporary files`;
+export const cannotMakeFolderMessage = (parent) => `cannot make a folder in ${parent}; TMPDIR names another place for temporary files`;
 
 // --- debug ---
 export const NOT_A_BREAKPOINTS_FILE = "is not a file of breakpoints: it does not begin with `# Breakpoints of mcs4 debug`";

@@ -34,17 +34,17 @@ const ramPortSyntax = (name) => `write \`${name} out VALUE\`, 0 to 15`;
 export const chainBits = (chain, bits) => `chain ${chain} has ${bits} bits, each 0, 1, or ? for any`;
 export const NO_RAM_FOR_LAST = "the board has no RAM chip for the last of these characters";
 /** @type {(place: string) => string} */
-export const isOneValueMessage = (place) => `${place} holds one value; only RAM characters can be compared with several`;
+export const placeHasOneValueMessage = (place) => `${place} holds one value; only RAM characters can be compared with several`;
 /** @type {(place: string, maximum: number, word: string) => string} */
-export const valueRange = (place, maximum, word) => `${place} holds 0 to ${maximum}, not ${word}`;
+export const valueRangeMessage = (place, maximum, word) => `${place} holds 0 to ${maximum}, not ${word}`;
 
 // --- conditions/condition_language.js ---
 export const NO_CONDITION = "a condition is missing";
-/** @type {(subject: string, actual: string, expected: string, isMany: boolean, isNot: boolean) => string} */
-export const mustBeMessage = (subject, actual, expected, isMany, isNot) => (
-  `${subject} ${isMany ? "are" : "is"} ${actual || "dark"}, but must ${isNot ? "not " : ""}be ${expected}`);
+/** @type {(subject: string, actual: string, expected: string, isPlural: boolean, isNot: boolean) => string} */
+export const mustBeMessage = (subject, actual, expected, isPlural, isNot) => (
+  `${subject} ${isPlural ? "are" : "is"} ${actual || "dark"}, but must ${isNot ? "not " : ""}be ${expected}`);
 /** @type {(passed: number, expected: string, isNot: boolean) => string} */
-export const otherCyclesPassed = (passed, expected, isNot) => (
+export const wrongCycleCountMessage = (passed, expected, isNot) => (
   `${passed} ${passed === 1 ? "cycle has" : "cycles have"} passed, but the test ${isNot ? "does not expect" : "expects"} ${expected}`);
 /** @type {(count: number, maximum: number) => string} */
 export const tooManyPlacesMessage = (count, maximum) => `it reads ${count} places; at most ${maximum} are allowed`;
@@ -61,7 +61,7 @@ export const NO_END_OF_TEXT = "the closing quotation mark is missing";
 /** @type {(word: string) => string} */
 export const unknownSign = (word) => `${word} has no meaning in a condition`;
 /** @type {(text: string) => string} */
-export const noNumeralMessage = (text) => `${text} is not a number; numbers are 10, 0xA or 0b1010`;
+export const notANumeralMessage = (text) => `${text} is not a number; numbers are 10, 0xA or 0b1010`;
 
 // --- conditions/parser.js ---
 /** @type {(maximum: number) => string} */
@@ -103,7 +103,7 @@ export function boardLacks(place) {
   return /^(ram|st)\./.test(place) ? `the board has no RAM chip for ${place}` : `the board has no ${place}`;
 }
 /** @type {(place: string) => string} */
-export const isNoNumberMessage = (place) => `${place} is not one number`;
+export const notOneNumberMessage = (place) => `${place} is not one number`;
 /** @type {(place: string, proposed: string) => string} */
 export const noSuchPlaceMessage = (place, proposed) => `${place}: no such place; ${proposed}`;
 export const ACCUMULATOR_HINT = "the accumulator is acc";
@@ -121,13 +121,13 @@ export const PLACES_ARE = "places are acc, cy, pc, dcl, test, r0 to r15, p0 to p
 /** @type {(name: string, maximum: number) => string} */
 export const namesTooDeep = (name, maximum) => `${name} uses names that use other names: at most ${maximum} levels are allowed`;
 /** @type {(name: string, text: string) => string} */
-export const isNoValueMessage = (name, text) => `${name} is the condition ${text}, but a value is needed`;
+export const nameIsConditionMessage = (name, text) => `${name} is the condition ${text}, but a value is needed`;
 /** @type {(name: string, error: string) => string} */
 export const errorInName = (name, error) => `in ${name}: ${error}`;
 /** @type {(text: string) => string} */
 export const noConstantMessage = (text) => `${text} is neither a number nor a name of the program`;
 /** @type {(text: string) => string} */
-export const noNamesMessage = (text) => `${text} is not a number; names are known only while the source is the same as ROM`;
+export const namesUnknownMessage = (text) => `${text} is not a number; names are known only while the source is the same as ROM`;
 
 // --- conditions/set_command.js ---
 export const SET_SYNTAX = "write `set PLACE = VALUE`, as in: set r4 = 7, set test 0, set ram.0.0x12 = 7";

@@ -31,14 +31,14 @@ export const CHANGES_ALWAYS = "pc changes at each instruction";
 export const lineEnded = (pause, line) => `${pause} The line ${line} ended there.`;
 
 // --- debug/line_changes.js ---
-/** @type {(more: number) => string} */
-export const moreItems = (more) => ` and ${more} more`;
+/** @type {(count: number) => string} */
+export const moreItems = (count) => ` and ${count} more`;
 
 // --- debug/src_selection.js ---
 /** @type {(name: string, isWrite: boolean, chip: number) => string} */
-export const usesRom = (name, isWrite, chip) => `${name} ${isWrite ? "writes to" : "reads"} ROM ${chip}`;
+export const romAccess = (name, isWrite, chip) => `${name} ${isWrite ? "writes to" : "reads"} ROM ${chip}`;
 /** @type {(access: string, location: string) => string} */
-export const whichLacks = (access, location) => `${access}, which the board lacks${location}`;
+export const missingPartMessage = (access, location) => `${access}, which the board lacks${location}`;
 /** @type {(access: string, location: string) => string} */
 export const noOutputsMessage = (access, location) => `${access}, whose port has no output line${location}`;
 /** @type {(access: string, location: string) => string} */
@@ -49,9 +49,9 @@ export const selectedByEarlierSrc = (instruction, earlierRom, lastSrc) =>
 /** @type {(address: string) => string} */
 export const atAddress = (address) => `, at ${address},`;
 /** @type {(lastSrc: string, user: string) => string} */
-export const sourceWasFor = (lastSrc, user) => `${lastSrc} was for ${user === "RAM" ? user : `an ${user}`}; is an SRC missing?`;
+export const srcWasForMessage = (lastSrc, user) => `${lastSrc} was for ${user === "RAM" ? user : `an ${user}`}; is an SRC missing?`;
 /** @type {(address: string) => string} */
-export const lastSource = (address) => `; the last SRC is at ${address}`;
+export const lastSrcSuffix = (address) => `; the last SRC is at ${address}`;
 /** @type {(bank: number) => string} */
 export const bankWithoutRam = (bank) => `bank ${bank}, where the board has no RAM`;
 /** @type {(chip: number, bank: number, chips: number) => string} */
@@ -61,13 +61,13 @@ export const writesTo = (name, target, lastSrc) => `${name} writes to ${target}$
 
 // --- debug/soft_breakpoints.js ---
 /** @type {(part: string, error: string) => string} */
-export const noteAsks = (part, error) => `the note asks for ${part}: ${error}`;
+export const noteErrorMessage = (part, error) => `the note asks for ${part}: ${error}`;
 
 // --- debug/machine_state.js ---
 /** @type {(chip: number, register: number, character: number) => string} */
 export const characterAt = (chip, register, character) => `chip ${chip}, register ${register}, character ${character}`;
 /** @type {(bank: string) => string} */
-export const sourceOfBank = (bank) => `SRC of bank ${bank}`;
+export const srcOfBank = (bank) => `SRC of bank ${bank}`;
 
 // --- debug/common_mistakes.js ---
 /** The names of the kinds of common mistakes: labels of the check boxes that make the session pause at such a mistake. */
@@ -104,7 +104,7 @@ export const NEVER_CHANGES = "it uses no place of the machine, so it never becom
 export const statusAt = (bank, chip, register, character) => (
   `bank ${bank}, chip ${chip}, register ${register}, status character ${character}`);
 /** @type {(value: string, binary: string) => string} */
-export const bySource = (value, binary) => `${value}, ${binary}; sent by SRC, it selects `;
+export const valueSentBySrc = (value, binary) => `${value}, ${binary}; sent by SRC, it selects `;
 /** @type {(description: string) => string} */
 export const comesNext = (description) => `${description}, and comes next`;
 

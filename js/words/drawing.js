@@ -22,7 +22,7 @@ export const COPY_IN_TEXT = "Lamps that belong together can only be copied in th
 export const GRID_DIFFERS = "Another lamp would then be at its place in the grid: choose another name.";
 export const TEST_NEEDS_NAME = "The part at TEST needs a name.";
 export const BUZZER_NEEDS_NAME = "A buzzer needs a name.";
-export const NO_OWN_NAME = "This part cannot have a name.";
+export const CANNOT_BE_NAMED = "This part cannot have a name.";
 /** @type {(colour: string, colours: string) => string} */
 export const noColourMessage = (colour, colours) => `${colour} is not a colour; the colours are ${colours}.`;
 /** @type {(digits: string) => string} */
@@ -32,63 +32,63 @@ export const copyAdded = (part, original) => `${part} was added, a copy of ${ori
 /** @type {(line: string, target: string) => string} */
 export const lineWired = (line, target) => `Line ${line} is wired to ${target}`;
 /** @type {(line: string, direction: string) => string} */
-export const lineIs = (line, direction) => `Line ${line} is an ${direction}`;
+export const lineDirectionSet = (line, direction) => `Line ${line} is an ${direction}`;
 export const INPUT = "input";
 /** @type {(level: string) => string} */
 export const outputReadsAs = (level) => `output that reads as ${level}`;
 /** @type {(chain: number, chips: string) => string} */
-export const chainHas = (chain, chips) => `Chain ${chain} has ${chips}`;
+export const chainResized = (chain, chips) => `Chain ${chain} has ${chips}`;
 /** @type {(rows: string) => string} */
-export const keysHave = (rows) => `The keys have ${rows}`;
+export const keyRowsSet = (rows) => `The keys have ${rows}`;
 export const MORE_COLUMNS = "The keys have one more column";
 /** @type {(effect: string) => string} */
 export const andWithIt = (effect) => `, and with it ${effect}`;
 /** @type {(part: string, name: string) => string} */
 export const partNamed = (part, name) => (name ? `${part} is called ${name}` : `${part} has no name`);
 /** @type {(lamp: number, colour: string) => string} */
-export const lampIs = (lamp, colour) => `Lamp ${lamp} is ${colour}`;
+export const lampColoured = (lamp, colour) => `Lamp ${lamp} is ${colour}`;
 export const USUAL_RED = "red, as usual";
 export const FACE_UNREADABLE = "The front panel of the board could then not be read.";
 export const TEXT_HAS_ERRORS = "The board's text has errors: see Board.";
 /** @type {(parts: string) => string} */
-export const withAlso = (parts) => `, with ${parts}`;
+export const withAddedParts = (parts) => `, with ${parts}`;
 /** @type {(items: string[]) => string} */
 export const listOf = (items) => items.join(", ").replace(/, ([^,]*)$/, " and $1");
 
 // --- drawing/part_addition.js ---
 /** @type {(maximum: number) => string} */
-export const maxRoms = (maximum) => `A board has at most ${maximum} ROMs.`;
+export const tooManyRomsMessage = (maximum) => `A board has at most ${maximum} ROMs.`;
 /** @type {(banks: number, chips: number) => string} */
-export const maxRams = (banks, chips) => `A board has at most ${banks} banks of ${chips} RAM chips.`;
+export const tooManyRamChipsMessage = (banks, chips) => `A board has at most ${banks} banks of ${chips} RAM chips.`;
 export const AT_TEST = "what is at TEST";
 export const THE_BOARD = "the board";
 /** @type {(part: string) => string} */
 export const thePart = (part) => `the ${part}`;
 export const THE_BUZZER = "the buzzer";
 /** @type {(maximum: number) => string} */
-export const maxChains = (maximum) => `A board has at most ${maximum} chains.`;
+export const tooManyChainsMessage = (maximum) => `A board has at most ${maximum} chains.`;
 export const ONE_MATRIX = "A board has one key matrix: give it more rows and columns.";
 export const NO_KEYS = "The board has no keys.";
 /** @type {(maximum: number) => string} */
-export const maxRows = (maximum) => `A key matrix has at most ${maximum} rows.`;
-export const MIN_ROWS = "A key matrix has at least one row; or delete the keys.";
+export const tooManyRowsMessage = (maximum) => `A key matrix has at most ${maximum} rows.`;
+export const TOO_FEW_ROWS = "A key matrix has at least one row; or delete the keys.";
 /** @type {(chain: number) => string} */
 export const noBitForRowMessage = (chain) => `Chain ${chain} has no bit for another row: give it another chip.`;
 /** @type {(maximum: number) => string} */
-export const maxColumns = (maximum) => `A key matrix has at most ${maximum} columns.`;
+export const tooManyColumnsMessage = (maximum) => `A key matrix has at most ${maximum} columns.`;
 /** @type {(maximum: number, count: number) => string} */
-export const maxLamps = (maximum, count) => `A board has at most ${maximum} lamps; it has ${count}.`;
+export const tooManyLampsMessage = (maximum, count) => `A board has at most ${maximum} lamps; it has ${count}.`;
 export const ONE_BUZZER = "A board has one buzzer: delete that one first.";
-export const MIN_DIGITS = "A display has a whole number of digits, at least 1.";
+export const TOO_FEW_DIGITS = "A display has a whole number of digits, at least 1.";
 /** @type {(maximum: number) => string} */
-export const maxMultiplexed = (maximum) => `A multiplexed display has 1 to ${maximum} digits.`;
+export const multiplexedDigitsMessage = (maximum) => `A multiplexed display has 1 to ${maximum} digits.`;
 /** @type {(place: string) => string} */
 export const buzzerIsAt = (place) => `The buzzer is at ${place}: give it another line first.`;
 /** @type {(line: string) => string} */
 export const printerIsAt = (line) => `The printer is at ${line}: give it other lines first, in Board.`;
 /** @type {(maximum: number) => string} */
-export const maxChips = (maximum) => `A chain has at most ${maximum} chips.`;
-export const MIN_CHIPS = "A chain has at least one chip; or delete the chain.";
+export const tooManyChipsMessage = (maximum) => `A chain has at most ${maximum} chips.`;
+export const TOO_FEW_CHIPS = "A chain has at least one chip; or delete the chain.";
 /** @type {(bit: string) => string} */
 export const bitInUse = (bit) => `${bit} is in use: wire the part there to another line first.`;
 
@@ -111,7 +111,7 @@ export const allLampsOf = (count) => `all ${count} lamps of its display`;
 // --- drawing/board_drawing.js ---
 export const CANNOT_READ = "The board's text is written in a way that the picture cannot change; change it in Board.";
 /** @type {(reason: string) => string} */
-export const benchRefuses = (reason) => `The bench rejects the board's text: ${reason}. The Board tab shows where.`;
+export const benchRejectsMessage = (reason) => `The bench rejects the board's text: ${reason}. The Board tab shows where.`;
 /** @type {(name: string) => string} */
 export const lineOfBoard = (name) => `line ${name}`;
 /** @type {(pin: string, pins: string) => string} */
@@ -176,7 +176,7 @@ export const LAMP_HERE = "A lamp here";
 export const BUZZER_HERE = "A buzzer here";
 /** @type {(line: string, isInput: boolean) => string} */
 export const lineTitle = (line, isInput) => `Line ${line}, an ${isInput ? "input" : "output"}`;
-export const IT_IS = "it is at";
+export const LOCATION_LABEL = "it is at";
 export const ALL_LAMPS = "All lamps";
 export const DELETE_ALL_LAMPS = "Delete all lamps";
 /** @type {(kind: string) => string} */

@@ -65,7 +65,7 @@ export const STOPPED_EARLY = "It was stopped before it started.";
 export const OTHER_SOURCE = "The source has changed since then: search again.";
 
 // --- explore/explore_view.js ---
-export const ITS_TEST = "Show as test";
+export const SHOW_AS_TEST = "Show as test";
 export const OPEN_AS_SESSION = "Open";
 export const NEW_SESSION_HINT = "a new session, with the board as it is there";
 export const ADD_TO_TESTS = "Add to tests";
@@ -97,18 +97,18 @@ export const lineList = (count, lines) => `${count === 1 ? "line" : "lines"} ${l
 /** @type {(count: number, total: number) => string} */
 export const partOfTotal = (count, total) => `${count} of ${total}`;
 /** @type {(seeds: number[], steps: string, seconds: string, rate: string, states: string, isStopped: boolean) => string} */
-export const statistics = (seeds, steps, seconds, rate, states, isStopped) => (
+export const statisticsLine = (seeds, steps, seconds, rate, states, isStopped) => (
   `# ${seeds.length === 1 ? "seed" : "seeds"} ${seeds.join(" ")}: ${steps} steps in ${seconds} s of processor time${rate}; `
   + `${states} states${isStopped ? "; stopped" : ""}`);
 /** @type {(chains: string) => string} */
 export const chainsOfKeys = (chains) => `${chains} chains of keys`;
 /** @type {(steps: string, states: string) => string} */
 export const stepsAndStates = (steps, states) => `${steps} steps, ${states} states`;
-export const NEVER_LOOKED_AT = "never checked";
+export const NEVER_CHECKED = "never checked";
 /** @type {(verb: string, steps: string, cycles: string, seed: number) => string} */
 export const foundBy = (verb, steps, cycles, seed) => `${verb} by ${steps}, ${cycles} cycles (seed ${seed})`;
 /** @type {(run: string, ways: string) => string} */
-export const covered = (run, ways) => `${run} instructions were run, ${ways} branch directions`;
+export const coverageText = (run, ways) => `${run} instructions were run, ${ways} branch directions`;
 /** @type {(lines: string) => string} */
 export const neverRun = (lines) => `never run: ${lines}`;
 /** @type {(lines: string) => string} */
@@ -120,4 +120,4 @@ export const foundByTool = (board, program) => `# Found by mcs4 explore: mcs4 te
 
 // --- explore/subject.js ---
 /** @type {(which: string, number: number, line: string) => string} */
-export const isRefusedMessage = (which, number, line) => `the ${which} is rejected: no ${number}${line}`;
+export const textRejectedMessage = (which, number, line) => `the ${which} is rejected: no ${number}${line}`;

@@ -2,7 +2,7 @@
 
 // --- import/source_lines.js ---
 /** @type {(maximum: number) => string} */
-export const longLine = (maximum) => `the line has more than ${maximum} bytes before its comment`;
+export const lineTooLongMessage = (maximum) => `the line has more than ${maximum} bytes before its comment`;
 
 // --- import/expressions.js ---
 /** @type {(text: string) => string} */
@@ -41,6 +41,6 @@ export const PAST_LAST = "past the last address, FFF";
 /** @type {(word: string) => string} */
 export const noInstructionMessage = (word) => `\`${word}\` is neither an instruction nor a directive that is supported`;
 /** @type {(word: string, count: number) => string} */
-export const operandCount = (word, count) => (
+export const wrongOperandCountMessage = (word, count) => (
   count === 0 ? `${word} has no operand` : `${word} is written with ${count === 1 ? "one operand" : "two operands"}`);
 export const NO_VALUES = "DB has no values";

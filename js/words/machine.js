@@ -58,7 +58,7 @@ export const inHexadecimal = (name) => `${name}, in hexadecimal digits`;
 
 // --- machine/go_to_target.js ---
 /** @type {(word: string) => string} */
-export const beyondLast = (word) => `${word} is not an address: the last one is FFF, or 4095.`;
+export const addressTooLargeMessage = (word) => `${word} is not an address: the last one is FFF, or 4095.`;
 export const ADDRESS_FORMS = "write an address as the listing does (01E), as 0x01E or in decimal (30)";
 /** @type {(forms: string) => string} */
 export const nothingToGoToMessage = (forms) => `Enter where to go: ${forms}.`;
@@ -81,20 +81,20 @@ export const manyTimes = (count) => `${count} times`;
 export const LAST_CHANGE = ", last";
 /** @type {(count: string, cause: string) => string} */
 export const changesSeenRunning = (count, cause) => `${count} as seen while running, last seen by ${cause}`;
-/** @type {(chips: number, isAll: boolean) => string} */
-export const heatCounted = (chips, isAll) => (
-  `Counted while running${chips > 1 ? `, in one of ${chips} chips at a time` : ""}${isAll ? "" : ", at full speed in samples"}.`);
+/** @type {(chips: number, isComplete: boolean) => string} */
+export const heatCounted = (chips, isComplete) => (
+  `Counted while running${chips > 1 ? `, in one of ${chips} chips at a time` : ""}${isComplete ? "" : ", at full speed in samples"}.`);
 export const NOTHING_EARLIER = "No earlier cycle is remembered.";
-/** @type {(time: string, isAll: boolean) => string} */
-export const inTheLast = (time, isAll) => `In the last ${time}${isAll ? "" : " (no more is remembered)"},`;
+/** @type {(time: string, isComplete: boolean) => string} */
+export const inTheLast = (time, isComplete) => `In the last ${time}${isComplete ? "" : " (no more is remembered)"},`;
 /** @type {(period: string) => string} */
 export const nothingChangedMessage = (period) => `${period} no character of RAM has changed.`;
 /** @type {(period: string, name: string, change: string) => string} */
-export const oneChanged = (period, name, change) => `${period} one character has changed: ${name}, ${change}.`;
+export const oneChangeMessage = (period, name, change) => `${period} one character has changed: ${name}, ${change}.`;
 /** @type {(name: string, count: string) => string} */
 export const mostFrequentChange = (name, count) => `most often ${name}, ${count}`;
 /** @type {(period: string, count: number, mostChanged: string, lastChanged: string, change: string) => string} */
-export const manyChanged = (period, count, mostChanged, lastChanged, change) =>
+export const manyChangesMessage = (period, count, mostChanged, lastChanged, change) =>
   `${period} ${count} characters have changed: ${mostChanged}; last ${lastChanged}, ${change}.`;
 
 // --- machine/heat_view.js ---
@@ -143,7 +143,7 @@ export const NO_ADDRESS = "Nothing was done: the source is not the same as ROM, 
 
 // --- machine/source_map.js ---
 /** @type {(word: string, address: string, line: string) => string} */
-export const addressOf = (word, address, line) => `${word}: address 0x${address}${line}`;
+export const wordWithAddress = (word, address, line) => `${word}: address 0x${address}${line}`;
 /** @type {(line: number) => string} */
 export const inLine = (line) => `, line ${line}`;
 
@@ -162,7 +162,7 @@ export const differsAt = (address, line) => `Source and ROM differ from line ${l
 /** @type {(address: string) => string} */
 export const notInSourceMessage = (address) => `${address}, which the source does not fill`;
 /** @type {(address: string, line: number, code: string) => string} */
-export const inSource = (address, line, code) => `${address}, line ${line}: ${code}`;
+export const locationInSource = (address, line, code) => `${address}, line ${line}: ${code}`;
 
 // --- machine/stack_view.js ---
 export const COUNTER_AND_RETURNS = "Counter and return addresses";
@@ -174,7 +174,7 @@ export const STOP_AT_THIS = " Break on this";
 
 // --- machine/watch_view.js ---
 /** @type {(maximum: number) => string} */
-export const maxWatched = (maximum) => `At most ${maximum} expressions can be watched: remove one first.`;
+export const tooManyWatchesMessage = (maximum) => `At most ${maximum} expressions can be watched: remove one first.`;
 /** @type {(name: string) => string} */
 export const stopWatching = (name) => `stop showing ${name}`;
 export const WHEN_PAUSED = "seen when paused";

@@ -120,7 +120,7 @@ export const showText = (text) => `Show ${text}`;
 /** @type {(speed: string) => string} */
 export const atSpeed = (speed) => `Speed: ${speed}`;
 /** @type {(panel: string) => string} */
-export const toggledPanel = (panel) => `Close or reopen ${panel}`;
+export const togglePanel = (panel) => `Close or reopen ${panel}`;
 /** @type {(panel: string) => string} */
 export const fullPanel = (panel) => `Full size: ${panel}, and back`;
 /** The names of the commands that select a theme, by theme id. */
@@ -185,11 +185,11 @@ export const TYPE_COMMAND = "Type a command";
 export const GO_TO = "Go to";
 export const TYPE_DESTINATION = "Type a label, an address, :line or the name of a text; > for commands";
 /** @type {(count: number) => string} */
-export const countOfCommands = (count) => (count === 1 ? "1 command" : `${count} commands`);
+export const commandCountText = (count) => (count === 1 ? "1 command" : `${count} commands`);
 /** @type {(count: number) => string} */
-export const countOfDestinations = (count) => (count === 1 ? "1 place" : `${count} places`);
+export const destinationCountText = (count) => (count === 1 ? "1 place" : `${count} places`);
 /** @type {(query: string) => string} */
-export const noneHas = (query) => `Nothing is named ${query}`;
+export const noMatchMessage = (query) => `Nothing is named ${query}`;
 
 // --- commands/palette_destinations.js ---
 /** @type {(address: string) => string} */

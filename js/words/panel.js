@@ -2,7 +2,7 @@
 
 // --- panel/terminal_panel.js ---
 /** @type {(line: string, answer: string, meaning: string) => string} */
-export const refused = (line, answer, meaning) => `${line} is rejected: ${answer}: ${meaning}`;
+export const rejectedMessage = (line, answer, meaning) => `${line} is rejected: ${answer}: ${meaning}`;
 export const NOTHING_HERE = "this key does nothing here; the last line lists the keys";
 /** @type {(key: string) => string} */
 export const noKeyMessage = (key) => `the board has no key ${key}`;
@@ -12,17 +12,17 @@ export const noKeyMessage = (key) => `the board has no key ${key}`;
 export const headLine = (title, session, commands, state) => ` ${title && `${title}: `}${session}   ${commands} commands   ${state}`;
 export const RUNNING = "running";
 /** @type {(reason: string) => string} */
-export const paused = (reason) => `paused${reason && ` ${reason}`}`;
+export const pausedState = (reason) => `paused${reason && ` ${reason}`}`;
 /** @type {(text: string) => string} */
-export const display = (text) => `display ${text}`;
-/** @type {(lamps: string) => string} */
-export const lamps = (lamps_) => `lamps ${lamps_}`;
+export const displayLine = (text) => `display ${text}`;
+/** @type {(marks: string) => string} */
+export const lampsLine = (marks) => `lamps ${marks}`;
 /** @type {(place: string, line: number, text: string) => string} */
 export const sourceHere = (place, line, text) => `${place}, line ${line}: ${text}`;
 /** @type {(place: string) => string} */
 export const returnTo = (place) => `  ret ${place}`;
 /** @type {(chip: string, out: string) => string} */
-export const portOf = (chip, out) => `${chip} out ${out}`;
+export const portOutput = (chip, out) => `${chip} out ${out}`;
 export const PRINTOUT_TITLE = "--- printout -----------";
 /** @type {(test: string, hasMoreRam: boolean) => string} */
 export const keyLine = (test, hasMoreRam) => (
@@ -36,7 +36,8 @@ export const noteOfBoard = (line, error) => `line ${line}: ${error}`;
 // --- node/commands/panel.mjs, node/panel_terminal.mjs ---
 export const NO_TERMINAL = "standard input and output must be a terminal";
 /** @type {(kind: string) => string} */
-export const isDumbMessage = (kind) => `it draws on the whole screen, and a terminal of the kind '${kind}' (TERM) cannot do that`;
+export const unsuitableTerminalMessage = (kind) => (
+  `it draws on the whole screen, and a terminal of the kind '${kind}' (TERM) cannot do that`);
 /** @type {(minimum: string, columns: number, rows: number) => string} */
 export const tooSmallMessage = (minimum, columns, rows) => `it needs a terminal of ${minimum}, and this one has ${columns} by ${rows}`;
 /** @type {(columns: number, rows: number) => string} */

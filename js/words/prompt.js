@@ -1,5 +1,7 @@
 // Texts of the `mcs4 debug` prompt.
 
+import { formatCycles } from "../core/time/cycles.js";
+
 // --- prompt/breakpoint_commands.js ---
 export const BREAKPOINT_NUMBER_MISSING = "which one? info breakpoints shows their numbers";
 /** @type {(id: number, address: string) => string} */
@@ -7,7 +9,7 @@ export const breakpointAt = (id, address) => `Breakpoint ${id} at ${address}.`;
 /** @type {(word: string) => string} */
 export const noBreakpointMessage = (word) => `there is no breakpoint ${word}; info breakpoints shows their numbers`;
 /** @type {(place: string) => string} */
-export const isWatchedMessage = (place) => `${place} is watched.`;
+export const placeIsWatchedMessage = (place) => `${place} is watched.`;
 /** @type {(watched: string) => string} */
 export const onlyOneWatchAllowed = (watched) => (
   `${watched} is watched, and only one place other than RAM characters can be watched: delete ${watched} first`);
@@ -32,9 +34,9 @@ export const SAVE_SYNTAX = "write save breakpoints FILE";
 export const SAVED_HEAD = "# Breakpoints of mcs4 debug";
 export const TEMPORARY = ", temporary";
 /** @type {(id: number) => string} */
-export const stopsAlways = (id) => `Breakpoint ${id} has no condition now.`;
+export const conditionRemovedMessage = (id) => `Breakpoint ${id} has no condition now.`;
 /** @type {(maximum: string, text: string) => string} */
-export const hitCountRange = (maximum, text) => `a hit count is 0 to ${maximum}, not ${text}`;
+export const hitCountRangeMessage = (maximum, text) => `a hit count is 0 to ${maximum}, not ${text}`;
 /** @type {(id: number, count: number) => string} */
 export const breakpointWillIgnore = (id, count) => {
   if (count === 0) return `Breakpoint ${id} stops at its next hit.`;
@@ -55,7 +57,7 @@ export const addressWithName = (address, name) => `0x${address}${name && ` <${na
 /** @type {(format: string, formats: string) => string} */
 export const noFormatMessage = (format, formats) => `${format || "nothing"} is not a format; formats are ${formats}`;
 /** @type {(value: string) => string} */
-export const noNumberOfMessage = (value) => `${value} is not a number, so it has no format`;
+export const notANumberMessage = (value) => `${value} is not a number, so it has no format`;
 
 // --- prompt/change_commands.js ---
 export const BENCH_SYNTAX = "write bench LINE, as in bench state";
@@ -91,7 +93,7 @@ export const noPlaceOfMemoryMessage = (place) => (
   `${place} is neither a label nor an address; examples: x/8 LABEL, x/8 0x00F, x/16 ram.0.0x10`);
 export const NO_LINE_THERE = "the source has no line there; x shows what is in ROM";
 /** @type {(count: number) => string} */
-export const sourceHas = (count) => `the source has ${count} lines`;
+export const sourceLineCountMessage = (count) => `the source has ${count} lines`;
 export const NOTHING_DISPLAYED = "nothing is displayed";
 /** @type {(program: string, count: number) => string} */
 export const linesOf = (program, count) => `${program}, ${count} lines`;
@@ -109,7 +111,7 @@ export const lineLocation = (line, first, name, last) => (
 
 // --- prompt/state_text.js ---
 export const NO_RAM = "the board has no RAM";
-export const THE_CALL = ", the call";
+export const CALL_SUFFIX = ", the call";
 export const NO_NAMES = "the source has no names";
 export const NO_BREAKPOINTS = "there are no breakpoints";
 /** @type {(place: string) => string} */
@@ -131,6 +133,9 @@ export const notPressedMessage = (message, keys) => `${message} Not pressed: ${k
 export const backInSubroutine = (location) => `Back in the subroutine, at ${location}: the remembered past begins in it.`;
 /** @type {(location: string) => string} */
 export const backAt = (location) => `Back at ${location}: this instruction has not run yet.`;
+/** @type {(location: string, cycles: number, done: number, count: number) => string} */
+export const fewerStepsBackMessage = (location, cycles, done, count) => (
+  `Back at ${location}, ${formatCycles(cycles)} earlier, after ${done} of ${count} instructions: the remembered past begins here.`);
 
 // --- prompt/debugger_prompt.js ---
 /** The start of the message for a command that had no effect. */
@@ -149,7 +154,7 @@ export const noInstructionInMessage = (line) => `neither line ${line} of the sou
 /** @type {(text: string, forms: string) => string} */
 export const notInProgramMessage = (text, forms) => `${text} is not a place in the program; write ${forms}`;
 /** @type {(maximum: string, text: string) => string} */
-export const countRange = (maximum, text) => `a count is 1 to ${maximum}, not ${text}`;
+export const countRangeMessage = (maximum, text) => `a count is 1 to ${maximum}, not ${text}`;
 /** @type {(text: string) => string} */
 export const noTimeMessage = (text) => `${text} is not a time; write a number of cycles such as 538, or 54 us, 20 ms, 1.5 s`;
 export const NOTHING = "nothing";

@@ -62,17 +62,17 @@ export const notDecided = (reason) => `TODO not decided: ${reason}`;
 const evenWithout = (guards) => (guards ? `, even without ${guards}` : "");
 /** @type {(words: string[]) => string} returns `"a"`, `"a" and "b"` or `"a", "b" and "c"` */
 const quotedList = (words) => words.map((word) => `"${word}"`).join(", ").replace(/, (?=[^,]*$)/, " and ");
-/** @type {(limits: string[]) => string} `limits` are the lines of the text whose limits a proof needs, [] for none */
+/** @type {(limits: string[]) => string} `limits` are the lines that limit the inputs in a proof, [] for none */
 const forInputs = (limits) => (limits.length > 0 ? `for the inputs of ${quotedList(limits)}` : "for all inputs");
 /**
- * The inputs and the guards of a proof. `limits` are the lines of the text whose limits the proof needs. `leftOut` names the guards that
- * the proof leaves out, or is "" if there are none.
+ * The inputs and the guards of a proof. `limits` are the lines of the properties text that limit the inputs. `leftOut` names the guards
+ * that the proof leaves out, or is "" if there are none.
  * @typedef {{ limits: string[], leftOut: string }} Scope
  */
 /** @type {(states: string, scope: Scope) => string} */
-export const proved = (states, { limits, leftOut }) => `proved ${forInputs(limits)} (${states})${evenWithout(leftOut)}`;
+export const provedVerdict = (states, { limits, leftOut }) => `proved ${forInputs(limits)} (${states})${evenWithout(leftOut)}`;
 /** @type {(states: string, scope: Scope) => string} */
-export const neverReached = (states, { limits, leftOut }) =>
+export const neverReachedVerdict = (states, { limits, leftOut }) =>
   `never reached, ${forInputs(limits)} (${states})${evenWithout(leftOut)}`;
 /** @type {(steps: string) => string} */
 export const brokenBy = (steps) => `broken, ${steps}`;

@@ -91,7 +91,7 @@ export const ABOUT_PROJECT =
   "# A board, its program and a session of the bench Fethsaim. Its page opens this file; mcs4 project splits it.";
 export const HEAD_LINE = "a line of the head: `name`, `unended`, `break`, `value`, `#`, or `wire`, which starts the board's text";
 export const BOARD_TEXT = "the board's text";
-export const SOURCE_TEXT = "the source";
+export const THE_SOURCE = "the source";
 export const TESTS_TEXT = "the tests' text";
 export const PROPERTIES_TEXT = "the properties' text";
 /** @type {(text: string, size: string, maximum: string) => string} */
@@ -197,16 +197,16 @@ export const THE_PROPERTIES = "the properties";
 export const linkContains = (parts, last) => `It holds ${parts} and ${last}, not the state of the machine.`;
 export const LINK_FROM_FILE = " This page was opened from a file, so the link works only on this machine. Others append the part that "
   + "begins with # to the address of their own page.";
-export const LONG = "Some messaging programs cut a link of more than 8,000 characters; a project file is safer.";
+export const LONG_LINK_WARNING = "Some messaging programs cut a link of more than 8,000 characters; a project file is safer.";
 /** @type {(reason: string) => string} */
 export const noLinkMessage = (reason) => `No link was made: ${reason}. Shorten it first.`;
 /** @type {(count: string) => string} */
-export const characters = (count) => `${count} characters`;
+export const characterCountText = (count) => `${count} characters`;
 /** @type {(size: string, warning: string) => string} */
 export const linkCopied = (size, warning) => `A link of ${size} was copied. ${warning}`;
 export const TOO_LONG_LINK = "Too long for a link";
 /** @type {(size: string, maximum: string) => string} */
-export const longLink = (size, maximum) => (
+export const linkTooLongMessage = (size, maximum) => (
   `These texts would make a link of ${size}; browsers show at most ${maximum}. A project file has no such limit.`);
 export const SAVE_PROJECT = "Save a project";
 export const LEAVE_IT = "Leave it";
@@ -219,7 +219,7 @@ export const OPEN_AS_NEW = "Open it as a new session";
 /** @type {(reason: string) => string} */
 export const linkNotOpened = (reason) => `Cannot open the link: ${reason}. Nothing was changed.`;
 /** @type {(isBoard: boolean, reason: string) => string} */
-export const benchRefusesText = (isBoard, reason) => (
+export const textRejectedMessage = (isBoard, reason) => (
   `The bench rejects the ${isBoard ? "board" : "source"} (${reason}). The text is opened anyway.`);
 /** @type {(board: string, source: string, tests: string, properties: string) => string} */
 export const sizesOfTexts = (board, source, tests, properties) => (
@@ -249,9 +249,9 @@ export const OPENED_IN = {
   properties: "is in Properties. Search looks for counterexamples, on the current Board and Source.",
 };
 export const SOURCE = "Source";
-export const ASSEMBLES = "Assemble and run puts it into ROM";
+export const ASSEMBLE_HINT = "Assemble and run puts it into ROM";
 export const BOARD = "Board";
-export const WIRES = "Apply board puts it on the bench";
+export const APPLY_BOARD_HINT = "Apply board puts it on the bench";
 export const BOARD_AND_SOURCE = "Board and Source";
 /** @type {(name: string, tab: string, action: string, nextAction: string) => string} */
 export const textIsIn = (name, tab, action, nextAction) => `${name} is in ${tab}. ${action}${nextAction}.`;

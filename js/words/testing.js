@@ -11,10 +11,10 @@ export const NEVER = "never";
 export const formatRange = (from, to) => `${from} to ${to}`;
 /** @type {(line: number, isTaken: boolean) => string} */
 export const describeDirection = (line, isTaken) => `${line} (${isTaken ? "always" : "never"} taken)`;
-/** @type {(lines: string, areMany: boolean) => string} */
-export const neverRun = (lines, areMany) => `never run: ${areMany ? "lines" : "line"} ${lines}`;
-/** @type {(lines: string, areMany: boolean) => string} */
-export const oneDirectionOnly = (lines, areMany) => `only one way: ${areMany ? "lines" : "line"} ${lines}`;
+/** @type {(lines: string, isPlural: boolean) => string} */
+export const neverRun = (lines, isPlural) => `never run: ${isPlural ? "lines" : "line"} ${lines}`;
+/** @type {(lines: string, isPlural: boolean) => string} */
+export const oneDirectionOnly = (lines, isPlural) => `only one way: ${isPlural ? "lines" : "line"} ${lines}`;
 
 // --- testing/last_instructions.js ---
 /** @type {(row: string) => string} */
@@ -58,9 +58,9 @@ export const TAP_TRACE = "trace: |";
 /** @type {(state: string, test: string) => string} */
 export const stateMissing = (state, test) => `the state ${state} is missing, because the test \`${test}\` did not reach its \`save\``;
 /** @type {(line: number, file: string) => string} a reference to a line in this text, or in another file */
-const placeOf = (line, file) => (file ? `${file}:${line}` : `line ${line}`);
+const lineLocation = (line, file) => (file ? `${file}:${line}` : `line ${line}`);
 /** @type {(name: string, line: number, file: string) => string} */
-export const describeSharedSteps = (name, line, file) => `the steps ${name} of ${placeOf(line, file)}`;
+export const describeSharedSteps = (name, line, file) => `the steps ${name} of ${lineLocation(line, file)}`;
 /** @type {(iteration: number, count: number, line: number) => string} */
 export const describeTurn = (iteration, count, line) => `turn ${iteration} of ${count} of line ${line}`;
 /** @type {(cycles: number, reason: string) => string} */
@@ -95,7 +95,7 @@ export const beginsWithTest = (line) => `a text of tests begins with \`test NAME
 export const TEST_NAME_MISSING = "a test has a name: test NAME";
 export const STEPS_NAME_MISSING = "shared steps have a name of one word: steps NAME";
 /** @type {(name: string, line: number, file: string) => string} */
-export const stepsDefinedTwice = (name, line, file) => `the steps ${name} are already at ${placeOf(line, file)}`;
+export const stepsDefinedTwice = (name, line, file) => `the steps ${name} are already at ${lineLocation(line, file)}`;
 export const NO_END = "this `repeat` has no `end`";
 export const END_SYNTAX = "`end` takes no argument";
 export const NO_REPEAT = "there is no `repeat` for this `end`";
@@ -124,8 +124,8 @@ export const knownStates = (states) => `; there is: ${states}`;
 /** @type {(state: string, hint: string) => string} */
 export const noSuchStateMessage = (state, hint) => `no earlier test saves a state ${state}${hint}`;
 export const OWN_STATE = "a test cannot begin with a state that it saves itself";
-/** @type {(word: string, areMany: boolean) => string} */
-export const keysSyntax = (word, areMany) => `write \`${word} ${areMany ? "KEYS" : "KEY .."}\``;
+/** @type {(word: string, isPlural: boolean) => string} */
+export const keysSyntax = (word, isPlural) => `write \`${word} ${isPlural ? "KEYS" : "KEY .."}\``;
 /** @type {(name: string, word: string) => string} */
 export const nameNorWord = (name, word) => `${name}, nor ${word}`;
 /** @type {(key: string, keyNames: string) => string} */

@@ -8,9 +8,10 @@ export const didYouMean = (similarWords, end = "") => (
 
 // --- text/asm_texts.js ---
 /** @type {(bytes: string, isOne: boolean, first: string) => string} */
-export const bytesRemaining = (bytes, isOne, first) => `${bytes} from before ${isOne ? "stays" : "stay"} in ROM, from ${first}.`;
-/** @type {(bytes: string, stay: string, counter: string) => string} */
-export const bytesAssembled = (bytes, stay, counter) => `${bytes} assembled.${stay} The counter stays at ${counter}; nothing was reset.`;
+export const bytesRemainingMessage = (bytes, isOne, first) => `${bytes} from before ${isOne ? "stays" : "stay"} in ROM, from ${first}.`;
+/** @type {(bytes: string, remaining: string, counter: string) => string} */
+export const bytesAssembledMessage = (bytes, remaining, counter) => (
+  `${bytes} assembled.${remaining} The counter stays at ${counter}; nothing was reset.`);
 
 // --- text/board_completion.js ---
 /** @type {(isInput: boolean, line: string, chip: string) => string} */
@@ -103,9 +104,9 @@ export const lacksKeys = (kind, keys) => `this ${kind} lacks ${keys}`;
 export const countText = (number) => ["never", "once"][number] || `${number.toLocaleString("en")} times`;
 export const NO_TEST_RUNS = "no test runs it";
 /** @type {(count: string) => string} */
-export const runCount = (count) => `run ${count}`;
+export const runCountText = (count) => `run ${count}`;
 /** @type {(jumped: string, continued: string) => string} */
-export const jumpCounts = (jumped, continued) => `; it jumped ${jumped} and continued ${continued}`;
+export const jumpCountsText = (jumped, continued) => `; it jumped ${jumped} and continued ${continued}`;
 
 // --- text/text_editor_view.js ---
 export const ERRORS = "Errors";
@@ -153,7 +154,7 @@ export const lineOfName = (line, isDefinition) => `line ${line}${isDefinition ? 
 export const otherName = (name) => `Another name for ${name}`;
 export const RENAME = "Rename";
 /** @type {(oldName: string, newName: string, places: string) => string} */
-export const renamed = (oldName, newName, places) => `${oldName} is now ${newName}, at ${places}.`;
+export const renamedMessage = (oldName, newName, places) => `${oldName} is now ${newName}, at ${places}.`;
 /** @type {(last: string) => string} */
 export const lineOfText = (last) => `Line, 1 to ${last}`;
 /** @type {(last: string) => string} */
@@ -182,11 +183,11 @@ export const VALUE_OPERAND = "a value, 0 to 15";
 export const BYTE_OPERAND = "a byte, 0 to 255";
 export const ADDRESS_OPERAND = "an address, 0 to 4095, or a name";
 /** @type {(number: string) => string} */
-export const isHexadecimalMessage = (number) => `hexadecimal is ${number}`;
+export const hexadecimalHint = (number) => `hexadecimal is ${number}`;
 /** @type {(number: string) => string} */
-export const isBinaryMessage = (number) => `binary numbers are not supported; it is ${number}`;
+export const binaryHint = (number) => `binary numbers are not supported; it is ${number}`;
 /** @type {(letter: string, number: string) => string} */
-export const isLetterMessage = (letter, number) => `characters are not supported; the code of ${letter} is ${number}`;
+export const characterCodeHint = (letter, number) => `characters are not supported; the code of ${letter} is ${number}`;
 /** @type {(number: string) => string} */
 export const withoutNumberSign = (number) => `without #: ${number}`;
 export const NO_NEGATIVES = "there are no negative numbers";
@@ -197,15 +198,15 @@ export const NUMBER_SYNTAX = "a number is decimal digits, or 0x and hexadecimal 
 export const nameTooLong = (maximum, length) => `a name has at most ${maximum} characters; this has ${length}`;
 export const NAME_SYNTAX = "a name has letters, digits and _, and does not begin with a digit";
 /** @type {(name: string) => string} */
-export const isInstructionMessage = (name) => `${name} is an instruction, so it cannot be a name`;
+export const instructionAsNameMessage = (name) => `${name} is an instruction, so it cannot be a name`;
 /** @type {(name: string) => string} */
 export const cannotBeNameMessage = (name) => `${name} cannot be a name`;
 /** @type {(name: string) => string} */
-export const isRegisterMessage = (name) => `${name} is a register, so it cannot be a name`;
+export const registerAsNameMessage = (name) => `${name} is a register, so it cannot be a name`;
 /** @type {(instruction: string, operands: string) => string} */
-export const takes = (instruction, operands) => `${instruction} takes ${operands}`;
+export const operandExpected = (instruction, operands) => `${instruction} takes ${operands}`;
 /** @type {(instruction: string, operand: string) => string} */
-export const takesAfterComma = (instruction, operand) => `${instruction} takes ${operand}, after the comma`;
+export const operandExpectedAfterComma = (instruction, operand) => `${instruction} takes ${operand}, after the comma`;
 export const NO_WPM = "this bench has no WPM: a program cannot write its ROM";
 /** @type {(name: string, number: string) => string} */
 export const nameGetsNumber = (name, number) => `define a name with =: ${name} = ${number}`;
@@ -222,12 +223,12 @@ export const COLON_SYNTAX = "a name is missing before the colon";
 /** @type {(name: string) => string} */
 export const takesNothing = (name) => `${name} takes no operand`;
 export const AND_AFTER = ", and ";
-/** @type {(name: string, operands: string, isMore: boolean) => string} */
-export const takesNoMore = (name, operands, isMore) => `${name} takes ${operands}${isMore ? ", no more" : ""}`;
+/** @type {(name: string, operands: string, hasExtraOperand: boolean) => string} */
+export const operandCountMessage = (name, operands, hasExtraOperand) => `${name} takes ${operands}${hasExtraOperand ? ", no more" : ""}`;
 export const NAME_VALUE_RANGE = "the number of a name is 0 to 4095";
 export const ORG_ADDRESS = "an address, 0 to 4095";
 /** @type {(name: string, operands: string, extra: string) => string} */
-export const takesOperands = (name, operands, extra) => `${name} takes ${operands}${extra}`;
+export const wrongOperandMessage = (name, operands, extra) => `${name} takes ${operands}${extra}`;
 /** @type {(operand: string) => string} */
 export const extraOperandNote = (operand) => `; ${operand} is more`;
 /** @type {(name: string, suggestion: string) => string} */
@@ -235,13 +236,13 @@ export const notDefinedMessage = (name, suggestion) => `${name} is not defined${
 /** @type {(name: string, line: number|undefined) => string} */
 export const definedBefore = (name, line) => `${name} is already defined in line ${line}`;
 /** @type {(name: string, head: string) => string} */
-export const otherPage = (name, head) => `${name} is on another page; ${head} reaches the page of the address after its two words`;
+export const otherPageMessage = (name, head) => `${name} is on another page; ${head} reaches the page of the address after its two words`;
 export const IT = "it";
 export const BYTE_TWICE = "an earlier line has put a byte at this address; check the ORG lines";
 
 // --- text/property_words.js ---
-export const MAY_CHANGE = "Inputs";
-export const MUST_HOLD = "Properties";
+export const INPUTS_TITLE = "Inputs";
+export const PROPERTIES_TITLE = "Properties";
 /** The end of a property's text, after a label. */
 export const ONCE_FOR_EACH_PRESS = "at most once for each press";
 export const FIRST_PROPERTIES = "# Properties that hold whatever is pressed, at any time. F1 lists the words; "
@@ -250,13 +251,13 @@ export const FIRST_PROPERTIES = "# Properties that hold whatever is pressed, at 
 // --- text/references.js ---
 export const NAME_RULE = "A name has ASCII letters, digits and _, and does not begin with a digit.";
 /** @type {(maximum: number, length: number) => string} */
-export const nameHasMost = (maximum, length) => `A name has at most ${maximum} characters; this has ${length}.`;
+export const newNameTooLongMessage = (maximum, length) => `A name has at most ${maximum} characters; this has ${length}.`;
 /** @type {(name: string) => string} */
 export const nameIsInstructionMessage = (name) => `${name} is an instruction.`;
 /** @type {(name: string) => string} */
 export const nameIsRegisterMessage = (name) => `${name} is a register.`;
 /** @type {(name: string, line: number) => string} */
-export const isDefinedMessage = (name, line) => `${name} is already defined in line ${line}.`;
+export const alreadyDefinedMessage = (name, line) => `${name} is already defined in line ${line}.`;
 
 // --- text/search_bar.js ---
 /** @type {(label: string) => string} */
@@ -271,7 +272,7 @@ export const REPLACE = "Replace";
 export const REPLACE_ALL = "Replace all";
 export const NOT_FOUND = "not found";
 /** @type {(count: string) => string} */
-export const replaced = (count) => `${count} replaced`;
+export const replacedMessage = (count) => `${count} replaced`;
 /** @type {(number: number, count: number) => string} */
 export const matchPosition = (number, count) => `${number} of ${count}`;
 
@@ -296,7 +297,7 @@ export const TAB_INDENTS = "Tab indents. Escape and then Tab leaves the text.";
 // --- text/sendable_text.js ---
 /** @type {(character: string) => string} */
 export const otherQuote = (character) => `${character} is not the ASCII quotation mark "`;
-export const NON_BREAKING_SPACE = "a non-breaking space (U+00A0); write a plain space";
+export const NON_BREAKING_SPACE_HINT = "a non-breaking space (U+00A0); write a plain space";
 /** @type {(code: string) => string} */
 export const invisibleCharacter = (code) => `an invisible character (U+${code}); delete it`;
 export const CONTROL_CHARACTER = "a control character; only tabs and printable ASCII characters can be sent";
@@ -312,16 +313,16 @@ export const textTooLong = (maximum, size) => (
 // --- text/text_help.js ---
 export const CARRY_UNCHANGED = ". The carry stays";
 /** @type {(pair: number, upper: number, lower: number) => string} */
-export const pairIs = (pair, upper, lower) => `P${pair}: the pair of R${upper} (upper four bits) and R${lower} (lower four bits).`;
+export const describePair = (pair, upper, lower) => `P${pair}: the pair of R${upper} (upper four bits) and R${lower} (lower four bits).`;
 /** @type {(register: number, isUpper: boolean, pair: number) => string} */
-export const registerIs = (register, isUpper, pair) => `R${register}: the ${isUpper ? "upper" : "lower"} half of P${pair}.`;
+export const describeRegister = (register, isUpper, pair) => `R${register}: the ${isUpper ? "upper" : "lower"} half of P${pair}.`;
 export const ORG_HELP = "ORG n: the next statement is at address n, 0 to 4095.";
 export const DB_HELP = "DB v, v, ..: bytes, each 0 to 255.";
 /** @type {(name: string, line: number) => string} */
 export const definedInLine = (name, line) => `${name}: defined in line ${line}.`;
 export const KEYS_OF_TEXT = "The TOML keys";
 /** @type {(name: string, table: string, values: string) => string} */
-export const keyIs = (name, table, values) => `${name} of ${table}: ${values}.`;
+export const describeKey = (name, table, values) => `${name} of ${table}: ${values}.`;
 
 // --- text/toml_words.js ---
 /** @type {(quote: string) => string} */

@@ -14,7 +14,7 @@ export const cyclesAndMicroseconds = (cycles, time) => `${cycles} cycle${cycles 
 /** @type {(line: number, answer: string) => string} */
 export const isRefusalMessage = (line, answer) => `line ${line} is a refusal: ${answer}; mcs4 explain says why`;
 /** @type {(lines: number) => string} */
-export const onlyAnswers = (lines) => `there are only ${lines} lines of answers`;
+export const tooFewAnswersMessage = (lines) => `there are only ${lines} lines of answers`;
 export const NO_RUN = "none of these lines shows a run, as `ok 5 ran 100 end` does";
 /** @type {Record<string, string>} the end of a run in `mcs4 cycles`, by the word in the answer */
 export const WHY_STOPPED = {
@@ -35,7 +35,7 @@ export const BETWEEN_MARKS = "Between the marks ";
 
 // --- time/history_view.js ---
 /** @type {(maximum: string) => string} */
-export const enterCount = (maximum) => `Nothing was done: give a number of instructions, 1 to ${maximum}.`;
+export const instructionCountHint = (maximum) => `Nothing was done: give a number of instructions, 1 to ${maximum}.`;
 export const ENTER_CHANGE = "Nothing was done: enter a place such as r5, lamp 3 or rom0.2, or a condition such as r5 > 8.";
 /** @type {(error: string) => string} the error for the status bar; gives a few example places instead of the list of all places */
 export const cannotSearchForMessage = (error) => `Nothing was done: ${error.replace(PLACES_ARE, EXAMPLE_PLACES)}.`;
@@ -45,7 +45,7 @@ const EXAMPLE_PLACES = "enter something such as r5, lamp 3 or rom0.2";
 /** @type {(rate: string) => string} */
 export const cyclesASecond = (rate) => `${rate} cycles a second`;
 /** @type {(name: string, errors: number) => string} the status text for a session name and the number of breakpoints with errors */
-export const isRunning = (name, errors) => `Running "${name}". F5 pauses it.${errors === 0 ? "" : errorsIn(errors)}`;
+export const runningMessage = (name, errors) => `Running "${name}". F5 pauses it.${errors === 0 ? "" : errorsIn(errors)}`;
 /** @type {(errors: number) => string} */
 const errorsIn = (errors) => (
   ` ${errors === 1 ? "A breakpoint has an error: it stops" : `${errors} breakpoints have errors: they stop`} at each arrival.`);

@@ -28,14 +28,15 @@ export const waitsFor = (trigger) => ` Waiting for ${trigger}.`;
 // --- waves/scope.js ---
 export const RECORD = "Record";
 /** @type {(minimum: number, maximum: string) => string} */
-export const howManyCycles = (minimum, maximum) => `Enter a number of cycles, from ${minimum} to ${maximum}.`;
+export const cycleCountHint = (minimum, maximum) => `Enter a number of cycles, from ${minimum} to ${maximum}.`;
 /** @type {(maximum: string) => string} */
-export const maxAfter = (maximum) => `${maximum} cycles are kept: at most that many can follow the trigger.`;
+export const tooManyCyclesAfterMessage = (maximum) => `${maximum} cycles are kept: at most that many can follow the trigger.`;
 /** @type {(error: string) => string} */
 export const triggerNotUnderstood = (error) => `The trigger is not understood: ${error}.`;
 export const STOP_RECORDING = "Stop recording";
 /** @type {(query: string, isForward: boolean, cycle: string) => string} */
-export const notFound = (query, isForward, cycle) => `${query}: not ${isForward ? "after" : "before"} cycle ${cycle} of this recording.`;
+export const notFoundMessage = (query, isForward, cycle) => (
+  `${query}: not ${isForward ? "after" : "before"} cycle ${cycle} of this recording.`);
 export const NO_LINE_CHOSEN = "No line is chosen: choose the lines for the file.";
 
 // --- waves/trigger.js ---
@@ -43,7 +44,7 @@ export const NO_LINE_CHOSEN = "No line is chosen: choose the lines for the file.
 export const noSuchNameMessage = (name) => `nothing here is called ${name}; the Rows menu lists the names`;
 export const LABEL_SYNTAX = "write a place of the program as @LABEL";
 /** @type {(name: string) => string} */
-export const isDecodedLineMessage = (name) => `${name} is decoded from other lines: name one of those, as in: rom0.0 rises`;
+export const lineIsDecodedMessage = (name) => `${name} is decoded from other lines: name one of those, as in: rom0.0 rises`;
 /** @type {(name: string) => string} */
 export const numberConditionSyntax = (name) => `${name} is a number: write ${name} changes, or as ${name} = 5`;
 
@@ -52,10 +53,10 @@ export const ROW = "Row";
 export const RENAME = "Rename";
 export const NAME = "Name";
 /** @type {(name: string) => string} */
-export const nameOf = (name) => `Name of ${name}`;
+export const nameLabel = (name) => `Name of ${name}`;
 export const GROUP = "Group";
 /** @type {(name: string) => string} */
-export const groupOf = (name) => `Group of ${name}`;
+export const groupLabel = (name) => `Group of ${name}`;
 export const LEAVE_GROUP = "Leave the group";
 export const UNGROUP = "Ungroup";
 export const FOLD = "Fold or unfold";
@@ -64,11 +65,11 @@ export const MOVE_DOWN = "Move down";
 export const HIDE = "Hide";
 export const COLOURS = { "": "Usual colour", "red": "Red", "amber": "Amber", "green": "Green", "blue": "Blue", "violet": "Violet" };
 /** @type {(name: string) => string} */
-export const groupIs = (name) => `group ${name}, `;
+export const groupPrefix = (name) => `group ${name}, `;
 
 // --- waves/measurement.js ---
-/** @type {(value: string, isWhole: boolean, time: string) => string} */
-export const hasValueFor = (value, isWhole, time) => `${value} for ${isWhole ? "" : "at least "}${time}`;
+/** @type {(value: string, isComplete: boolean, time: string) => string} */
+export const valueDuration = (value, isComplete, time) => `${value} for ${isComplete ? "" : "at least "}${time}`;
 /** @type {(text: string, time: string, frequency: string) => string} */
 export const withPeriod = (text, time, frequency) => `${text}; period ${time}, ${frequency}`;
 /** @type {(hertz: string) => string} */
@@ -132,9 +133,9 @@ export const noLabelMessage = (label) => `The program of this recording has no l
 export const notRecordedMessage = (name) => `Nothing that was recorded is called ${name}: select it and record again.`;
 export const NO_LINE_MARKED = "No row is selected: click one first.";
 /** @type {(name: string) => string} */
-export const isDecodedMessage = (name) => `${name} is decoded: search for its next change, or for a key of the key scan.`;
+export const decodedRowMessage = (name) => `${name} is decoded: search for its next change, or for a key of the key scan.`;
 /** @type {(name: string) => string} */
-export const isNumberMessage = (name) => `${name} is a number: search for a change, or for a value such as = 5.`;
+export const numberRowMessage = (name) => `${name} is a number: search for a change, or for a value such as = 5.`;
 /** @type {(value: string, forms: string) => string} */
 export const noNumberMessage = (value, forms) => `${value} is not a number such as 10, 0x0A or 0b1010. Forms: ${forms}.`;
 /** @type {(name: string, width: number, maximum: number) => string} */

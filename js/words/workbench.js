@@ -8,7 +8,7 @@ export const PANELS = {
 };
 export const FULL_SIZE = "Full size";
 /** @type {(name: string) => string} */
-export const fullSize = (name) => `${name}: full size, and back`;
+export const fullSizeLabel = (name) => `${name}: full size, and back`;
 /** @type {(name: string) => string} */
-export const closes = (name) => `${name}: close (View opens it again)`;
+export const closeLabel = (name) => `${name}: close (View opens it again)`;
 export const RESET_LAYOUT = "Reset layout";

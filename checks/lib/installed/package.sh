@@ -2,7 +2,7 @@
 # shellcheck shell=sh disable=SC2154
 
 make_home
-# Prints everything below a folder lib/fethsaim, except the list of installed files, which differs: modes, targets of links, and checksums.
+# Prints the modes, link targets and checksums of everything below a folder lib/fethsaim, except the list of installed files, which differs.
 describe_files() {
     (cd "$1" && find . ! -path ./installed -printf '%M %p %l\n' | LC_ALL=C sort && find . -type f ! -path ./installed -exec sha256sum {} + | LC_ALL=C sort)
 }
@@ -22,8 +22,7 @@ status 1" "a package in a missing folder"
     fi
     mkdir "$folder/unpacked"
     dpkg-deb -x "$package" "$folder/unpacked"
-    # Checks the file about copyright: it must name the authors of CodeMirror, and contain its full licence and README's sentence about Fethsaim's
-    # licence.
+    # Checks the copyright file: it must name the authors of CodeMirror, and contain its full licence and README's sentence about Fethsaim's licence.
     verdict "$(sed -n 's/.*: Copyright //p' page/codemirror/LICENCE | while IFS= read -r author; do
         grep -qF -- " $author (" "$folder/unpacked/usr/share/doc/mcs4/copyright" || echo "$author"
     done)" "" "authors of CodeMirror whom the package does not name"

@@ -14,11 +14,11 @@ import struct
 from collections.abc import Callable
 from typing import NamedTuple
 
-MAGIC, OPTION_MAGIC, REPLY_MAGIC, REQUEST_ANSWER = 0x4E42444D41474943, 0x49484156454F5054, 0x3E889045565A9, 0x67446698
+MAGIC, OPTION_MAGIC, REPLY_MAGIC, ANSWER_MAGIC = 0x4E42444D41474943, 0x49484156454F5054, 0x3E889045565A9, 0x67446698
 FIXED_NEWSTYLE_NO_ZEROES = 3
 # NBD option codes, the kinds of their replies, and the contents of a reply with information.
 ABORT, INFO, GO = 2, 6, 7
-ACKNOWLEDGED, INFORMED, UNSUPPORTED = 1, 3, (1 << 31) + 1
+ACK_REPLY, INFO_REPLY, UNSUPPORTED_REPLY = 1, 3, (1 << 31) + 1
 EXPORT, BLOCK_SIZE = 0, 3
 # NBD transmission flags (flags are valid; the disk accepts flushes), and the types of requests.
 HAS_FLAGS, SEND_FLUSH = 1, 4
@@ -82,21 +82,21 @@ class Disk:
 
 
 class Connection:
-    """QEMU's connection to one of the disks: the handshake that names the disk, and the requests. `leave` is called when the connection ends."""
+    """QEMU's connection to one of the disks: the handshake that names the disk, and the requests. `on_end` is called when the connection ends."""
 
-    def __init__(self, disks: dict[str, Disk], channel: socket.socket, leave: Callable[[socket.socket], None]) -> None:
-        self.disks, self.channel, self.leave = disks, channel, leave
+    def __init__(self, disks: dict[str, Disk], channel: socket.socket, on_end: Callable[[socket.socket], None]) -> None:
+        self.disks, self.channel, self.on_end = disks, channel, on_end
         self.input = bytearray()
         self.disk: Disk | None = None
         self.has_begun = False
-        self.waiting: list[tuple[str, int, int]] = []
+        self.unanswered: list[tuple[str, int, int]] = []
         channel.sendall(struct.pack(">QQH", MAGIC, OPTION_MAGIC, FIXED_NEWSTYLE_NO_ZEROES))
 
     def serve_input(self) -> None:
         """Reads the data that has arrived, and serves the complete options and requests in it."""
         data = self.channel.recv(1 << 20)
         if not data:
-            self.leave(self.channel)
+            self.on_end(self.channel)
             return
         self.input += data
         while self.disk is None and self.serve_option():
@@ -105,7 +105,7 @@ class Connection:
             pass
 
     def reply(self, option: int, kind: int, data: bytes = b"") -> None:
-        """Sends a reply to an option of the handshake. `kind` is ACKNOWLEDGED, INFORMED or UNSUPPORTED."""
+        """Sends a reply to an option of the handshake. `kind` is ACK_REPLY, INFO_REPLY or UNSUPPORTED_REPLY."""
         self.channel.sendall(struct.pack(">QIII", REPLY_MAGIC, option, kind, len(data)) + data)
 
     def serve_option(self) -> bool:
@@ -123,16 +123,16 @@ class Connection:
         if option in (INFO, GO):
             size, = struct.unpack(">I", data[:4])
             disk = self.disks[data[4:4 + size].decode()]
-            self.reply(option, INFORMED, struct.pack(">HQH", EXPORT, len(disk.bytes), HAS_FLAGS | SEND_FLUSH))
-            self.reply(option, INFORMED, struct.pack(">HIII", BLOCK_SIZE, 512, 4096, 1 << 25))
-            self.reply(option, ACKNOWLEDGED)
+            self.reply(option, INFO_REPLY, struct.pack(">HQH", EXPORT, len(disk.bytes), HAS_FLAGS | SEND_FLUSH))
+            self.reply(option, INFO_REPLY, struct.pack(">HIII", BLOCK_SIZE, 512, 4096, 1 << 25))
+            self.reply(option, ACK_REPLY)
             self.disk = disk if option == GO else None
         elif option == ABORT:
-            self.reply(option, ACKNOWLEDGED)
-            self.leave(self.channel)
+            self.reply(option, ACK_REPLY)
+            self.on_end(self.channel)
             return False
         else:
-            self.reply(option, UNSUPPORTED)
+            self.reply(option, UNSUPPORTED_REPLY)
         return True
 
     def serve_request(self, disk: Disk) -> bool:
@@ -151,13 +151,13 @@ class Connection:
             disk.count += 1
             disk.add_event("write", disk.count, offset, data)
             disk.write(offset, data)
-            self.wait("wrote", handle, disk)
+            self.queue_answer("wrote", handle, disk)
         elif kind == FLUSH:
             disk.count += 1
             disk.add_event("flush", disk.count)
-            self.wait("flushed", handle, disk)
+            self.queue_answer("flushed", handle, disk)
         elif kind == DISCONNECT:
-            self.leave(self.channel)
+            self.on_end(self.channel)
             return False
         else:
             raise PowerCheckError(f"QEMU asks the disk for a request of kind {kind}")
@@ -166,18 +166,18 @@ class Connection:
     def answer(self, handle: int, data: bytes = b"") -> None:
         """Sends the answer to a request, which QEMU identifies by `handle`. `data` is the data of a read."""
         self.channel.setblocking(True)
-        self.channel.sendall(struct.pack(">IIQ", REQUEST_ANSWER, 0, handle) + data)
+        self.channel.sendall(struct.pack(">IIQ", ANSWER_MAGIC, 0, handle) + data)
 
-    def wait(self, kind: str, handle: int, disk: Disk) -> None:
-        """Adds a write or a flush to the requests to answer. Answers one of these immediately, unless the disk is late. `kind` is the event of the
-        answer."""
-        self.waiting.append((kind, disk.count, handle))
+    def queue_answer(self, kind: str, handle: int, disk: Disk) -> None:
+        """Adds a write or a flush to the unanswered requests. Unless the disk is late, answers one of these immediately. `kind` is the kind of the
+        event for the answer."""
+        self.unanswered.append((kind, disk.count, handle))
         if not disk.is_late:
             self.answer_random_request()
 
     def answer_random_request(self) -> None:
-        """Answers one of the waiting requests, chosen at random."""
+        """Answers one of the unanswered requests, chosen at random."""
         assert self.disk is not None
-        kind, number, handle = self.waiting.pop(self.disk.rng.randrange(len(self.waiting)))
+        kind, number, handle = self.unanswered.pop(self.disk.rng.randrange(len(self.unanswered)))
         self.disk.add_event(kind, number)
         self.answer(handle)

@@ -18,7 +18,7 @@ ALL_PACKAGES = "qemu-system-x86 busybox-static cpio e2fsprogs xfsprogs btrfs-pro
 KERNEL_PACKAGE = "linux-image-cloud-amd64"
 # The folder that `checks/power --fetch` fills.
 FETCHED_KERNELS = pathlib.Path(os.environ.get("XDG_CACHE_HOME") or pathlib.Path.home() / ".cache") / "fethsaim/kernels"
-MEGA = 1 << 20
+MEBIBYTE = 1 << 20
 
 
 def path_with_system() -> str:
@@ -78,15 +78,15 @@ def fetch_kernel() -> int:
     return status
 
 
-def missing_space(folder: pathlib.Path, disk: int) -> str:
+def missing_space_message(folder: pathlib.Path, disk: int) -> str:
     """Returns a message if there is too little memory for a machine with a disk of this size in bytes, or too little space for its images; otherwise
     ""."""
-    needed = MEMORY * MEGA + 3 * disk
+    needed = MEMORY * MEBIBYTE + 3 * disk
     memory = pathlib.Path("/proc/meminfo").read_text()
     available = re.search(r"MemAvailable: +(\d+) kB", memory)
     if available and int(available[1]) * 1024 < needed:
-        return f"{needed // MEGA} MB of memory are needed, {int(available[1]) // 1024} are available"
+        return f"{needed // MEBIBYTE} MB of memory are needed, {int(available[1]) // 1024} are available"
     free = shutil.disk_usage(folder).free
     if free < 2 * disk:
-        return f"{2 * disk // MEGA} MB are needed in {folder}, {free // MEGA} are free"
+        return f"{2 * disk // MEBIBYTE} MB are needed in {folder}, {free // MEBIBYTE} are free"
     return ""

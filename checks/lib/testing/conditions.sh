@@ -81,11 +81,11 @@ not ok 9 - a wait for a register
 ok 10 - the number of \#
 status 1
 END
-tested() {
+check_test_output() {
     verdict "$(outcome ./mcs4 test $three/board.toml $three/three_lamps.asm "$folder/lamps.test" 2>&1 | sed -n '/^TAP/p; /^1\.\./p; /ok [0-9]/p; /^  message/p; /^status/p')" \
         "$(cat "$folder/printed")" "$1"
 }
-tested "conditions and failures"
+check_test_output "conditions and failures"
 # Checks that the output is the same whichever awk is the first one on the PATH.
 for other in gawk mawk original-awk "busybox awk"; do
     if command -v "${other%% *}" > /dev/null; then

@@ -1,5 +1,5 @@
 # Checks that mcs4 test reports each error in texts of tests with its file and line, and runs no test. Also checks errors in the tested programs, and
-# wrong programs that MCS4 names.
+# values of MCS4 that do not name the bench.
 # shellcheck shell=sh
 
 printf 'test t\n run 5\n' > "$folder/one.test"
@@ -118,11 +118,11 @@ check_rejected 1 "test: $folder/no.test:2: the board's text names no display (\`
 printf 'test t\nexpect printed 3\n' > "$folder/no.test"
 check_rejected 1 "test: $folder/no.test:2: the board's text names no printer (\`# printer rom0.2: ram0.2 0 1 2 + feed\`) (column 8)" \
     ./mcs4 test $lock/board.toml $lock/lock.asm "$folder/no.test"
-printing=examples/printing_calculator
+printing_calculator=examples/printing_calculator
 printf 'test t\nexpect printed\ntest u\nuntil not printed within 9\n' > "$folder/no.test"
 check_rejected 1 "test: $folder/no.test:2: write \`printed TEXT\`, the last lines of the printout, as in: printed 12+ 30= 42 (column 8)
 test: $folder/no.test:4: write \`printed TEXT\`, the last lines of the printout, as in: printed 12+ 30= 42 (column 11)" \
-    ./mcs4 test $printing/board.toml $printing/printing_calculator.asm "$folder/no.test"
+    ./mcs4 test $printing_calculator/board.toml $printing_calculator/printing_calculator.asm "$folder/no.test"
 printf 'test \303\244\n' > "$folder/no.test"
 check_rejected 1 "test: $folder/no.test:1: a byte that is neither a tab nor a printable ASCII character" \
     ./mcs4 test $lock/board.toml $lock/lock.asm "$folder/no.test"

@@ -1,5 +1,5 @@
-# Checks that mcs4 test reads several texts of tests, pipes in place of files, comments after a line, and microseconds. Also checks boards with a
-# display and other lamps.
+# Checks that mcs4 test reads several texts of tests, pipes instead of files, comments at the end of a line, and times in microseconds. Also checks
+# boards with a display and other lamps.
 # shellcheck shell=sh
 
 # Checks that a saved state is known only in its own text.
@@ -29,7 +29,8 @@ printf 'loop: JUN loop ; \344\n' > "$folder/latin.asm"
 verdict "$(outcome ./mcs4 cover $lock/board.toml "$folder/latin.asm" "$folder/unsaved.test" | sed -n 's/.*loop:/loop:/p')" \
     "loop: JUN loop ; $(printf '\303\244')" "a program in Latin 1"
 
-# Checks that shared steps of a text are known in later texts. If a step fails, its text and line are reported, and the line that runs the steps.
+# Checks that shared steps of a text are known in later texts. If a step fails, its text and line are reported, and so is the line that runs the
+# steps.
 printf 'steps opened\n expect lamps open\nsteps enter # the code\n keys 4711#\n do opened\n' > "$folder/steps.test"
 printf 'test it opens\n run 100 ms\n do enter\ntest it does not\n run 100 ms\n keys 3\n do enter\n' > "$folder/opens.test"
 verdict "$(outcome ./mcs4 test $lock/board.toml $lock/lock.asm "$folder/steps.test" "$folder/opens.test" | results)" "ok 1 - it opens
@@ -49,7 +50,7 @@ check_rejected 1 "test: $folder/again.test:1: the steps opened are already at $f
 test: $folder/again.test:3: the steps enter are already at $folder/steps.test:3" \
     ./mcs4 test $lock/board.toml $lock/lock.asm "$folder/steps.test" "$folder/again.test" "$folder/opens.test"
 
-# Checks pipes and standard input in place of files.
+# Checks pipes and standard input instead of files.
 mkfifo "$folder/board.pipe" "$folder/test.pipe"
 cat $lock/board.toml > "$folder/board.pipe" &
 cat "$folder/first.test" > "$folder/test.pipe" &
@@ -70,7 +71,7 @@ verdict "$(outcome ./mcs4 test $lock/board.toml $lock/lock.asm "$folder/test.pip
 status 1" "an error in a test from a pipe"
 check_rejected 1 "test: - is empty" ./mcs4 test $lock/board.toml - "$folder/first.test"
 
-# Checks that if a board has a display, patterns of lamps ignore the lamps of the display, unless they have a name.
+# Checks that on a board with a display, patterns of lamps ignore the lamps of the display, except those with a name.
 cat > "$folder/display.toml" <<'board'
 # lamp 0: first
 # lamp 5: go

@@ -1,10 +1,10 @@
 // A connection of the debug adapter protocol (DAP). It receives requests, and sends responses and events. The first request must be
-// `initialize`. The connection handles requests one after another, in the order of arrival. It handles only `cancel` at once.
+// `initialize`. The connection handles requests one after another, in the order of arrival. Only `cancel` is handled at once.
 
 import { CancelledError } from "../bench/bench_errors.js";
 import { getField } from "../server/framing.js";
 import { MessageStream } from "../server/message_stream.js";
-import { AdapterError, REQUEST_CANCELLED, fail, needNumber, optionalText, errorMessage } from "./dap_protocol.js";
+import { AdapterError, REQUEST_CANCELLED, fail, requireNumber, optionalText, errorMessage } from "./dap_protocol.js";
 import * as say from "../../words/adapter.js";
 import { INITIALIZE_FIRST, INITIALIZE_ONCE, NOT_JSON } from "../../words/server.js";
 
@@ -42,7 +42,7 @@ export class AdapterConnection extends MessageStream {
     /** @type {Set<PendingRequest>} the requests that have no response yet, both queued and running */
     this.pendingRequests = new Set();
     /** @type {(id: string) => void} stops the task with a progress id */
-    this.stopTask = (id) => fail(say.noProgressMessage(id));
+    this.stopTask = (id) => fail(say.unknownProgressIdMessage(id));
   }
 
   /** @param {string} message */
@@ -98,7 +98,7 @@ export class AdapterConnection extends MessageStream {
       const errorText = this.lifecycleError(command);
       if (errorText) throw new AdapterError(errorText);
       const handler = Object.prototype.hasOwnProperty.call(this.requests, command) && this.requests[command];
-      if (!handler) throw new AdapterError(say.noCommandMessage(command));
+      if (!handler) throw new AdapterError(say.unsupportedRequestMessage(command));
       const result = await handler(args, pending);
       if (command === "initialize") this.isOpen = true;
       const body = result instanceof ResponseWithFollowUp ? result.body : result;
@@ -131,8 +131,8 @@ export class AdapterConnection extends MessageStream {
    * @param {any} args
    */
   cancel(args) {
-    const [number, progress] = [needNumber(args, "requestId", 0), optionalText(args, "progressId")];
-    if (progress !== "") this.stopTask(progress);
+    const [number, progressId] = [requireNumber(args, "requestId", 0), optionalText(args, "progressId")];
+    if (progressId !== "") this.stopTask(progressId);
     for (const pending of [...this.pendingRequests].filter(({ seq, command }) => seq === number && command !== "cancel")) {
       pending.isCancelled = true;
       if (pending.hasBegun) continue;

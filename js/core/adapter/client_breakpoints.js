@@ -12,7 +12,7 @@ import { parsePlace } from "../conditions/places.js";
 import { watchablePlace } from "../debug/data_watches.js";
 import { MAX_PIECE_CYCLES } from "../debug/debug_session.js";
 import { MAX_CYCLES_PER_CALL } from "../debug/common_mistakes.js";
-import { optionalList, needNumber, needText, optionalText, errorMessage } from "./dap_protocol.js";
+import { optionalList, requireNumber, requireText, optionalText, errorMessage } from "./dap_protocol.js";
 import * as say from "../../words/adapter.js";
 import { errorInColumn, noLabelMessage } from "../../words/conditions.js";
 import { KINDS } from "../../words/debug.js";
@@ -135,7 +135,7 @@ export class ClientBreakpoints {
   setLineBreakpoints(args, lineOf) {
     const { map } = this.session;
     return this.setRequestedBreakpoints("lines", optionalList(args, "breakpoints").map((item) => {
-      const { line, address, message: error } = instructionForLine(lineOf(needNumber(item, "line")), map);
+      const { line, address, message: error } = instructionForLine(lineOf(requireNumber(item, "line")), map);
       return this.newBreakpoint({ ...readCommonFields(item), line, address, ...(address < 0 ? { error } : {}) });
     }));
   }
@@ -147,7 +147,7 @@ export class ClientBreakpoints {
   setLabelBreakpoints(args) {
     const { map } = this.session;
     return this.setRequestedBreakpoints("labels", optionalList(args, "breakpoints").map((item) => {
-      const name = needText(item, "name").trim();
+      const name = requireText(item, "name").trim();
       const programName = map.names.get(name);
       const message = programName && programName.isLabel ? "" : noLabelMessage(name);
       const address = programName && programName.isLabel ? programName.value : -1;
@@ -164,7 +164,8 @@ export class ClientBreakpoints {
   setAddressBreakpoints(args, addressOf) {
     const { map } = this.session;
     return this.setRequestedBreakpoints("addresses", optionalList(args, "breakpoints").map((item) => {
-      const { requestedAddress, error } = resolveAddress(needText(item, "instructionReference"), needNumber(item, "offset", 0), addressOf);
+      const [reference, offset] = [requireText(item, "instructionReference"), requireNumber(item, "offset", 0)];
+      const { requestedAddress, error } = resolveAddress(reference, offset, addressOf);
       const { line, address } = error === "" ? instructionAtAddress(requestedAddress, map) : { line: 0, address: -1 };
       return this.newBreakpoint({ ...readCommonFields(item), line, address, ...(error === "" ? {} : { error }) });
     }));
@@ -272,7 +273,7 @@ export class ClientBreakpoints {
   async setDataBreakpoints(args) {
     const { board } = this.session.debugger.session.statusQueries;
     this.dataBreakpoints = optionalList(args, "breakpoints").map((item) => {
-      const name = needText(item, "dataId");
+      const name = requireText(item, "dataId");
       const { from, error: hitConditionError } = parseHitCondition(optionalText(item, "hitCondition"));
       const place = watchablePlace(name, board);
       const access = optionalText(item, "accessType") || "write";
@@ -319,7 +320,7 @@ export class ClientBreakpoints {
   setExceptionFilters(args) {
     const unconditionalFilters = optionalList(args, "filters").map((kind) => ({ kind: String(kind), condition: "" }));
     const options = optionalList(args, "filterOptions").map((item) => (
-      { kind: needText(item, "filterId"), condition: optionalText(item, "condition") }));
+      { kind: requireText(item, "filterId"), condition: optionalText(item, "condition") }));
     this.exceptionFilters = [...unconditionalFilters, ...options];
     return this.applyExceptionFilters();
   }
@@ -336,13 +337,14 @@ export class ClientBreakpoints {
     const answers = exceptionFilters.map(({ kind, condition: text }) => {
       if (!Object.prototype.hasOwnProperty.call(KINDS, kind)) return { verified: false, message: say.noFilterMessage(kind) };
       const mistake = /** @type {MistakeKind} */ (kind);
-      const isAlways = text.trim() === "";
-      const { condition, error, column } = isAlways ? { condition: null, error: "", column: -1 } : compileCondition(text, session.names);
+      const isUnconditional = text.trim() === "";
+      const { condition, error, column } = isUnconditional ? { condition: null, error: "", column: -1 }
+        : compileCondition(text, session.names);
       commonMistakes.stoppingKinds.add(mistake);
       if (condition) commonMistakes.conditions.set(mistake, condition);
       return error ? { verified: false, message: stopsEachTime(errorInColumn(error, column)) } : { verified: true };
     });
-    // The debugger checks every instruction only in pieces of at most MAX_CYCLES_PER_CALL cycles.
+    // The debugger checks every instruction for mistakes only if a piece has at most MAX_CYCLES_PER_CALL cycles.
     if (session.maxPieceCycles >= MAX_CYCLES_PER_CALL) {
       session.maxPieceCycles = commonMistakes.stoppingKinds.size > 0 ? MAX_CYCLES_PER_CALL : MAX_PIECE_CYCLES;
     }

@@ -36,7 +36,7 @@ export function fail(message) {
  * @param {string} name
  * @returns {string}
  */
-export function needText(from, name) {
+export function requireText(from, name) {
   const value = getField(from, name);
   return typeof value === "string" ? value : fail(mustBeTextMessage(name));
 }
@@ -48,7 +48,7 @@ export function needText(from, name) {
  */
 export function optionalText(from, name) {
   const value = getField(from, name);
-  return value === undefined || value === null ? "" : needText(from, name);
+  return value === undefined || value === null ? "" : requireText(from, name);
 }
 
 /**
@@ -59,7 +59,7 @@ export function optionalText(from, name) {
  * @param {number} [defaultValue] returned if the field is missing
  * @returns {number}
  */
-export function needNumber(from, name, defaultValue) {
+export function requireNumber(from, name, defaultValue) {
   const value = getField(from, name);
   if ((value === undefined || value === null) && defaultValue !== undefined) return defaultValue;
   return Number.isSafeInteger(value) ? value : fail(say.mustBeIntegerMessage(name));

@@ -22,7 +22,7 @@ import { formatReference } from "./memory.js";
 import { MoveHandlers, THREAD_ID } from "./move_requests.js";
 import { requestedBase } from "./number_format.js";
 import { Progress } from "./progress.js";
-import { NOT_STOPPED, fail, optionalList, needNumber, needText, optionalText } from "./dap_protocol.js";
+import { NOT_STOPPED, fail, optionalList, requireNumber, requireText, optionalText } from "./dap_protocol.js";
 import { Scopes } from "./scopes.js";
 import { RemoteFrontPanel, changeKey } from "./remote_front_panel.js";
 import * as say from "../../words/adapter.js";
@@ -91,8 +91,9 @@ export class DebugAdapter {
     /** The client's number of the first line and of the first column: 0 or 1. */
     this.firstLine = 1;
     this.firstColumn = 1;
-    /** True if the client supports the event `invalidated` or `memory`. */
+    /** True if the client supports the event `invalidated`. */
     this.supportsInvalidatedEvent = false;
+    /** True if the client supports the event `memory`. */
     this.supportsMemoryEvent = false;
     this.progress = new Progress((event, body) => connection.sendEvent(event, body));
     this.moves = new MoveHandlers(this);
@@ -162,11 +163,11 @@ export class DebugAdapter {
   /**
    * Handles the requests `launch` and `attach`. Throws AdapterError if a session is already open.
    * @param {any} args
-   * @param {typeof launch} act the function `launch` or `attach`, which creates the session
+   * @param {typeof launch} createSession the function `launch` or `attach`, which creates the session
    */
-  async launch(args, act) {
+  async launch(args, createSession) {
     if (this.openSession) fail(say.LAUNCH_ONCE);
-    await this.beginSession(await act(this.engine, args, this.host, this.errorMessages));
+    await this.beginSession(await createSession(this.engine, args, this.host, this.errorMessages));
     return new ResponseWithFollowUp(undefined, () => this.connection.sendEvent("initialized"));
   }
 
@@ -178,10 +179,10 @@ export class DebugAdapter {
     const { session } = launchResult;
     /** @type {Machine} */
     const machine = new Machine(session, launchResult.writer, {
-      stopped: (moveEnd) => this.sendStopped(moveEnd),
+      handleStop: (moveEnd) => this.sendStopped(moveEnd),
       output: (text, category) => this.sendOutput(text, category),
       pause: this.host.pause,
-      stateChanged: () => this.sendFrontPanel(),
+      handleStateChange: () => this.sendFrontPanel(),
       startTask: (title) => this.progress.createTask(title, () => machine.pause()),
     }, launchResult.isRealTime);
     const breakpoints = new ClientBreakpoints(session);
@@ -190,7 +191,7 @@ export class DebugAdapter {
     const frontPanelText = () => machine.frontPanelText.currentText();
     const expressionContext = { session, face, instructions: this.instructions, frontPanelText };
     const debugConsole = new Console(machine, expressionContext, this.errorMessages, {
-      breaksChanged: () => breakpoints.updateOtherBreakpoints(), romChanged: () => this.reportRom(launchResult),
+      handleBreakpointChange: () => breakpoints.updateOtherBreakpoints(), handleRomChange: () => this.reportRom(launchResult),
     });
     const queryHandlers = new QueryHandlers(launchResult, new Scopes(session, face), expressionContext, this);
     this.openSession = { launchResult, machine, breakpoints, console: debugConsole, queryHandlers };
@@ -222,8 +223,8 @@ export class DebugAdapter {
     } else {
       const newArgs = getField(args, "arguments");
       const launchArgs = newArgs === undefined ? launchResult.args : newArgs;
-      const act = launchResult.isAttached ? attach : launch;
-      await this.beginSession(await act(this.engine, launchArgs, this.host, this.errorMessages));
+      const createSession = launchResult.isAttached ? attach : launch;
+      await this.beginSession(await createSession(this.engine, launchArgs, this.host, this.errorMessages));
       for (const movedBreakpoint of await this.current.breakpoints.copyBreakpointsFrom(breakpoints)) this.sendBreakpoint(movedBreakpoint);
     }
     return new ResponseWithFollowUp(undefined, () => this.sendStopped(this.createMoveEnd("entry")));
@@ -297,20 +298,21 @@ export class DebugAdapter {
     }
     const message = launchResult.isDebugged ? say.notInProgramMessage(queryHandlers.programName)
       : say.NO_DEBUG;
-    return { breakpoints: optionalList(args, "breakpoints").map((item) => ({ verified: false, line: needNumber(item, "line"), message })) };
+    const breakpoints = optionalList(args, "breakpoints");
+    return { breakpoints: breakpoints.map((item) => ({ verified: false, line: requireNumber(item, "line"), message })) };
   }
 
-  /** @param {(breakpoints: ClientBreakpoints) => Promise<import("./client_breakpoints.js").SentBreakpoint[]>} act */
-  async changeBreakpoints(act) {
+  /** @param {(breakpoints: ClientBreakpoints) => Promise<import("./client_breakpoints.js").SentBreakpoint[]>} action */
+  async changeBreakpoints(action) {
     const { machine, breakpoints } = this.current;
-    const sentBreakpoints = await machine.runWhenFree(() => act(breakpoints));
+    const sentBreakpoints = await machine.runWhenFree(() => action(breakpoints));
     return { breakpoints: sentBreakpoints.map((breakpoint) => this.toProtocolBreakpoint(breakpoint)) };
   }
 
   /** @param {import("./client_breakpoints.js").SentBreakpoint} breakpoint */
   toProtocolBreakpoint({ address, line, ...breakpoint }) {
-    const inSource = line === undefined ? {} : { line: line - 1 + this.firstLine, source: this.current.queryHandlers.source };
-    return { ...breakpoint, ...inSource, ...(address >= 0 ? { instructionReference: formatReference(address) } : {}) };
+    const sourceFields = line === undefined ? {} : { line: line - 1 + this.firstLine, source: this.current.queryHandlers.source };
+    return { ...breakpoint, ...sourceFields, ...(address >= 0 ? { instructionReference: formatReference(address) } : {}) };
   }
 
   /** @param {import("./client_breakpoints.js").SentBreakpoint} breakpoint */
@@ -321,8 +323,8 @@ export class DebugAdapter {
   /** @param {any} args */
   dataBreakpointInfo(args) {
     const { queryHandlers, launchResult } = this.current;
-    const name = needText(args, "name");
-    const reference = needNumber(args, "variablesReference", 0);
+    const name = requireText(args, "name");
+    const reference = requireNumber(args, "variablesReference", 0);
     const placeName = reference > 0 ? queryHandlers.findWatchPlace(reference, name) : name;
     const dataBreakpoint = describeDataBreakpoint(placeName, launchResult.session);
     if (!dataBreakpoint) return { dataId: null, description: say.notWatchedMessage(name) };
@@ -333,8 +335,8 @@ export class DebugAdapter {
   breakpointLocations(args) {
     const { session } = this.current.launchResult;
     if (!this.current.queryHandlers.isProgram(getField(args, "source"))) return { breakpoints: [] };
-    const from = needNumber(args, "line");
-    const to = Math.min(needNumber(args, "endLine", from), from + 65536);
+    const from = requireNumber(args, "line");
+    const to = Math.min(requireNumber(args, "endLine", from), from + 65536);
     const lines = [];
     for (let line = from; line <= to; line++) {
       const programLine = line + 1 - this.firstLine;
@@ -352,10 +354,10 @@ export class DebugAdapter {
    * @returns {Record<string, RequestHandler>}
    */
   queryRequestHandlers() {
-    const requirePaused = (/** @type {(queryHandlers: QueryHandlers, args: any) => unknown} */ act) => (/** @type {any} */ args) => {
+    const requirePaused = (/** @type {(queryHandlers: QueryHandlers, args: any) => unknown} */ action) => (/** @type {any} */ args) => {
       const { machine, queryHandlers } = this.current;
       if (machine.isMoving) fail(NOT_STOPPED);
-      return act(queryHandlers, args);
+      return action(queryHandlers, args);
     };
     return {
       threads: () => ({ threads: [{ id: THREAD_ID, name: "4004" }] }),
@@ -415,7 +417,7 @@ export class DebugAdapter {
     const writeResult = await this.saveAfterChange(await queryHandlers.writeMemory(args, (reference) => this.resolveReference(reference)));
     const { offset, bytesWritten: count } = writeResult;
     if (!this.supportsMemoryEvent || count === 0) return writeResult;
-    const memory = { memoryReference: needText(args, "memoryReference"), offset: needNumber(args, "offset", 0) + offset, count };
+    const memory = { memoryReference: requireText(args, "memoryReference"), offset: requireNumber(args, "offset", 0) + offset, count };
     return new ResponseWithFollowUp(writeResult, () => this.connection.sendEvent("memory", memory));
   }
 
@@ -426,11 +428,11 @@ export class DebugAdapter {
    */
   async evaluate(args, pending) {
     const { machine, console: debugConsole, queryHandlers } = this.current;
-    const [expression, context, base] = [needText(args, "expression"), optionalText(args, "context"), requestedBase(args)];
+    const [expression, context, base] = [requireText(args, "expression"), optionalText(args, "context"), requestedBase(args)];
     if (context !== "repl") return machine.runWhenFree(() => queryHandlers.evaluate(expression, context, base));
     const task = this.progress.createTask(say.RUNNING_LINES, () => { pending.isCancelled = true; });
     const shouldContinue = async (/** @type {number} */ done) => {
-      task.reportIfDue(() => say.charactersOf(done, expression.length));
+      task.reportIfDue(() => say.characterProgress(done, expression.length));
       await this.host.pause();
       return !pending.isCancelled;
     };
@@ -459,7 +461,7 @@ export class DebugAdapter {
    */
   async pressOrReleaseKey(word, args) {
     const { machine, console: debugConsole } = this.current;
-    const key = needText(args, "key");
+    const key = requireText(args, "key");
     const { text } = await machine.runWhenFree(() => debugConsole.pressOrReleaseKeys(word, [key]));
     if (!machine.isMoving) await machine.saveAndReport();
     return { words: text };
@@ -471,7 +473,7 @@ export class DebugAdapter {
    */
   async changeKey(args) {
     const { machine, console: debugConsole } = this.current;
-    const key = needText(args, "place");
+    const key = requireText(args, "place");
     await machine.runWhenFree(() => changeKey(machine, debugConsole, key, getField(args, "isDown") === true));
     if (!machine.isMoving) await machine.saveAndReport();
     return {};

@@ -25,11 +25,11 @@ import { stoppedAt } from "../../words/stops.js";
 /**
  * The callbacks of a machine.
  * @typedef {object} MachineCallbacks
- * @property {(moveEnd: MoveEnd) => void} stopped Reports the end of a move, once for each move.
+ * @property {(moveEnd: MoveEnd) => void} handleStop Reports the end of a move, once for each move.
  * @property {(text: string, category: "console" | "stdout" | "stderr") => void} output Prints a text, which ends with a line feed, under
  *   an output category of the protocol.
  * @property {() => Promise<void>} pause Yields to other tasks, between two pieces of a move.
- * @property {() => void} stateChanged Reports that the machine state has changed, so that views can update.
+ * @property {() => void} handleStateChange Reports that the machine state has changed, so that views can update.
  * @property {(title: string) => LongTask} [startTask] Creates the progress report of a move.
  */
 
@@ -85,8 +85,8 @@ export class Machine {
    */
   runToGoal(goal) {
     const allowsTasks = () => goal === null || this.session.debugger.isMoving;
-    const act = () => this.session.runToGoal(goal, (done, tally) => this.finishPiece(tally, done));
-    this.beginMove(act, allowsTasks);
+    const makeMove = () => this.session.runToGoal(goal, (done, tally) => this.finishPiece(tally, done));
+    this.beginMove(makeMove, allowsTasks);
   }
 
   stepInto() {
@@ -115,8 +115,8 @@ export class Machine {
   goBack(goal) {
     let searchedCycles = 0;
     const onPiece = (/** @type {number} */ cycles) => this.finishPiece(undefined, searchedCycles += cycles);
-    const act = async () => this.toRunResult(await this.session.goBack(goal, onPiece), REASONS_BY_GOAL[goal.kind] || "goal");
-    this.beginMove(act, () => false, say.SEARCHING_BACK);
+    const makeMove = async () => this.toRunResult(await this.session.goBack(goal, onPiece), REASONS_BY_GOAL[goal.kind] || "goal");
+    this.beginMove(makeMove, () => false, say.SEARCHING_BACK);
   }
 
   goForward() {
@@ -135,11 +135,11 @@ export class Machine {
 
   /**
    * Starts a move. Throws AdapterError if the machine is moving already.
-   * @param {() => Promise<Pick<DescribedStop, "reason" | "message" | "id"> & { tally: Tally | null }>} act makes the move
+   * @param {() => Promise<Pick<DescribedStop, "reason" | "message" | "id"> & { tally: Tally | null }>} makeMove makes the move
    * @param {() => boolean} allowsTasks returns whether tasks can use the session between two pieces of the move
    * @param {string} [title] the title of the progress report
    */
-  beginMove(act, allowsTasks, title = say.RUNNING) {
+  beginMove(makeMove, allowsTasks, title = say.RUNNING) {
     if (this.isMoving) fail(say.MACHINE_RUNS_ALREADY);
     this.isMoving = true;
     this.mustPause = false;
@@ -147,18 +147,18 @@ export class Machine {
     this.reportedNoteCount = 0;
     this.startTime = performance.now();
     this.task = this.isRealTime || !this.callbacks.startTask ? null : this.callbacks.startTask(title);
-    this.move = this.runMove(act);
+    this.move = this.runMove(makeMove);
   }
 
   /**
    * Makes a move, saves the session and reports the end of the move.
-   * @param {Parameters<Machine["beginMove"]>[0]} act makes the move
+   * @param {Parameters<Machine["beginMove"]>[0]} makeMove makes the move
    */
-  async runMove(act) {
+  async runMove(makeMove) {
     /** @type {MoveEnd} */
     let moveEnd;
     try {
-      const { reason, message, id, tally } = await act();
+      const { reason, message, id, tally } = await makeMove();
       if (tally) this.reportTally(tally, tally.noteCount - this.reportedNoteCount);
       moveEnd = { reason: PROTOCOL_REASONS[reason] || "exception", message, id };
     } catch (thrown) {
@@ -175,7 +175,7 @@ export class Machine {
     } while (this.waitingTasks.length > 0);
     if (this.task) this.task.end();
     this.isMoving = false;
-    this.callbacks.stopped(moveEnd);
+    this.callbacks.handleStop(moveEnd);
   }
 
   /** Reports the lamps and displays, and saves the session. */
@@ -216,7 +216,7 @@ export class Machine {
    * @param {number} cycles the number of cycles since the start of the move
    */
   async waitForRealTime(cycles) {
-    this.callbacks.stateChanged();
+    this.callbacks.handleStateChange();
     const remainingTime = cycles * CYCLE_MS - (performance.now() - this.startTime);
     if (remainingTime > 0) await new Promise((resolve) => { setTimeout(resolve, remainingTime); });
   }
@@ -228,21 +228,21 @@ export class Machine {
   // --- tasks between pieces ---
 
   async runWaitingTasks() {
-    for (const act of this.waitingTasks.splice(0)) await act();
+    for (const task of this.waitingTasks.splice(0)) await task();
   }
 
   /**
    * Runs a task on the session: at once while the machine is paused, otherwise between two pieces or after the end of the move.
    * @template Result
-   * @param {() => Result | Promise<Result>} act
+   * @param {() => Result | Promise<Result>} task
    * @returns {Promise<Result>}
    */
-  async runWhenFree(act) {
-    if (!this.isMoving) return act();
+  async runWhenFree(task) {
+    if (!this.isMoving) return task();
     return new Promise((resolve, reject) => {
       this.waitingTasks.push(async () => {
         try {
-          resolve(await act());
+          resolve(await task());
         } catch (thrown) {
           reject(thrown);
         }
@@ -257,7 +257,7 @@ export class Machine {
     this.lastReportTime = performance.now();
     const text = this.frontPanelText.take();
     if (text) this.callbacks.output(`${text}\n`, "stdout");
-    this.callbacks.stateChanged();
+    this.callbacks.handleStateChange();
   }
 
   /**

@@ -40,7 +40,7 @@ function placeValue(text, { session, face }, base) {
   const place = parsePlace(name);
   const value = place ? session.values([name])[0] : "";
   if (value === "" || !place) return "";
-  if (place.name.startsWith("lamp ")) return say.lampIs(value === "*");
+  if (place.name.startsWith("lamp ")) return say.lampState(value === "*");
   if (HEX_PLACES.test(place.name)) return convertToBase(`0x${value}`, base);
   return MARK_PLACES.test(place.name) ? value : formatInBase(Number(value), base);
 }
@@ -100,8 +100,8 @@ export function evaluateExpression(text, context, base = "usual") {
 }
 
 /**
- * Returns the hover text for a word or expression: the current value, or the effect of an instruction without a value. Throws AdapterError
- * if the text is neither an instruction nor a valid expression.
+ * Returns the hover text for a word or expression: the current value, or the effect of an instruction that has no value. Throws
+ * AdapterError if the text is neither an instruction nor a valid expression.
  * @param {string} text the word or expression under the pointer
  * @param {ExpressionContext} context
  */

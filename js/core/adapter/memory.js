@@ -8,7 +8,7 @@ import { readRam, parseRefusal } from "../bench/answers.js";
 import { LAST_ADDRESS, hex, parseNumber } from "../bench/numbers.js";
 import { STATUS_CHARACTERS_PER_REGISTER, parsePlace } from "../conditions/places.js";
 import { readRomBytes } from "./disassembly.js";
-import { fail, optionalFlag, needNumber, needText } from "./dap_protocol.js";
+import { fail, optionalFlag, requireNumber, requireText } from "./dap_protocol.js";
 import * as say from "../../words/adapter.js";
 
 /**
@@ -94,10 +94,10 @@ function findRange(session, number) {
  * @returns {RequestedLocation}
  */
 function readRequestedLocation(args, session, addressOf) {
-  const reference = needText(args, "memoryReference").trim();
+  const reference = requireText(args, "memoryReference").trim();
   const number = parseReference(reference, addressOf);
   const range = findRange(session, number) || fail(say.boardHasNo(reference));
-  return { range, from: number - range.start + needNumber(args, "offset", 0) };
+  return { range, from: number - range.start + requireNumber(args, "offset", 0) };
 }
 
 /**
@@ -108,7 +108,7 @@ function readRequestedLocation(args, session, addressOf) {
  */
 export function readMemory(args, session, addressOf) {
   const { range: { start, bytes }, from } = readRequestedLocation(args, session, addressOf);
-  const count = needNumber(args, "count");
+  const count = requireNumber(args, "count");
   if (count < 0) fail(say.COUNT_RANGE);
   const address = formatReference(start + from);
   if (from < 0 || from >= bytes.length) return { address, unreadableBytes: count };
@@ -127,10 +127,10 @@ export function readMemory(args, session, addressOf) {
  */
 export async function writeMemory(args, session, addressOf) {
   const { range: { bytes, place }, from } = readRequestedLocation(args, session, addressOf);
-  const newBytes = decodeBase64(needText(args, "data"));
+  const newBytes = decodeBase64(requireText(args, "data"));
   const [first, end] = [Math.max(0, from), Math.min(bytes.length, from + newBytes.length)];
-  const isWhole = first === from && end === from + newBytes.length;
-  if (!isWhole && !optionalFlag(args, "allowPartial", false)) fail(say.OUTSIDE_OF_MEMORY);
+  const isInRange = first === from && end === from + newBytes.length;
+  if (!isInRange && !optionalFlag(args, "allowPartial", false)) fail(say.OUTSIDE_OF_MEMORY);
   const dataInRange = end > first ? newBytes.subarray(first - from, end - from) : new Uint8Array(0);
   const lines = [...dataInRange].map((byte, index) => `poke ${place(first + index)} ${byte}\n`).join("");
   const workerSession = session.debugger.session;

@@ -7,7 +7,7 @@ import { getField } from "../server/framing.js";
 import { ResponseWithFollowUp } from "./adapter_connection.js";
 import { readStackFrames } from "./frames.js";
 import { formatReference } from "./memory.js";
-import { AdapterError, NOT_STOPPED, fail, needNumber } from "./dap_protocol.js";
+import { AdapterError, NOT_STOPPED, fail, requireNumber } from "./dap_protocol.js";
 import * as say from "../../words/adapter.js";
 import { NO_CALL_WAITS } from "../../words/stops.js";
 
@@ -31,19 +31,20 @@ export class MoveHandlers {
    * @returns {Record<string, RequestHandler>}
    */
   handlers() {
-    const move = (/** @type {(machine: Machine) => void} */ act) => (/** @type {any} */ args) => this.moveResponse(args, act);
+    const moveHandler = (/** @type {(machine: Machine) => void} */ startMove) => (
+      (/** @type {any} */ args) => this.moveResponse(args, startMove));
     return {
       continue: (args) => (
         new ResponseWithFollowUp({ allThreadsContinued: true }, this.moveResponse(args, (machine) => machine.runToGoal(null)).followUp)),
-      next: move((machine) => machine.runToGoal({ kind: "over" })),
+      next: moveHandler((machine) => machine.runToGoal({ kind: "over" })),
       stepIn: (args) => this.stepIn(args),
       stepInTargets: (args) => {
         this.checkPaused();
         return this.adapter.current.queryHandlers.stepInTargets(args);
       },
       stepOut: (args) => this.stepOut(args),
-      stepBack: move((machine) => machine.goBack({ kind: "instruction" })),
-      reverseContinue: move((machine) => machine.goBack({ kind: "arrival", place: "" })),
+      stepBack: moveHandler((machine) => machine.goBack({ kind: "instruction" })),
+      reverseContinue: moveHandler((machine) => machine.goBack({ kind: "arrival", place: "" })),
       restartFrame: (args) => this.restartFrame(args),
       pause: () => {
         const { machine } = this.adapter.current;
@@ -57,18 +58,18 @@ export class MoveHandlers {
   /**
    * Returns the response to a move request. The move begins after the response is sent. Throws AdapterError if the machine is not paused.
    * @param {any} args
-   * @param {(machine: Machine) => void} act starts the move
+   * @param {(machine: Machine) => void} startMove starts the move
    */
-  moveResponse(args, act) {
+  moveResponse(args, startMove) {
     this.checkPaused();
     this.checkThread(args);
     const { machine } = this.adapter.current;
-    return new ResponseWithFollowUp(undefined, () => act(machine));
+    return new ResponseWithFollowUp(undefined, () => startMove(machine));
   }
 
   /** @param {any} args */
   stepIn(args) {
-    const target = needNumber(args, "targetId", -1);
+    const target = requireNumber(args, "targetId", -1);
     if (target < 0) return this.moveResponse(args, (machine) => machine.stepInto());
     const { session } = this.adapter.current.launchResult;
     if (!(target <= LAST_ADDRESS) || !isCall(session.debugger.session.romBytes[target])) fail(say.NO_TARGET);
@@ -99,14 +100,14 @@ export class MoveHandlers {
 
   /** @param {any} args */
   checkThread(args) {
-    if (needNumber(args, "threadId", THREAD_ID) !== THREAD_ID) fail(say.ONE_THREAD);
+    if (requireNumber(args, "threadId", THREAD_ID) !== THREAD_ID) fail(say.ONE_THREAD);
   }
 
   /** @param {any} args */
   gotoTargets(args) {
     const { current: { launchResult: { session }, queryHandlers }, firstLine } = this.adapter;
     if (!queryHandlers.isProgram(getField(args, "source"))) return { targets: [] };
-    const instruction = instructionForLine(needNumber(args, "line") + 1 - firstLine, session.map);
+    const instruction = instructionForLine(requireNumber(args, "line") + 1 - firstLine, session.map);
     if (instruction.address < 0) return { targets: [] };
     const label = session.map.nameOf(instruction.address) || hex(instruction.address, 3);
     const instructionPointerReference = formatReference(instruction.address);
@@ -118,7 +119,7 @@ export class MoveHandlers {
     this.checkPaused();
     this.checkThread(args);
     const { machine, launchResult } = this.adapter.current;
-    const address = needNumber(args, "targetId");
+    const address = requireNumber(args, "targetId");
     if (!(address >= 0 && address <= LAST_ADDRESS)) fail(say.NO_TARGET);
     await launchResult.session.debugger.session.serve(`poke pc ${address}\n`, async () => true);
     await machine.saveAndReport();

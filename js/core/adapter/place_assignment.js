@@ -22,17 +22,17 @@ import { cannotBeSetMessage, errorInColumn } from "../../words/conditions.js";
 export function evaluateNumber(text, session, startColumn = 0) {
   // A client can send a displayed value with its suffix, such as `0x012, line 9`.
   const valueText = text.trim().replace(/^(\w+),.*$/, "$1");
-  if (valueText === "") throw new AdapterError(say.noNumberMessage(say.NOTHING));
+  if (valueText === "") throw new AdapterError(say.notANumberMessage(say.NOTHING));
   const { expression, error, column } = compileExpression(valueText, session.names);
   if (!expression) throw new AdapterError(errorInColumn(error, startColumn + column));
-  if (!expression.number) throw new AdapterError(say.noNumberMessage(valueText));
+  if (!expression.number) throw new AdapterError(say.notANumberMessage(valueText));
   return expression.number(session.debugger.readPlaces(expression.places));
 }
 
 /**
  * Returns the bench lines that set a place to the value of an expression. Throws AdapterError if the expression has an error, or if the
  * place cannot have this value.
- * @param {string} place a place from `settablePlace`, or a key in the form `key 0 2`
+ * @param {string} place a place from `findSettablePlace`, or a key in the form `key 0 2`
  * @param {string} text the value as an expression
  * @param {DebugSession} session
  * @param {number} [startColumn] the column in the typed line at which the text starts
@@ -45,7 +45,7 @@ function assignmentLines(place, text, session, startColumn = 0) {
     return `${keyLine(word === say.DOWN ? "press" : "release", key)}\n`;
   }
   const value = evaluateNumber(text, session, startColumn);
-  if (value < 0 || value > maxPlaceValue(place)) throw new AdapterError(say.valueRange(place, maxPlaceValue(place)));
+  if (value < 0 || value > maxPlaceValue(place)) throw new AdapterError(say.valueRangeMessage(place, maxPlaceValue(place)));
   return settingLines(place, value);
 }
 
@@ -82,7 +82,7 @@ export function findSettablePlace(text, face) {
 /**
  * Sets a place to the value of an expression. Throws AdapterError if the expression has an error, or if the bench rejects the value.
  * @param {DebugSession} session
- * @param {string} place a place from `settablePlace`, or a key in the form `key 0 2`
+ * @param {string} place a place from `findSettablePlace`, or a key in the form `key 0 2`
  * @param {string} text the value as an expression
  */
 export async function setPlace(session, place, text) {

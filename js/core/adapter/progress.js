@@ -88,7 +88,7 @@ export class Progress {
    */
   stop(progressId) {
     const task = this.tasksById.get(progressId);
-    if (!task) throw new AdapterError(say.noProgressMessage(progressId));
+    if (!task) throw new AdapterError(say.unknownProgressIdMessage(progressId));
     task.stop();
   }
 }

@@ -11,7 +11,7 @@ import { requestedBase, readFormatFlag, convertToBase, formatInBase } from "./nu
 import { isCall, neverContinues, jumpTarget, instructionWords } from "../engine/rom_codes.js";
 import { getField } from "../server/framing.js";
 import { listNamedKeys } from "../testing/test_text.js";
-import { fail, needNumber, needText } from "./dap_protocol.js";
+import { fail, requireNumber, requireText } from "./dap_protocol.js";
 import { findSettablePlace, setPlace } from "./place_assignment.js";
 import { expressionHover, evaluateExpression } from "./expression_values.js";
 import * as say from "../../words/adapter.js";
@@ -75,7 +75,7 @@ export class QueryHandlers {
 
   /** @param {any} args */
   sourceText(args) {
-    if (!this.isProgram(getField(args, "source") || args)) fail(say.oneSource(this.programName));
+    if (!this.isProgram(getField(args, "source") || args)) fail(say.onlySourceMessage(this.programName));
     return { content: this.session.program, mimeType: "text/x-asm" };
   }
 
@@ -84,8 +84,8 @@ export class QueryHandlers {
   /** @param {any} args */
   stackTrace(args) {
     const stack = readStackFrames(this.session);
-    const from = Math.max(0, needNumber(args, "startFrame", 0));
-    const levels = needNumber(args, "levels", 0);
+    const from = Math.max(0, requireNumber(args, "startFrame", 0));
+    const levels = requireNumber(args, "levels", 0);
     const [isHex, showsLine] = [readFormatFlag(args, "hex"), readFormatFlag(args, "line") === true];
     const frames = stack.map(({ address, line, name, call }, index) => ({
       id: index + 1, name: formatFrameName(name, isHex) + (showsLine && line > 0 ? `, ${lineReference(line)}` : ""),
@@ -110,7 +110,7 @@ export class QueryHandlers {
    * @param {number} [defaultId] the id if the request has no `frameId`
    */
   requestedFrame(args, defaultId) {
-    return readStackFrames(this.session)[needNumber(args, "frameId", defaultId) - 1] || fail(say.NO_FRAME);
+    return readStackFrames(this.session)[requireNumber(args, "frameId", defaultId) - 1] || fail(say.NO_FRAME);
   }
 
   /**
@@ -121,7 +121,7 @@ export class QueryHandlers {
     const frame = this.requestedFrame(args);
     const { map } = this.session;
     // The call in a caller's frame is already in progress, so a step cannot enter it.
-    if (needNumber(args, "frameId") > 1) return { targets: [] };
+    if (requireNumber(args, "frameId") > 1) return { targets: [] };
     return {
       targets: findCalls(this.session, frame.address).map(({ address, target }) => {
         const [line, name] = [map.lineOf(address), map.nameOf(target) || formatReference(target)];
@@ -135,9 +135,9 @@ export class QueryHandlers {
 
   /** @param {any} args */
   variables(args) {
-    const variables = this.scopes.variables(needNumber(args, "variablesReference"), requestedBase(args)) || fail(say.NO_REFERENCE);
-    const from = Math.max(0, needNumber(args, "start", 0));
-    const count = needNumber(args, "count", 0);
+    const variables = this.scopes.variables(requireNumber(args, "variablesReference"), requestedBase(args)) || fail(say.NO_REFERENCE);
+    const from = Math.max(0, requireNumber(args, "start", 0));
+    const count = requireNumber(args, "count", 0);
     const requestedVariables = variables.slice(from, count > 0 ? from + count : undefined);
     return {
       variables: requestedVariables.map(({ name, value, evaluateName, place, variablesReference, count: namedVariables, memory }) => ({
@@ -160,15 +160,15 @@ export class QueryHandlers {
 
   /** @param {any} args */
   async setVariable(args) {
-    const [name, value] = [needText(args, "name"), needText(args, "value")];
-    const newValue = await this.scopes.setVariable(needNumber(args, "variablesReference"), name, value, requestedBase(args));
+    const [name, value] = [requireText(args, "name"), requireText(args, "value")];
+    const newValue = await this.scopes.setVariable(requireNumber(args, "variablesReference"), name, value, requestedBase(args));
     return { value: newValue, variablesReference: 0 };
   }
 
   /** @param {any} args */
   async setExpression(args) {
-    const place = findSettablePlace(needText(args, "expression"), this.expressionContext.face);
-    const value = needText(args, "value");
+    const place = findSettablePlace(requireText(args, "expression"), this.expressionContext.face);
+    const value = requireText(args, "value");
     const base = requestedBase(args);
     await setPlace(this.session, place, value);
     return { value: place.startsWith("key ") ? value.trim().toLowerCase() : evaluateExpression(place, this.expressionContext, base) };
@@ -190,11 +190,11 @@ export class QueryHandlers {
 
   /** @param {any} args */
   completions(args) {
-    const typedText = needText(args, "text");
+    const typedText = requireText(args, "text");
     const lines = typedText.split("\n");
-    const lineIndex = needNumber(args, "line", this.firstLine) - this.firstLine;
+    const lineIndex = requireNumber(args, "line", this.firstLine) - this.firstLine;
     const text = lines[lineIndex] ?? fail(say.NO_LINE);
-    const column = Math.min(text.length, Math.max(0, needNumber(args, "column", text.length + this.firstColumn) - this.firstColumn));
+    const column = Math.min(text.length, Math.max(0, requireNumber(args, "column", text.length + this.firstColumn) - this.firstColumn));
     const { words, word } = this.completionWords(text.slice(0, column));
     const targets = words.filter((completion) => completion.toLowerCase().startsWith(word.toLowerCase())).slice(0, MAX_COMPLETIONS);
     const textLengthBefore = lines.slice(0, lineIndex).reduce((sum, line) => sum + line.length + 1, 0);
@@ -206,15 +206,15 @@ export class QueryHandlers {
    * Returns the completions for the word at the end of a line, and the typed start of this word. The completions are key names after
    * `press`, `release`, `keys` and `key`, and lamp names after `lamp`. Anywhere else, the completions are program names, place names, lamp
    * names and keywords. At the start of a line, commands are added.
-   * @param {string} before the text before the caret
+   * @param {string} textBefore the text before the caret
    * @returns {{ words: string[], word: string }}
    */
-  completionWords(before) {
+  completionWords(textBefore) {
     const { session: { map }, expressionContext: { face } } = this;
-    const unfinishedKey = UNFINISHED_KEY_NAME.exec(before);
+    const unfinishedKey = UNFINISHED_KEY_NAME.exec(textBefore);
     if (unfinishedKey) return { words: [...listNamedKeys(face).keys()], word: unfinishedKey[1] };
-    const word = (/[A-Za-z_@][\w.]*$/.exec(before) || [""])[0];
-    const lineStart = before.slice(0, before.length - word.length).trim();
+    const word = (/[A-Za-z_@][\w.]*$/.exec(textBefore) || [""])[0];
+    const lineStart = textBefore.slice(0, textBefore.length - word.length).trim();
     if (/\blamp$/.test(lineStart)) return { words: [...face.lampNumbers.keys()], word };
     const names = [...map.names.keys()];
     const words = [...names, ...names.map((name) => `@${name}`), ...PLACE_WORDS, ...face.lampNumbers.keys(), ...KEYWORDS];
@@ -228,12 +228,12 @@ export class QueryHandlers {
    * @param {(reference: string) => number} addressOf
    */
   disassemble(args, addressOf) {
-    const startAddress = addressOf(needText(args, "memoryReference")) + needNumber(args, "offset", 0);
-    const count = needNumber(args, "instructionCount");
+    const startAddress = addressOf(requireText(args, "memoryReference")) + requireNumber(args, "offset", 0);
+    const count = requireNumber(args, "instructionCount");
     if (!(startAddress >= 0 && startAddress <= LAST_ADDRESS)) fail(say.ADDRESSES_ARE);
-    if (!(count >= 0 && count <= MAX_ROWS)) fail(say.instructionCountRange(MAX_ROWS));
+    if (!(count >= 0 && count <= MAX_ROWS)) fail(say.instructionCountRangeMessage(MAX_ROWS));
     // Clients cannot read negative addresses, so the response omits rows before ROM.
-    const rows = listInstructionRows(this.session, startAddress, needNumber(args, "instructionOffset", 0), count)
+    const rows = listInstructionRows(this.session, startAddress, requireNumber(args, "instructionOffset", 0), count)
       .filter(({ address }) => address >= 0);
     return {
       instructions: rows.map(({ address, bytes, text, line, name }) => ({
@@ -268,8 +268,8 @@ export class QueryHandlers {
  */
 function formatFrameName(name, isHex) {
   if (isHex === null) return name;
-  const [, label, more] = /^(.* \+ )(\d+)$/.exec(name) || [];
-  if (label) return label + formatInBase(Number(more), isHex ? "hex" : "decimal");
+  const [, label, offset] = /^(.* \+ )(\d+)$/.exec(name) || [];
+  if (label) return label + formatInBase(Number(offset), isHex ? "hex" : "decimal");
   return /^[0-9A-F]{3}$/.test(name) ? convertToBase(`0x${name}`, isHex ? "hex" : "decimal") : name;
 }
 

@@ -82,12 +82,12 @@ export class RemoteFrontPanel {
 
   /** Returns `litShares` if the machine runs and the shares have changed; otherwise an empty object. */
   takeLitShares() {
-    const { machine, face, lampCount, litShares: before } = this;
+    const { machine, face, lampCount, litShares: lastShares } = this;
     this.litShares = "";
     if (!machine.isMoving || lampCount === 0) return {};
     const litShares = new BrightnessMeter(face, lampCount, 0).take([machine.session.debugger.session.ask(LAMPS_FORECAST_QUERY)]);
     this.litShares = JSON.stringify(litShares);
-    return this.litShares === before ? {} : { litShares };
+    return this.litShares === lastShares ? {} : { litShares };
   }
 }
 

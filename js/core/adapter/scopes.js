@@ -9,7 +9,7 @@ import { referenceNumberForPlace, formatReference, bankReference } from "./memor
 import { convertToBase, formatInBase } from "./number_format.js";
 import { setPlace } from "./place_assignment.js";
 import * as say from "../../words/adapter.js";
-import { sourceOfBank } from "../../words/debug.js";
+import { srcOfBank } from "../../words/debug.js";
 
 /**
  * @typedef {import("../debug/debug_session.js").DebugSession} DebugSession
@@ -86,7 +86,7 @@ function pairVariables({ machineState }) {
 /** @param {ShownState} state */
 function bankVariables({ machineState }) {
   return [...machineState.ram].map(([bank, { registers: bankRegisters }]) => (
-    { ...createVariable(`bank ${bank}`, say.chipsOf(bankRegisters.size / 4, bank === machineState.bank)),
+    { ...createVariable(`bank ${bank}`, say.chipCountText(bankRegisters.size / 4, bank === machineState.bank)),
       variablesReference: BANK_BASE + bank, count: bankRegisters.size, memory: bankReference(bank) }));
 }
 
@@ -154,7 +154,7 @@ function portVariables({ machineState, face }) {
 function srcVariable(item) {
   const [bank, byte] = item.split(".");
   if (byte === undefined) return createVariable("SRC", say.selectsRom(toHex(bank), parseInt(bank[0], 16)));
-  return createVariable(sourceOfBank(bank), `${toHex(byte)}: ${describeCharacter(parseInt(byte, 16))}`);
+  return createVariable(srcOfBank(bank), `${toHex(byte)}: ${describeCharacter(parseInt(byte, 16))}`);
 }
 
 /** @param {ShownState} state */
@@ -162,7 +162,7 @@ function lampVariables({ session, face, board }) {
   const marks = readItems(session.debugger.session.ask("lamps\n")[0]).join("");
   return board.lamps.map((line, lamp) => {
     const name = (face.lamps.get(lamp) || { text: "" }).text.replace(/_/g, " ");
-    return createReadOnlyVariable(name || `lamp ${lamp}`, say.lampIs(marks[lamp] === "*"), `lamp ${lamp}`);
+    return createReadOnlyVariable(name || `lamp ${lamp}`, say.lampState(marks[lamp] === "*"), `lamp ${lamp}`);
   });
 }
 
@@ -252,7 +252,7 @@ export class Scopes {
   async setVariable(reference, name, value, base) {
     const variable = (this.variables(reference) || []).find((candidate) => candidate.name === name);
     if (!variable) throw new Error(say.notFoundHereMessage(name));
-    if (variable.place === "") throw new Error(say.nothingSetsMessage(name));
+    if (variable.place === "") throw new Error(say.readOnlyMessage(name));
     await setPlace(this.session, variable.place, value);
     const newVariable = (this.variables(reference, base) || []).find((candidate) => candidate.name === name);
     return newVariable ? newVariable.value : value;

@@ -26,7 +26,7 @@ export class ErrorMessages {
   errorMessage(error) {
     if (error instanceof BenchRefusal) return `${error.message}: ${this.refusalMeaning(error.number)}`;
     if (error instanceof BenchTrap) return say.moduleStopped(error.message);
-    if (error instanceof WorkerDiedError) return say.startedAgain(error.message);
+    if (error instanceof WorkerDiedError) return say.restartedMessage(error.message);
     return (error instanceof Error && error.message) || String(error);
   }
 
@@ -37,7 +37,7 @@ export class ErrorMessages {
   failureMessage(error) {
     if (error instanceof CancelledError) return say.WAS_CANCELLED;
     if (error instanceof BenchRefusal || error instanceof BenchTrap || error instanceof WorkerDiedError) {
-      return say.wasNotDone(this.errorMessage(error));
+      return say.notDoneMessage(this.errorMessage(error));
     }
     return say.pageFailed(this.errorMessage(error));
   }

@@ -32,7 +32,7 @@ export function replaceNames(lines, map) {
     if (message === "" && error !== "") [message, line] = [error, lineNumber];
   };
   /** @type {(text: string, lineNumber: number) => string} */
-  const replaceIn = (text, lineNumber) => {
+  const replaceInLine = (text, lineNumber) => {
     const setMatch = SET_LINE.exec(text);
     if (!setMatch) return replaceNamesIn(text, lineNumber);
     const { lines: settingLines, error, column } = readSetting(setMatch[1], map);
@@ -50,7 +50,7 @@ export function replaceNames(lines, map) {
     const text = stripCarriageReturn(rawLine);
     const isInText = isOpen;
     isOpen = isOpen ? text !== "." : opensText(text);
-    return isInText ? rawLine : replaceIn(text, index + 1);
+    return isInText ? rawLine : replaceInLine(text, index + 1);
   });
   return { lines: replacedLines.join("\n"), message, line };
 }

@@ -23,7 +23,7 @@ const END_TYPES = ["7", "8", "9"];
 function storeSRecord(record, image) {
   if (!/^S\d([0-9A-F]{2}){4,}$/i.test(record)) throw new RecordError(say.S_RECORD_SYNTAX);
   const [count, ...bytes] = (record.slice(2).match(/../g) || []).map((digits) => parseInt(digits, 16));
-  if (bytes.length !== count) throw new RecordError(say.wrongByteCount(count, bytes.length));
+  if (bytes.length !== count) throw new RecordError(say.wrongByteCountMessage(count, bytes.length));
   const expectedChecksum = 0xff - (bytes.slice(0, -1).reduce((sum, byte) => sum + byte, count) & 0xff);
   const checksum = bytes[bytes.length - 1];
   if (checksum !== expectedChecksum) throw new ImageError(say.wrongChecksum(hex(checksum, 2), hex(expectedChecksum, 2)));
@@ -97,7 +97,7 @@ export function readBnpf(text, from = 0) {
     }
   });
   const lines = text.replace(/\n$/, "").split("\n").length;
-  if (word !== "") throw new ImageError(say.imageLine(lines, say.bnpfWithoutEnd(word)));
+  if (word !== "") throw new ImageError(say.imageErrorInLine(lines, say.bnpfWithoutEnd(word)));
   if (count === 0) throw new ImageError(say.NO_BYTE);
   return image.bytes;
 }

@@ -55,8 +55,8 @@ export class ImageBytes {
 export function readBytes(file, from = 0) {
   if (file.length === 0) throw new ImageError(say.NO_BYTE);
   if (from + file.length > ADDRESS_COUNT) {
-    const [size, room] = [file.length, ADDRESS_COUNT - from].map((count) => count.toLocaleString("en"));
-    throw new ImageError(from === 0 ? say.tooManyBytesMessage(size, room) : say.tooManyFromMessage(size, room, hex(from, 3)));
+    const [size, maxSize] = [file.length, ADDRESS_COUNT - from].map((count) => count.toLocaleString("en"));
+    throw new ImageError(from === 0 ? say.tooManyBytesMessage(size, maxSize) : say.tooManyBytesFromMessage(size, maxSize, hex(from, 3)));
   }
   const image = new ImageBytes(from);
   image.put(0, file);
@@ -73,7 +73,7 @@ export function readLines(text, read) {
     try {
       read(line);
     } catch (error) {
-      if (error instanceof ImageError) error.message = say.imageLine(index + 1, error.message);
+      if (error instanceof ImageError) error.message = say.imageErrorInLine(index + 1, error.message);
       throw error;
     }
   });
@@ -89,7 +89,7 @@ function readRecord(text) {
   if (!/^:([0-9A-F]{2}){5,}$/i.test(text)) throw new RecordError(say.RECORD_SYNTAX);
   const bytes = (text.slice(1).match(/../g) || []).map((digits) => parseInt(digits, 16));
   const [count, high, low, type] = bytes;
-  if (bytes.length !== count + 5) throw new RecordError(say.wrongByteCount(count, bytes.length - 5));
+  if (bytes.length !== count + 5) throw new RecordError(say.wrongByteCountMessage(count, bytes.length - 5));
   const expectedChecksum = -bytes.slice(0, -1).reduce((sum, byte) => sum + byte, 0) & 0xff;
   if (bytes[count + 4] !== expectedChecksum) {
     throw new ImageError(say.wrongChecksum(hex(bytes[count + 4], 2), hex(expectedChecksum, 2)));
@@ -109,7 +109,7 @@ const DATA_SIZES = new Map([[END_TYPE, 0], ...BASE_TYPES.map((type) => /** @type
 function storeRecord({ address, type, data }, image) {
   const size = DATA_SIZES.get(type);
   if (type === DATA_TYPE) image.put(address, data);
-  else if (size === undefined) throw new ImageError(say.noTypeMessage(hex(type, 2)));
+  else if (size === undefined) throw new ImageError(say.unknownTypeMessage(hex(type, 2)));
   else if (data.length !== size) throw new ImageError(say.wrongRecordSize(hex(type, 2), size));
   else if (BASE_TYPES.includes(type) && data.some((byte) => byte !== 0)) throw new ImageError(say.addressPastLast(type));
 }

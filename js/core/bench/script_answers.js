@@ -38,7 +38,7 @@ function canBeginAnswer({ kind, line }, answer) {
  */
 function completeLength(input, answers, from) {
   const format = ANSWER_FORMATS.get(input.kind);
-  if (!format || !format.further || parseRefusal(answers[from])) return 1;
+  if (!format || !format.continuation || parseRefusal(answers[from])) return 1;
   return format.count === "all" || format.count === "list" ? answerLength(input, answers, from)
     : maxAnswerLines(input, answers[from], format.count);
 }
@@ -52,9 +52,9 @@ function completeLength(input, answers, from) {
  */
 function findInvalidLine(input, answers, from, end) {
   const format = ANSWER_FORMATS.get(input.kind);
-  const furtherPattern = format && format.further;
+  const continuationPattern = format && format.continuation;
   for (let index = from + 1; index < Math.min(end, answers.length); index++) {
-    if (!furtherPattern || !furtherPattern.test(answers[index])) return index;
+    if (!continuationPattern || !continuationPattern.test(answers[index])) return index;
   }
   return -1;
 }
@@ -92,7 +92,7 @@ class AnswerMatcher {
     const [word, count] = firstLine.split(" ");
     if (!canBeginAnswer(input, firstLine)) this.message = messageAt(start);
     else if (word === "ok" && Number(count) !== this.commandCount + 1) {
-      this.message = say.wrongCommandCount(messageAt(start), this.commandCount);
+      this.message = say.wrongCommandCountMessage(messageAt(start), this.commandCount);
     }
     if (this.message !== "") return "";
     if (word === "ok") this.commandCount += 1;
@@ -120,5 +120,5 @@ export function matchScriptAnswers(script, answers) {
   const matcher = new AnswerMatcher(answers);
   const answeredInputs = inputs.map(({ input, lineNumber }) => ({ input, lineNumber, answer: matcher.takeAnswer(input, lineNumber) }));
   const { message, isDone, nextIndex } = matcher;
-  return { inputs: answeredInputs, message: message || (isDone ? "" : say.afterLastAnswer(nextIndex + 1, answers[nextIndex])) };
+  return { inputs: answeredInputs, message: message || (isDone ? "" : say.extraAnswerMessage(nextIndex + 1, answers[nextIndex])) };
 }

@@ -76,7 +76,7 @@ function valueAt(marks, firstLamp) {
  * @returns {number[]}
  */
 export function digitPatterns(display, marks) {
-  return display.by < 0 ? directPatterns(display, marks) : multiplexedPatterns(display, marks);
+  return display.by < 0 ? findDirectPatterns(display, marks) : multiplexedPatterns(display, marks);
 }
 
 /**
@@ -96,7 +96,7 @@ function multiplexedPatterns({ first, rows, columns, by }, marks) {
  * @param {Group} display
  * @param {string} marks one mark per lamp, `*` if the lamp is on
  */
-function directPatterns({ first, rows, columns }, marks) {
+function findDirectPatterns({ first, rows, columns }, marks) {
   const patterns = [];
   let isLeading = true;
   for (let digit = 0; digit < rows; digit++) {

@@ -57,10 +57,10 @@ class LampAnswerReader {
   readAnswer(answers, index) {
     const makeFailure = (/** @type {string} */ error) => ({ text: "", error, count: 1 });
     const answer = answers[index];
-    if (REFUSAL_ANSWER.test(answer)) return makeFailure(say.isRefusalMessage(index + 1, answer));
+    if (REFUSAL_ANSWER.test(answer)) return makeFailure(say.answerIsRefusalMessage(index + 1, answer));
     const [word, marks = ""] = answer.split(" ");
     if (word === "lamps") {
-      const message = this.lampCountError(marks, index + 1) || (this.isScanned ? say.isInstantMessage(index + 1, this.name) : "");
+      const message = this.lampCountError(marks, index + 1) || (this.isScanned ? say.answerShowsInstantMessage(index + 1, this.name) : "");
       return message === "" ? { text: joinDisplayText(this.text.read(marks)), error: message, count: 1 } : makeFailure(message);
     }
     const [, rows, first] = TRACE_ANSWER.exec(answer) || [];

@@ -54,7 +54,7 @@ export function pointAt(curve, parameter) {
   const opposite = 1 - parameter;
   const weights = [opposite ** 3, 3 * opposite ** 2 * parameter, 3 * opposite * parameter ** 2, parameter ** 3];
   /** @type {(coordinate: (point: Point) => number) => number} */
-  const sum = (coordinate) => curve.reduce((all, point, index) => all + weights[index] * coordinate(point), 0);
+  const sum = (coordinate) => curve.reduce((total, point, index) => total + weights[index] * coordinate(point), 0);
   return { x: sum(({ x }) => x), y: sum(({ y }) => y) };
 }
 

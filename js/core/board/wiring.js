@@ -105,7 +105,7 @@ class LineUses {
     this.ranks = new Map();
     board.chains.forEach(({ clock, data }, chain) => {
       this.add(clock, say.clocksChain(chain));
-      this.add(data, say.isDataOfChain(chain));
+      this.add(data, say.dataOfChain(chain));
     });
     if (board.matrix) this.addMatrix(board.matrix);
     board.lamps.forEach((line, lamp) => this.add(line, say.lightsLamp(lamp)));
@@ -268,7 +268,7 @@ function addKeys(column, { chain, first, rows, columns }) {
 function addLamps(column, lamps, { names, colours }) {
   const pins = lamps.map((line, lamp) => (
     { id: `lamp ${lamp}`, line, label: names[lamp] || say.lampPin(lamp), colour: colours[lamp] || "red" }));
-  const descriptions = pins.map(({ line, label }) => say.isAt(label, line));
+  const descriptions = pins.map(({ line, label }) => say.labelIsAt(label, line));
   return column.add({ id: "lamps", kind: "lamps", title: say.lampsTitle(lamps.length), descriptions }, pins, []);
 }
 
@@ -328,9 +328,9 @@ function moveParts(parts, positions) {
   for (const part of parts) {
     const point = positions.get(part.id);
     if (!point) continue;
-    const [right, down] = [point.x - part.x, point.y - part.y];
+    const [dx, dy] = [point.x - part.x, point.y - part.y];
     Object.assign(part, point);
-    for (const pin of part.pins) Object.assign(pin, { x: pin.x + right, y: pin.y + down });
+    for (const pin of part.pins) Object.assign(pin, { x: pin.x + dx, y: pin.y + dy });
   }
 }
 

@@ -69,7 +69,7 @@ function checkRange(value, node, required) {
   if (value.isConstant || !required.isConstant) return;
   const number = required.read([]);
   if (number <= value.maxValue) return;
-  fail(say.valueRange(value.name, value.maxValue, node.kind === "number" ? node.text : say.valueIs(node.text, number)), node.column);
+  fail(say.valueRangeMessage(value.name, value.maxValue, node.kind === "number" ? node.text : say.valueIs(node.text, number)), node.column);
 }
 
 /**
@@ -126,8 +126,8 @@ function compilePlaceValues({ place, values, text, column }, names, dependencies
  * @param {Names} names
  * @param {Dependencies} dependencies
  */
-function compileKeyword({ words: [head, ...following] }, names, dependencies) {
-  const words = following.map(({ text }) => text);
+function compileKeyword({ words: [head, ...operands] }, names, dependencies) {
+  const words = operands.map(({ text }) => text);
   const compile = COMPILERS[head.text];
   return compile ? compile(words, names, dependencies) : compileChain(head.text, words, names, dependencies);
 }

@@ -102,7 +102,7 @@ export class Scanner {
       const [invalidText] = /** @type {RegExpExecArray} */ (this.match(RAW_WORD));
       return fail(invalidText.startsWith('"') ? say.NO_END_OF_TEXT : say.unknownSign(invalidText), column);
     }
-    if (Number.isNaN(parseNumeral(number[0]))) fail(say.noNumeralMessage(number[0]), column);
+    if (Number.isNaN(parseNumeral(number[0]))) fail(say.notANumeralMessage(number[0]), column);
     return token("number", number[0]);
   }
 

@@ -82,7 +82,7 @@ export function readSetting(text, map, board = null) {
     const parsedPlace = parsePlace(place);
     if (board && parsedPlace && parsedPlace.probesOn(board).length === 0) fail(say.boardLacks(place), 0);
     const number = evaluateConstant(value, map);
-    if (number < 0 || number > maxPlaceValue(place)) fail(say.valueRange(place, maxPlaceValue(place), value.text), value.column);
+    if (number < 0 || number > maxPlaceValue(place)) fail(say.valueRangeMessage(place, maxPlaceValue(place), value.text), value.column);
     return { place, lines: settingLines(place, number), error: "", column: -1 };
   } catch (error) {
     if (error instanceof ConditionError) return { place: "", lines: "", error: error.message, column: Math.max(0, error.column) };

@@ -20,7 +20,7 @@ import * as say from "../../words/conditions.js";
  *   string }} Value
  *
  * A value that only a test can supply because the bench does not report it.
- * @typedef {"cycles" | "seen" | "printed"} Need
+ * @typedef {"cycles" | "lampForecast" | "printed"} Need
  */
 
 /** The places that `state` reports and `trace` does not: the TEST pin, a pending second cycle, and the pressed keys. */
@@ -180,7 +180,7 @@ function placeValue(place, { board }, dependencies) {
   const probes = place.probesOn(board);
   if (probes.length === 0) fail(say.boardLacks(name));
   const maxValue = place.maxValue(board);
-  if (maxValue < 0) fail(say.isNoNumberMessage(name));
+  if (maxValue < 0) fail(say.notOneNumberMessage(name));
   const answerIndexes = probes.map((probe) => dependencies.addPlace(probe));
   const selectAnswers = (/** @type {string[]} */ values) => answerIndexes.map((index) => values[index]);
   return { name, maxValue, isConstant: false, read: (values) => place.number(selectAnswers(values)),
@@ -258,7 +258,7 @@ function failForUnknownName(text, names) {
 function watchNameValue(name, text, names, dependencies) {
   if (dependencies.depth >= MAX_NAME_DEPTH) return fail(say.namesTooDeep(name, MAX_NAME_DEPTH));
   const node = parseExpression(text, (lamp) => names.face.lampNumbers.has(lamp));
-  if (isCondition(node)) return fail(say.isNoValueMessage(name, text));
+  if (isCondition(node)) return fail(say.nameIsConditionMessage(name, text));
   dependencies.depth += 1;
   try {
     return { ...compileValue(node, names, dependencies), name };
@@ -308,7 +308,8 @@ function nameValue(node, names, dependencies) {
 export function nibbleValues({ text, column }, count, names, dependencies) {
   return withErrorColumn(column, () => {
     const place = parsePlace(text);
-    const [, bank, byte] = /^ram\.(\d)\.0x(\w+)$/.exec(place ? place.name : "") || fail(say.isOneValueMessage(place ? place.name : text));
+    const placeName = place ? place.name : "";
+    const [, bank, byte] = /^ram\.(\d)\.0x(\w+)$/.exec(placeName) || fail(say.placeHasOneValueMessage(placeName || text));
     return Array.from({ length: count }, (_, index) => {
       const nibbleAddress = parseInt(byte, 16) + index;
       const nibblePlace = nibbleAddress <= LAST_NIBBLE ? parsePlace(`ram.${bank}.${nibbleAddress}`) : null;
@@ -341,7 +342,7 @@ export function evaluateConstant(node, map) {
   if (node.kind === "number") return node.value;
   if (node.kind === "sum") return OPERATIONS[node.sign](evaluateConstant(node.left, map), evaluateConstant(node.right, map));
   const programName = node.kind === "name" && node.direction === "" ? findProgramName(node.text.replace(/^@/, ""), map) : undefined;
-  return programName ? programName.value : fail(map ? say.noConstantMessage(node.text) : say.noNamesMessage(node.text), node.column);
+  return programName ? programName.value : fail(map ? say.noConstantMessage(node.text) : say.namesUnknownMessage(node.text), node.column);
 }
 
 /**

@@ -106,7 +106,7 @@ export class Arrivals {
   /**
    * Runs a copy of the session in which the breakpoints are set. Returns the number of cycles that have run, or -1 if `visit` ends the run.
    * @param {Engine} engine
-   * @param {Uint8Array} file the copy of the session; changed
+   * @param {Uint8Array} file the copy of the session; modified in place
    * @param {{ lines: string, count: number, cycles: number }} run the lines before the run, the number of their answers, and the number of
    *   cycles to run
    * @param {(end: string, row: string[], cyclesRun: number) => boolean} visit called at each stop with the bench's reason for the stop
@@ -117,8 +117,8 @@ export class Arrivals {
     while (cyclesRun < cycles) {
       const cyclesLeft = cycles - cyclesRun;
       const runs = Math.min(cyclesLeft, MAX_RUNS, Math.max(1, Math.round(2 * this.arrivalsPerCycle * cyclesLeft)));
-      const pair = `run ${Math.floor(cyclesLeft / runs)}\n${this.probes.lines}`;
-      const answers = new ForecastAnswers(engine.serve(file, linesBefore + pair.repeat(runs), file).answers);
+      const runWithQueries = `run ${Math.floor(cyclesLeft / runs)}\n${this.probes.lines}`;
+      const answers = new ForecastAnswers(engine.serve(file, linesBefore + runWithQueries.repeat(runs), file).answers);
       answers.skip(skippedCount);
       [linesBefore, skippedCount] = ["", 0];
       while (!answers.isEmpty) {
@@ -185,7 +185,7 @@ export class Arrivals {
   }
 
   /**
-   * Restores the hit counts from before typed lines. Called if the lines fail, because the hits counted for them did not happen.
+   * Restores the hit counts that a caller saved before typed lines. Called if the lines fail, because their counted hits did not happen.
    * @param {number[]} counts
    */
   restoreCounts(counts) {

@@ -14,10 +14,10 @@ import * as say from "../../words/debug.js";
  * @typedef {Omit<Breakpoint, "id" | "hits">} SavedBreakpoint a breakpoint as saved in a session or project
  *
  * An edit that replaces the text from position `from` to position `to`. `line` and `ch` (the column) count from 0. `text` contains the new
- * lines, and `removed` the old lines. `origin` is "undo" or "redo" for these commands. `isWhole` is true if the edit replaces the whole
+ * lines, and `removed` the old lines. `origin` is "undo" or "redo" for these commands. `replacesAll` is true if the edit replaces the whole
  * text.
  * @typedef {{ from: { line: number, ch: number }, to: { line: number, ch: number }, text: string[], removed?: string[],
- *   origin?: string, isWhole?: boolean }} Edit
+ *   origin?: string, replacesAll?: boolean }} Edit
  */
 
 /** The maximum number of enabled breakpoints, a limit of the bench. */
@@ -124,7 +124,7 @@ export class BreakpointList {
    * @param {Edit} edit
    */
   applyEdit(edit) {
-    return (edit.isWhole === true && this.replaceText(edit)) || this.move(edit);
+    return (edit.replacesAll === true && this.replaceText(edit)) || this.move(edit);
   }
 
   /**
@@ -187,8 +187,8 @@ export class BreakpointList {
       this.storeDeleted(breakpoint, edit);
       return [];
     });
-    const isUndone = edit.origin === "undo" || edit.origin === "redo";
-    return (isUndone && this.restoreDeleted(edit, first, count)) || isMoved;
+    const isUndoOrRedo = edit.origin === "undo" || edit.origin === "redo";
+    return (isUndoOrRedo && this.restoreDeleted(edit, first, count)) || isMoved;
   }
 
   /**
@@ -232,8 +232,8 @@ export class BreakpointList {
 
   /**
    * Moves each breakpoint to an instruction of the program, and sets its address. Removes all but one of the breakpoints with the same
-   * address. Callers call this method after the source is assembled into ROM. Returns messages about breakpoints that moved or that no
-   * instruction follows.
+   * address. Called after the source has been assembled into ROM. Returns messages about breakpoints that moved or that no instruction
+   * follows.
    * @param {SourceMap} map
    */
   locate(map) {
@@ -267,9 +267,9 @@ export class BreakpointList {
    * @param {[number, number][]} hits pairs of a breakpoint id and its number of new hits
    */
   count(hits) {
-    for (const [id, more] of hits) {
+    for (const [id, newHits] of hits) {
       const breakpoint = this.get(id);
-      if (breakpoint) breakpoint.hits += more;
+      if (breakpoint) breakpoint.hits += newHits;
     }
   }
 
@@ -302,18 +302,18 @@ function countEqualLines(oldLines, newLines, max, isAtEnd) {
 /**
  * Returns the first and the last line that an edit replaces, counted from 1, and the number of new lines. Lines that stay equal at the
  * start and the end are excluded. Text that is inserted at the start of a line counts as new lines before this line. `isUnrelated` is true
- * if the edit replaces the whole text with an unrelated text. Texts are unrelated if both have more than two lines, and no nonblank line at
- * the start or end is equal.
+ * if the edit replaces the whole text with an unrelated text. Texts are unrelated if both have more than two lines, and share no nonblank
+ * line at the start or at the end.
  * @param {Edit} edit
  */
-function replacedLines({ from, to, text, removed = Array(to.line - from.line + 1).fill("\n"), isWhole = false }) {
+function replacedLines({ from, to, text, removed = Array(to.line - from.line + 1).fill("\n"), replacesAll = false }) {
   const maxCount = Math.min(removed.length, text.length);
   const isBefore = from.ch === 0;
   const firstCount = countEqualLines(removed, text, maxCount, isBefore);
   const secondCount = countEqualLines(removed, text, maxCount - firstCount, !isBefore);
   const [before, after] = isBefore ? [secondCount, firstCount] : [firstCount, secondCount];
   const unchangedLines = [...text.slice(0, before), ...text.slice(text.length - after)];
-  const isUnrelated = isWhole && unchangedLines.join("").trim() === "" && removed.length > 2 && text.length > 2;
+  const isUnrelated = replacesAll && unchangedLines.join("").trim() === "" && removed.length > 2 && text.length > 2;
   return { first: from.line + 1 + before, last: to.line + 1 - after, count: text.length - before - after, isUnrelated };
 }
 

@@ -79,7 +79,7 @@ export class DebugSession {
   /**
    * Sends a text to the bench, unless the text is empty. Adds an error of the bench to `rejectedTexts`.
    * @param {Engine} engine
-   * @param {Uint8Array} file the session file; changed
+   * @param {Uint8Array} file the session file; modified in place
    * @param {"wire" | "asm"} word the bench command for the text
    * @param {string} text
    */

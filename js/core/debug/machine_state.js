@@ -140,7 +140,7 @@ export class MachineState {
     registers.registers.forEach((value, index) => values.set(`R${index}`, value));
     for (const item of ports.srcBytes) {
       const [bank, byte] = item.split(".");
-      values.set(byte === undefined ? "SRC" : say.sourceOfBank(bank), byte === undefined ? bank : byte);
+      values.set(byte === undefined ? "SRC" : say.srcOfBank(bank), byte === undefined ? bank : byte);
     }
     for (const [bank, ram] of this.ram) {
       for (const [name, { characters, status }] of ram.registers) {

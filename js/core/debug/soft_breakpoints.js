@@ -62,7 +62,7 @@ export function compileNote(text, names) {
     if (!match) return () => piece;
     const { note, error: bracesError, column } = compileBracedText(match[1], names);
     if (!note) {
-      error = error || errorInColumn(say.noteAsks(piece, bracesError), pieceStart + 1 + column);
+      error = error || errorInColumn(say.noteErrorMessage(piece, bracesError), pieceStart + 1 + column);
       return () => piece;
     }
     const from = places.length;
@@ -80,8 +80,8 @@ export function compileNote(text, names) {
  */
 export function compileBreakpoint(breakpoint, names) {
   const { id, address, from, hits } = breakpoint;
-  const isAlways = breakpoint.condition.trim() === "";
-  const { condition, error, column } = isAlways ? { condition: null, error: "", column: -1 }
+  const isUnconditional = breakpoint.condition.trim() === "";
+  const { condition, error, column } = isUnconditional ? { condition: null, error: "", column: -1 }
     : compileCondition(breakpoint.condition, names);
   const compiledNote = breakpoint.note.trim() === "" ? null : compileNote(breakpoint.note, names);
   const errorMessage = error ? errorInColumn(error, column) : compiledNote ? compiledNote.error : "";

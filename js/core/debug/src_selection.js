@@ -102,20 +102,20 @@ export class SrcSelection {
   findPortMistake(name, address, chip) {
     const port = this.portMasks.get(chip);
     const isWrite = name === "WRR";
-    const action = say.usesRom(name, isWrite, chip);
-    if (port === undefined) return isWrite ? { kind: "chip", message: say.whichLacks(action, this.description) } : null;
+    const action = say.romAccess(name, isWrite, chip);
+    if (port === undefined) return isWrite ? { kind: "chip", message: say.missingPartMessage(action, this.description) } : null;
     if (isWrite && !/[01]/.test(port)) return { kind: "lines", message: say.noOutputsMessage(action, this.description) };
     if (!isWrite && !port.includes("i")) return { kind: "lines", message: say.noInputsMessage(action, this.description) };
     const lastChip = this.lastChips.get(address);
     const otherKind = [...this.instructionKinds].find((instructionKind) => instructionKind !== name);
     if (otherKind === undefined || lastChip === undefined || lastChip === chip) return null;
     const message = say.selectedByEarlierSrc(action, lastChip, this.srcAddress < 0 ? "" : say.atAddress(hex(this.srcAddress, 3)));
-    return { kind: "source", message: say.sourceWasFor(message, otherKind) };
+    return { kind: "source", message: say.srcWasForMessage(message, otherKind) };
   }
 
   /** A part of a message that names the address of the last SRC; "" before the first SRC. */
   get description() {
-    return this.srcAddress < 0 ? "" : say.lastSource(hex(this.srcAddress, 3));
+    return this.srcAddress < 0 ? "" : say.lastSrcSuffix(hex(this.srcAddress, 3));
   }
 
   /**

@@ -169,7 +169,7 @@ function numberPieces(numberText, value, { head }, machineState) {
   if (!(value <= 255)) return [numberText];
   const binary = value.toString(2).padStart(value > 15 ? 8 : 4, "0").replace(/(....)(....)/, "$1 $2");
   if (!head || head.text.toUpperCase() !== "FIM") return [`${numberText}, ${binary}`];
-  return [say.bySource(numberText, binary), ...selectionPieces(value, machineState)];
+  return [say.valueSentBySrc(numberText, binary), ...selectionPieces(value, machineState)];
 }
 
 /**

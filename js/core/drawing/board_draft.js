@@ -30,7 +30,7 @@ export class BoardDraft {
   constructor(text) {
     this.text = text;
     this.lines = text.split("\n");
-    /** The offset of the start of each line in the text, and then the text length + 1. */
+    /** The start offset of each line, followed by the length of the text + 1. */
     this.lineOffsets = [0];
     for (const line of this.lines) this.lineOffsets.push(this.lineOffsets[this.lineOffsets.length - 1] + line.length + 1);
     const { entries, keys, errors } = readBoardText(text);
@@ -144,7 +144,7 @@ export class BoardDraft {
 
   /**
    * Returns whether the text describes the same board as an answer of the bench.
-   * @param {string[]} answers the answer to `board` after the bench has wired the text
+   * @param {string[]} answers the bench's answer to `board` after `wire` with the text
    */
   matchesAnswers(answers) {
     return this.isToml && this.boardAnswers !== null && this.boardAnswers.join("\n") === answers.join("\n");

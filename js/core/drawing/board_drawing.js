@@ -137,7 +137,7 @@ export class Drawing {
   async checkText(text) {
     const [first, ...answers] = await this.callbacks.ask(`wire\n${sentText(text, "#")}.\nboard\n`);
     const refusal = parseRefusal(first);
-    const message = refusal ? say.benchRefuses(this.callbacks.describeRefusal(refusal.number)) : "";
+    const message = refusal ? say.benchRejectsMessage(this.callbacks.describeRefusal(refusal.number)) : "";
     return { errorMessage: message, answers };
   }
 

@@ -39,7 +39,7 @@ function freeNumber(usedNumbers, count) {
  */
 export function addRom(editedBoard, port) {
   const chip = freeNumber(editedBoard.board.roms.map((rom) => Number(rom.chip)), MAX_PARTS.rom);
-  if (chip === undefined) throw new ImpossibleAction(say.maxRoms(MAX_PARTS.rom));
+  if (chip === undefined) throw new ImpossibleAction(say.tooManyRomsMessage(MAX_PARTS.rom));
   editedBoard.edit(addPart(editedBoard.draft, "rom", { chip, port }));
   return `rom ${chip}`;
 }
@@ -57,7 +57,7 @@ export function addRam(editedBoard) {
     return `ram ${openBank.bank}.${openBank.chips}`;
   }
   const bank = freeNumber(banks.map((ramBank) => ramBank.bank), MAX_PARTS.ram);
-  if (bank === undefined) throw new ImpossibleAction(say.maxRams(MAX_PARTS.ram, maxChips));
+  if (bank === undefined) throw new ImpossibleAction(say.tooManyRamChipsMessage(MAX_PARTS.ram, maxChips));
   editedBoard.edit(addPart(editedBoard.draft, "ram", { bank, chips: 1 }));
   return `ram ${bank}.0`;
 }
@@ -137,7 +137,7 @@ function freeLampLines(board) {
  */
 export function addChain(editedBoard, chips = 1) {
   const chainNumber = editedBoard.board.chains.length;
-  if (chainNumber >= MAX_PARTS.chain) throw new ImpossibleAction(say.maxChains(MAX_PARTS.chain));
+  if (chainNumber >= MAX_PARTS.chain) throw new ImpossibleAction(say.tooManyChainsMessage(MAX_PARTS.chain));
   const [clock, data] = ensureLines(editedBoard, 2, freeOutputs, () => addRom(editedBoard, OUTPUT_MASK));
   editedBoard.edit(addPart(editedBoard.draft, "chain", { clock, data, chips }));
   return `chain ${chainNumber}`;
@@ -149,10 +149,10 @@ export function addChain(editedBoard, chips = 1) {
  * @param {number} count
  */
 function findFreeBits(board, count) {
-  const freeNames = new Set(freeLines(board).map(({ name }) => name));
+  const freeLineNames = new Set(freeLines(board).map(({ name }) => name));
   for (const [chain, { chips }] of board.chains.entries()) {
     const starts = indices(Math.max(0, BITS_PER_CHIP * chips - count + 1));
-    const first = starts.find((bit) => indices(count).every((index) => freeNames.has(`chain${chain}.${bit + index}`)));
+    const first = starts.find((bit) => indices(count).every((index) => freeLineNames.has(`chain${chain}.${bit + index}`)));
     if (first !== undefined) return { chain, first };
   }
   return null;
@@ -192,8 +192,8 @@ export function setRows(editedBoard, rows) {
   const { matrix, chains } = editedBoard.board;
   if (!matrix) throw new ImpossibleAction(say.NO_KEYS);
   const { from, to } = VALUE_RANGES["keys.rows"];
-  if (rows > to) throw new ImpossibleAction(say.maxRows(to));
-  if (rows < from) throw new ImpossibleAction(say.MIN_ROWS);
+  if (rows > to) throw new ImpossibleAction(say.tooManyRowsMessage(to));
+  if (rows < from) throw new ImpossibleAction(say.TOO_FEW_ROWS);
   if (matrix.first + rows > BITS_PER_CHIP * chains[matrix.chain].chips) {
     throw new ImpossibleAction(say.noBitForRowMessage(matrix.chain));
   }
@@ -209,7 +209,7 @@ export function setRows(editedBoard, rows) {
 export function addColumn(editedBoard) {
   const { matrix } = editedBoard.board;
   if (!matrix) throw new ImpossibleAction(say.NO_KEYS);
-  if (matrix.columns.length >= MAX_COLUMNS) throw new ImpossibleAction(say.maxColumns(MAX_COLUMNS));
+  if (matrix.columns.length >= MAX_COLUMNS) throw new ImpossibleAction(say.tooManyColumnsMessage(MAX_COLUMNS));
   const [line] = ensureLines(editedBoard, 1, freeInputs, () => addRom(editedBoard, INPUT_MASK));
   const { draft } = editedBoard;
   editedBoard.edit(appendElement(draft, draft.requireKey(draft.requirePart("keys", 0), "columns").value, formatToml(line)));
@@ -222,7 +222,7 @@ export function addColumn(editedBoard) {
  * @param {number} count
  */
 function checkLampCount({ board }, count) {
-  if (board.lamps.length + count > MAX_PARTS.lamp) throw new ImpossibleAction(say.maxLamps(MAX_PARTS.lamp, board.lamps.length));
+  if (board.lamps.length + count > MAX_PARTS.lamp) throw new ImpossibleAction(say.tooManyLampsMessage(MAX_PARTS.lamp, board.lamps.length));
 }
 
 /**
@@ -273,7 +273,7 @@ export function addBuzzer(editedBoard, line = "") {
  * @param {number} digits
  */
 export function addDisplay(editedBoard, kind, digits) {
-  if (!Number.isInteger(digits) || digits < 1) throw new ImpossibleAction(say.MIN_DIGITS);
+  if (!Number.isInteger(digits) || digits < 1) throw new ImpossibleAction(say.TOO_FEW_DIGITS);
   checkLampCount(editedBoard, digits * LINES_PER_DIGIT[kind]);
   ensureRom(editedBoard);
   const firstLamp = editedBoard.board.lamps.length;
@@ -293,7 +293,7 @@ export function addDisplay(editedBoard, kind, digits) {
  */
 export function addMultiplexedDisplay(editedBoard, digits) {
   const maxDigits = findLimit("scanned");
-  if (!Number.isInteger(digits) || digits < 1 || digits > maxDigits) throw new ImpossibleAction(say.maxMultiplexed(maxDigits));
+  if (!Number.isInteger(digits) || digits < 1 || digits > maxDigits) throw new ImpossibleAction(say.multiplexedDigitsMessage(maxDigits));
   const count = LINES_PER_DIGIT.segments + digits;
   checkLampCount(editedBoard, count);
   ensureRom(editedBoard);
@@ -355,8 +355,8 @@ export function checkFrontPanelOutputs({ text }, isLost) {
  */
 export function setChips(editedBoard, chain, chips) {
   const { from, to } = VALUE_RANGES["chain.chips"];
-  if (chips > to) throw new ImpossibleAction(say.maxChips(to));
-  if (chips < from) throw new ImpossibleAction(say.MIN_CHIPS);
+  if (chips > to) throw new ImpossibleAction(say.tooManyChipsMessage(to));
+  if (chips < from) throw new ImpossibleAction(say.TOO_FEW_CHIPS);
   /** @type {(line: string) => boolean} */
   const isBeyond = (line) => line.startsWith(`chain${chain}.`) && parseChainBit(line).bit >= BITS_PER_CHIP * chips;
   checkFrontPanelOutputs(editedBoard, isBeyond);

@@ -130,11 +130,11 @@ function shiftLines(clock, data, labels) {
   /** @type {Line[]} */
   const clockLowLines = isOnePort ? [] : [...selectionLines(clock), ["", ["LDM", "0"]], ["", [clock.write]]];
   /** @type {Line[]} */
-  const addDataBit = isOnePort ? [["", ["CLC"]], ["", ["ADD", "R6"]]] : [];
+  const dataBitLines = isOnePort ? [["", ["CLC"]], ["", ["ADD", "R6"]]] : [];
   return [
     [labels.labelFor("shift"), ["XCH", "R6"], say.BIT_ENTERS], ...selectionLines(data), ["", ["LD", "R6"]],
     ["", [data.write], isOnePort ? say.CLOCK_LOW : say.DATA], ...clockLowLines,
-    ["", ["LDM", String(clock.bit)]], ...addDataBit, ["", [clock.write], say.CLOCK_RISES], ["", ["BBL", "0"]],
+    ["", ["LDM", String(clock.bit)]], ...dataBitLines, ["", [clock.write], say.CLOCK_RISES], ["", ["BBL", "0"]],
   ];
 }
 

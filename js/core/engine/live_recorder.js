@@ -71,7 +71,7 @@ export class LiveRecorder {
    * @param {Trigger | null} trigger
    * @param {LiveSetup} options
    */
-  waitFor(trigger, options) {
+  setTrigger(trigger, options) {
     this.trigger = trigger;
     this.options = options;
     this.tracedPlaces = trigger && trigger.places.length > 0 && trigger.address < 0 ? trigger.places.join(" ") : "";
@@ -243,7 +243,7 @@ export class LiveRecorder {
   /**
    * Records the effect of lines that were executed while the machine was paused, by executing the lines again on a copy of the session.
    * Ends the recording if a line changed the board or the program.
-   * @param {Uint8Array} file a copy of the session file before the lines; changed
+   * @param {Uint8Array} file a copy of the session file before the lines; modified in place
    * @param {AcceptedCommand[]} commands
    */
   recordCommands(file, commands) {

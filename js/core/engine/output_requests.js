@@ -43,7 +43,7 @@ export class OutputRequests {
    * Starts reports on the edges of a signal line while the machine runs.
    * @param {string} line the signal line; "" ends the reports
    */
-  listenTo(line) {
+  watchBuzzer(line) {
     if (this.bench.currentDebugger) this.bench.session.buzzerMeter = line === "" ? null : new BuzzerMeter(line);
   }
 
@@ -51,7 +51,7 @@ export class OutputRequests {
    * Starts reports on the codes that the program sends to a printer. If this printer is not the current one, starts a new printout.
    * @param {{ strobe: string, port: string } | null} printer the strobe line and the code port of the printer; null ends the reports
    */
-  printOn(printer) {
+  watchPrinter(printer) {
     if (!this.bench.currentDebugger) return;
     const { printerCodes } = this.bench.session;
     if (!printer) this.bench.session.printerCodes = null;

@@ -112,7 +112,7 @@ export class PrinterCodes {
   /**
    * Collects the codes that executed lines sent to the printer, by executing these lines again on a copy of the session.
    * @param {Engine} engine
-   * @param {Uint8Array} file a copy of the session file before the lines; changed
+   * @param {Uint8Array} file a copy of the session file before the lines; modified in place
    * @param {AcceptedCommand[]} commands
    * @param {number} total the cycle count before the lines
    */

@@ -25,13 +25,13 @@ export class ProgramRequests {
    * Returns the size of a program in bytes, and the addresses outside the program at which ROM is not 0.
    * @param {string} text the text as sent to the bench
    */
-  leftovers(text) {
+  findLeftovers(text) {
     if (!this.bench.program || this.bench.program.text !== text) this.bench.program = readProgram(this.bench.engine, text);
     return findLeftovers(this.bench.engine, this.bench.session.file, this.bench.program);
   }
 
   /** Returns a source text that assembles to the bytes in ROM. */
-  source() {
+  disassembleRom() {
     return disassembleRom(this.bench.engine, this.bench.session.file);
   }
 }

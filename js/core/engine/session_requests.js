@@ -40,9 +40,9 @@ export class SessionRequests {
    * the stored past does not lead to this session.
    * @param {import("./timeline.js").StoredSegment[]} segments
    */
-  recall(segments) {
+  restorePast(segments) {
     try {
-      return this.bench.session.timeline.recall(this.bench.engine, segments);
+      return this.bench.session.timeline.restorePast(this.bench.engine, segments);
     } catch (error) {
       // The stored bytes are not a valid session file.
       if (error instanceof BenchRefusal) return -1;
@@ -67,9 +67,9 @@ export class SessionRequests {
   async serveTyped(lines) {
     const typedResult = { id: 0, reason: "", change: "", cutLine: "", cycles: 0, tally: NO_TALLY };
     const result = await this.bench.executeAndReport(async () => {
-      const served = await this.bench.debugger.serveTyped(lines, (done) => this.bench.shouldContinue(done, lines.length));
-      Object.assign(typedResult, served.typedResult);
-      return served.result;
+      const typedReply = await this.bench.debugger.serveTyped(lines, (done) => this.bench.shouldContinue(done, lines.length));
+      Object.assign(typedResult, typedReply.typedResult);
+      return typedReply.result;
     });
     return { ...result, typedResult };
   }

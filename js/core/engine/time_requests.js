@@ -73,9 +73,9 @@ export class TimeRequests {
    * @returns {Frame}
    */
   halt() {
-    const frame = this.bench.takeUnreported();
+    const frame = this.bench.takePendingFrame();
     this.bench.fullSpeed.stop();
-    this.bench.session.timeline.stop();
+    this.bench.session.timeline.recordStop();
     return frame;
   }
 }

@@ -92,12 +92,12 @@ export class Timeline {
    * entries. Returns the number of entries used from the last stored segment, or -1 if the stored past does not lead to the start of the
    * first segment.
    * @param {Engine} engine
-   * @param {StoredSegment[]} stored consecutive segments
+   * @param {StoredSegment[]} storedSegments consecutive segments
    */
-  recall(engine, stored) {
+  restorePast(engine, storedSegments) {
     const [first] = this.segments;
-    if (stored.length === 0 || first.follows) return -1;
-    const { total, entries, file } = stored[stored.length - 1];
+    if (storedSegments.length === 0 || first.follows) return -1;
+    const { total, entries, file } = storedSegments[storedSegments.length - 1];
     const expectedState = queryState(engine, first.file);
     let cycles = total + addUp(entries.map((entry) => entry.cycles));
     for (let count = entries.length, tries = 0; count >= 0 && cycles >= first.count.total && tries < MAX_TRIES; count--) {
@@ -105,7 +105,7 @@ export class Timeline {
         tries += 1;
         const end = file.slice();
         engine.serve(end, entries.slice(0, count).map(({ line }) => `${line}\n`).join(""), end);
-        if (queryState(engine, end) === expectedState) return this.prepend(stored, count);
+        if (queryState(engine, end) === expectedState) return this.prepend(storedSegments, count);
       }
       if (count > 0) cycles -= entries[count - 1].cycles;
     }
@@ -114,14 +114,14 @@ export class Timeline {
 
   /**
    * Puts stored segments before the first segment. Returns `count`.
-   * @param {StoredSegment[]} stored
+   * @param {StoredSegment[]} storedSegments
    * @param {number} count the number of entries to use from the last stored segment
    */
-  prepend(stored, count) {
-    const [first, ...more] = this.segments;
-    const restoredSegments = stored.map((segment, index) => restoreSegment(
-      index === stored.length - 1 ? { ...segment, entries: segment.entries.slice(0, count) } : segment, index));
-    this.segments = [...restoredSegments, { ...first, follows: true }, ...more];
+  prepend(storedSegments, count) {
+    const [first, ...laterSegments] = this.segments;
+    const restoredSegments = storedSegments.map((segment, index) => restoreSegment(
+      index === storedSegments.length - 1 ? { ...segment, entries: segment.entries.slice(0, count) } : segment, index));
+    this.segments = [...restoredSegments, { ...first, follows: true }, ...laterSegments];
     return count;
   }
 
@@ -135,7 +135,7 @@ export class Timeline {
   }
 
   /** Records that the machine is paused, so that the next entry starts at a stop. */
-  stop() {
+  recordStop() {
     this.isStopped = true;
   }
 
@@ -177,8 +177,8 @@ export class Timeline {
    */
   addMarkIfDue({ file, count }) {
     const { entries, cycles, marks } = this.lastSegment;
-    const before = marks.length > 0 ? marks[marks.length - 1].cycles : 0;
-    if (cycles - before >= MARK_INTERVAL) marks.push({ entry: entries.length, file: file.slice(), count: count.copy(), cycles });
+    const lastMarkCycles = marks.length > 0 ? marks[marks.length - 1].cycles : 0;
+    if (cycles - lastMarkCycles >= MARK_INTERVAL) marks.push({ entry: entries.length, file: file.slice(), count: count.copy(), cycles });
   }
 
   /** Removes the oldest segment without a stop, but not the last segment. If all older segments have stops, removes the oldest segment. */
@@ -216,7 +216,7 @@ export class Timeline {
    * @param {Moment} [from]
    * @returns {Moment | null}
    */
-  before(cycles, from = this.presentMoment) {
+  momentBefore(cycles, from = this.presentMoment) {
     let remainingCycles = cycles - from.cycles;
     if (remainingCycles <= 0) return { ...from, cycles: -remainingCycles };
     let { segment, entry } = from;

@@ -23,7 +23,7 @@ export class TravelRequests {
    * Sets the names that can occur in conditions.
    * @param {{ board: string, program: string, watched?: string[] }} texts
    */
-  takeNames(texts) {
+  setNames(texts) {
     this.bench.debugger.names = this.bench.collectNames(texts);
   }
 
@@ -72,18 +72,18 @@ export class TravelRequests {
    * Resolves to the last change of a place in the stored past.
    * @param {string} place a register, RAM nibble, port or other place that conditions can name
    */
-  async lastChange(place) {
+  async findLastChange(place) {
     const totalCycles = this.bench.session.timeline.cycles;
     let doneCycles = 0;
     const shouldContinue = (newCycles = 0) => this.bench.shouldContinue(doneCycles += newCycles, totalCycles);
-    return this.bench.debugger.lastChange(place, shouldContinue);
+    return this.bench.debugger.findLastChange(place, shouldContinue);
   }
 
   /**
    * Resolves to the heat map for the last `cycles` cycles.
    * @param {number} cycles
    */
-  heat(cycles) {
+  measureHeat(cycles) {
     const { engine, session } = this.bench;
     const board = readBoard(session.statusQueries.board);
     let doneCycles = 0;
@@ -101,7 +101,8 @@ export class TravelRequests {
  */
 function travelResult(bench, word, outcome) {
   const { session } = bench;
-  const { isDone, wires } = outcome;
-  const entries = isDone ? [{ line: `(${word})`, textLines: 0, answers: [bench.engine.ask(session.file, "").opened] }] : [];
-  return { entries, firstAnswer: "", status: 0, hasChangedRom: isDone, ...outcome, ...bench.snapshotReport(session.takeSnapshot(), wires) };
+  const { isDone, hasChangedBoard } = outcome;
+  const entries = isDone ? [{ line: `(${word})`, textLines: 0, answers: [bench.engine.ask(session.file, "").openingAnswer] }] : [];
+  const report = bench.snapshotReport(session.takeSnapshot(), hasChangedBoard);
+  return { entries, firstAnswer: "", status: 0, hasChangedRom: isDone, ...outcome, ...report };
 }

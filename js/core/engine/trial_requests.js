@@ -28,7 +28,7 @@ export class TrialRequests {
    * Returns a sample test for a board and its program.
    * @param {import("../testing/test_preparation.js").Texts} texts
    */
-  sampleTest(texts) {
+  createSampleTest(texts) {
     return sampleTest(this.bench.engine, texts);
   }
 
@@ -66,7 +66,7 @@ export class TrialRequests {
    * an error if no search has begun.
    * @param {number} milliseconds
    */
-  exploreOn(milliseconds) {
+  continueSearch(milliseconds) {
     if (!this.currentSearch) throw new Error("nothing is looked for");
     return this.currentSearch.runFor(milliseconds);
   }

@@ -47,7 +47,7 @@ import { copyWithoutStops } from "./free_running_copy.js";
 class WaveRecorder {
   /**
    * @param {Engine} engine
-   * @param {Uint8Array} file the session file to run; changed
+   * @param {Uint8Array} file the session file to run; modified in place
    * @param {Texts} texts
    */
   constructor(engine, file, texts) {
@@ -133,7 +133,7 @@ export async function recordNextCycles(engine, file, cycles, texts, shouldContin
  */
 function findRecordingStart(timeline, cycles) {
   let segment = timeline.segments.length - 1;
-  const requestedStart = timeline.before(cycles);
+  const requestedStart = timeline.momentBefore(cycles);
   while (timeline.segments[segment].follows && (!requestedStart || segment > requestedStart.segment)) segment -= 1;
   let moment = requestedStart || { segment, entry: 0, cycles: 0 };
   for (segment = moment.segment; segment < timeline.segments.length; segment++) {

@@ -20,13 +20,13 @@ import { createRandom } from "./walks.js";
  * @typedef {(test: string, isGoal: boolean) => boolean | Promise<boolean>} ConfirmTest
  *
  * A confirmed counterexample: the index of its property, its test (in `counterexample`), and its steps (in `violation`). `violation` is
- * null if the property is a model.
+ * null for a `model` property.
  * @typedef {{ property: number, counterexample: Counterexample, violation: Violation | null }} ConfirmedViolation
  */
 
 /** The initial proof gets at most 1 / PROOF_TIME_DIVISOR of the search time. */
 const PROOF_TIME_DIVISOR = 10;
-/** The number of counterexamples with failed confirmation after which the search no longer checks a property. */
+/** The search stops checking a property after this number of counterexamples whose confirmation failed. */
 const MAX_UNCONFIRMED = 3;
 /**
  * The maximum number of cycles to run while a counterexample is minimised: `perSecond` cycles for each second of search time, but at least
@@ -89,11 +89,11 @@ export class CampaignRun {
 
   /** True if no property is left to check. */
   get isDone() {
-    return this.search.openProperties.length === 0 && !this.isModelOpen;
+    return this.search.openProperties.length === 0 && !this.usesModel;
   }
 
   /** True if the search still compares the display with the model's output. */
-  get isModelOpen() {
+  get usesModel() {
     return this.model !== null && this.counterexamples[this.modelIndex] === null
       && this.unconfirmedCounts[this.modelIndex] < MAX_UNCONFIRMED;
   }
@@ -126,7 +126,7 @@ export class CampaignRun {
    */
   async runFor(milliseconds) {
     const startTime = performance.now();
-    if (this.model && this.isModelOpen && (this.timeSpent.model <= this.timeSpent.search || this.search.openProperties.length === 0)) {
+    if (this.model && this.usesModel && (this.timeSpent.model <= this.timeSpent.search || this.search.openProperties.length === 0)) {
       const confirmedViolation = await this.askModel(this.model);
       this.timeSpent.model += performance.now() - startTime;
       return confirmedViolation;
@@ -180,8 +180,8 @@ export class CampaignRun {
   }
 
   /**
-   * Stores the test of a counterexample whose confirmation failed. After MAX_UNCONFIRMED such tests, ends the search for this property.
-   * Returns null.
+   * Stores the test of a counterexample whose confirmation failed. After MAX_UNCONFIRMED such tests, the search no longer checks this
+   * property. Returns null.
    * @param {number} property
    * @param {string} test
    */

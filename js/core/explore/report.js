@@ -6,7 +6,7 @@ import { TAP_HEAD, tapDescription, yamlString } from "../testing/tap.js";
 import { Coverage } from "./search_coverage.js";
 import { moreItems } from "../../words/debug.js";
 import * as say from "../../words/explore.js";
-import { neverReached, proved } from "../../words/prove.js";
+import { neverReachedVerdict, provedVerdict } from "../../words/prove.js";
 
 /**
  * @typedef {import("./properties.js").Property} Property
@@ -54,7 +54,7 @@ function pickShorter(first, second) {
 }
 
 /**
- * Returns the proof in one of several results: if possible, a proof for all inputs.
+ * Returns a proof from several results. Prefers a proof for all inputs.
  * @param {PropertyResult[]} results
  * @returns {Pick<PropertyResult, "states" | "limits">}
  */
@@ -108,9 +108,9 @@ export function hasExpectedResult({ isGoal, isSkipped, found }) {
 export function formatRemark(property, report) {
   const { isGoal, applied, states, chains, found } = property;
   if (found) return `${isGoal ? "reached" : "broken"}, ${formatSteps(found.steps)}`;
-  if (states > 0) return (isGoal ? neverReached : proved)(formatQuantity(states, "state"), property);
+  if (states > 0) return (isGoal ? neverReachedVerdict : provedVerdict)(formatQuantity(states, "state"), property);
   if (chains > 0) return say.chainsOfKeys(formatNumber(chains));
-  return applied ? say.stepsAndStates(formatNumber(report.steps), formatNumber(report.states)) : say.NEVER_LOOKED_AT;
+  return applied ? say.stepsAndStates(formatNumber(report.steps), formatNumber(report.states)) : say.NEVER_CHECKED;
 }
 
 /**
@@ -156,10 +156,12 @@ function formatLineNumbers(lines) {
  * @param {Report} report
  */
 export function formatCoverage({ covered, instructions }) {
-  const { run, all, ways, allWays, unexecutedLines, oneWay } = new Coverage(covered).summarise(instructions);
-  const lines = [say.covered(say.partOfTotal(run, all), say.partOfTotal(ways, allWays))];
+  const {
+    executed, total, directions, allDirections, unexecutedLines, oneDirectionLines,
+  } = new Coverage(covered).summarise(instructions);
+  const lines = [say.coverageText(say.partOfTotal(executed, total), say.partOfTotal(directions, allDirections))];
   if (unexecutedLines.length > 0) lines.push(say.neverRun(formatLineNumbers(unexecutedLines)));
-  if (oneWay.length > 0) lines.push(say.alwaysOneWay(formatLineNumbers(oneWay)));
+  if (oneDirectionLines.length > 0) lines.push(say.alwaysOneWay(formatLineNumbers(oneDirectionLines)));
   return lines;
 }
 
@@ -177,7 +179,7 @@ export function formatTap(report) {
   }
   const rate = seconds > 0 ? say.stepsPerSecond(formatNumber(steps / seconds)) : "";
   lines.push(...formatCoverage(report).map((line) => `# ${line}`));
-  lines.push(say.statistics(seeds, formatNumber(steps), seconds.toFixed(1), rate, formatNumber(states), isStopped));
+  lines.push(say.statisticsLine(seeds, formatNumber(steps), seconds.toFixed(1), rate, formatNumber(states), isStopped));
   return `${lines.join("\n")}\n`;
 }
 

@@ -1,7 +1,7 @@
 // Evaluates expressions in the syntax of Intel's assembler and of the AS macro assembler. They contain names, numbers, parentheses and the
 // operators + - * / and &. The prefixes < and > select the low and the high byte. As an operand, $ or * is the address of the line.
 
-import { upperCase } from "./source_lines.js";
+import { toAsciiUpperCase } from "./source_lines.js";
 import * as say from "../../words/import.js";
 
 /**
@@ -14,7 +14,7 @@ import * as say from "../../words/import.js";
 
 /** The maximum nesting depth of an expression. */
 const MAX_DEPTH = 50;
-/** The number of values of a byte. */
+/** The number of possible values of a byte. */
 const BYTE_VALUES = 256;
 /** The value of the highest bit that the operator & evaluates. */
 const HIGHEST_BIT = 4096;
@@ -215,7 +215,7 @@ class Evaluation {
    */
   parseName(spelling) {
     this.at += spelling.length;
-    const name = upperCase(spelling);
+    const name = toAsciiUpperCase(spelling);
     const value = this.names.valueOf(name);
     if (!this.names.isDefined(name)) this.fail(say.noNameMessage(spelling));
     else if (value === undefined) this.isKnown = false;

@@ -38,7 +38,7 @@ export function parseGoToTarget(text, map) {
   if (value !== undefined && value + parseNumber(offset) <= LAST_ADDRESS) return { address: value + parseNumber(offset), message: "" };
   const address = LISTING_ADDRESS.test(word) ? parseInt(word, 16) : parseNumber(word);
   if (address <= LAST_ADDRESS) return { address, message: "" };
-  if (!Number.isNaN(parseNumber(word))) return createTargetError(say.beyondLast(word));
+  if (!Number.isNaN(parseNumber(word))) return createTargetError(say.addressTooLargeMessage(word));
   if (word === "") return createTargetError(say.nothingToGoToMessage(say.ADDRESS_FORMS));
   if (map) return createTargetError(say.noNameOrAddressMessage(word, say.ADDRESS_FORMS));
   return createTargetError(say.notAnAddressMessage(word, say.ADDRESS_FORMS));

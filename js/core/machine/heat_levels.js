@@ -149,10 +149,10 @@ export function describeChangesWhileRunning(cell, map) {
 /**
  * Returns the status line of the heat map while the session runs.
  * @param {ChipHeat} heat
- * @param {boolean} isAll true if the worker counts the changes in all cycles, false if it counts samples
+ * @param {boolean} countsAllCycles true if the worker counts the changes in all cycles, false if it counts samples
  */
-export function describeHeatStatus({ chipCount }, isAll) {
-  return say.heatCounted(chipCount, isAll);
+export function describeHeatStatus({ chipCount }, countsAllCycles) {
+  return say.heatCounted(chipCount, countsAllCycles);
 }
 
 /**
@@ -167,8 +167,8 @@ export function describeHeat({ cycles, cells }, requestedCycles, nameOf, map) {
   const period = say.inTheLast(formatCycles(cycles), cycles >= requestedCycles);
   if (cells.length === 0) return say.nothingChangedMessage(period);
   const mostChanged = cells.reduce((one, other) => (other.count > one.count ? other : one));
-  if (cells.length === 1) return say.oneChanged(period, nameOf(mostChanged.place), describeChanges(mostChanged, map));
+  if (cells.length === 1) return say.oneChangeMessage(period, nameOf(mostChanged.place), describeChanges(mostChanged, map));
   const lastChanged = cells.reduce((one, other) => (other.cyclesAgo < one.cyclesAgo ? other : one));
   const mostFrequentText = say.mostFrequentChange(nameOf(mostChanged.place), formatTimes(mostChanged.count));
-  return say.manyChanged(period, cells.length, mostFrequentText, nameOf(lastChanged.place), describeLastChange(lastChanged, map));
+  return say.manyChangesMessage(period, cells.length, mostFrequentText, nameOf(lastChanged.place), describeLastChange(lastChanged, map));
 }

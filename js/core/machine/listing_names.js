@@ -43,8 +43,8 @@ export function addLineNames({ address, line }, map) {
 }
 
 /**
- * Returns an instruction in which a label replaces the target address, if the target has a label. If the target has several labels, uses
- * the label in the source line.
+ * Replaces the target address of an instruction with the label of the target, if it has one. If the target has several labels, uses the
+ * label in the source line.
  * @param {string} instruction
  * @param {string} source
  * @param {SourceMap} map

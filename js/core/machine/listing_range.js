@@ -1,5 +1,5 @@
-// Finds start addresses for a disassembled listing, and selects the visible lines. The bench disassembles from a start address on. If that
-// address is not the start of an instruction, the lines are misaligned. They are aligned if a line starts at an address where an
+// Finds start addresses for a disassembled listing, and selects the visible lines. The bench disassembles from a start address onwards. If
+// that address is not the start of an instruction, the lines are misaligned. They are aligned if a line starts at an address where an
 // instruction is known to start (the anchor).
 
 import { indices } from "../bench/numbers.js";
@@ -18,7 +18,10 @@ import { ADDRESS_COUNT, MAX_LISTING_LINES } from "../bench/rom_bytes.js";
  * instructions.
  */
 const BYTES_BEFORE = 12;
-/** The maximum number of tries. If a listing is misaligned, the next try starts one byte later. */
+/**
+ * The maximum number of tries, not counting a try that starts at the anchor. If a listing is misaligned, the next try starts one byte
+ * later.
+ */
 const MAX_TRIES = 4;
 
 /**
@@ -40,7 +43,7 @@ export function listingStarts({ from, anchor }, rows) {
  * @param {Goal} goal
  * @param {number} rows
  */
-export function linesNeeded(start, { from, anchor }, rows) {
+export function countLinesNeeded(start, { from, anchor }, rows) {
   return Math.min(MAX_LISTING_LINES, Math.max(from, anchor || 0) - start + rows);
 }
 

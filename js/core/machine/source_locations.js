@@ -1,7 +1,7 @@
 // Formats an address with its label and its source line: `014 (wait), line 22: wait: FIM P1, time`.
 
 import { hex } from "../bench/numbers.js";
-import { inSource, notInSourceMessage } from "../../words/machine.js";
+import { locationInSource, notInSourceMessage } from "../../words/machine.js";
 
 /** @typedef {import("./source_map.js").SourceMap} SourceMap */
 
@@ -17,5 +17,5 @@ export function formatSourceLocation(map, { lines, linesBefore }, address) {
   if (line === 0) return notInSourceMessage(digits);
   const name = map.nameOf(address);
   const code = lines[line - 1].replace(/;.*/, "").replace(/[ \t]+/g, " ").trim();
-  return inSource(name === "" ? digits : `${digits} (${name})`, line + linesBefore, code);
+  return locationInSource(name === "" ? digits : `${digits} (${name})`, line + linesBefore, code);
 }

@@ -66,7 +66,7 @@ export class SourceMap {
     if (name.isLabel) this.labels.set(name.value, [...this.labelsAt(name.value), name.name]);
   }
 
-  /** Returns the value of `labelledAddresses`. */
+  /** Computes `labelledAddresses`. */
   findLabelledAddresses() {
     const addresses = new Int16Array(ADDRESS_COUNT);
     let labelledAddress = -1;
@@ -155,7 +155,7 @@ export class SourceMap {
     if (!name) return "";
     if (!name.isLabel) return `${word} = 0x${hex(name.value, 2)}, ${name.value}`;
     const line = this.lineOf(name.value);
-    return say.addressOf(word, hex(name.value, 3), line > 0 ? say.inLine(line) : "");
+    return say.wordWithAddress(word, hex(name.value, 3), line > 0 ? say.inLine(line) : "");
   }
 
   /**

@@ -20,7 +20,7 @@ import * as say from "../../words/machine.js";
  * @property {() => string} text Returns the source as sent to the bench.
  * @property {(text: string) => Promise<ProgramCheck>} check Compares a source with ROM. Resolves to the `map` answer or the error in the
  *   source, and the first difference from ROM.
- * @property {(map: SourceMap | null, mismatch: string) => void} changed Called with the result of a check if it differs from the result of
+ * @property {(map: SourceMap | null, mismatch: string) => void} onChange Called with the result of a check if it differs from the result of
  *   the previous check. If the source is not the program in ROM, `map` is null and `mismatch` is the reason.
  * @property {(number: number) => string} describeRefusal Returns the message for an error number of the bench.
  */
@@ -63,7 +63,7 @@ export class SourceSync {
     this.lastResult = null;
     this.text = "";
     this.nextLine = 0;
-    this.callbacks.changed(null, "");
+    this.callbacks.onChange(null, "");
   }
 
   /** Checks whether the source is the program in ROM. Ignores the result if a later check has started meanwhile. */
@@ -90,7 +90,7 @@ export class SourceSync {
     this.mismatch = this.findMismatch(result, map);
     this.map = this.mismatch === "" && map.count > 0 ? map : null;
     this.editor.showAddresses(listLineAddresses(map));
-    this.callbacks.changed(this.map, this.mismatch);
+    this.callbacks.onChange(this.map, this.mismatch);
   }
 
   /**
@@ -133,8 +133,8 @@ export class SourceSync {
 
   /** Waits until the current source has been checked. */
   async waitForCheck() {
-    // All callers wait for the same check. A newer check discards the results of older checks, so if each caller started its own check,
-    // it could happen that no result is ever accepted.
+    // All callers wait for the same check. A newer check discards the results of older checks, so if each caller started its own check, a
+    // result might never be accepted.
     while (this.callbacks.text() !== this.text || !this.lastResult) {
       this.pendingCheck = this.pendingCheck || this.check().finally(() => {
         this.pendingCheck = null;

@@ -19,7 +19,7 @@ import { valuesAt } from "../debug/word_values.js";
  * @property {() => void} showWatched Shows the current values of the watch expressions.
  * @property {() => string[]} snapshot Returns the answers of the last snapshot.
  * @property {() => boolean} isRunning Returns whether the session runs. The page shows values only while the session is paused.
- * @property {() => void} changed Called after the values have changed, and when they become unavailable because the session starts to run.
+ * @property {() => void} onChange Called after the values have changed, and when they become unavailable because the session starts to run.
  */
 
 /** @typedef {Program & ValueCallbacks} SourceValueCallbacks */
@@ -77,6 +77,6 @@ export class SourceValues {
     if (machineState) this.changes.addPause(machineState, cycles, this.callbacks.map());
     this.callbacks.showLines(machineState ? this.changes.lines : new Map());
     this.callbacks.showWatched();
-    this.callbacks.changed();
+    this.callbacks.onChange();
   }
 }

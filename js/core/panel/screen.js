@@ -49,13 +49,13 @@ const makePlainPiece = (text) => ({ text, colour: "", level: 0 });
  * @param {number} width
  */
 function fitToWidth(pieces, width) {
-  let remaining = width;
+  let remainingWidth = width;
   const cutPieces = pieces.map((piece) => {
-    const text = [...piece.text].slice(0, remaining).join("");
-    remaining -= [...text].length;
+    const text = [...piece.text].slice(0, remainingWidth).join("");
+    remainingWidth -= [...text].length;
     return { ...piece, text };
   });
-  return remaining > 0 ? [...cutPieces, makePlainPiece(" ".repeat(remaining))] : cutPieces;
+  return remainingWidth > 0 ? [...cutPieces, makePlainPiece(" ".repeat(remainingWidth))] : cutPieces;
 }
 
 /**
@@ -117,7 +117,7 @@ export class Screen {
   /** Returns the rows above RAM, the front panel and the listing, as texts. */
   buildTopRows() {
     const { panel, title, name } = this;
-    const state = panel.isPaused ? say.paused(panel.pauseReason) : say.RUNNING;
+    const state = panel.isPaused ? say.pausedState(panel.pauseReason) : say.RUNNING;
     const titleRow = say.headLine(title, name, panel.snapshot.commandCount, state);
     return [titleRow, ...this.buildDisplayRows(), ...this.buildRegisterRows(), this.formatSourceLine()];
   }
@@ -129,7 +129,7 @@ export class Screen {
     const { display } = snapshot;
     const [number] = display.split(" ");
     const [first, ...otherRows] = largeDigitRows(number.slice(0, MAX_LARGE_CHARACTERS));
-    return [`${first.padEnd(LARGE_WIDTH)} ${say.display(escapeControls(display))}`, ...otherRows];
+    return [`${first.padEnd(LARGE_WIDTH)} ${say.displayLine(escapeControls(display))}`, ...otherRows];
   }
 
   /** Returns the three rows with the lamps, the registers, and the register pairs. */
@@ -141,7 +141,7 @@ export class Screen {
     const returnAddress = parseInt(returns[0], 16);
     const isNamed = source !== null && returnAddress > 0 && source.map.lineOf(returnAddress) > 0;
     return [
-      say.lamps(snapshot.marks || "-"),
+      say.lampsLine(snapshot.marks || "-"),
       `acc ${accumulator}  cy ${carry}  pc ${counter}  owed ${owed}  dcl ${bank}  test ${test}  ret ${returns.join(" ")}`,
       `${pairs}  ${isNamed ? say.returnTo(this.findAddressName(returnAddress)) : ""}`,
     ];
@@ -178,8 +178,8 @@ export class Screen {
     const rowInChip = row % CHIP_ROWS;
     if (!chip) return "";
     if (rowInChip === CHIP_ROWS - 1) {
-      const out = snapshot.ram.ports.get(chip.name);
-      return out === undefined ? "" : say.portOf(chip.name, out);
+      const portValue = snapshot.ram.ports.get(chip.name);
+      return portValue === undefined ? "" : say.portOutput(chip.name, portValue);
     }
     const register = snapshot.ram.registers.get(`${chip.name}.${rowInChip}`);
     return register ? `${chip.name}.${rowInChip} ${register.characters} ${register.status}` : "";
@@ -242,8 +242,8 @@ export class Screen {
     const lines = printoutLines(printout, face.printer.words).map(escapeControls);
     const count = Math.max(MIN_PRINTOUT_ROWS, freeRows);
     const head = count > MIN_PRINTOUT_ROWS ? [say.PRINTOUT_TITLE] : [];
-    const last = lines.slice(-(count - head.length));
-    return [...head, ...last, ...Array(count - head.length - last.length).fill("")];
+    const lastLines = lines.slice(-(count - head.length));
+    return [...head, ...lastLines, ...Array(count - head.length - lastLines.length).fill("")];
   }
 }
 

@@ -99,7 +99,7 @@ export class Panel {
    */
   reportRefusal(line, answer) {
     const refusal = parseRefusal(answer);
-    if (refusal) this.message = say.refused(line, answer, this.subject.describeRefusal(refusal.number));
+    if (refusal) this.message = say.rejectedMessage(line, answer, this.subject.describeRefusal(refusal.number));
   }
 
   // --- time ---

@@ -112,7 +112,7 @@ function listFilesForKey(keys, name) {
  */
 export function readProjectToml(text) {
   const { entries, plainKeys, keys, errors: tomlErrors } = readBoardText(text.replace(/^\uFEFF/, ""));
-  // `plainKeys` lacks the keys whose value is an empty list, because the board reader omits them.
+  // `plainKeys` does not contain the keys whose value is an empty list, because the board reader omits them.
   const emptyLists = keys.filter(({ value: { inner } }) => Array.isArray(inner) && inner.length === 0);
   const errors = [
     ...tomlErrors.map((error) => ({ ...error, number: 0 })),

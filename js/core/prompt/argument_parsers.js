@@ -65,7 +65,8 @@ export function findInstruction(text, session) {
  */
 export function parseCountArgument(text, maxCount) {
   const count = text.trim() === "" ? 1 : Number(text);
-  if (!/^\s*\d*\s*$/.test(text) || count < 1 || count > maxCount) rejectCommand(say.countRange(maxCount.toLocaleString("en"), text.trim()));
+  const isValid = /^\s*\d*\s*$/.test(text) && count >= 1 && count <= maxCount;
+  if (!isValid) rejectCommand(say.countRangeMessage(maxCount.toLocaleString("en"), text.trim()));
   return count;
 }
 

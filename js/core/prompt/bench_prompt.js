@@ -37,12 +37,12 @@ import * as say from "../../words/session_prompt.js";
  *   Resolves to the first answer line, or "".
  * @property {(line: string) => Promise<string[]>} ask Resolves to the answers to a line. Does not print them.
  * @property {(words: string) => void} print Prints a message on standard output.
- * @property {(words: string) => void} complain Prints a message on standard error.
+ * @property {(words: string) => void} printError Prints a message on standard error.
  * @property {(name: string) => string} read Returns the text of a file; throws an error with the reason if it cannot be read.
  * @property {(prefix: string) => string[]} files Returns the file names that start with a prefix.
- * @property {(word: TextWord, text: string, board: string) => Promise<TextError[]>} errorsOf Resolves to all errors in a rejected text. For
- *   a program, `board` is the board text.
- * @property {(number: number) => string} wordsOf Returns the message for an error number of the bench.
+ * @property {(word: TextWord, text: string, board: string) => Promise<TextError[]>} findErrors Resolves to all errors in a rejected text.
+ *   For a program, `board` is the board text.
+ * @property {(number: number) => string} messageOf Returns the message for an error number of the bench.
  * @property {() => ManualSection[]} manual Returns the sections of the manual, with their tables.
  */
 
@@ -103,7 +103,7 @@ export class SessionPrompt {
       return await (this.openText ? this.addTextLine(line, this.openText) : this.handleLine(line));
     } catch (error) {
       if (!(error instanceof RejectedLine)) throw error;
-      this.sources.complain(error.message);
+      this.sources.printError(error.message);
       return false;
     }
   }
@@ -157,7 +157,7 @@ export class SessionPrompt {
   async serve(line) {
     const refusal = parseRefusal(await this.callbacks.serve(`${line}\n`));
     if (!refusal) return true;
-    this.sources.complain(await this.explainRefusal(line, refusal));
+    this.sources.printError(await this.explainRefusal(line, refusal));
     return false;
   }
 
@@ -179,16 +179,16 @@ export class SessionPrompt {
   /**
    * Sends a text to the bench, and prints the errors in the text. Resolves to false if the bench rejects the text.
    * @param {TextWord} word the command for the text
-   * @param {string} sentLines the text as sent to the bench
+   * @param {string} textToSend the text as sent to the bench
    * @param {string} text the text with its comments
    * @param {{ name: string, linesBefore: number }} place the file name ("" for none), and the number of lines before the text
    */
-  async serveText(word, sentLines, text, place) {
+  async serveText(word, textToSend, text, place) {
     const board = word === "asm" ? await this.readBoardText() : "";
-    const firstAnswer = await this.callbacks.serve(`${word}\n${sentLines}.\n`);
+    const firstAnswer = await this.callbacks.serve(`${word}\n${textToSend}.\n`);
     const refusal = parseRefusal(firstAnswer);
     if (refusal) return this.reportTextErrors(await this.findTextErrors(word, text, board, refusal), text, place);
-    if (/^errors [1-9]/.test(firstAnswer)) this.reportTextErrors(await this.callbacks.errorsOf(word, text, board), text, place);
+    if (/^errors [1-9]/.test(firstAnswer)) this.reportTextErrors(await this.callbacks.findErrors(word, text, board), text, place);
     return true;
   }
 
@@ -202,10 +202,10 @@ export class SessionPrompt {
    */
   async findTextErrors(word, text, board, { number, line }) {
     const isTextRefusal = number >= TEXT_ERROR_NUMBERS.first && number <= TEXT_ERROR_NUMBERS.last;
-    const errors = isTextRefusal ? await this.callbacks.errorsOf(word, text, board) : [];
+    const errors = isTextRefusal ? await this.callbacks.findErrors(word, text, board) : [];
     // For a board, the bench reports the line of a table, but the error can be in one of its keys.
     const isSameLine = line === 0 || COMMENT_MARKS[word] === "#" || errors.some((error) => error.line === line);
-    return isSameLine && errors.length > 0 ? errors : [{ line, words: this.callbacks.wordsOf(number) }];
+    return isSameLine && errors.length > 0 ? errors : [{ line, words: this.callbacks.messageOf(number) }];
   }
 
   /**
@@ -216,7 +216,7 @@ export class SessionPrompt {
    */
   reportTextErrors(errors, text, { name, linesBefore }) {
     const lines = text.split("\n");
-    this.callbacks.complain(errors.flatMap(({ line, words }) => {
+    this.callbacks.printError(errors.flatMap(({ line, words }) => {
       const sourceText = line > 0 ? [`    ${(lines[line - 1] || "").slice(0, MAX_SHOWN_CHARACTERS)}`] : [];
       return [say.errorInText(name, line > 0 ? line + linesBefore : 0, words), ...sourceText];
     }).join("\n"));
@@ -272,7 +272,7 @@ export class SessionPrompt {
     }
     if (number === NO_ROM_ERROR) return say.noRomAtMessage(argumentWords[0]);
     if (number === NO_RAM_ERROR) return noRamAtMessage(word === "poke" ? argumentWords[0] : argumentWords.join(" "));
-    return number === NO_RUN_ERROR ? say.invalidRunLength(argumentWords[0]) : this.callbacks.wordsOf(number);
+    return number === NO_RUN_ERROR ? say.invalidRunLength(argumentWords[0]) : this.callbacks.messageOf(number);
   }
 
   // --- help ---
@@ -294,7 +294,7 @@ export class SessionPrompt {
    * @param {string} word
    */
   describeTopic(word) {
-    if (/^\d\d$/.test(word)) return `no ${word}: ${this.callbacks.wordsOf(Number(word))}`;
+    if (/^\d\d$/.test(word)) return `no ${word}: ${this.callbacks.messageOf(Number(word))}`;
     const manual = this.callbacks.manual();
     const places = sectionRows(manual, say.PLACES_TITLE).map((row) => `  ${row.map(cellText).join(", ").replace(", ", ": ")}`);
     if (word === "places") return places.join("\n");

@@ -149,7 +149,7 @@ export class BreakpointCommands {
     const place = prompt.parsePlace(argumentText, "watch");
     if (RAM_NIBBLE.test(place)) {
       await prompt.serve(`watch ${place.slice("ram.".length).replace(".", " ")}`);
-      prompt.callbacks.print(say.isWatchedMessage(place));
+      prompt.callbacks.print(say.placeIsWatchedMessage(place));
       return;
     }
     if (watchedPlace !== "" && watchedPlace !== place) {

@@ -34,17 +34,17 @@ import { stoppedAt } from "../../words/stops.js";
  */
 
 /**
- * The callbacks of the debugger's prompt. `source FILE` also uses `complain` and `read`.
+ * The callbacks of the debugger's prompt. `source FILE` also uses `printError` and `read`.
  * @typedef {object} PromptCallbacks
  * @property {(words: string) => void} print Prints a message on standard output.
- * @property {(words: string) => void} complain Prints a message on standard error.
+ * @property {(words: string) => void} printError Prints a message on standard error.
  * @property {() => Promise<void>} pause Yields to other tasks, such as the handler of Ctrl-C.
  * @property {() => string | null} source Returns the current text of the program file; null if the program has no file.
  * @property {(name: string) => string} read Returns the text of a file; throws an error with the reason if it cannot be read.
  * @property {(name: string, text: string) => void} write Writes a text to a file; throws an error with the reason if it cannot be written.
  * @property {(prefix: string) => string[]} files Returns the file names that start with a prefix.
  * @property {boolean} isInteractive True if a user at a terminal can interrupt an endless run.
- * @property {{ toggle: () => string, turn: (isOn: boolean) => string } | null} view Shows or hides the view (view.js); null without a
+ * @property {{ toggle: () => string, setVisible: (isOn: boolean) => string } | null} view Shows or hides the view (view.js); null without a
  *   terminal. Each function returns an error message, or "".
  */
 
@@ -103,7 +103,7 @@ export class Prompt {
     this.inspectCommands = new InspectCommands(this);
     this.stops = new StopCommands(this);
     this.sources = new SourceCommand(this, callbacks);
-    const consoleCalls = { breaksChanged: () => this.breakpoints.syncWithBench(), romChanged: () => {} };
+    const consoleCalls = { handleBreakpointChange: () => this.breakpoints.syncWithBench(), handleRomChange: () => {} };
     this.console = new Console(this.machine, this.expressionContext, new ErrorMessages(refusals), consoleCalls);
     this.keys = new BoardKeyNames(this.session, this.face);
     /** @type {Record<string, CommandHandler>} */
@@ -118,12 +118,12 @@ export class Prompt {
 
   makeMachine() {
     return new Machine(this.session, this.launchResult.writer, {
-      stopped: (lastStop) => {
+      handleStop: (lastStop) => {
         this.lastStop = lastStop;
       },
       output: (text, category) => this.output(text, category),
       pause: () => this.yieldToOtherTasks(),
-      stateChanged: () => {},
+      handleStateChange: () => {},
     });
   }
 
@@ -152,7 +152,7 @@ export class Prompt {
    * @param {"console" | "stdout" | "stderr"} category
    */
   output(text, category) {
-    if (category === "stderr") this.sources.complain(text.trimEnd());
+    if (category === "stderr") this.sources.printError(text.trimEnd());
     // This method ignores the message about a move that did nothing, because `makeMove` reports the same message.
     else if (!text.startsWith(say.NOTHING_DONE)) this.callbacks.print(text.trimEnd());
   }
@@ -187,7 +187,7 @@ export class Prompt {
       else if (line !== "" && !line.startsWith("#")) await this.runCommand(line);
       return true;
     } catch (error) {
-      if (!(error instanceof ReportedError)) this.sources.complain(error instanceof Error ? error.message : String(error));
+      if (!(error instanceof ReportedError)) this.sources.printError(error instanceof Error ? error.message : String(error));
       return false;
     }
   }

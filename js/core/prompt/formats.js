@@ -50,6 +50,6 @@ export function formatExpressionValue(text, context) {
   const formatNames = Object.keys(FORMATS);
   const formatter = formatNames.includes(format) ? FORMATS[format] : rejectCommand(say.noFormatMessage(format, formatNames.join(", ")));
   if (expression === "") rejectCommand(say.PRINT_SYNTAX);
-  if (/^(display|lamps)$/.test(expression.trim())) rejectCommand(say.noNumberOfMessage(expression));
+  if (/^(display|lamps)$/.test(expression.trim())) rejectCommand(say.notANumberMessage(expression));
   return formatter(evaluateNumber(expression, context.session), context.session);
 }

@@ -51,7 +51,7 @@ export function countSourceLines({ program }) {
  */
 export function formatSourceLines(session, firstLine, lastLine) {
   const last = Math.min(lastLine, countSourceLines(session));
-  if (firstLine > last) rejectCommand(say.sourceHas(countSourceLines(session)));
+  if (firstLine > last) rejectCommand(say.sourceLineCountMessage(countSourceLines(session)));
   return indices(last - firstLine + 1).map((at) => formatSourceLine(session, firstLine + at)).join("\n");
 }
 
@@ -162,7 +162,7 @@ export function formatLineInfo(session, { line, address }) {
  */
 export function formatFrames(session) {
   return readStackFrames(session).map(({ address, line, name }, at) => (
-    `#${at}  ${hex(address, 3)}  ${name}${line > 0 ? `, line ${line}` : ""}${at > 0 ? say.THE_CALL : ""}`)).join("\n");
+    `#${at}  ${hex(address, 3)}  ${name}${line > 0 ? `, line ${line}` : ""}${at > 0 ? say.CALL_SUFFIX : ""}`)).join("\n");
 }
 
 /**
@@ -201,8 +201,8 @@ export function formatNibbles(session, text, count) {
   if (bank === undefined || !(first <= 255)) rejectCommand(say.noPlaceOfRamMessage(text));
   const state = readState(session);
   const values = indices(Math.min(count, 256 - first)).map((offset) => state.character(Number(bank), first + offset));
-  const firstMissing = values.findIndex((value) => value === "");
-  if (firstMissing === 0) rejectCommand(say.noRamAtMessage(text));
-  const presentValues = firstMissing < 0 ? values : values.slice(0, firstMissing);
+  const missingIndex = values.findIndex((value) => value === "");
+  if (missingIndex === 0) rejectCommand(say.noRamAtMessage(text));
+  const presentValues = missingIndex < 0 ? values : values.slice(0, missingIndex);
   return `ram.${bank}.0x${hex(first, 2)}  ${presentValues.join("")}`;
 }

@@ -96,7 +96,7 @@ export class StopCommands {
   async setCondition(argumentText) {
     const { breakpoint: { id }, remainingText } = this.parseBreakpoint(argumentText, say.CONDITION_SYNTAX);
     await this.prompt.breakpoints.change(id, { condition: remainingText.replace(/^if\s+/, "") });
-    if (remainingText === "") this.prompt.callbacks.print(say.stopsAlways(id));
+    if (remainingText === "") this.prompt.callbacks.print(say.conditionRemovedMessage(id));
   }
 
   /**
@@ -106,7 +106,7 @@ export class StopCommands {
   async ignoreHits(argumentText) {
     const { breakpoint: { id, hits }, remainingText } = this.parseBreakpoint(argumentText, say.IGNORE_SYNTAX);
     const count = /^\d{1,9}$/.test(remainingText) ? Number(remainingText) : -1;
-    if (count < 0) rejectCommand(say.hitCountRange(MAX_IGNORED_HITS.toLocaleString("en"), remainingText || say.NOTHING));
+    if (count < 0) rejectCommand(say.hitCountRangeMessage(MAX_IGNORED_HITS.toLocaleString("en"), remainingText || say.NOTHING));
     await this.prompt.breakpoints.change(id, { from: count === 0 ? 1 : hits + count + 1 });
     this.prompt.callbacks.print(say.breakpointWillIgnore(id, count));
   }

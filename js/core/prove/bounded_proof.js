@@ -26,8 +26,8 @@ import * as say from "../../words/prove.js";
  * @typedef {{ text: string, line: number, isGoal: boolean, verdict: Verdict }} PropertyVerdict
  *
  * @typedef {object} ProvingCalls
- * @property {(states: number) => Promise<void>} reportStates reports the number of states that the prover has searched so far for the
- *   current question without a result
+ * @property {(states: number) => Promise<void>} reportStates reports the number of states that the prover has searched so far without
+ *   deciding the current question
  * @property {() => Promise<void>} yieldToMessages yields to other tasks
  */
 
@@ -44,13 +44,13 @@ class ProverQueries {
     this.texts = { board: texts.boardText, program: texts.programText };
     this.maxStates = maxStates;
     this.calls = calls;
-    /** The number of states that the prover has searched so far for the current question without a result. */
+    /** The number of states that the prover has searched so far without deciding the current question. */
     this.searchedStates = 0;
   }
 
   /**
-   * Asks the prover repeatedly with increasing limits on the number of states. Resolves to the first answer that decides the question, or
-   * to the last answer.
+   * Asks the prover repeatedly with increasing limits on the number of states. Resolves to the first answer that decides the question or,
+   * if there is none, to the last answer.
    * @param {Question} question
    * @returns {Promise<Answer>}
    */
@@ -115,8 +115,8 @@ export function beginProving(engine, texts, maxStates, calls) {
   const proving = new PropertyJudge(parsedTexts.subject, parsedTexts.campaign, {
     ask: (question) => queries.ask(question),
     askBySets: (question) => queries.askBySets(question),
-    confirms: async ({ isTest, text }, isGoal) => !isTest || isConfirmed(engine, texts, text, isGoal, calls.yieldToMessages),
-    reason: (answer) => queries.explainNoAnswer(answer),
+    confirm: async ({ isTest, text }, isGoal) => !isTest || isConfirmed(engine, texts, text, isGoal, calls.yieldToMessages),
+    explainNoAnswer: (answer) => queries.explainNoAnswer(answer),
     yieldToMessages: calls.yieldToMessages,
   });
   return { proving, errors: [] };

@@ -111,9 +111,9 @@ const SEARCH_FORMS = { code: "code", call: "calls", return: "returns" };
  * @returns {Mistake[]}
  */
 export function listMistakes() {
-  const standard = standardProperties();
+  const properties = standardProperties();
   return Object.entries(say.MISTAKES).map(([word, text]) => {
-    const property = standard.find(({ form }) => form === SEARCH_FORMS[/** @type {keyof typeof SEARCH_FORMS} */ (word)]);
-    return /** @type {Mistake} */ ({ word, property: { ...(property || standard[0]), ...(property ? {} : { form: "mistake" }), text } });
+    const property = properties.find(({ form }) => form === SEARCH_FORMS[/** @type {keyof typeof SEARCH_FORMS} */ (word)]);
+    return /** @type {Mistake} */ ({ word, property: { ...(property || properties[0]), ...(property ? {} : { form: "mistake" }), text } });
   });
 }

@@ -27,9 +27,9 @@ import * as say from "../../words/prove.js";
  * @property {(question: Question) => Promise<Answer>} ask asks the prover
  * @property {(question: Question) => Promise<Answer>} askBySets asks the prover for a proof by sets of states, which is fast but never
  *   finds a counterexample
- * @property {(counterexample: Counterexample, isGoal: boolean) => Promise<boolean>} confirms resolves to true if the test of a
+ * @property {(counterexample: Counterexample, isGoal: boolean) => Promise<boolean>} confirm resolves to true if the test of a
  *   counterexample fails; for a goal, if the test passes
- * @property {(answer: NoAnswer) => string} reason returns, as text, why an answer leaves the property undecided
+ * @property {(answer: NoAnswer) => string} explainNoAnswer returns, as text, why an answer leaves the property undecided
  * @property {() => Promise<void>} yieldToMessages yields to other tasks while a counterexample is minimised
  */
 
@@ -192,7 +192,7 @@ export class PropertyJudge {
     const isDecided = verdict.kind === "proved" || (verdict.kind === "found" && verdict.counterexample.isAllowed);
     if (isDecided || !this.inputLimits) return verdict;
     const limitedVerdict = await search({ ...question, inputLimits: this.inputLimits });
-    // A goal that only excluded inputs reach is still reached if the second search decides nothing.
+    // If the second search decides nothing, the goal counts as reached, although only inputs that the text does not allow reach it.
     return limitedVerdict.kind === "open" && verdict.kind === "found" ? verdict : limitedVerdict;
   }
 
@@ -207,12 +207,12 @@ export class PropertyJudge {
    */
   async createVerdict(property, { inputLimits }, answer, campaign, mistake) {
     if (answer.kind === "holds") return createProvedVerdict(property, answer.states, false, inputLimits ? inputLimits.words : []);
-    if (answer.kind !== "fails") return { kind: "open", reason: this.calls.reason(answer) };
+    if (answer.kind !== "fails") return { kind: "open", reason: this.calls.explainNoAnswer(answer) };
     const { subject, calls } = this;
     const index = campaign.properties.indexOf(property);
     const counterexample = await replayCounterexample(subject, campaign, index, answer.values, calls.yieldToMessages, mistake);
     if (!counterexample) return { kind: "open", reason: explainUnconfirmed(property) };
-    if (!await calls.confirms(counterexample, property.isGoal)) return { kind: "open", reason: say.NOT_CONFIRMED };
+    if (!await calls.confirm(counterexample, property.isGoal)) return { kind: "open", reason: say.NOT_CONFIRMED };
     if (counterexample.isAllowed || property.isGoal) return { kind: "found", counterexample };
     return { kind: "open", reason: say.onlyExcludedInputs(formatSteps(counterexample.steps)) };
   }

@@ -24,13 +24,12 @@ import * as say from "../../words/prove.js";
  * @typedef {import("../board/face.js").Face} Face
  * @typedef {import("../board/key_place.js").MatrixKey} MatrixKey
  *
- * A stopwatch: it starts when the condition `begins` is true, stops when the condition `ends` is true, and must never exceed `within`
- * cycles.
- * @typedef {{ begins: Comparisons[], ends: Comparisons[], within: number }} Stopwatch
+ * A stopwatch: it starts when `startCondition` is true, stops when `endCondition` is true, and must never exceed `maxCycles` cycles.
+ * @typedef {{ startCondition: Comparisons[], endCondition: Comparisons[], maxCycles: number }} Stopwatch
  *
- * Presses that are required before the condition `opens` becomes true. Since the condition was last true, the program must have read each
+ * Presses that are required before `openCondition` becomes true. Since the condition was last true, the program must have read each
  * key up and then down, one key after the other.
- * @typedef {{ opens: Comparisons[], keys: MatrixKey[] }} Presses
+ * @typedef {{ openCondition: Comparisons[], keys: MatrixKey[] }} Presses
  *
  * A question. `forbidden` is the condition that must never be true. `mistakes` are the words for the common mistakes that the program must
  * never make. `stopwatch` and `presses` are the time limit and the required presses, null for none. `inputLimits` are the limits on the
@@ -134,14 +133,17 @@ const orImpossibleCondition = (lists) => (lists.length > 0 ? lists : [IMPOSSIBLE
 
 /**
  * Creates the question whether a stopwatch can exceed its limit. Throws UnsupportedQuestion if the limit is too high.
- * @param {Comparisons[]} begins
- * @param {Comparisons[]} ends
+ * @param {Comparisons[]} startCondition
+ * @param {Comparisons[]} endCondition
  * @param {number} limit
  * @returns {Question}
  */
-function createTimeQuestion(begins, ends, limit) {
+function createTimeQuestion(startCondition, endCondition, limit) {
   if (limit > MAX_STOPWATCH_CYCLES) throw new UnsupportedQuestion(say.timeTooLong(formatNumber(MAX_STOPWATCH_CYCLES)));
-  return { ...EMPTY_QUESTION, stopwatch: { begins: orImpossibleCondition(begins), ends: orImpossibleCondition(ends), within: limit } };
+  const stopwatch = {
+    startCondition: orImpossibleCondition(startCondition), endCondition: orImpossibleCondition(endCondition), maxCycles: limit,
+  };
+  return { ...EMPTY_QUESTION, stopwatch };
 }
 
 /**
@@ -166,8 +168,9 @@ function createPressQuestion({ condition, address, keys }, { names: { board, fac
   if (keys.length > MAX_PRESSES) throw new UnsupportedQuestion(say.tooManyPresses(MAX_PRESSES));
   // JIN and BBL can jump from the label to itself in one cycle. The prover would not detect that the label is reached again.
   if (!condition && (isJin(codes[address]) || isReturn(codes[address]))) throw new UnsupportedQuestion(say.LABEL_REPEATS);
-  const opens = condition ? listComparisons(condition, true, board, true) : [addressComparisons(address)];
-  return { ...EMPTY_QUESTION, presses: { opens: orImpossibleCondition(opens), keys: keys.map((name) => findMatrixKey(face, name)) } };
+  const openCondition = condition ? listComparisons(condition, true, board, true) : [addressComparisons(address)];
+  const matrixKeys = keys.map((name) => findMatrixKey(face, name));
+  return { ...EMPTY_QUESTION, presses: { openCondition: orImpossibleCondition(openCondition), keys: matrixKeys } };
 }
 
 /**
@@ -251,8 +254,9 @@ export function questionText({ board, program }, { forbidden, mistakes, stopwatc
   const texts = [`wire\n${sentText(board, "#")}.`, `asm\n${sentText(program, ";")}.`];
   const mistakeLines = mistakes.length > 0 ? ["never", ["mistake", ...mistakes].join(" ")] : [];
   const stopwatchLines = stopwatch
-    ? [`within ${stopwatch.within}`, ...formatCondition("begin", stopwatch.begins), ...formatCondition("end", stopwatch.ends)] : [];
-  const pressLines = presses ? [...formatCondition("open", presses.opens), ...presses.keys.flatMap(formatKeyPress)] : [];
+    ? [`within ${stopwatch.maxCycles}`, ...formatCondition("begin", stopwatch.startCondition),
+      ...formatCondition("end", stopwatch.endCondition)] : [];
+  const pressLines = presses ? [...formatCondition("open", presses.openCondition), ...presses.keys.flatMap(formatKeyPress)] : [];
   const neverLines = formatCondition("never", forbidden);
   const lines = [...limitLines, ...formatInputLimits(inputLimits), ...texts, ...neverLines, ...mistakeLines, ...stopwatchLines,
     ...pressLines, "prove"];
@@ -275,6 +279,6 @@ export function readAnswer(text) {
   if (values !== undefined) return { kind: "fails", values: values.split(" ").slice(1).map(Number) };
   const [, stateCount] = /^no room (\d+)$/.exec(line) || [];
   if (stateCount) return { kind: "full", states: Number(stateCount) };
-  const [, other = null] = FIXED_ANSWERS.find(([form]) => form.test(line)) || [];
-  return other;
+  const [, fixedAnswer = null] = FIXED_ANSWERS.find(([form]) => form.test(line)) || [];
+  return fixedAnswer;
 }

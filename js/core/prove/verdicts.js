@@ -38,7 +38,7 @@ export function formatStateCount({ states, bySets }) {
 /** @type {(judgedProperty: JudgedProperty) => string} returns the verdict as text, for the end of the TAP line */
 function formatRemark({ property: { isGoal }, verdict }) {
   if (verdict.kind === "open") return say.notDecided(verdict.reason);
-  if (verdict.kind === "proved") return (isGoal ? say.neverReached : say.proved)(formatStateCount(verdict), verdict);
+  if (verdict.kind === "proved") return (isGoal ? say.neverReachedVerdict : say.provedVerdict)(formatStateCount(verdict), verdict);
   return isGoal ? say.reachedBy(formatSteps(verdict.counterexample.steps)) : say.brokenBy(formatSteps(verdict.counterexample.steps));
 }
 

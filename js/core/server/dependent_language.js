@@ -117,7 +117,7 @@ export class DependentLanguage {
    * @param {import("../text/completion.js").Completion} completion
    */
   addKinds({ from, to, list }) {
-    return { from, to, list: list.map((item) => ({ ...item, kind: item.what ? KEYWORD_COMPLETION : VALUE_COMPLETION })) };
+    return { from, to, list: list.map((item) => ({ ...item, kind: item.description ? KEYWORD_COMPLETION : VALUE_COMPLETION })) };
   }
 
   /**

@@ -3,22 +3,22 @@
 import { findFoldEnd } from "../text/folding.js";
 
 /**
- * @typedef {import("../text/folding.js").Parts} Parts
+ * @typedef {import("../text/folding.js").FoldPatterns} FoldPatterns
  * @typedef {{ startLine: number, endLine: number, kind?: "comment" }} Fold
  */
 
 /**
  * Returns the folding ranges of a text.
  * @param {string[]} lines
- * @param {Parts} parts
+ * @param {FoldPatterns} patterns
  * @returns {Fold[]}
  */
-export function findFolds(lines, parts) {
+export function findFolds(lines, patterns) {
   const lineAt = (/** @type {number} */ line) => lines[line];
   return lines.flatMap((text, startLine) => {
-    const endLine = findFoldEnd(lineAt, startLine, parts);
+    const endLine = findFoldEnd(lineAt, startLine, patterns);
     if (endLine === startLine) return [];
-    const isComment = text.trimStart().startsWith(parts.mark);
+    const isComment = text.trimStart().startsWith(patterns.mark);
     return [isComment ? { startLine, endLine, kind: /** @type {const} */ ("comment") } : { startLine, endLine }];
   });
 }

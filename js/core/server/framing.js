@@ -13,7 +13,7 @@ const CONTENT_LENGTH = /^content-length[ \t]*:[ \t]*(\d{1,12})[ \t]*$/i;
 
 /**
  * The text of a received message; or the size, in bytes, of a message that was skipped because it was too long.
- * @typedef {{ text: string } | { tooLong: number }} ReceivedMessage
+ * @typedef {{ text: string } | { skippedSize: number }} ReceivedMessage
  */
 
 /** The error that is thrown for a malformed stream, in which the reader cannot find the next message. */
@@ -38,7 +38,7 @@ export class MessageReader {
     this.header = "";
     /** The number of bytes of the body that are still missing; -1 while the reader reads a header. */
     this.missingBytes = -1;
-    /** @type {Uint8Array | null} the buffer for the body; null while the reader skips a body */
+    /** @type {Uint8Array | null} the buffer for the body; null while the reader skips a body or reads a header */
     this.body = null;
     this.size = 0;
   }
@@ -95,7 +95,7 @@ export class MessageReader {
     const { body, size } = this;
     this.missingBytes = -1;
     this.body = null;
-    return body ? { text: this.decoder.decode(body) } : { tooLong: size };
+    return body ? { text: this.decoder.decode(body) } : { skippedSize: size };
   }
 }
 

@@ -4,7 +4,7 @@
 /**
  * @typedef {import("../text/completion.js").Completion} Completion
  * @typedef {import("../text/completion.js").CompletionItem} CompletionItem
- * @typedef {import("../text/folding.js").Parts} Parts
+ * @typedef {import("../text/folding.js").FoldPatterns} FoldPatterns
  * @typedef {import("../text/program_format.js").Layout} Layout
  * @typedef {import("./open_text.js").OpenText} OpenText
  * @typedef {import("./lsp_protocol.js").Location} Location
@@ -13,7 +13,7 @@
  * @typedef {import("./lsp_protocol.js").TextEdit} TextEdit
  * @typedef {import("./token_codes.js").ColouredWord} ColouredWord
  *
- * The errors in a text. `isComplete` is false if the text can contain errors that `errors` lacks.
+ * The errors in a text. `isComplete` is false if the text can contain errors that are not in `errors`.
  * @typedef {{ errors: import("./diagnostics.js").ShownError[], isComplete: boolean }} FoundErrors
  *
  * The help at a position, as plain text and in Markdown.
@@ -37,7 +37,7 @@
  *
  * The handlers for one kind of text.
  * @typedef {object} Language
- * @property {Parts} parts the patterns that delimit the foldable ranges of a text
+ * @property {FoldPatterns} foldPatterns the patterns that delimit the foldable ranges of a text
  * @property {(openText: OpenText, isWanted: () => boolean) => Promise<FoundErrors | undefined>} findErrors resolves to undefined if
  *   `isWanted` returns false during the check
  * @property {(openText: OpenText, position: Position) => Hover | null} [hover]
@@ -49,7 +49,7 @@
  * @property {(openText: OpenText, position: Position, trigger: string) => Omit<Completion, "list">
  *   & { list: CompletedWord[] }} [completion] `trigger` is the typed character that triggered the request, "" for none
  * @property {(openText: OpenText) => DocumentSymbol[]} [symbols]
- * @property {(openText: OpenText) => ColouredWord[]} [colours]
+ * @property {(openText: OpenText) => ColouredWord[]} [semanticTokens]
  * @property {(openText: OpenText, range: Range, layout: Layout) => TextEdit[]} [format] returns the edits in a range
  * @property {(openText: OpenText, range: Range) => InlayHint[]} [hints]
  * @property {(openText: OpenText, position: Position) => SignatureHelp | null} [signature]

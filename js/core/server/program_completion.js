@@ -33,7 +33,7 @@ function findConditions(textBefore, { instructions, conditions }) {
   const instruction = head && head.to < textBefore.length && instructions.get(head.text.toUpperCase());
   if (!instruction || parseOperandKinds(instruction.form)[0] !== "c" || textBefore.slice(head.to).includes(",")) return [];
   const typedText = textBefore.slice(head.to).trimStart();
-  const allConditions = [...conditions].map(([number, what]) => ({ text: String(number), what, kind: VALUE_COMPLETION }));
+  const allConditions = [...conditions].map(([number, description]) => ({ text: String(number), description, kind: VALUE_COMPLETION }));
   return allConditions.filter(({ text }) => text.startsWith(typedText));
 }
 
@@ -62,12 +62,13 @@ export function createProgramCompletion(lines, { line, character }, trigger, con
   /** @type {(text: string) => CompletedWord} */
   const createCompletedWord = (text) => {
     const instruction = context.instructions.get(text);
-    if (instruction) return { text, what: "", kind: KEYWORD_COMPLETION, documentation: describeInstruction(instruction) };
-    if (DIRECTIVES.includes(text)) return { text, what: "", kind: KEYWORD_COMPLETION, documentation: describeDirective(text) };
-    if (/^[PR]\d+$/.test(text)) return { text, what: describeRegister(text), kind: VARIABLE_COMPLETION };
+    if (instruction) return { text, description: "", kind: KEYWORD_COMPLETION, documentation: describeInstruction(instruction) };
+    if (DIRECTIVES.includes(text)) return { text, description: "", kind: KEYWORD_COMPLETION, documentation: describeDirective(text) };
+    if (/^[PR]\d+$/.test(text)) return { text, description: describeRegister(text), kind: VARIABLE_COMPLETION };
     const isLabel = !splitStatement(lines[(names.get(text) || 1) - 1]).defines;
-    return { text, what: context.meaningOf(text), kind: isLabel ? FUNCTION_COMPLETION : CONSTANT_COMPLETION };
+    return { text, description: context.meaningOf(text), kind: isLabel ? FUNCTION_COMPLETION : CONSTANT_COMPLETION };
   };
-  const completions = completion.list.map((item) => ({ ...createCompletedWord(item.text), ...(item.what ? { what: item.what } : {}) }));
+  const completions = completion.list.map(({ text, description }) => (
+    { ...createCompletedWord(text), ...(description ? { description } : {}) }));
   return { ...completion, list: [...findConditions(textBefore, context), ...completions] };
 }

@@ -5,7 +5,7 @@ import { readConditions, readInstructions } from "../help/manual.js";
 import { SourceMap } from "../machine/source_map.js";
 import { TextErrorFinder } from "../text/text_error_finder.js";
 import { DIRECTIVES, findDefinedNames, splitStatement, tokenizeLine, wordAt } from "../text/assembly.js";
-import { PARTS } from "../text/folding.js";
+import { FOLD_PATTERNS } from "../text/folding.js";
 import { findLineChanges, findLengthError, formatProgramLines } from "../text/program_format.js";
 import { findDefinition, findRenamingError, nameAt, findReferences } from "../text/references.js";
 import { sentText } from "../text/sendable_text.js";
@@ -62,7 +62,7 @@ export class ProgramLanguage {
    * @param {() => Promise<void>} pause yields to other tasks
    */
   constructor(bench, manual, refusalMessage, findBoardText, pause) {
-    this.parts = PARTS.program;
+    this.foldPatterns = FOLD_PATTERNS.program;
     this.bench = bench;
     this.instructions = readInstructions(manual);
     this.conditions = readConditions(manual);
@@ -235,7 +235,7 @@ export class ProgramLanguage {
    * @param {OpenText} openText
    * @returns {ColouredWord[]}
    */
-  colours({ lines }) {
+  semanticTokens({ lines }) {
     const names = findDefinedNames(lines);
     const isConstant = (/** @type {string} */ name) => splitStatement(lines[(names.get(name) || 1) - 1]).defines;
     return lines.flatMap((text, line) => tokenizeLine(text, this.isInstruction).flatMap(({ kind, text: word, from, to }) => {
@@ -290,8 +290,8 @@ export class ProgramLanguage {
     const text = lines[line];
     const { label, head, operands, comment } = splitStatement(text);
     const end = text.slice(0, comment).trimEnd().length;
-    const starts = [...operands.slice(0, 1), head, label].flatMap((word) => (word && word.from < end ? [word.from] : []));
-    return [...starts.map((from) => /** @type {[number, number]} */ ([from, end])), [comment, text.length]];
+    const startColumns = [...operands.slice(0, 1), head, label].flatMap((word) => (word && word.from < end ? [word.from] : []));
+    return [...startColumns.map((from) => /** @type {[number, number]} */ ([from, end])), [comment, text.length]];
   }
 
   /**

@@ -1,7 +1,7 @@
 // Handlers for an editor's requests about a project file: errors, symbols, and links to the named files.
 
 import { listNamedFiles } from "../project/project_toml.js";
-import { PARTS } from "../text/folding.js";
+import { FOLD_PATTERNS } from "../text/folding.js";
 import { findProjectErrors, parentFolder, readProject, uriInFolder } from "./text_kinds.js";
 import { rangeInLine } from "./lsp_protocol.js";
 
@@ -17,7 +17,7 @@ const FILE_SYMBOL = 1;
 export class ProjectLanguage {
   /** @param {ReadText} readText */
   constructor(readText) {
-    this.parts = PARTS.board;
+    this.foldPatterns = FOLD_PATTERNS.board;
     this.readText = readText;
   }
 

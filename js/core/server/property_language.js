@@ -3,7 +3,7 @@
 import { readCampaign } from "../explore/campaign.js";
 import { createSubject } from "../explore/subject.js";
 import { COLOURS } from "../text/test_colours.js";
-import { PARTS } from "../text/folding.js";
+import { FOLD_PATTERNS } from "../text/folding.js";
 import { completeProperty, helpForProperty, propertyForms } from "../text/property_words.js";
 import { DependentLanguage, locateError } from "./dependent_language.js";
 import { parentFolder, uriInFolder } from "./text_kinds.js";
@@ -32,7 +32,7 @@ export class PropertyLanguage extends DependentLanguage {
    */
   constructor(engine, manual, findDependencies, readText) {
     super(engine, findDependencies);
-    this.parts = { ...PARTS.tests, head: /(?!)/ };
+    this.foldPatterns = { ...FOLD_PATTERNS.tests, head: /(?!)/ };
     this.forms = propertyForms(manual);
     this.readText = readText;
   }
@@ -108,7 +108,7 @@ export class PropertyLanguage extends DependentLanguage {
    * Returns the words to colour.
    * @param {OpenText} openText
    */
-  colours({ lines }) {
+  semanticTokens({ lines }) {
     return colouredWords(lines, COLOURS.properties);
   }
 

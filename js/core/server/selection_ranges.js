@@ -5,7 +5,7 @@ import { wordAt } from "../text/assembly.js";
 import { findFolds } from "./folding_ranges.js";
 
 /**
- * @typedef {import("../text/folding.js").Parts} Parts
+ * @typedef {import("../text/folding.js").FoldPatterns} FoldPatterns
  * @typedef {import("./lsp_protocol.js").Position} Position
  * @typedef {import("./lsp_protocol.js").Range} Range
  * @typedef {{ range: Range, parent?: SelectionRange }} SelectionRange
@@ -27,11 +27,11 @@ function properlyContains(outer, inner) {
  * Returns the folding ranges that contain a line, and the range of the whole text, smallest first.
  * @param {string[]} lines
  * @param {number} line the line number from 0
- * @param {Parts} parts
+ * @param {FoldPatterns} patterns
  * @returns {Range[]}
  */
-function findEnclosingRanges(lines, line, parts) {
-  const folds = findFolds(lines, parts).filter(({ startLine, endLine }) => startLine <= line && line <= endLine);
+function findEnclosingRanges(lines, line, patterns) {
+  const folds = findFolds(lines, patterns).filter(({ startLine, endLine }) => startLine <= line && line <= endLine);
   const ranges = [...folds, { startLine: 0, endLine: lines.length - 1 }];
   return ranges.sort((one, other) => one.endLine - one.startLine - other.endLine + other.startLine).map(({ startLine, endLine }) => (
     { start: { line: startLine, character: 0 }, end: { line: endLine, character: lines[endLine].length } }));
@@ -42,10 +42,10 @@ function findEnclosingRanges(lines, line, parts) {
  * @param {string[]} lines
  * @param {Position} position
  * @param {[number, number][]} columnRanges additional ranges in the line, as columns: for a program, the operands or the statement
- * @param {Parts} parts
+ * @param {FoldPatterns} patterns
  * @returns {SelectionRange}
  */
-export function selectionRangeAt(lines, { line, character }, columnRanges, parts) {
+export function selectionRangeAt(lines, { line, character }, columnRanges, patterns) {
   const text = lines[line];
   const word = wordAt(text, character);
   const lineRanges = [...(word ? [[word.from, word.to]] : []), ...columnRanges,
@@ -55,7 +55,7 @@ export function selectionRangeAt(lines, { line, character }, columnRanges, parts
     .map(([from, to]) => ({ start: { line, character: from }, end: { line, character: to } }));
   /** @type {Range[]} */
   const nestedRanges = [];
-  for (const range of [...containingRanges, ...findEnclosingRanges(lines, line, parts)]) {
+  for (const range of [...containingRanges, ...findEnclosingRanges(lines, line, patterns)]) {
     if (nestedRanges.length === 0 || properlyContains(range, nestedRanges[nestedRanges.length - 1])) nestedRanges.push(range);
   }
   const [outermost, ...inner] = nestedRanges.reverse();

@@ -2,7 +2,7 @@
 
 import { readSources } from "../testing/test_text.js";
 import { COLOURS } from "../text/test_colours.js";
-import { PARTS } from "../text/folding.js";
+import { FOLD_PATTERNS } from "../text/folding.js";
 import { completeTest, helpForTest, testForms } from "../text/test_words.js";
 import { DependentLanguage, locateError } from "./dependent_language.js";
 import { rangeInLine } from "./lsp_protocol.js";
@@ -47,7 +47,7 @@ export class TestLanguage extends DependentLanguage {
    */
   constructor(engine, manual, findDependencies) {
     super(engine, findDependencies);
-    this.parts = PARTS.tests;
+    this.foldPatterns = FOLD_PATTERNS.tests;
     this.forms = testForms(manual);
   }
 
@@ -116,7 +116,7 @@ export class TestLanguage extends DependentLanguage {
    * Returns the words to colour.
    * @param {OpenText} openText
    */
-  colours({ lines }) {
+  semanticTokens({ lines }) {
     return colouredWords(lines, COLOURS.tests);
   }
 

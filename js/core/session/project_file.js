@@ -2,7 +2,7 @@
 // session file. The manual ("A project file") describes its lines. project_parts.js writes the same contents as files in a folder.
 
 import { checksum } from "./checksum.js";
-import { shortName } from "./names.js";
+import { shortenName } from "./names.js";
 import { hex } from "../bench/numbers.js";
 import { parseBreakpoint, limitBreakpoints, formatBreakpoints } from "../debug/breakpoint_lines.js";
 import { MAX_STORED_LENGTH } from "../text/sendable_text.js";
@@ -46,11 +46,11 @@ export class TextTooLong extends InvalidProject {}
  * @param {{ boardText: string, programText: string, testText?: string, propertiesText?: string }} texts
  */
 export function tooLongMessage({ boardText, programText, testText = "", propertiesText = "" }) {
-  const namedTexts = [[say.BOARD_TEXT, boardText], [say.SOURCE_TEXT, programText], [say.TESTS_TEXT, testText],
+  const namedTexts = [[say.BOARD_TEXT, boardText], [say.THE_SOURCE, programText], [say.TESTS_TEXT, testText],
     [say.PROPERTIES_TEXT, propertiesText]];
-  const [what, text] = namedTexts.find(([, candidate]) => candidate.length > MAX_STORED_LENGTH) || namedTexts[0];
+  const [textName, text] = namedTexts.find(([, candidate]) => candidate.length > MAX_STORED_LENGTH) || namedTexts[0];
   const [size, maxLength] = [text.length, MAX_STORED_LENGTH].map((count) => count.toLocaleString("en"));
-  return text.length > MAX_STORED_LENGTH ? say.textTooLong(what, size, maxLength) : "";
+  return text.length > MAX_STORED_LENGTH ? say.textTooLong(textName, size, maxLength) : "";
 }
 
 // --- writing ---
@@ -201,13 +201,13 @@ function checkEnvelope(text) {
 }
 
 /**
- * Reads the lines before the first text: the name, the breakpoints and the watch expressions. In the result, `unended` contains the words
+ * Reads the lines before the first text: the name, the breakpoints and the watch expressions. In the result, `unendedWords` has the words
  * of the texts that do not end with a line feed. Throws InvalidProject if a line is invalid.
  * @param {Lines} lines
  */
 function readHead(lines) {
   let name = "";
-  const unended = new Set();
+  const unendedWords = new Set();
   /** @type {SavedBreakpoint[]} */
   const breakpoints = [];
   /** @type {string[]} */
@@ -217,23 +217,23 @@ function readHead(lines) {
     const breakpoint = parseBreakpoint(lines.nextLine || "");
     if (breakpoint) breakpoints.push(breakpoint);
     else if (match === undefined) throw lines.createLineError(say.HEAD_LINE);
-    if (word === "name") name = shortName(value);
-    if (word === "unended") unended.add(value);
+    if (word === "name") name = shortenName(value);
+    if (word === "unended") unendedWords.add(value);
     if (word === "value") watched.push(value);
     lines.takeLine();
   }
-  return { name, unended, breakpoints, watched };
+  return { name, unendedWords, breakpoints, watched };
 }
 
 /**
  * Reads the next text of a project, and returns it. Throws InvalidProject if the next line is not `word`.
  * @param {Lines} lines
  * @param {Word} word
- * @param {Set<string>} unended the words of the texts that do not end with a line feed
+ * @param {Set<string>} unendedWords the words of the texts that do not end with a line feed
  */
-function readText(lines, word, unended) {
+function readText(lines, word, unendedWords) {
   const text = lines.readUpToDot(word).map((line) => `${/^\.\.+$/.test(line) ? line.slice(1) : line}\n`).join("");
-  return unended.has(word) ? text.slice(0, -1) : text;
+  return unendedWords.has(word) ? text.slice(0, -1) : text;
 }
 
 /**
@@ -244,10 +244,10 @@ function readText(lines, word, unended) {
  * @returns {TextsWithBreakpoints}
  */
 export function readTexts(lines, acceptsLongTexts = false) {
-  const { name, unended, breakpoints, watched } = readHead(lines);
-  const [boardText, programText] = [readText(lines, "wire", unended), readText(lines, "asm", unended)];
+  const { name, unendedWords, breakpoints, watched } = readHead(lines);
+  const [boardText, programText] = [readText(lines, "wire", unendedWords), readText(lines, "asm", unendedWords)];
   const [testText, propertiesText] = (/** @type {Word[]} */ (["test", "properties"])).map((word) => (
-    lines.nextLine === word ? readText(lines, word, unended) : ""));
+    lines.nextLine === word ? readText(lines, word, unendedWords) : ""));
   const texts = { name, boardText, programText, testText, propertiesText };
   const message = tooLongMessage(texts);
   if (message && !acceptsLongTexts) throw new TextTooLong(message);

@@ -11,8 +11,8 @@ import * as say from "../../words/session.js";
  * The callbacks that RomFiles needs.
  * @typedef {object} RomCallbacks
  * @property {(lines: string) => Promise<string[]>} ask Resolves to the bench's answers to queries.
- * @property {(lines: string) => Promise<string | null>} act Executes bench lines that change the session. Resolves to the first answer. If
- *   this fails, reports the error and resolves to null.
+ * @property {(lines: string) => Promise<string | null>} execute Executes bench lines that change the session. Resolves to the first answer.
+ *   If this fails, reports the error and resolves to null.
  * @property {() => Promise<void>} stop Pauses the machine. Resolves when the machine is paused.
  */
 
@@ -32,7 +32,7 @@ export class RomFiles {
 
   /**
    * Pauses the machine and loads an image into ROM. Changes nothing else in the session. Resolves to a message about the loaded bytes, or
-   * to "" if `act` has reported an error. Throws MissingRom if the board lacks a ROM for the image.
+   * to "" if `execute` has reported an error. Throws MissingRom if the board lacks a ROM for the image.
    * @param {string} name the name of the image file
    * @param {Int16Array} bytes the bytes by address, NO_BYTE where the image has none
    */
@@ -44,7 +44,7 @@ export class RomFiles {
       throw new MissingRom(say.lacksRom(chip, hex(missingAddress, 3)));
     }
     await this.callbacks.stop();
-    const answer = await this.callbacks.act(createByteTexts(bytes).map((text) => `asm\n${text}.\n`).join(""));
+    const answer = await this.callbacks.execute(createByteTexts(bytes).map((text) => `asm\n${text}.\n`).join(""));
     const firstAddress = bytes.findIndex((byte) => byte !== NO_BYTE);
     const count = bytes.filter((byte) => byte !== NO_BYTE).length;
     return answer === null ? "" : say.bytesInRom(formatQuantity(count, "byte"), name, count === 1, hex(firstAddress, 3));

@@ -17,7 +17,7 @@ const COUNT_WIDTH = 10;
 const DIRECTIONS_WIDTH = 13;
 
 /**
- * Returns a line in which blanks up to the next tab stop replace each tab.
+ * Replaces each tab of a line with blanks up to the next tab stop.
  * @param {string} text
  */
 function expandTabs(text) {
@@ -50,12 +50,12 @@ export function coverageText(coverage, { text, linesBefore }) {
   const rows = text.replace(/\n$/, "").split("\n").map((source, at) => formatRow(source, lineCoverage.get(at + 1)));
   const rangeTexts = coverage.unexecutedRanges.map(({ from, to }) => (
     from === to ? `${from + linesBefore}` : say.formatRange(from + linesBefore, to + linesBefore)));
-  const oneDirection = coverage.lines.filter(isOneDirection).map(({ line, jumpCount }) => (
+  const oneDirectionTexts = coverage.lines.filter(isOneDirection).map(({ line, jumpCount }) => (
     say.describeDirection(line + linesBefore, jumpCount > 0)));
   const summaryLines = [
     "", formatCoverageSummary(coverage),
     ...(rangeTexts.length > 0 ? [say.neverRun(rangeTexts.join(", "), rangeTexts.length > 1 || rangeTexts[0].includes(" "))] : []),
-    ...(oneDirection.length > 0 ? [say.oneDirectionOnly(oneDirection.join(", "), oneDirection.length > 1)] : []),
+    ...(oneDirectionTexts.length > 0 ? [say.oneDirectionOnly(oneDirectionTexts.join(", "), oneDirectionTexts.length > 1)] : []),
   ];
   return `${[...rows, ...summaryLines].join("\n")}\n`;
 }
@@ -70,7 +70,8 @@ const formatRecord = (name, values) => `${name}:${values.join(",")}`;
  */
 export function lcovText({ lines, subroutines, instructions, instructionsRun, directions, directionsRun }, { name, linesBefore }) {
   const branches = lines.filter(({ isJump }) => isJump).flatMap(({ line, count, jumpCount }) => (
-    [jumpCount, count - jumpCount].map((times, way) => formatRecord("BRDA", [line + linesBefore, 0, way, count > 0 ? times : "-"]))));
+    [jumpCount, count - jumpCount].map((times, direction) => (
+      formatRecord("BRDA", [line + linesBefore, 0, direction, count > 0 ? times : "-"])))));
   return `${[
     "TN:", `SF:${name}`,
     ...subroutines.map(({ line, label }) => formatRecord("FN", [line + linesBefore, label])),

@@ -57,6 +57,6 @@ export function lastInstructions(session, { board, map }) {
     engine.serve(file, line === "run" ? runLines(actionCycles) : `${line}\n`, file);
     elapsed += actionCycles;
   });
-  const last = [...lines.slice(-MAX_INSTRUCTIONS), say.nextInstructionLine(trace.formatNext(session.file, elapsed))];
-  return last.flatMap((traceLine) => traceLine.split("\n"));
+  const lastLines = [...lines.slice(-MAX_INSTRUCTIONS), say.nextInstructionLine(trace.formatNext(session.file, elapsed))];
+  return lastLines.flatMap((traceLine) => traceLine.split("\n"));
 }

@@ -10,9 +10,9 @@ import { instructionCycles, isCall, isReturn, jumpTarget } from "../engine/rom_c
  * @typedef {import("../engine/forecast_answers.js").ForecastAnswers} ForecastAnswers
  * @typedef {import("../engine/forecast_answers.js").InstructionCount} InstructionCount
  *
- * The calls of a routine. `times` is their number, `withCalls` their total cycles including nested calls, and `longest` the length of the
- * longest call in cycles.
- * @typedef {{ times: number, withCalls: number, longest: number }} CallCounts
+ * The calls of a routine. `callCount` is the number of calls, and `cyclesWithCalls` their total cycles including nested calls.
+ * `longestCall` is the length of the longest call in cycles.
+ * @typedef {{ callCount: number, cyclesWithCalls: number, longestCall: number }} CallCounts
  *
  * The response times of a key. `presses` is the number of its presses, and `answered` counts the presses after which a lamp changed.
  * `first` is the longest time from a press to the first lamp change, in cycles. `last` is the longest time from a press to the last lamp
@@ -45,7 +45,7 @@ export class ExecutionRecorder {
     /** @type {OpenCall[]} the calls in progress, innermost last */
     this.openCalls = [];
     /** The last key press: its key and time, and the times of the first and last lamp change since then (0 for none), in cycles. */
-    this.lastPress = { key: "", pressed: 0, first: 0, last: 0 };
+    this.lastPress = { key: "", pressTime: 0, first: 0, last: 0 };
   }
 
   /** True if the recorder records cycles, calls and key times. */
@@ -74,11 +74,11 @@ export class ExecutionRecorder {
    * @param {() => ForecastAnswers} askAll returns a trace of all instructions in the run
    */
   recordRun(answers, elapsed, askAll) {
-    const callCount = this.count(answers.takeCounts());
+    const callAndReturnCount = this.count(answers.takeCounts());
     const lines = answers.takeTrace().lines;
     if (this.lastPress.key !== "") this.trackLampChanges(answers.takeTrace().lines, elapsed);
     // The short trace omits a JMS or BBL that does not change the return addresses.
-    this.trackCalls(lines.length === callCount ? lines : askAll().takeTrace().lines, elapsed);
+    this.trackCalls(lines.length === callAndReturnCount ? lines : askAll().takeTrace().lines, elapsed);
   }
 
   /**
@@ -86,16 +86,16 @@ export class ExecutionRecorder {
    * @param {InstructionCount[]} counts
    */
   count(counts) {
-    let callCount = 0;
+    let callAndReturnCount = 0;
     for (const { address, startCount, jumpCount } of counts) {
       const code = this.codes[address];
       this.startCounts[address] += startCount;
       this.jumpCounts[address] += Math.max(0, jumpCount);
       this.cycleCounts[address] += instructionCycles(code) * startCount;
-      if (isCall(code)) this.getCallCounts(jumpTarget(this.codes, address)).times += startCount;
-      if (isCall(code) || isReturn(code)) callCount += startCount;
+      if (isCall(code)) this.getCallCounts(jumpTarget(this.codes, address)).callCount += startCount;
+      if (isCall(code) || isReturn(code)) callAndReturnCount += startCount;
     }
-    return callCount;
+    return callAndReturnCount;
   }
 
   /**
@@ -104,7 +104,7 @@ export class ExecutionRecorder {
    * @returns {CallCounts}
    */
   getCallCounts(address) {
-    const counts = this.calls.get(address) || { times: 0, withCalls: 0, longest: 0 };
+    const counts = this.calls.get(address) || { callCount: 0, cyclesWithCalls: 0, longestCall: 0 };
     this.calls.set(address, counts);
     return counts;
   }
@@ -136,8 +136,8 @@ export class ExecutionRecorder {
     if (!endedCall || this.openCalls.some(({ address }) => address === endedCall.address)) return;
     const cycles = Math.max(0, time - endedCall.startTime);
     const calls = this.getCallCounts(endedCall.address);
-    calls.withCalls += cycles;
-    calls.longest = Math.max(calls.longest, cycles);
+    calls.cyclesWithCalls += cycles;
+    calls.longestCall = Math.max(calls.longestCall, cycles);
   }
 
   /**
@@ -160,26 +160,27 @@ export class ExecutionRecorder {
    */
   recordPress(key, elapsed) {
     this.finishLastPress();
-    this.lastPress = { key, pressed: elapsed, first: 0, last: 0 };
+    this.lastPress = { key, pressTime: elapsed, first: 0, last: 0 };
   }
 
   /** Adds the last key press to the key times. */
   finishLastPress() {
-    const { key, pressed, first, last } = this.lastPress;
+    const { key, pressTime, first, last } = this.lastPress;
     if (key === "") return;
     const times = this.keys.get(key) || { presses: 0, answered: 0, first: 0, last: 0 };
     this.keys.set(key, times);
     times.presses += 1;
     if (first > 0) {
       times.answered += 1;
-      times.first = Math.max(times.first, first - pressed);
-      times.last = Math.max(times.last, last - pressed);
+      times.first = Math.max(times.first, first - pressTime);
+      times.last = Math.max(times.last, last - pressTime);
     }
     this.lastPress.key = "";
   }
 
   /**
-   * Subtracts one cycle from the instruction at an address, because the test ended before the second cycle of this instruction.
+   * Subtracts one cycle from the instruction at an address, because the test ended or reset the machine before the second cycle of this
+   * instruction.
    * @param {number} address
    */
   subtractLastCycle(address) {

@@ -163,7 +163,7 @@ class TestReader {
     if (!this.hasBegun && this.errors.length === 0) this.addError(1, say.NO_TEST);
   }
 
-  /** Reports an error if the texts contain no test. */
+  /** If the texts contain neither a test nor an error, reports that there is no test. */
   finish() {
     if (this.tests.length === 0 && this.errors.length === 0) this.addError(1, say.NO_TEST);
   }

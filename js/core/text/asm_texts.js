@@ -60,7 +60,7 @@ function createClearingTexts(addresses) {
 const RESERVED_LENGTH = PAGE_NUMBERS.length * formatStatements(0, [255], 1).length;
 
 /**
- * Returns statements that store one byte in each ROM to which only the other texts store bytes: the last byte for that ROM.
+ * Returns statements that store one byte in each ROM that only the other texts use. This byte is the last one for that ROM.
  * @param {Int16Array} bytes the bytes by address; negative for no byte
  * @param {Set<number>} pages the ROMs to which this text stores bytes
  */
@@ -126,6 +126,6 @@ export function createProgramTexts(program, addresses) {
  */
 export function describeAssembled({ size, remainingAddresses: remaining }, counter) {
   const first = remaining.length > 0 ? `0x${hex(remaining[0], 3)}` : "";
-  const remainingNote = say.bytesRemaining(formatQuantity(remaining.length, "byte"), remaining.length === 1, first);
-  return say.bytesAssembled(formatQuantity(size, "byte"), remaining.length > 0 ? ` ${remainingNote}` : "", counter);
+  const remainingNote = say.bytesRemainingMessage(formatQuantity(remaining.length, "byte"), remaining.length === 1, first);
+  return say.bytesAssembledMessage(formatQuantity(size, "byte"), remaining.length > 0 ? ` ${remainingNote}` : "", counter);
 }

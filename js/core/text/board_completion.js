@@ -3,9 +3,9 @@
 import { MAX_PARTS, boardLines } from "../bench/board_form.js";
 import { indices } from "../bench/numbers.js";
 import { collectParts, readBoardText } from "./board_reader.js";
-import { filterCompletions, withoutDescription } from "./completion.js";
+import { filterCompletions, toCompletions } from "./completion.js";
 import { tableAt } from "./text_help.js";
-import { commentAt } from "./sendable_text.js";
+import { findCommentStart } from "./sendable_text.js";
 import * as say from "../../words/text.js";
 
 /**
@@ -55,12 +55,15 @@ class BoardParts {
    */
   listValues(table, key) {
     const listLines = (/** @type {BoardLine[]} */ boardLineList) => (
-      { list: boardLineList.map((line) => ({ text: line.name, what: describeLine(line) })), isQuoted: true });
-    const listNumbers = (/** @type {number[]} */ list) => ({ list: withoutDescription(list.map(String)), isQuoted: false });
+      { list: boardLineList.map((line) => ({ text: line.name, description: describeLine(line) })), isQuoted: true });
+    const listNumbers = (/** @type {number[]} */ list) => ({ list: toCompletions(list.map(String)), isQuoted: false });
     switch (`${table}.${key}`) {
       case "rom.chip": return listNumbers(this.unusedRoms);
       case "ram.bank": return listNumbers(this.unusedBanks);
-      case "rom.port": return { list: [{ text: "iiii", what: say.INPUT_LINES }, { text: "0000", what: say.OUTPUT_LINES }], isQuoted: true };
+      case "rom.port": {
+        const list = [{ text: "iiii", description: say.INPUT_LINES }, { text: "0000", description: say.OUTPUT_LINES }];
+        return { list, isQuoted: true };
+      }
       case "chain.clock": case "chain.data": return listLines(this.outputs);
       case "lamp.line": return listLines([...this.outputs, ...this.bits]);
       case "keys.columns": return listLines(this.inputs);
@@ -78,11 +81,11 @@ class BoardParts {
     const [input] = this.inputs;
     const [clock = "", data = ""] = this.outputs.map(({ name }) => name);
     return [
-      { text: `[[rom]]\nchip = ${this.unusedRoms[0]}\nport = "0000"`, what: say.ROM_WITH_PORT },
-      { text: `[[ram]]\nbank = ${this.unusedBanks[0]}\nchips = 1`, what: say.BANK_OF_RAM },
-      { text: `[[chain]]\nclock = "${clock}"\ndata = "${data}"\nchips = 1`, what: say.CHAIN_OF_REGISTERS },
-      { text: `[keys]\nchain = 0\nfirst = 0\nrows = 4\ncolumns = ["${input ? input.name : ""}"]`, what: say.KEY_MATRIX },
-      { text: `[[lamp]]\nline = "${clock}"`, what: say.A_LAMP },
+      { text: `[[rom]]\nchip = ${this.unusedRoms[0]}\nport = "0000"`, description: say.ROM_WITH_PORT },
+      { text: `[[ram]]\nbank = ${this.unusedBanks[0]}\nchips = 1`, description: say.BANK_OF_RAM },
+      { text: `[[chain]]\nclock = "${clock}"\ndata = "${data}"\nchips = 1`, description: say.CHAIN_OF_REGISTERS },
+      { text: `[keys]\nchain = 0\nfirst = 0\nrows = 4\ncolumns = ["${input ? input.name : ""}"]`, description: say.KEY_MATRIX },
+      { text: `[[lamp]]\nline = "${clock}"`, description: say.A_LAMP },
     ].filter(({ text }) => !text.includes("undefined"));
   }
 }
@@ -115,16 +118,16 @@ function completeValue(text, column, value, { list, isQuoted }) {
 export function completeBoard(lines, line, column, tables) {
   const text = lines[line];
   const textBefore = text.slice(0, column);
-  if (commentAt(textBefore, "#") < textBefore.length) return { from: column, to: column, list: [] };
-  if (/^\s*\[+\w*$/.test(textBefore)) return filterCompletions(text, column, withoutDescription([...tables.keys()]));
+  if (findCommentStart(textBefore, "#") < textBefore.length) return { from: column, to: column, list: [] };
+  if (/^\s*\[+\w*$/.test(textBefore)) return filterCompletions(text, column, toCompletions([...tables.keys()]));
   const table = tableAt(lines, line);
   const parts = new BoardParts(lines.map((lineText, number) => (number === line ? "" : lineText)).join("\n"));
   // The array that contains the caret can start up to nine lines above.
-  const linesBefore = lines.slice(Math.max(0, line - 9), line).map((lineText) => lineText.slice(0, commentAt(lineText, "#")));
+  const linesBefore = lines.slice(Math.max(0, line - 9), line).map((lineText) => lineText.slice(0, findCommentStart(lineText, "#")));
   const value = VALUE.exec([...linesBefore, textBefore].join("\n").slice(-MAX_CHARACTERS_BEFORE_CARET));
   const isInValue = value && (textBefore.includes(value[1]) || value[0].includes("["));
   if (value && isInValue) return completeValue(text, column, value, parts.listValues(table, value[1]));
   const keys = tables.get(table) || new Map();
-  const words = [...keys].map(([name, values]) => ({ text: name, what: values }));
+  const words = [...keys].map(([name, values]) => ({ text: name, description: values }));
   return text.trim() === "" ? { from: 0, to: column, list: [...words, ...parts.listTemplates()] } : filterCompletions(text, column, words);
 }

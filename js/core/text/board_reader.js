@@ -14,8 +14,8 @@ import * as say from "../../words/text.js";
  * @typedef {{ line: number, to: number }} End
  *
  * A value (`inner`) with its position. `line`, `from` and `to` are the position of the value. For an array or an inline table, they are
- * the position of its opening bracket. `end` is the end of the complete value. `isWhole` is false for a number with a fraction or exponent.
- * @typedef {{ inner: PlainValue, isWhole: boolean, line: number, from: number, to: number, end: End }} Value
+ * the position of its opening bracket. `end` is the end of the complete value.
+ * @typedef {{ inner: PlainValue, line: number, from: number, to: number, end: End }} Value
  *
  * A key: its name, the position of the name, and its value.
  * @typedef {{ name: string, line: number, from: number, to: number, value: Value }} Key
@@ -198,13 +198,13 @@ export class BoardReader {
   readValue(key) {
     const { kind, text, line, from, to, error } = this.word;
     const range = { line, from, to };
-    if (this.isMark("[")) return { inner: this.readNested(() => this.readArray(key)), isWhole: true, ...range, end: this.lastEnd };
-    if (this.isMark("{")) return { inner: this.readNested(() => this.readTable()), isWhole: true, ...range, end: this.lastEnd };
+    if (this.isMark("[")) return { inner: this.readNested(() => this.readArray(key)), ...range, end: this.lastEnd };
+    if (this.isMark("{")) return { inner: this.readNested(() => this.readTable()), ...range, end: this.lastEnd };
     if (kind === "end") throw new TomlSyntaxError(this.word, say.valueMissing(key));
     if (kind === "punctuation" || kind === "bad") throw new TomlSyntaxError(this.word, error || say.noValueMessage(text));
     const inner = this.parseScalar(kind, text);
     this.at += 1;
-    return { inner, isWhole: typeof inner !== "number" || INTEGER.test(text), ...range, end: { line, to } };
+    return { inner, ...range, end: { line, to } };
   }
 
   /**

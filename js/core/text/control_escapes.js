@@ -5,7 +5,7 @@
 const UNSAFE_CHARACTERS = /[\u0000-\u0008\u000b-\u001f\u007f-\u009f\u061c\u200e\u200f\u2028-\u202e\u2066-\u2069]/g;
 
 /**
- * Returns a text in which escapes such as `\x1B` or `\u202E` replace the control characters, except line feeds and tabs.
+ * Replaces the control characters in a text, except line feeds and tabs, with escapes such as `\x1B` or `\u202E`.
  * @param {string} text
  */
 export function escapeControls(text) {

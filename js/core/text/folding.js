@@ -6,11 +6,11 @@
  *
  * The patterns that delimit the foldable ranges of a text. `mark` starts a comment. `head` matches the first line of a range, its head. If
  * `isNested` is true, a head directly after a code line starts a nested range, like the label of a loop in a subroutine.
- * @typedef {{ mark: string, head: RegExp, isNested: boolean }} Parts
+ * @typedef {{ mark: string, head: RegExp, isNested: boolean }} FoldPatterns
  */
 
-/** @type {Record<"program" | "board" | "tests", Parts>} the patterns, by kind of text */
-export const PARTS = {
+/** @type {Record<"program" | "board" | "tests", FoldPatterns>} the patterns, by kind of text */
+export const FOLD_PATTERNS = {
   program: { mark: ";", head: /^[ \t]*[A-Za-z_]\w*[ \t]*:/, isNested: true },
   board: { mark: "#", head: /^[ \t]*\[/, isNested: false },
   tests: { mark: "#", head: /^[ \t]*test\b/, isNested: false },
@@ -27,7 +27,7 @@ function isBlank(text) {
 /**
  * Returns whether a line contains only a comment.
  * @param {string | undefined} text
- * @param {Parts} parts
+ * @param {FoldPatterns} patterns
  */
 function isComment(text, { mark }) {
   return text !== undefined && text.trimStart().startsWith(mark);
@@ -38,44 +38,44 @@ function isComment(text, { mark }) {
  * ranges, each head starts an outer range.
  * @param {LineAt} lineAt
  * @param {number} line
- * @param {Parts} parts
+ * @param {FoldPatterns} patterns
  */
-function isOuter(lineAt, line, parts) {
+function isOuter(lineAt, line, patterns) {
   const previousLine = line === 0 ? undefined : lineAt(line - 1);
-  return !parts.isNested || isBlank(previousLine) || isComment(previousLine, parts);
+  return !patterns.isNested || isBlank(previousLine) || isComment(previousLine, patterns);
 }
 
 /**
  * Returns whether the current range ends before a line.
  * @param {LineAt} lineAt
  * @param {number} line
- * @param {Parts} parts
+ * @param {FoldPatterns} patterns
  * @param {boolean} isOuterPart true if the current range is an outer range
  */
-function endsBefore(lineAt, line, parts, isOuterPart) {
+function endsBefore(lineAt, line, patterns, isOuterPart) {
   const text = lineAt(line) || "";
-  if (parts.head.test(text)) return !isOuterPart || isOuter(lineAt, line, parts);
+  if (patterns.head.test(text)) return !isOuterPart || isOuter(lineAt, line, patterns);
   // An unindented comment after a blank line belongs to the next range, so the current range ends here.
-  return text.startsWith(parts.mark) && isBlank(lineAt(line - 1));
+  return text.startsWith(patterns.mark) && isBlank(lineAt(line - 1));
 }
 
 /**
  * Returns the last line of the foldable range that starts at a line; the line itself if no range starts there.
  * @param {LineAt} lineAt
  * @param {number} line the line number from 0
- * @param {Parts} parts
+ * @param {FoldPatterns} patterns
  */
-export function findFoldEnd(lineAt, line, parts) {
+export function findFoldEnd(lineAt, line, patterns) {
   const text = lineAt(line) || "";
   let end = line;
-  if (isComment(text, parts)) {
-    if (line > 0 && isComment(lineAt(line - 1), parts)) return line;
-    while (isComment(lineAt(end + 1), parts)) end += 1;
+  if (isComment(text, patterns)) {
+    if (line > 0 && isComment(lineAt(line - 1), patterns)) return line;
+    while (isComment(lineAt(end + 1), patterns)) end += 1;
     return end;
   }
-  if (!parts.head.test(text)) return line;
-  const isOuterPart = isOuter(lineAt, line, parts);
-  while (lineAt(end + 1) !== undefined && !endsBefore(lineAt, end + 1, parts, isOuterPart)) end += 1;
+  if (!patterns.head.test(text)) return line;
+  const isOuterPart = isOuter(lineAt, line, patterns);
+  while (lineAt(end + 1) !== undefined && !endsBefore(lineAt, end + 1, patterns, isOuterPart)) end += 1;
   while (isBlank(lineAt(end))) end -= 1;
   return end;
 }
@@ -84,11 +84,11 @@ export function findFoldEnd(lineAt, line, parts) {
  * Returns the first line of the innermost foldable range that contains a line, which can be this line; -1 if no range contains the line.
  * @param {LineAt} lineAt
  * @param {number} line
- * @param {Parts} parts
+ * @param {FoldPatterns} patterns
  */
-export function findFoldStart(lineAt, line, parts) {
+export function findFoldStart(lineAt, line, patterns) {
   for (let head = line; head >= 0; head--) {
-    const last = findFoldEnd(lineAt, head, parts);
+    const last = findFoldEnd(lineAt, head, patterns);
     if (last > head && last >= line) return head;
   }
   return -1;

@@ -67,15 +67,15 @@ function formatGap(from, to, { tabSize, insertSpaces }) {
 function splitLine(line, canStartStatement, layout) {
   const mark = line.indexOf(";");
   const code = trimBlanks(mark < 0 ? line : line.slice(0, mark));
-  const empty = { name: "", value: "", label: "", head: "", operands: "" };
+  const emptyParts = { name: "", value: "", label: "", head: "", operands: "" };
   const comment = mark < 0 ? "" : trimBlanks(line.slice(mark));
   const commentParts = { comment, indent: mark < 0 ? 0 : findColumnAfter(line.slice(0, mark), 0, layout) };
   const definition = DEFINITION.exec(code);
-  if (definition) return { ...empty, ...commentParts, name: definition[1], value: definition[2] };
+  if (definition) return { ...emptyParts, ...commentParts, name: definition[1], value: definition[2] };
   const match = CODE.exec(code);
   if (!match || (match[2] && !canStartStatement(match[2].toUpperCase()))) return null;
   const operands = (match[3] || "").split(",").map(trimBlanks).join(", ");
-  return { ...empty, ...commentParts, label: match[1] || "", head: match[2] || "", operands };
+  return { ...emptyParts, ...commentParts, label: match[1] || "", head: match[2] || "", operands };
 }
 
 /**
@@ -112,12 +112,12 @@ function formatCode({ name, value, label, head, operands }, width, layout) {
  * Returns the column at which a comment starts in the formatted line.
  * @param {number} end the column at which the code before the comment ends; 0 if there is no code
  * @param {number} indent the current column of the comment
- * @param {number} last the column of the comment in the previous line; 0 if that line has no aligned comment
+ * @param {number} previousColumn the column of the comment in the previous line; 0 if that line has no aligned comment
  */
-function chooseCommentColumn(end, indent, last) {
+function chooseCommentColumn(end, indent, previousColumn) {
   if (end > 0) return Math.max(COMMENT_COLUMN, Math.ceil((end + 2) / COMMENT_STEP) * COMMENT_STEP);
   if (indent === 0) return 0;
-  return indent < MIN_COMMENT_INDENT ? STATEMENT_COLUMN : last || COMMENT_COLUMN;
+  return indent < MIN_COMMENT_INDENT ? STATEMENT_COLUMN : previousColumn || COMMENT_COLUMN;
 }
 
 /**
@@ -161,13 +161,13 @@ export function findLengthError(lines) {
  * @returns {Change[]}
  */
 export function findLineChanges(oldLines, newLines) {
-  return oldLines.flatMap((old, line) => {
+  return oldLines.flatMap((oldLine, line) => {
     const text = newLines[line];
-    if (old === text) return [];
-    const minLength = Math.min(old.length, text.length);
+    if (oldLine === text) return [];
+    const minLength = Math.min(oldLine.length, text.length);
     let [from, suffix] = [0, 0];
-    while (from < minLength && old[from] === text[from]) from += 1;
-    while (suffix < minLength - from && old[old.length - 1 - suffix] === text[text.length - 1 - suffix]) suffix += 1;
-    return [{ line, from, to: old.length - suffix, text: text.slice(from, text.length - suffix) }];
+    while (from < minLength && oldLine[from] === text[from]) from += 1;
+    while (suffix < minLength - from && oldLine[oldLine.length - 1 - suffix] === text[text.length - 1 - suffix]) suffix += 1;
+    return [{ line, from, to: oldLine.length - suffix, text: text.slice(from, text.length - suffix) }];
   });
 }

@@ -18,17 +18,17 @@ import * as say from "../../words/text.js";
  */
 
 /**
- * The operand kinds, by the letters that the manual uses for them. `what` describes an operand of the kind. `maxValue` is its maximum
- * value; it is 0 for registers.
- * @type {Record<string, { what: string, maxValue: number }>}
+ * The operand kinds, by the letters that the manual uses for them. `description` is the text for an operand of the kind. `maxValue` is its
+ * maximum value; it is 0 for registers.
+ * @type {Record<string, { description: string, maxValue: number }>}
  */
 const OPERAND_KINDS = {
-  Pk: { what: say.PAIR_OPERAND, maxValue: 0 },
-  Rk: { what: say.REGISTER_OPERAND, maxValue: 0 },
-  c: { what: say.CONDITION_OPERAND, maxValue: 15 },
-  d: { what: say.VALUE_OPERAND, maxValue: 15 },
-  b: { what: say.BYTE_OPERAND, maxValue: 255 },
-  t: { what: say.ADDRESS_OPERAND, maxValue: LAST_ADDRESS },
+  Pk: { description: say.PAIR_OPERAND, maxValue: 0 },
+  Rk: { description: say.REGISTER_OPERAND, maxValue: 0 },
+  c: { description: say.CONDITION_OPERAND, maxValue: 15 },
+  d: { description: say.VALUE_OPERAND, maxValue: 15 },
+  b: { description: say.BYTE_OPERAND, maxValue: 255 },
+  t: { description: say.ADDRESS_OPERAND, maxValue: LAST_ADDRESS },
 };
 
 /**
@@ -36,7 +36,7 @@ const OPERAND_KINDS = {
  * @param {string} kind the letters that the manual uses for the kind
  */
 export function describeOperand(kind) {
-  return OPERAND_KINDS[kind].what;
+  return OPERAND_KINDS[kind].description;
 }
 
 /**
@@ -46,16 +46,16 @@ export function describeOperand(kind) {
  * @returns {{ number: string, explanation: string } | null}
  */
 function convertForeignNumber(text) {
-  const hexadecimal = /^(?:\$|0X|&H?|#\$)([0-9A-Fa-f]+)$/.exec(text) || /^([0-9][0-9A-Fa-f]*)[Hh]$/.exec(text);
-  const binary = /^(?:0b|%)([01]+)$/i.exec(text) || /^([01]+)[Bb]$/.exec(text);
+  const hexMatch = /^(?:\$|0X|&H?|#\$)([0-9A-Fa-f]+)$/.exec(text) || /^([0-9][0-9A-Fa-f]*)[Hh]$/.exec(text);
+  const binaryMatch = /^(?:0b|%)([01]+)$/i.exec(text) || /^([01]+)[Bb]$/.exec(text);
   const letter = /^(['"])(.)\1?$/.exec(text);
   const mark = /^#(\w+)$/.exec(text);
-  const number = (hexadecimal && `0x${hexadecimal[1].toUpperCase()}`) || (binary && `${parseInt(binary[1], 2)}`)
+  const number = (hexMatch && `0x${hexMatch[1].toUpperCase()}`) || (binaryMatch && `${parseInt(binaryMatch[1], 2)}`)
     || (letter && `0x${letter[2].charCodeAt(0).toString(16).toUpperCase()}`) || (mark && mark[1]);
   if (!number) return null;
-  if (hexadecimal) return { number, explanation: say.isHexadecimalMessage(number) };
-  if (binary) return { number, explanation: say.isBinaryMessage(number) };
-  if (letter) return { number, explanation: say.isLetterMessage(letter[2], number) };
+  if (hexMatch) return { number, explanation: say.hexadecimalHint(number) };
+  if (binaryMatch) return { number, explanation: say.binaryHint(number) };
+  if (letter) return { number, explanation: say.characterCodeHint(letter[2], number) };
   return { number, explanation: say.withoutNumberSign(number) };
 }
 
@@ -103,9 +103,9 @@ function describeNameError(text, { instructions }) {
   const upperCaseWord = text.toUpperCase();
   if (text.length > MAX_NAME_LENGTH) return say.nameTooLong(MAX_NAME_LENGTH, text.length);
   if (!NAME.test(text)) return say.NAME_SYNTAX;
-  if (instructions.has(upperCaseWord)) return say.isInstructionMessage(text);
+  if (instructions.has(upperCaseWord)) return say.instructionAsNameMessage(text);
   if (upperCaseWord === "WPM" || DIRECTIVES.includes(upperCaseWord)) return say.cannotBeNameMessage(text);
-  return REGISTER.test(text) || PAIR.test(text) ? say.isRegisterMessage(text) : "";
+  return REGISTER.test(text) || PAIR.test(text) ? say.registerAsNameMessage(text) : "";
 }
 
 /**
@@ -118,8 +118,8 @@ function describeNameError(text, { instructions }) {
  * @returns {WordError | null}
  */
 function findOperandError(head, kind, word, knownWords, isFirst) {
-  const { what } = OPERAND_KINDS[kind];
-  const expectation = isFirst ? say.takes(head, what) : say.takesAfterComma(head, what);
+  const { description } = OPERAND_KINDS[kind];
+  const expectation = isFirst ? say.operandExpected(head, description) : say.operandExpectedAfterComma(head, description);
   const { text } = word;
   if (kind === "Pk" && PAIR.test(text)) return null;
   if (kind === "Rk" && REGISTER.test(text)) return null;
@@ -163,10 +163,10 @@ function findHeadError({ label, operands }, head, { instructions }) {
     return createError(head, say.noInstructionMessage(head.text, say.labelSyntax(head.text)), [`${head.text}:`]);
   }
   const hasNoOperands = isName && operands.length === 0;
-  const similar = replacement ? [] : findSimilarWords(upperCaseWord, [...instructions.keys(), ...DIRECTIVES]);
-  const question = replacement ? `; ${replacement}?` : formatSuggestion(similar);
+  const similarWords = replacement ? [] : findSimilarWords(upperCaseWord, [...instructions.keys(), ...DIRECTIVES]);
+  const question = replacement ? `; ${replacement}?` : formatSuggestion(similarWords);
   const message = say.noInstructionMessage(head.text, question || (hasNoOperands ? say.labelSyntax(head.text) : ""));
-  const quickFixTexts = hasNoOperands && !question ? [`${head.text}:`] : similar;
+  const quickFixTexts = hasNoOperands && !question ? [`${head.text}:`] : similarWords;
   if (!replacement) return createError(head, message, quickFixTexts);
   const instructionTexts = replacement.split(" or ").filter((alternative) => /^[A-Z]+( \d+,?)?$/.test(alternative));
   return createError(head, message, instructionTexts.map(formatReplacement));
@@ -178,8 +178,8 @@ function findHeadError({ label, operands }, head, { instructions }) {
  * @param {KnownWords["instructions"]} instructions
  */
 function canStartStatement(word, instructions) {
-  const upper = word.toUpperCase();
-  return instructions.has(upper) || DIRECTIVES.includes(upper);
+  const upperCaseWord = word.toUpperCase();
+  return instructions.has(upperCaseWord) || DIRECTIVES.includes(upperCaseWord);
 }
 
 /**
@@ -217,8 +217,8 @@ function findDirectiveError(head, operands, knownWords) {
  */
 function findFormError(parts, knownWords) {
   const { label, defines, head, operands } = parts;
-  const badName = label && describeNameError(label.text, knownWords);
-  if (badName) return { word: label, message: badName };
+  const nameError = label && describeNameError(label.text, knownWords);
+  if (nameError) return { word: label, message: nameError };
   if (defines) {
     const reason = operands[0] ? describeNumberError(operands[0].text) : "";
     const message = say.equalsSyntax(reason && `; ${reason}`);
@@ -236,8 +236,8 @@ function findFormError(parts, knownWords) {
     if (error) return error;
   }
   const extraOperand = operands[kinds.length];
-  const expectation = kinds.map((kind) => OPERAND_KINDS[kind].what).join(say.AND_AFTER);
-  return { word: extraOperand || head, message: say.takesNoMore(upperCaseWord, expectation, Boolean(extraOperand)) };
+  const expectation = kinds.map((kind) => OPERAND_KINDS[kind].description).join(say.AND_AFTER);
+  return { word: extraOperand || head, message: say.operandCountMessage(upperCaseWord, expectation, Boolean(extraOperand)) };
 }
 
 /**
@@ -253,13 +253,13 @@ function findValueError({ head, operands, defines, label }, { instructions }) {
   const instruction = instructions.get(upperCaseWord);
   const kinds = instruction ? parseOperandKinds(instruction.form) : operands.map(() => (upperCaseWord === "ORG" ? "t" : "b"));
   const values = operands.map((word, at) => ({ word, kind: OPERAND_KINDS[kinds[at] || "b"] })).filter(({ kind }) => kind.maxValue > 0);
-  const tooLarge = values.find(({ word, kind }) => NUMBER.test(word.text) && Number(word.text) > kind.maxValue);
+  const tooLargeOperand = values.find(({ word, kind }) => NUMBER.test(word.text) && Number(word.text) > kind.maxValue);
   const namedOperand = values.find(({ word }) => NAME.test(word.text));
-  const wrongOperand = tooLarge || namedOperand;
+  const wrongOperand = tooLargeOperand || namedOperand;
   if (!wrongOperand) return null;
-  const what = upperCaseWord === "ORG" ? say.ORG_ADDRESS : wrongOperand.kind.what;
-  const note = tooLarge ? "" : say.extraOperandNote(wrongOperand.word.text);
-  return { word: wrongOperand.word, message: say.takesOperands(upperCaseWord, what, note) };
+  const description = upperCaseWord === "ORG" ? say.ORG_ADDRESS : wrongOperand.kind.description;
+  const note = tooLargeOperand ? "" : say.extraOperandNote(wrongOperand.word.text);
+  return { word: wrongOperand.word, message: say.wrongOperandMessage(upperCaseWord, description, note) };
 }
 
 /**
@@ -279,9 +279,9 @@ function findLastName({ operands }) {
 function findUnknownName({ operands }, { names }) {
   const word = operands.find(({ text }) => NAME.test(text) && !REGISTER.test(text) && !PAIR.test(text) && !names.has(text));
   if (!word) return null;
-  const similar = findSimilarWords(word.text, names.keys());
-  const isHex = /^[0-9A-Fa-f]+$/.test(word.text) && similar.length === 0;
-  const quickFixTexts = isHex ? [`0x${word.text.toUpperCase()}`] : similar;
+  const similarWords = findSimilarWords(word.text, names.keys());
+  const isHex = /^[0-9A-Fa-f]+$/.test(word.text) && similarWords.length === 0;
+  const quickFixTexts = isHex ? [`0x${word.text.toUpperCase()}`] : similarWords;
   const suggestion = quickFixTexts.length > 0 ? formatSuggestion(quickFixTexts) : "";
   return createError(word, say.notDefinedMessage(word.text, suggestion), quickFixTexts);
 }
@@ -304,7 +304,7 @@ export function explainProgramLine(line, number, knownWords) {
   if (number === 34 && parts.head) {
     const word = findLastName(parts);
     const head = parts.head.text.toUpperCase();
-    return { word, message: say.otherPage(word ? word.text : say.IT, head) };
+    return { word, message: say.otherPageMessage(word ? word.text : say.IT, head) };
   }
   if (number === 35) return { word: parts.head, message: say.BYTE_TWICE };
   return null;

@@ -64,9 +64,9 @@ export function findDefinition(lines, name) {
 export function findRenamingError(lines, name, newName, isInstruction) {
   const upper = newName.toUpperCase();
   if (!NAME.test(newName)) return say.NAME_RULE;
-  if (newName.length > MAX_NAME_LENGTH) return say.nameHasMost(MAX_NAME_LENGTH, newName.length);
+  if (newName.length > MAX_NAME_LENGTH) return say.newNameTooLongMessage(MAX_NAME_LENGTH, newName.length);
   if (isInstruction(upper) || upper === "WPM" || DIRECTIVES.includes(upper)) return say.nameIsInstructionMessage(newName);
   if (REGISTER.test(newName) || PAIR.test(newName)) return say.nameIsRegisterMessage(newName);
   const line = findDefinedNames(lines).get(newName);
-  return newName !== name && line ? say.isDefinedMessage(newName, line) : "";
+  return newName !== name && line ? say.alreadyDefinedMessage(newName, line) : "";
 }

@@ -35,8 +35,8 @@ export function describeEffect({ effect }) {
  */
 export function describeRegister(word) {
   const number = Number(word.slice(1));
-  if (PAIR.test(word)) return say.pairIs(number, 2 * number, 2 * number + 1);
-  return say.registerIs(number, number % 2 === 0, Math.floor(number / 2));
+  if (PAIR.test(word)) return say.describePair(number, 2 * number, 2 * number + 1);
+  return say.describeRegister(number, number % 2 === 0, Math.floor(number / 2));
 }
 
 /**
@@ -117,7 +117,7 @@ export function helpForBoard(lines, line, column, tables) {
   if (!word) return "";
   const table = tableAt(lines, line);
   const values = (tables.get(table) || new Map()).get(word.text);
-  if (values) return say.keyIs(word.text, table, values);
+  if (values) return say.describeKey(word.text, table, values);
   const keys = tables.get(word.text);
   return keys ? `${word.text}: ${[...keys.keys()].join(", ")}.` : "";
 }

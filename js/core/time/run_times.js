@@ -59,7 +59,7 @@ export function runTimes(answers, firstAnswer, lastAnswer, describePlace) {
       lacksPlace = false;
     }
   }
-  if (answers.length < lastAnswer) return createErrorResult(say.onlyAnswers(answers.length));
+  if (answers.length < lastAnswer) return createErrorResult(say.tooFewAnswersMessage(answers.length));
   if (runs.length === 0) return createErrorResult(say.NO_RUN);
   const rows = runs.map(({ time, stop, place }) => `${time}${place === "" ? say.WHY_STOPPED[stop] : say.toPlace(place)}`);
   return { runs: rows, sum: formatRunTime(cycles), message: "" };

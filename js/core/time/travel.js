@@ -22,7 +22,7 @@ import * as say from "../../words/time.js";
  *   conditions can use, and the watch expressions.
  * @property {(goal: Goal | null) => void} storeGoal Stores the goal in the session for the duration of the search; null removes the stored
  *   goal.
- * @property {<Result extends LinesReply>(words: string, work: (ways: CallOptions) => Promise<Result>) => Promise<Result | null>} change
+ * @property {<Result extends LinesReply>(words: string, work: (options: CallOptions) => Promise<Result>) => Promise<Result | null>} change
  * Does work that changes the session, then saves and shows the result. `words` describes the work to the user, who can cancel it. If the
  * work is cancelled or fails, reports this and resolves to null.
  * @property {(goal: Goal) => void} runTo Starts the session, which then runs to the goal.
@@ -51,15 +51,15 @@ export class Travel {
    */
   async runToGoal(goal) {
     await this.callbacks.pause();
-    if (goal.kind === "when") await this.bench.call("takeNames", [this.callbacks.texts()]);
+    if (goal.kind === "when") await this.bench.call("setNames", [this.callbacks.texts()]);
     this.callbacks.storeGoal(goal);
-    const result = await this.callbacks.change(say.SEARCHING_GOAL, (ways) => this.bench.call("runToGoal", [goal], ways));
+    const result = await this.callbacks.change(say.SEARCHING_GOAL, (options) => this.bench.call("runToGoal", [goal], options));
     this.callbacks.storeGoal(null);
     if (!result) return;
-    const { cycles, isReached, end, id, endsAtReturn: returns } = result.searchResult;
+    const { cycles, isReached, end, id, endsAtReturn } = result.searchResult;
     this.callbacks.reportTally(result.tally);
     if (end === "bound") this.callbacks.runTo(goal);
-    else this.callbacks.showMessage(this.callbacks.reasonOf({ reason: isReached ? "goal" : end, cycles, id, endsAtReturn: returns }, goal));
+    else this.callbacks.showMessage(this.callbacks.reasonOf({ reason: isReached ? "goal" : end, cycles, id, endsAtReturn }, goal));
   }
 
   /**
@@ -68,8 +68,8 @@ export class Travel {
    */
   async goBack(goal) {
     await this.callbacks.pause();
-    if (goal.kind === "when") await this.bench.call("takeNames", [this.callbacks.texts()]);
-    const result = await this.callbacks.change(say.REPEATING_PAST, (ways) => this.bench.call("goBack", [goal], ways));
+    if (goal.kind === "when") await this.bench.call("setNames", [this.callbacks.texts()]);
+    const result = await this.callbacks.change(say.REPEATING_PAST, (options) => this.bench.call("goBack", [goal], options));
     if (!result) return;
     const breakpoint = this.callbacks.breakpoint(result.id);
     this.callbacks.showMessage(describeTimeTravel(goal, result, this.callbacks.describeCounter(), breakpoint));

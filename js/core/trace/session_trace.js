@@ -74,7 +74,7 @@ export class SessionTrace {
   async* traceLast(count, cycles, names) {
     const { engine, yieldToMessages } = this;
     const stop = await runState(engine, this.startState.slice(), cycles, yieldToMessages);
-    // An instruction takes at most two cycles, and the session can start between them.
+    // An instruction takes at most two cycles, and the session can start at the second cycle of an instruction.
     const from = Math.max(0, stop.cycles - 2 * count - 2);
     const state = copyWithoutStops(engine, this.startState);
     await runState(engine, state, from, yieldToMessages);
@@ -101,8 +101,8 @@ export class SessionTrace {
       const count = Math.min(piece, to - stop.at);
       yield trace.runLines(state, count, stop.at);
       const run = await runState(engine, state, count, this.yieldToMessages);
-      const cyclesDone = stop.at + run.cycles;
-      stop = { at: cyclesDone, end: cyclesDone < to ? run.end : end };
+      const pieceEnd = stop.at + run.cycles;
+      stop = { at: pieceEnd, end: pieceEnd < to ? run.end : end };
     }
     if (stop.end !== RAN_TO_END) yield [`${trace.formatNext(state, stop.at)}${say.stopsBefore(stop.end)}`];
   }

@@ -47,8 +47,8 @@ export function findLastRise(clock, moment) {
 
 /**
  * Extends the track of a shift register up to the end of the recording.
- * @param {{ clock: Track, data: Track, rise: number }} from the tracks of the register's clock and data lines; `rise` is the moment of the
- *   last rising clock edge up to `computedUntil`, or -1
+ * @param {{ clock: Track, data: Track, rise: number }} signals the tracks of the register's clock and data lines; `rise` is the moment of
+ *   the last rising clock edge up to `computedUntil`, or -1
  * @param {Track} track
  * @param {number} computedUntil the moment up to which the track is already computed
  * @param {number} end the end of the recording

@@ -29,7 +29,7 @@ export class LiveWaves {
   }
 
   /** True while the recording continues. */
-  get isOn() {
+  get isRecording() {
     return this.endReason === "";
   }
 
@@ -53,13 +53,13 @@ export class LiveWaves {
     this.endReason = "lost";
   }
 
-  /** The length of the recording, as text. Changes with each part. */
+  /** The length of the recording, as text. It changes with each part. */
   get lengthText() {
     const { waves } = this;
     return waves.cycles === 0 ? "" : formatCycles(waves.length);
   }
 
-  /** The status of the recording, as text. Changes rarely. */
+  /** The status of the recording, as text. It rarely changes. */
   get statusText() {
     const { waves, triggerMoment, endReason } = this;
     const { trigger } = this.settings;

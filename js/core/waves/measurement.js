@@ -48,6 +48,6 @@ export function frequencyText(period) {
  * @param {Measurement} measurement
  */
 export function describeMeasurement(value, { from, to, isComplete, period }) {
-  const valueWords = say.hasValueFor(value, isComplete, formatCycles(to - from));
+  const valueWords = say.valueDuration(value, isComplete, formatCycles(to - from));
   return period === 0 ? valueWords : say.withPeriod(valueWords, formatCycles(period), frequencyText(period));
 }

@@ -4,7 +4,7 @@
 
 /** The minimum capacity of the array after the first number is added. */
 const FIRST_CAPACITY = 64;
-/** The minimum number of unused elements at the start of the array for which the queue moves the numbers to the start. */
+/** The queue moves its numbers to the start of the array only if at least this number of elements there are unused. */
 const MIN_UNUSED = 4096;
 
 /**
@@ -24,7 +24,7 @@ export function countUpTo(numbers, limit) {
 
 /** @template {Numbers} Kind */
 export class NumberQueue {
-  /** @param {Kind} numbers the initial numbers; the queue takes over the array */
+  /** @param {Kind} numbers the initial numbers; the queue takes ownership of the array */
   constructor(numbers) {
     this.numbers = numbers;
     this.from = 0;
@@ -57,9 +57,9 @@ export class NumberQueue {
 
   /** Replaces the array with an array of twice the size. */
   enlarge() {
-    const larger = /** @type {Kind} */ (new (/** @type {any} */ (this.numbers.constructor))(Math.max(FIRST_CAPACITY, this.to * 2)));
-    larger.set(this.numbers);
-    this.numbers = larger;
+    const largerArray = /** @type {Kind} */ (new (/** @type {any} */ (this.numbers.constructor))(Math.max(FIRST_CAPACITY, this.to * 2)));
+    largerArray.set(this.numbers);
+    this.numbers = largerArray;
   }
 
   /** Removes the last number. */

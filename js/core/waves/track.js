@@ -22,7 +22,7 @@ export function emptyTrack(width) {
 }
 
 export class Track {
-  /** @param {TrackData} data the track data; the track takes over the arrays */
+  /** @param {TrackData} data the track data; the track takes ownership of the arrays */
   constructor({ first, moments, values }) {
     this.first = first;
     this.moments = new NumberQueue(moments);
@@ -50,7 +50,7 @@ export class Track {
   }
 
   /**
-   * Sets the value from a moment on. If several changes at the same moment cancel out, stores none of them.
+   * Sets the value from a moment onwards. If several changes at the same moment cancel out, stores none of them.
    * @param {number} value
    * @param {number} moment the moment, not before the last change
    */

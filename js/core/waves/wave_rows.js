@@ -122,7 +122,7 @@ export class WaveRows {
    * Folds a group, or unfolds a folded group.
    * @param {string} group the group to fold or unfold
    */
-  fold(group) {
+  toggleFold(group) {
     if (!this.folded.delete(group)) this.folded.add(group);
   }
 }

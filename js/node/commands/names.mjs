@@ -1,6 +1,6 @@
 // `mcs4 names`: replaces program names by their values in session lines.
 import { replaceNames } from "../../core/bench/name_substitution.js";
-import { inLine } from "../../words/commands.js";
+import { errorInLine } from "../../words/commands.js";
 import { checkArguments, findProject } from "../arguments.mjs";
 import { InputTexts } from "../input_texts.mjs";
 import { assembleProgram, startEngine } from "../native_program.mjs";
@@ -15,7 +15,7 @@ export async function run({ folder }, positionals) {
   const { text, encoding } = texts.readInputText();
   const { map } = await assembleProgram(await startEngine(), texts.readText(words[0], "asm"));
   const { lines, line, message: error } = replaceNames(text, map);
-  if (error !== "") throw new CommandError(inLine(line, error));
+  if (error !== "") throw new CommandError(errorInLine(line, error));
   printVerbatim(lines === "" || lines.endsWith("\n") ? lines : `${lines}\n`, encoding);
   return 0;
 }

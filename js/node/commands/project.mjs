@@ -100,9 +100,9 @@ async function readSession(folder, names, texts) {
   const name = join(folder, PROJECT_FILE_NAMES.session);
   if (existsSync(name)) {
     const bytes = readFileIn(folder, name);
-    if (!bytes.equals(readFileIn(folder, name))) throw new CommandError(say.inUse(name));
+    if (!bytes.equals(readFileIn(folder, name))) throw new CommandError(say.sessionInUseMessage(name));
     if (bytes.length === SESSION_BYTES && bytes.toString("latin1").startsWith(SESSION_HEADER)) return bytes;
-    throw new CommandError(say.noSessionFileMessage(name));
+    throw new CommandError(say.notASessionFileMessage(name));
   }
   const engine = await startEngine();
   const { file, errors } = newSession(engine, texts);
@@ -122,7 +122,7 @@ function readProjectName(folder) {
   const file = join(folder, PROJECT_FILE_NAMES.name);
   if (!existsSync(file)) return basename(realpathSync(folder));
   const [name] = readText(folder, file).split(/\r?\n/);
-  if (name.trim() === "") throw new CommandError(say.emptyName(file));
+  if (name.trim() === "") throw new CommandError(say.emptySessionNameMessage(file));
   return name;
 }
 

@@ -3,7 +3,7 @@ import { spawn } from "node:child_process";
 import { once } from "node:events";
 import { parseRefusal } from "../../core/bench/answers.js";
 import { compareWithScript } from "../../core/bench/script_progress.js";
-import { changedMeanwhile, scriptDoesNotMatch, sessionRefused, sessionWasRefused } from "../../words/commands.js";
+import { changedMeanwhile, scriptDoesNotMatch, sessionRejectedMessage, sessionRejectedForReason } from "../../words/commands.js";
 import { checkArguments } from "../arguments.mjs";
 import { InputTexts, MAX_TEXT_BYTES, MAX_SCRIPT_BYTES } from "../input_texts.mjs";
 import { yieldToMessages, openSession, findProgramPath, startEngine } from "../native_program.mjs";
@@ -46,8 +46,8 @@ async function serveBytes(session, bytes) {
   const [status] = await closeEvent;
   if (rejectedLine === null) return status ?? 1;
   const refusal = parseRefusal(rejectedLine);
-  if (!refusal) throw new CommandError(sessionWasRefused(session, rejectedLine));
-  throw new CommandError(sessionRefused(session, refusal.number, describeRefusal(refusal.number)));
+  if (!refusal) throw new CommandError(sessionRejectedForReason(session, rejectedLine));
+  throw new CommandError(sessionRejectedMessage(session, refusal.number, describeRefusal(refusal.number)));
 }
 
 /**
@@ -74,10 +74,10 @@ export async function run(_, positionals) {
   // If there is no native program, fail before anything else.
   findProgramPath();
   const engine = await startEngine();
-  const { lineCount, message: words, differingLines } = await compareWithScript(
+  const { lineCount, message, differingLines } = await compareWithScript(
     engine, await openSession(engine, texts, session), bytes.toString("latin1"), yieldToMessages,
   );
-  if (words !== "") throw new CommandError(scriptDoesNotMatch(session, scriptName, words, differingLines));
+  if (message !== "") throw new CommandError(scriptDoesNotMatch(session, scriptName, message, differingLines));
   if (!texts.read(session, MAX_TEXT_BYTES).equals(sessionBytes)) throw new CommandError(changedMeanwhile(session));
   return serveBytes(session, skipLines(bytes, lineCount));
 }

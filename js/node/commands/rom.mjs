@@ -54,7 +54,7 @@ function printLoadLines(chosenFormat, words) {
   if (!(address < ADDRESS_COUNT)) throw new UsageError(say.ADDRESS_RANGE);
   const file = new InputTexts().read(name, MAX_TEXT_BYTES);
   const format = chosenFormat || detectFormat(name, file);
-  if (!format) throw new CommandError(say.textNoImage(name));
+  if (!format) throw new CommandError(say.textIsNotImageMessage(name));
   try {
     print(createByteTexts(parseImage(format, file, address)).map((text) => `asm\n${text}.\n`).join(""));
   } catch (error) {
@@ -127,7 +127,7 @@ function printImage(format, words) {
 /** @type {import("./table.mjs").CommandModule["run"]} */
 export function run(values, [action, ...words]) {
   if (action === undefined) throw new UsageError(say.LOAD_ASK_OR_SAVE);
-  if (!Object.hasOwn(ACTION_FORMATS, action)) throw new UsageError(say.noRomActionMessage(action));
+  if (!Object.hasOwn(ACTION_FORMATS, action)) throw new UsageError(say.unknownRomActionMessage(action));
   const format = chooseFormat(action, values);
   if (action === "load") printLoadLines(format, words);
   else if (action === "ask") printQueries(words);

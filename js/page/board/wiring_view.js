@@ -43,7 +43,7 @@ export class WiringView {
     this.parts = new Map();
     /** @type {Map<string, string[]>} the pins at the ends of each line's wires, by line name */
     this.linePins = new Map();
-    /** @type {WeakMap<Element, string>} the part or pin to which an element belongs */
+    /** @type {WeakMap<Element, string>} the name of the part or pin to which each element belongs */
     this.names = new WeakMap();
     /**
      * @type {{ mask: string, levels: Levels }[]} the line levels of each ROM chip; `mask` is the chip's `port` string in the board's text
@@ -53,7 +53,7 @@ export class WiringView {
     this.chains = [];
     /** @type {Map<string, Levels>} the line levels of each RAM chip, by `bank.chip` */
     this.rams = new Map();
-    /** The name of the highlighted part, in the form that `mark` takes; "" for none. */
+    /** The name of the highlighted part, in the form that `mark` accepts; "" for none. */
     this.markedName = "";
     /** The name of the part or pin that the Tab key moves the focus to. */
     this.tabStop = "";
@@ -197,7 +197,7 @@ export class WiringView {
     const hitArea = svgElement("circle", { class: "reach", ...centre, r: PIN_CLICK_RADIUS });
     const description = `${part.title}, ${pin.label}, ${this.describePin(pin)}`;
     const { number } = pin;
-    const title = svgElement("title", {}, (pin.line || say.TEST_PIN) + (number === undefined ? "" : say.pinOf(number)));
+    const title = svgElement("title", {}, (pin.line || say.TEST_PIN) + (number === undefined ? "" : say.pinSuffix(number)));
     const leg = number === undefined ? [] : [
       svgElement("rect", { class: "leg", x: isLeft ? pin.x - LEG_LENGTH : pin.x, y: pin.y - 3, width: LEG_LENGTH, height: 6 }),
       svgElement("text", {

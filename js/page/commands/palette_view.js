@@ -70,8 +70,8 @@ export class PaletteView {
     this.entries = searchEntries(allEntries, query).slice(0, MAX_DRAWN_ENTRIES);
     this.list.replaceChildren(...this.entries.map((entry, index) => this.makeOption(entry, index)));
     const { length } = this.entries;
-    const noMatchText = splitQuery(query).length > 0 && length === 0 ? say.noneHas(query.trim()) : "";
-    this.countStatus.textContent = noMatchText || (searchesCommands ? say.countOfCommands(length) : say.countOfDestinations(length));
+    const noMatchText = splitQuery(query).length > 0 && length === 0 ? say.noMatchMessage(query.trim()) : "";
+    this.countStatus.textContent = noMatchText || (searchesCommands ? say.commandCountText(length) : say.destinationCountText(length));
     if (noMatchText) this.list.append(element("li", { "role": "option", "aria-disabled": "true" }, noMatchText));
     this.choose(0);
   }

@@ -59,7 +59,7 @@ class PropertyRow {
     if (!property.found || this.hasCounterexample) return;
     this.hasCounterexample = true;
     this.node.append(
-      element("details", {}, element("summary", {}, say.ITS_TEST), element("pre", { tabIndex: 0 }, property.found.test.trimEnd())),
+      element("details", {}, element("summary", {}, say.SHOW_AS_TEST), element("pre", { tabIndex: 0 }, property.found.test.trimEnd())),
       element("p", { className: "bar" },
         makeButton(say.OPEN_AS_SESSION, () => this.calls.openCounterexample(this.index), { title: say.NEW_SESSION_HINT }),
         makeButton(say.ADD_TO_TESTS, () => this.calls.addTest(this.index), { title: say.AT_END })));
@@ -104,28 +104,28 @@ export class ExploreView {
     }
     this.rows.forEach((row, index) => row.show(report.properties[index], report, isRunning));
     // If proofs have already decided all properties, the search executes no steps.
-    const isSearched = isRunning || report.steps > 0;
-    this.statistics.set(isSearched ? searchStatistics(report) : say.NO_STEPS);
-    this.showCoverage(report, isRunning, isSearched);
+    const hasStarted = isRunning || report.steps > 0;
+    this.statistics.set(hasStarted ? searchStatistics(report) : say.NO_STEPS);
+    this.showCoverage(report, isRunning, hasStarted);
     this.block.hidden = false;
   }
 
   /**
    * @param {Report} report
    * @param {boolean} isRunning
-   * @param {boolean} isSearched true if the search is running or has executed a step
+   * @param {boolean} hasStarted true if the search is running or has executed a step
    */
-  showCoverage(report, isRunning, isSearched) {
+  showCoverage(report, isRunning, hasStarted) {
     const coverage = coverageOf(report);
     for (const { name, root, bar, label } of this.bars) {
-      root.hidden = !isSearched;
+      root.hidden = !hasStarted;
       const { count, total, text } = coverage[name];
       bar.max = Math.max(1, total);
       bar.value = count;
       label.set(text);
     }
     // The list would change continuously during a search, so it is empty until the end.
-    this.listNeverRunLines(isRunning || !isSearched ? [] : coverage.unexecutedLines);
+    this.listNeverRunLines(isRunning || !hasStarted ? [] : coverage.unexecutedLines);
   }
 
   /** @param {number[]} lines the lines that never ran */

@@ -51,7 +51,7 @@ export class WatchView {
     const input = field("watched-field");
     const { watch: expression, error } = parseWatch(input.value, this.calls.names());
     const isFull = this.expressions.length >= MAX_WATCH_EXPRESSIONS;
-    this.status.textContent = isFull ? say.maxWatched(MAX_WATCH_EXPRESSIONS) : error;
+    this.status.textContent = isFull ? say.tooManyWatchesMessage(MAX_WATCH_EXPRESSIONS) : error;
     input.setAttribute("aria-invalid", String(this.status.textContent !== ""));
     if (!expression || isFull) return;
     input.value = "";

@@ -5,7 +5,7 @@ import { describeInterruption } from "../../words/stops.js";
 import { ZERO_COUNTS } from "../../core/time/cycles.js";
 import { formatUrlFragment } from "./address.js";
 import { OpenSession } from "./open_session.js";
-import { shortName } from "../../core/session/names.js";
+import { shortenName } from "../../core/session/names.js";
 import * as say from "../../words/session.js";
 
 /**
@@ -103,11 +103,11 @@ export class CurrentSession {
     document.body.classList.remove("settling");
   }
 
-  /** Restores the history from before a page reload, so that the user can go back beyond the reload. */
+  /** Restores the history that was stored before a page reload, so that the user can go back to moments before the reload. */
   async restoreHistory() {
     const { bench, storedHistory } = this;
     const segments = storedHistory.takeStoredSegments();
-    const count = segments.length > 0 ? await bench.call("recall", [segments]).catch(() => -1) : -1;
+    const count = segments.length > 0 ? await bench.call("restorePast", [segments]).catch(() => -1) : -1;
     if (count >= 0) storedHistory.continueFrom(segments, count);
   }
 
@@ -164,7 +164,7 @@ export class CurrentSession {
    * @param {string} title
    */
   adoptTitle(title) {
-    const name = shortName(title.replace(/\.$/, ""));
+    const name = shortenName(title.replace(/\.$/, ""));
     if (!this.session || !this.session.record.isTitled || name === "" || name === this.session.record.name) return;
     this.session.record.name = name;
     this.showTitle();

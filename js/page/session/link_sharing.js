@@ -4,7 +4,7 @@ import { formatUrlFragment } from "./address.js";
 import { readBoard, parseRefusal } from "../../core/bench/answers.js";
 import { sessionTitle, describeBoard } from "../../core/session/session_summary.js";
 import { element } from "../ui/dom.js";
-import { shortName } from "../../core/session/names.js";
+import { shortenName } from "../../core/session/names.js";
 import { tooLongMessage } from "../../core/session/project_file.js";
 import { MAX_LINK_LENGTH, MAX_SAFE_LINK_LENGTH, toLink, readLink } from "./share_link.js";
 import { formatLineCount } from "./texts_controller.js";
@@ -67,13 +67,13 @@ export class LinkSharing {
       return;
     }
     const address = location.href.replace(/#.*$/, "") + formatUrlFragment("link", await toLink(texts));
-    const size = say.characters(address.length.toLocaleString("en"));
+    const size = say.characterCountText(address.length.toLocaleString("en"));
     if (address.length > MAX_LINK_LENGTH) {
       await this.offerFile(size);
       return;
     }
     const messages = [`${describeContents(texts)}${location.protocol === "file:" ? say.LINK_FROM_FILE : ""}`];
-    if (address.length > MAX_SAFE_LINK_LENGTH) messages.push(say.LONG);
+    if (address.length > MAX_SAFE_LINK_LENGTH) messages.push(say.LONG_LINK_WARNING);
     try {
       await navigator.clipboard.writeText(address);
       this.notice.show(say.linkCopied(size, messages.join(" ")), "share");
@@ -86,7 +86,7 @@ export class LinkSharing {
   async offerFile(size) {
     const isSaved = await this.confirmDialog.ask({
       title: say.TOO_LONG_LINK,
-      paragraphs: [say.longLink(size, MAX_LINK_LENGTH.toLocaleString("en"))],
+      paragraphs: [say.linkTooLongMessage(size, MAX_LINK_LENGTH.toLocaleString("en"))],
       acceptLabel: say.SAVE_PROJECT,
       declineLabel: say.LEAVE_IT,
     });
@@ -139,11 +139,11 @@ export class LinkSharing {
    * @param {import("../../core/engine/dry_run.js").DryRunResult} result
    */
   describeLink({ boardText, programText, testText = "", propertiesText = "" }, { board, rejectedTexts }) {
-    const title = shortName(sessionTitle(boardText, programText));
+    const title = shortenName(sessionTitle(boardText, programText));
     const lines = rejectedTexts.map(({ word, answer }) => {
       const refusal = parseRefusal(answer);
       const reason = refusal ? `${answer}: ${this.errorMessages.refusalMeaning(refusal.number)}` : answer;
-      return say.benchRefusesText(word === "wire", reason);
+      return say.textRejectedMessage(word === "wire", reason);
     });
     return [
       ...(title ? [title] : []),

@@ -2,7 +2,7 @@
 
 import { download } from "./download.js";
 import { startsRunning } from "../../core/engine/examples.js";
-import { newRecord } from "./open_session.js";
+import { createSessionRecord } from "./open_session.js";
 import { UnsavedTexts } from "./unsaved_texts.js";
 import { readFolderTexts } from "./folder_project.js";
 import { readOpenedFile } from "../../core/session/opened_file.js";
@@ -140,7 +140,7 @@ export class SessionManager {
   async makeExampleRecord(example) {
     const { board, program, tests, properties } = example;
     const texts = { boardText: board, programText: program, testText: tests, propertiesText: properties };
-    const record = newRecord(example.name, await this.bench.call("createFile", [example]), texts, startsRunning(example));
+    const record = createSessionRecord(example.name, await this.bench.call("createFile", [example]), texts, startsRunning(example));
     return { ...record, isTitled: example.board === "" && example.program === "" };
   }
 
@@ -158,7 +158,7 @@ export class SessionManager {
     if (currentSession && currentSession.record.id === id) await this.calls.save();
     return this.openNew(async () => {
       const record = await this.readRecord(id);
-      return newRecord(say.copyName(record.name), record.file, record);
+      return createSessionRecord(say.copyName(record.name), record.file, record);
     });
   }
 
@@ -193,10 +193,10 @@ export class SessionManager {
       const folder = await read();
       name = folder.name || name;
       const { texts, speed, message } = await readFolderTexts(folder);
-      const hasOpened = await this.openSession(await this.makeExampleRecord(texts));
-      if (hasOpened && speed) this.calls.setSpeed(speed);
-      if (hasOpened && message) this.calls.showNotice(message);
-      return hasOpened;
+      const wasOpened = await this.openSession(await this.makeExampleRecord(texts));
+      if (wasOpened && speed) this.calls.setSpeed(speed);
+      if (wasOpened && message) this.calls.showNotice(message);
+      return wasOpened;
     } catch (error) {
       return this.rejectAction(say.fileNotOpened(name, this.errorMessages.errorMessage(error)));
     }
@@ -214,7 +214,7 @@ export class SessionManager {
   async makeProjectRecord(bytes) {
     const project = readProject(bytes, this.bench.size);
     await this.bench.call("settleFile", [project.file]);
-    return newRecord(project.name || "session", project.file, project);
+    return createSessionRecord(project.name || "session", project.file, project);
   }
 
   /**
@@ -226,7 +226,7 @@ export class SessionManager {
     // The bench needs only one byte more than the size of a session file to detect a file that is too long.
     const settledBytes = await this.bench.call("settleFile", [bytes.slice(0, this.bench.size + 1)]);
     const texts = await this.bench.call("recoverTexts", [settledBytes]);
-    return newRecord(fileName.replace(/\.mcs$/i, ""), settledBytes, texts);
+    return createSessionRecord(fileName.replace(/\.mcs$/i, ""), settledBytes, texts);
   }
 
   /** Saves the session with its texts as a project file, unless the file would be too long to open again. */

@@ -2,7 +2,7 @@
 
 import { readUrlFragment } from "./address.js";
 import { Trash, formatNames } from "./trash.js";
-import { shortName } from "../../core/session/names.js";
+import { shortenName } from "../../core/session/names.js";
 import { OpeningGuard } from "./opening_guard.js";
 import { SessionManager } from "./session_manager.js";
 import { TOUR_EXAMPLE } from "../../core/help/tour.js";
@@ -86,16 +86,16 @@ export class SessionsController {
       restoreSessions: (records) => trash.restoreSessions(records),
       openExample: (example) => this.openExample(example),
       openStory: async (example) => {
-        const hasOpened = await this.openExample(example);
-        if (hasOpened) this.showStory(example);
-        return hasOpened;
+        const wasOpened = await this.openExample(example);
+        if (wasOpened) this.showStory(example);
+        return wasOpened;
       },
       openFile: (file) => manager.openFile(file),
       openFolder: (read) => manager.openFolder(read),
       rename: (name) => calls.rename(name),
       describeStorage: () => (
         this.store.isPersistent
-          ? say.SAVED_IN_BROWSER_ONLY + (this.persistence.isPromised ? say.STORAGE_IS_PERSISTENT : "")
+          ? say.SAVED_IN_BROWSER_ONLY + (this.persistence.isGranted ? say.STORAGE_IS_PERSISTENT : "")
           : say.NOT_SAVED_ANYWHERE),
     });
   }
@@ -134,8 +134,8 @@ export class SessionsController {
    * @param {Example} example
    */
   async openExample(example) {
-    const hasOpened = await this.manager.openExample(example);
-    if (!hasOpened) return false;
+    const wasOpened = await this.manager.openExample(example);
+    if (!wasOpened) return false;
     this.offeredLines.offer(example.lines);
     if (example.lines !== "" && example.board === "") this.calls.showLines();
     return true;
@@ -148,7 +148,7 @@ export class SessionsController {
   async openExampleByName(name) {
     const example = [...this.examples, TOUR_EXAMPLE].find((candidate) => candidate.name === name);
     if (example) return this.openExample(example);
-    this.notice.show(say.noSuchExampleMessage(shortName(name)), "session");
+    this.notice.show(say.noSuchExampleMessage(shortenName(name)), "session");
     return false;
   }
 
@@ -188,7 +188,7 @@ export class SessionsController {
 
   /** @param {string} hash the text after `#` in an address that names no session, example or link */
   reportUnknownAddress(hash) {
-    if (hash.length > 1) this.notice.show(say.namesNothing(shortName(hash)), "session");
+    if (hash.length > 1) this.notice.show(say.namesNothing(shortenName(hash)), "session");
   }
 
   /**
@@ -221,10 +221,10 @@ export class SessionsController {
     const release = await this.locks.acquire(record.id);
     if (!release) return;
     release();
-    const message = say.notOpenedAutomaticallyMessage(shortName(record.name));
+    const message = say.notOpenedAutomaticallyMessage(shortenName(record.name));
     const openAction = { word: say.OPEN_IT, act: () => this.open(record.id) };
     const deleteAction = { word: say.DELETE_IT, act: () => this.remove([record]) };
-    this.notice.show(message, "unended", openAction, deleteAction);
+    this.notice.show(message, "unopened", openAction, deleteAction);
   }
 
   /** Opens the session, example or link that the changed URL names, unless it is already open. */

@@ -130,7 +130,7 @@ export class Store {
    * @returns {Promise<void>}
    */
   async put(record) {
-    if (!this.isAtomic) return this.putChecked(record);
+    if (!this.isAtomic) return this.putIfUnchanged(record);
     return new Promise((resolve, reject) => {
       const transaction = this.openTransaction(resolve, reject);
       record.revision += 1;
@@ -145,7 +145,7 @@ export class Store {
    * @param {SessionRecord} record
    * @returns {Promise<void>}
    */
-  putChecked(record) {
+  putIfUnchanged(record) {
     return new Promise((resolve, reject) => {
       /** @type {Error | null} */
       let revisionError = null;

@@ -126,7 +126,7 @@ export class TextsController {
     const replacedTexts = board === null ? [] : this.putText("board", board);
     if (program !== null) replacedTexts.push(...this.putText("program", program));
     this.calls.handleLoadedTexts(board !== null ? "board" : "program", lines);
-    const [firstText, buttonEffect] = board === null ? [say.SOURCE, say.ASSEMBLES] : [say.BOARD, say.WIRES];
+    const [firstText, buttonEffect] = board === null ? [say.SOURCE, say.ASSEMBLE_HINT] : [say.BOARD, say.APPLY_BOARD_HINT];
     const hasBoth = board !== null && program !== null;
     const destination = hasBoth ? say.BOARD_AND_SOURCE : firstText;
     this.showReplaced(replacedTexts, say.textIsIn(name, destination, buttonEffect, hasBoth ? say.THEN_ASSEMBLE : ""));

@@ -29,7 +29,7 @@ function formatTimes(number) {
  */
 export function describeCount({ count, isJump, jumpCount }) {
   if (count === 0) return say.NO_TEST_RUNS;
-  return say.runCount(formatTimes(count)) + (isJump ? say.jumpCounts(formatTimes(jumpCount), formatTimes(count - jumpCount)) : "");
+  return say.runCountText(formatTimes(count)) + (isJump ? say.jumpCountsText(formatTimes(jumpCount), formatTimes(count - jumpCount)) : "");
 }
 
 export class CountMarks {

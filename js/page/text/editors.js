@@ -10,8 +10,8 @@ import { completeBoard } from "../../core/text/board_completion.js";
 import { completeProgram } from "../../core/text/completion.js";
 import { block, button, onClick } from "../ui/dom.js";
 import { EditorView } from "./text_editor_view.js";
-import { moreErrors } from "../../core/board/face.js";
-import { PARTS } from "../../core/text/folding.js";
+import { moreErrorsMessage } from "../../core/board/face.js";
+import { FOLD_PATTERNS } from "../../core/text/folding.js";
 import { LiveErrors } from "./live_errors.js";
 import { readInstructions } from "../../core/help/manual.js";
 import { isProbablyNotProgram } from "../../core/text/program_errors.js";
@@ -104,7 +104,7 @@ export class Editors {
       gutters: ["breakpoints", "numbers", "addresses", "counts"],
       // A new line begins with a tab, because most statements are indented.
       indent: "\t",
-      folds: PARTS.program,
+      folds: FOLD_PATTERNS.program,
       isInstruction: (word) => this.instructions.has(word),
       describeWord: (lines, line, offset) => helpForProgram(lines, line, offset, this.instructions, this.calls.describeName),
       valuesAt: (text, offset) => this.calls.valuesAt(text, offset),
@@ -127,7 +127,7 @@ export class Editors {
       mark: "#",
       colours: colourBoardLine,
       gutters: ["numbers"],
-      folds: PARTS.board,
+      folds: FOLD_PATTERNS.board,
       describeWord: (lines, line, offset) => helpForBoard(lines, line, offset, this.tables),
       complete: (lines, line, offset) => completeBoard(lines, line, offset, this.tables),
     }, {
@@ -180,7 +180,7 @@ export class Editors {
   showFoundErrors(name, { errors, isComplete }) {
     const shownErrors = name === "board" ? [...errors, ...findFrontPanelErrors(this.board.text)] : errors;
     const moreNote = isComplete || errors.length < 2 ? "" : say.MAY_BE_MORE;
-    this[name].showErrors(shownErrors.slice(0, MAX_LISTED_ERRORS), moreErrors(shownErrors, MAX_LISTED_ERRORS) || moreNote);
+    this[name].showErrors(shownErrors.slice(0, MAX_LISTED_ERRORS), moreErrorsMessage(shownErrors, MAX_LISTED_ERRORS) || moreNote);
     this.calls.showErrorCount(name, shownErrors.length);
   }
 
@@ -189,7 +189,7 @@ export class Editors {
     if (!(await this.hasNoErrors("program"))) return;
     await this.calls.pauseTime();
     const { benchText } = this.program;
-    const { size, remainingAddresses } = await this.bench.call("leftovers", [benchText]);
+    const { size, remainingAddresses } = await this.bench.call("findLeftovers", [benchText]);
     const lines = createProgramTexts(benchText, remainingAddresses).map((text) => `asm\n${text}.\n`).join("");
     const answer = await this.calls.serveLines(`${lines}reset\n`);
     if (answer === null) return;
@@ -209,7 +209,7 @@ export class Editors {
     if (answer === null) return;
     const refusal = parseRefusal(answer);
     if (!refusal) await this.calls.handleAssembly(false);
-    const leftovers = await this.bench.call("leftovers", [benchText]);
+    const leftovers = await this.bench.call("findLeftovers", [benchText]);
     this.program.showMessage(refusal ? this.describeRefusal(refusal) : describeAssembled(leftovers, this.calls.counter()));
   }
 

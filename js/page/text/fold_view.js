@@ -8,7 +8,7 @@ import * as say from "../../words/text.js";
 
 /**
  * @typedef {import("./line_editor.js").LineEditor} LineEditor
- * @typedef {import("../../core/text/folding.js").Parts} Parts
+ * @typedef {import("../../core/text/folding.js").FoldPatterns} FoldPatterns
  */
 
 /**
@@ -34,7 +34,7 @@ function makePlaceholder(count, unfoldRange) {
 
 /**
  * Returns the CodeMirror extensions for code folding in a kind of text.
- * @param {Parts} parts the patterns of the text's foldable ranges
+ * @param {FoldPatterns} parts the patterns of the text's foldable ranges
  */
 export function makeFolding(parts) {
   return [
@@ -53,7 +53,7 @@ export function makeFolding(parts) {
 
 /**
  * Returns the folding commands for a kind of text.
- * @param {Parts} parts the patterns of the text's foldable ranges
+ * @param {FoldPatterns} parts the patterns of the text's foldable ranges
  */
 export function makeFoldingActions(parts) {
   return {

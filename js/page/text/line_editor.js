@@ -68,8 +68,9 @@ function editsOfTransaction(transaction) {
   const edits = [];
   transaction.changes.iterChanges((from, to, _from, _to, inserted) => {
     const removed = doc.slice(from, to).toJSON();
-    const isWhole = from === 0 && to === doc.length;
-    edits.unshift({ from: offsetToPosition(doc, from), to: offsetToPosition(doc, to), text: inserted.toJSON(), removed, origin, isWhole });
+    const replacesAll = from === 0 && to === doc.length;
+    const range = { from: offsetToPosition(doc, from), to: offsetToPosition(doc, to) };
+    edits.unshift({ ...range, text: inserted.toJSON(), removed, origin, replacesAll });
   });
   return edits;
 }
@@ -227,9 +228,9 @@ export class LineEditor {
   breakLine(indent) {
     const { from, to } = this.state.selection.main;
     const previousLine = this.doc.lineAt(from);
-    const blanks = /^[ \t]*/.exec(previousLine.text.slice(0, from - previousLine.from)) || [""];
+    const leadingBlanks = /^[ \t]*/.exec(previousLine.text.slice(0, from - previousLine.from)) || [""];
     const trailingBlanks = /^[ \t]*/.exec(this.doc.sliceString(to, this.doc.lineAt(to).to)) || [""];
-    const insert = `\n${indent === undefined ? blanks[0] : indent}`;
+    const insert = `\n${indent === undefined ? leadingBlanks[0] : indent}`;
     this.view.dispatch({ changes: { from, to: to + trailingBlanks[0].length, insert }, selection: { anchor: from + insert.length },
       scrollIntoView: true, userEvent: "input" });
     return true;
@@ -249,9 +250,10 @@ export class LineEditor {
     const { line, ch } = offsetToPosition(this.doc, pos);
     const { from, to, list } = this.calls.complete({ line, ch });
     if (list.length === 0) return null;
-    const options = list.map(({ text, what }) => {
+    const options = list.map(({ text, description }) => {
       const [first] = text.split("\n");
-      return { label: text, displayLabel: `${first}${what && !what.startsWith(" ") ? "   " : ""}${what}`, apply: text };
+      const gap = description && !description.startsWith(" ") ? "   " : "";
+      return { label: text, displayLabel: `${first}${gap}${description}`, apply: text };
     });
     return { from: pos - ch + from, to: pos - ch + to, options, filter: false };
   }

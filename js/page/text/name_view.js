@@ -103,7 +103,7 @@ export class NameView {
     const { editor } = textEditor;
     textEditor.edit([...references].reverse().map(({ line, from, to }) => (
       { from: editor.offset({ line: line - 1, ch: from }), to: editor.offset({ line: line - 1, ch: to }), insert: newName })));
-    calls.showMessage(say.renamed(name, newName, formatQuantity(references.length, "place")));
+    calls.showMessage(say.renamedMessage(name, newName, formatQuantity(references.length, "place")));
     return "";
   }
 

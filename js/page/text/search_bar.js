@@ -89,7 +89,7 @@ export class SearchBar {
     const spans = this.findSpans(query);
     const count = spans.length;
     if (count > 0) this.editor.edit([...spans].reverse().map((span) => ({ ...span, insert: this.replaceField.value })));
-    this.status.set(count === 0 ? say.NOT_FOUND : say.replaced(count.toLocaleString("en")));
+    this.status.set(count === 0 ? say.NOT_FOUND : say.replacedMessage(count.toLocaleString("en")));
   }
 
   /**

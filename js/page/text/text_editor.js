@@ -17,7 +17,7 @@ import * as say from "../../words/text.js";
  * the error gutter. `indent` is the indentation of a new line, by default that of the previous line. `folds` has the patterns of the
  * foldable parts of its text. `keys` are its additional key bindings. `isInFront` returns true if no tab hides the editor.
  * @typedef {{ container: HTMLElement, label: string, colours: import("./line_colours.js").Colours, gutters: string[], indent?: string,
- *   folds?: import("../../core/text/folding.js").Parts, keys: KeyMap, isInFront: () => boolean, calls: TextCalls }} TextOptions
+ *   folds?: import("../../core/text/folding.js").FoldPatterns, keys: KeyMap, isInFront: () => boolean, calls: TextCalls }} TextOptions
  *
  * The state of a text that is not visible, and its scroll position in pixels.
  * @typedef {{ state: import("@codemirror/state").EditorState, top: number }} StoredText

@@ -11,7 +11,7 @@ import { MeaningView } from "./meaning_view.js";
 import { NameView } from "./name_view.js";
 import { SearchBar } from "./search_bar.js";
 import { TextEditor } from "./text_editor.js";
-import { MAX_STORED_LENGTH, MAX_SENT_LENGTH, asciiCommentsText, sentText } from "../../core/text/sendable_text.js";
+import { MAX_STORED_LENGTH, MAX_SENT_LENGTH, toAsciiComments, sentText } from "../../core/text/sendable_text.js";
 import * as say from "../../words/text.js";
 
 /**
@@ -33,10 +33,10 @@ import * as say from "../../words/text.js";
  * @property {import("./line_colours.js").Colours} colours Returns the coloured ranges of a line.
  * @property {string[]} gutters The names of the gutters besides the error gutter.
  * @property {string} [indent] The indentation of a new line, by default that of the previous line.
- * @property {import("../../core/text/folding.js").Parts} [folds] The patterns of the foldable parts of the text.
+ * @property {import("../../core/text/folding.js").FoldPatterns} [folds] The patterns of the foldable parts of the text.
  * @property {(word: string) => boolean} [isInstruction] Returns true if a word in upper case is an instruction. Missing for texts without
  *   names.
- * @property {boolean} [isUnsent] True if the text is never sent to the bench.
+ * @property {boolean} [isNeverSent] True if the text is never sent to the bench.
  * @property {(lines: string[], line: number, offset: number) => string} describeWord Returns the description of the word at an offset in a
  *   line, or "" if there is none.
  * @property {(text: string, offset: number) => Piece[]} [valuesAt] Returns the current values of the word at an offset in the line `text`.
@@ -260,7 +260,7 @@ export class EditorView {
 
   /** The text to which the positions of the bench's errors refer. */
   get alignedText() {
-    return asciiCommentsText(this.text, this.language.mark);
+    return toAsciiComments(this.text, this.language.mark);
   }
 
   get lines() {
@@ -358,8 +358,8 @@ export class EditorView {
   updateSize() {
     clearTimeout(this.sizeTimer);
     this.sizeTimer = window.setTimeout(() => {
-      const { isUnsent } = this.language;
-      const [{ length }, limit, unit] = isUnsent
+      const { isNeverSent } = this.language;
+      const [{ length }, limit, unit] = isNeverSent
         ? [this.text, MAX_STORED_LENGTH, "characters"]
         : [this.benchText, MAX_SENT_LENGTH, "bytes"];
       this.sizeCell.set(say.textSize(length.toLocaleString("en"), limit.toLocaleString("en"), unit));

@@ -95,7 +95,7 @@ export class HistoryView {
     const count = parseCount(this.countField.value, MAX_INSTRUCTIONS);
     this.countField.setAttribute("aria-invalid", String(count === 0));
     if (count > 0) this.calls.runToGoal({ kind: "count", count });
-    else this.calls.showMessage(say.enterCount(MAX_INSTRUCTIONS.toLocaleString("en")));
+    else this.calls.showMessage(say.instructionCountHint(MAX_INSTRUCTIONS.toLocaleString("en")));
   }
 
   /** @param {(goal: NonNullable<ReturnType<typeof parseGoal>["goal"]>) => void} action */

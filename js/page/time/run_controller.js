@@ -73,7 +73,7 @@ export class RunController {
     this.pendingKeys = new PendingKeys();
     this.sound = new Sound({
       listenToLine: (line) => {
-        bench.call("listenTo", [line]).catch(calls.reportFailure);
+        bench.call("watchBuzzer", [line]).catch(calls.reportFailure);
       },
       isRealTime: () => this.clock.speed === REAL_TIME_SPEED,
     });
@@ -86,7 +86,7 @@ export class RunController {
     return new Clock({
       advance: (cycles, key) => this.advance(cycles, key),
       runInstruction: () => this.runInstruction(),
-      runFull: () => bench.call("run", [document.hidden]),
+      runAtFullSpeed: () => bench.call("run", [document.hidden]),
       reportStandstill: (time, wasHidden) => this.reportStandstill(time, wasHidden),
       reportFailure: calls.reportFailure,
     });
@@ -125,7 +125,7 @@ export class RunController {
     calls.handleRunStart();
     if (!goal) bench.call("dropGoal", []).catch(calls.reportFailure);
     this.showRunning(true);
-    this.showMessage(goal ? runningToGoal(goal) : say.isRunning(currentSession.name, calls.countInvalidBreakpoints()));
+    this.showMessage(goal ? runningToGoal(goal) : say.runningMessage(currentSession.name, calls.countInvalidBreakpoints()));
     this.clock.start();
     this.startRateMeasurement();
     bench.isRunning = this.clock.isFull;
@@ -201,7 +201,8 @@ export class RunController {
     const message = say.wasPausedFor(formatDuration(time), wasHidden);
     this.showMessage(message);
     setTimeout(() => {
-      if (this.status.text === message) this.showMessage(say.isRunning(this.currentSession.name, this.calls.countInvalidBreakpoints()));
+      if (this.status.text !== message) return;
+      this.showMessage(say.runningMessage(this.currentSession.name, this.calls.countInvalidBreakpoints()));
     }, STANDSTILL_MESSAGE_MS);
   }
 
@@ -310,8 +311,8 @@ export class RunController {
     currentSession.markChanged();
     if (word === "press" && this.clock.simulateKeyPress(key)) return;
     const removePending = this.pendingKeys.send({ word, key });
-    bench.call(word, [key]).finally(removePending).then((waiting) => {
-      this.pendingKeys.waitingChanges = waiting;
+    bench.call(word, [key]).finally(removePending).then((waitingChanges) => {
+      this.pendingKeys.waitingChanges = waitingChanges;
     }, calls.reportFailure);
   }
 

@@ -62,7 +62,7 @@ export class Panels {
     openSwitch.set(this.preferences.get(`panel.${id}`) !== "closed");
     checkBox.checked = openSwitch.isOn;
     checkBox.addEventListener("change", () => this.open(id, checkBox.checked));
-    const [maximizeTitle, closeTitle] = [say.fullSize(name), say.closes(name)];
+    const [maximizeTitle, closeTitle] = [say.fullSizeLabel(name), say.closeLabel(name)];
     const tools = element("span", { className: "panel-tools" },
       makeButton("\u25A1", () => this.toggleMaximized(id), { "title": maximizeTitle, "aria-label": maximizeTitle, "tabIndex": -1 }),
       makeButton("\u00D7", () => this.open(id, false), { "title": closeTitle, "aria-label": closeTitle, "tabIndex": -1 }));
@@ -76,7 +76,7 @@ export class Panels {
       this.menuSwitch.set(false);
       this.open(id, true);
       this.setMaximized(id);
-    }, { "aria-label": say.fullSize(name) });
+    }, { "aria-label": say.fullSizeLabel(name) });
     return element("li", {}, element("label", { className: "check" }, checkBox, ` ${name}`), maximizeButton);
   }
 

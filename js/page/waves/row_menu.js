@@ -50,7 +50,7 @@ export class RowMenu {
     return [
       { label: say.FOLD, key: "Enter", act: () => view.toggleFold(group) },
       { label: say.RENAME,
-        act: () => this.askName(say.nameOf(group), group, (newName) => newName && view.changeLines(memberNames(), { group: newName })) },
+        act: () => this.askName(say.nameLabel(group), group, (newName) => newName && view.changeLines(memberNames(), { group: newName })) },
       { label: say.UNGROUP, act: () => view.changeLines(memberNames(), { group: "" }) },
       ...this.moveItems,
     ];
@@ -64,12 +64,12 @@ export class RowMenu {
     const { view } = this;
     const leaveItem = { label: say.LEAVE_GROUP, act: () => view.changeLines([name], { group: "" }) };
     const joinItem = {
-      label: say.GROUP, act: () => this.askName(say.groupOf(name), "", (newName) => view.changeLines([name], { group: newName })),
+      label: say.GROUP, act: () => this.askName(say.groupLabel(name), "", (newName) => view.changeLines([name], { group: newName })),
     };
     const colourItems = /** @type {const} */ (["", ...ROW_COLOURS]).map((choice) => (
       { label: say.COLOURS[choice], isChosen: () => colour === choice, act: () => view.changeLines([name], { colour: choice }) }));
     return [
-      { label: say.RENAME, act: () => this.askName(say.nameOf(name), title || name,
+      { label: say.RENAME, act: () => this.askName(say.nameLabel(name), title || name,
         (newTitle) => view.changeLines([name], { title: newTitle === name ? "" : newTitle })) },
       group === "" ? joinItem : leaveItem,
       ...this.moveItems,

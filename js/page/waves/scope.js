@@ -118,7 +118,7 @@ export class Scope {
   }
 
   get isLive() {
-    return this.liveWaves !== null && this.liveWaves.isOn;
+    return this.liveWaves !== null && this.liveWaves.isRecording;
   }
 
   /** Shows the trigger's controls only for a live recording. */
@@ -136,7 +136,7 @@ export class Scope {
     const cycles = input.value.trim() === "0" && min === 0 ? 0 : readCycles(input.value) || -1;
     input.setAttribute("aria-invalid", String(cycles < 0));
     if (cycles < 0) {
-      this.status.set(say.howManyCycles(min, MAX_CYCLES.toLocaleString("en")));
+      this.status.set(say.cycleCountHint(min, MAX_CYCLES.toLocaleString("en")));
       byId("wave-settings", HTMLDetailsElement).open = true;
     }
     return cycles;
@@ -187,7 +187,7 @@ export class Scope {
     const cyclesAfter = maxCycles < 0 || trigger === "" ? 0 : this.readCycleField("behind", 0);
     if (maxCycles < 0 || cyclesAfter < 0) return null;
     field("behind").setAttribute("aria-invalid", String(cyclesAfter > maxCycles));
-    if (cyclesAfter > maxCycles) this.status.set(say.maxAfter(maxCycles.toLocaleString("en")));
+    if (cyclesAfter > maxCycles) this.status.set(say.tooManyCyclesAfterMessage(maxCycles.toLocaleString("en")));
     const stopsTime = byId("stops-time", HTMLInputElement).checked;
     return cyclesAfter > maxCycles ? null : { maxCycles, cyclesAfterTrigger: cyclesAfter, trigger, stopsTime };
   }
@@ -241,10 +241,10 @@ export class Scope {
    */
   addPart(part) {
     const { liveWaves } = this;
-    if (!liveWaves || !liveWaves.isOn) return;
+    if (!liveWaves || !liveWaves.isRecording) return;
     if (part) liveWaves.append(part);
     else liveWaves.markLost();
-    if (!liveWaves.isOn) this.drawLive(liveWaves);
+    if (!liveWaves.isRecording) this.drawLive(liveWaves);
     else if (this.isUpToDate) {
       this.isUpToDate = false;
       setTimeout(() => this.drawLive(liveWaves), DRAW_INTERVAL);
@@ -257,7 +257,7 @@ export class Scope {
     if (this.liveWaves !== liveWaves) return;
     this.view.handleGrowth(liveWaves.triggerMoment);
     if (liveWaves.endReason === "trigger") this.view.showAround(liveWaves.triggerMoment);
-    else if (!liveWaves.isOn) this.view.fit();
+    else if (!liveWaves.isRecording) this.view.fit();
     this.choice.handleGrowth();
     this.showLive(liveWaves);
     const { endReason } = liveWaves;
@@ -268,7 +268,7 @@ export class Scope {
   /** Shows the complete recording so far when time is paused. */
   showPaused() {
     const { liveWaves } = this;
-    if (!liveWaves || !liveWaves.isOn) return;
+    if (!liveWaves || !liveWaves.isRecording) return;
     this.drawLive(liveWaves);
     if (liveWaves.triggerMoment < 0) this.view.fit();
   }
@@ -276,9 +276,9 @@ export class Scope {
   /** @param {LiveWaves} liveWaves */
   showLive(liveWaves) {
     this.status.set(liveWaves.statusText);
-    this.lengthStatus.set(liveWaves.isOn ? liveWaves.lengthText : "");
-    this.recordLabel.set(liveWaves.isOn ? say.STOP_RECORDING : say.RECORD);
-    this.calls.showRecording(liveWaves.isOn);
+    this.lengthStatus.set(liveWaves.isRecording ? liveWaves.lengthText : "");
+    this.recordLabel.set(liveWaves.isRecording ? say.STOP_RECORDING : say.RECORD);
+    this.calls.showRecording(liveWaves.isRecording);
   }
 
   /**
@@ -301,7 +301,7 @@ export class Scope {
     this.view.selectRowOfLine(search.line);
     const moment = findMatch(waves, search, view.moment, isForward);
     if (moment >= 0) this.view.moveCursor(moment);
-    else this.searchStatus.set(say.notFound(text.trim(), isForward, formatNumber(view.moment)));
+    else this.searchStatus.set(say.notFoundMessage(text.trim(), isForward, formatNumber(view.moment)));
   }
 
   /** Forgets the recording when another session is opened. */
