@@ -21,8 +21,8 @@ LeadsToIn w p cycles a b l = (run : LeadsTo w p a b l) × (cycles ≡ suc run.mo
 -- `covers`: the choices include every value that a machine identified by `key` can read at input
 -- levels within the limits
 -- `leads`: each machine identified by `key` runs to one identified by `next`, at all input levels at
--- which the first machine reads the choice, and p holds at every step; all these runs take the same
--- number of cycles
+-- which the first machine reads the choice, and p holds at every step. All these runs take the same
+-- number of cycles.
 -- `fails`: for each machine identified by `key`, there are input levels l such that p fails after
 -- some number of cycles at l
 abbrev pub machine_rules : InputLimits → Observer → (TrackedMachine → Bool) → (List ℕ → Type 0) → (List ℕ → TrackedMachine → Type 0) → Rules

@@ -7,8 +7,8 @@ use mcs_nibble::Bit;
 use std::alloc::{AllocError, Global};
 use std::marker::Model;
 
-/// Limits of the inputs: the highest level of each key and of the TEST pin, the largest number of keys that are down
-/// together, and the smallest number of cycles between two changes of the levels.
+/// Limits on the inputs: the highest level of each key and of the TEST pin, the most keys that are down together, and
+/// the fewest cycles between two changes.
 #[derive(Drop)]
 pub struct InputLimits {
     keys: Vec<Bit>,

@@ -98,9 +98,9 @@ module _ (w : Observer) where
   abbrev pub LeadsAlong : (TrackedMachine → Bool) → (ℕ → TrackedMachine → Type 0) → ℕ → TrackedMachine → Levels → Type 0
   LeadsAlong p R n a l = (to : TrackedMachine) × (leads : LeadsTo w p a to l) × R (n + suc leads.more) to
 
-  -- Holds if `p` is true for each machine for which `R` holds at some moment, and each such machine
-  -- leads to one for which `R` holds, at the levels that the inputs `f` have at that moment. Each
-  -- such machine must have a valid board, and `p` must ignore the input levels.
+  -- Holds if `p` is true for each machine for which `R` holds at some moment. At the levels that the
+  -- inputs `f` have at that moment, each such machine must lead to one for which `R` holds. Each such
+  -- machine must have a valid board, and `p` must ignore the input levels.
   pub record IsClosedAlong (f : ℕ → Levels) (p : TrackedMachine → Bool) (R : ℕ → TrackedMachine → Type 0) : Type 0 where
     pub ignores : IgnoresLevels p
     pub sound : (n : ℕ) (a : TrackedMachine) → R n a → board_fault_of a.1.board ≡ None

@@ -21,26 +21,26 @@ pub record FitsBoard (b : BoardParts) (l : Levels) : Type 0 where
   pub keys : AreBelow (key_count b) 2 l.keys
   pub test : l.test < 2
 
--- Limits of the inputs. `keys` has the highest level, 0 or 1, of each key, row by row. `test` is
+-- Limits on the inputs. `keys` has the highest level, 0 or 1, of each key, row by row. `test` is
 -- the highest level of the TEST pin. `together` is the largest number of keys that are down at the
 -- same time. `wait` is the smallest number of cycles between two changes of the levels; 0 and 1
--- limit nothing.
+-- allow all changes.
 pub record InputLimits : Type 0 where
   pub keys : List ℕ
   pub test : ℕ
   pub together : ℕ
   pub wait : ℕ
 
--- holds if `l` has a level for each key of the board and for TEST, and all levels are within the
--- limits; `wait` does not limit the levels at one moment
+-- Holds if `l` has a level for each key of the board and for TEST, and all levels are within the
+-- limits. The limit `wait` does not apply to the levels of a single moment.
 pub record AreAllowed (limits : InputLimits) (b : BoardParts) (l : Levels) : Type 0 where
   pub fits : FitsBoard b l
   pub keys : (i : ℕ) → slice_index l.keys i ≤ slice_index limits.keys i
   pub test : l.test ≤ limits.test
   pub together : sum l.keys ≤ limits.together
 
--- holds if the levels change at moment `k`: the levels before cycle `k` are not those before the
--- previous cycle; the levels before cycle 0 are no change
+-- Holds if the levels change at moment `k`: the levels before cycle `k` differ from those before the
+-- previous cycle. The levels before cycle 0 are no change.
 abbrev pub Changes : (ℕ → Levels) → ℕ → Type 0
 Changes f zero = ⊥
 Changes f (suc k) = f (suc k) ≢ f k
