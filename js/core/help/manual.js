@@ -104,8 +104,8 @@ export function readLineForms(manual) {
 }
 
 /**
- * Returns the bench lines that match a typed text. If a blank follows the first word, returns the lines with this first word. Otherwise,
- * returns the lines that start with the typed text. Returns no lines for a blank text.
+ * Returns the bench lines that match the typed text. If a blank follows the first word, returns the lines with this first word. Otherwise,
+ * returns the lines that start with the typed text. Returns no lines if the typed text is blank.
  * @param {{ form: string, effect: string }[]} lines
  * @param {string} typedText
  */

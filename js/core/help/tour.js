@@ -11,7 +11,7 @@ import * as say from "../../words/help.js";
  * - `end`: the reason for the last stop in this step, such as `break` or `watch`; "" for none.
  * @typedef {{ lamps: string, patterns: number, keysDown: number, end: string }} TourState
  *
- * A piece of a paragraph: a text, or a link with an action. Only stories have links.
+ * A piece of a paragraph: plain text, or a link with an action. Only stories have links.
  * @typedef {string | { linkText: string, action: import("./story.js").StoryAction }} ParagraphPiece
  *
  * The control that a step highlights: the assemble button, a key of the board, the margin of the source, or a RAM nibble.

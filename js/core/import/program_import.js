@@ -46,7 +46,7 @@ const CONDITION_BITS = { Z: 4, C: 2, T: 1 };
 class LineError extends Error {}
 
 /**
- * Returns a text, padded with blanks to a column. A text that already reaches the column gets one blank.
+ * Pads text with blanks to a column. If the text already reaches the column, appends one blank.
  * @param {string} text
  * @param {number} column
  */

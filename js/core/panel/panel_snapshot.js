@@ -156,7 +156,7 @@ export class PanelSnapshot {
     return lamp.isLit(this.marks) ? FULL_LEVEL : 0;
   }
 
-  /** The text of the displays and named lamps. */
+  /** The state of the displays and named lamps as text. */
   get display() {
     const { text } = this.text;
     return joinDisplayText(this.brightness ? this.text.readBrightness(this.brightness) : text.read(this.marks));

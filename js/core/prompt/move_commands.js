@@ -75,8 +75,8 @@ export class MoveCommands {
   }
 
   /**
-   * Repeats a move up to a number of times, or until a move stops for a reason other than the end of its step. Shows where the last move
-   * stopped.
+   * Repeats a move at most a given number of times. Ends early if a move stops for a reason other than the end of its step. Shows where the
+   * last move stopped.
    * @param {string} argumentText the number of moves; "" means 1
    * @param {() => void} startMove starts the move
    */
@@ -101,7 +101,7 @@ export class MoveCommands {
   }
 
   /**
-   * Runs until the current subroutine returns. Fails if the program is in no subroutine.
+   * Runs until the current subroutine returns. Fails if the program is not in a subroutine.
    * @param {string} argumentText must be ""
    */
   finishSubroutine(argumentText) {
