@@ -292,7 +292,7 @@ export function readBoardText(text) {
 }
 
 /**
- * Returns the ROMs, RAM banks and chains in the tables of a board text. A number of chips above the maximum becomes the maximum.
+ * Returns the ROMs, RAM banks and chains in the tables of a board text. A number of chips above the maximum is reduced to the maximum.
  * @param {Entry[]} entries the tables
  */
 export function collectParts(entries) {

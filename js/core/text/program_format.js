@@ -33,7 +33,7 @@ const DEFINITION = /^([A-Za-z_]\w*)[ \t]*=[ \t]*(\w+)$/;
 const CODE = /^(?:([A-Za-z_]\w*)[ \t]*:[ \t]*)?(?:([A-Za-z]\w*)(?:[ \t]+(\w+(?:[ \t]*,[ \t]*\w+)*))?)?$/;
 
 /**
- * Returns the column at which a text ends.
+ * Returns the column at which a piece of text ends.
  * @param {string} text
  * @param {number} column the column at which the text starts
  * @param {Layout} layout

@@ -8,8 +8,8 @@ import * as say from "../../words/time.js";
  * A function that describes the location at a program counter, given as hexadecimal digits.
  * @typedef {(counter: string) => string} PlaceDescriber
  *
- * The durations of runs. `runs` has a text for each run: its duration, and where or why it stopped. `sum` is the total duration. In case of
- * an error, `message` is the error message, and there are no durations.
+ * The durations of runs. `runs` contains a string for each run: its duration, and where or why it stopped. `sum` is the total duration. In
+ * case of an error, `message` is the error message, and there are no durations.
  * @typedef {{ runs: string[], sum: string, message: string }} RunTimes
  */
 
