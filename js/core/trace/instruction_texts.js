@@ -138,8 +138,8 @@ export class InstructionTexts {
   }
 
   /**
-   * Returns the label line of an instruction, if any, and the first columns of its trace line. `readInstructions` must have read this
-   * address before.
+   * Returns the label line of an instruction, if any, and the first columns of its trace line. `readInstructions` must have read the
+   * instruction at this address before.
    * @param {number} cycles the cycles before the instruction
    * @param {number} address
    */

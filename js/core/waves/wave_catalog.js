@@ -49,8 +49,8 @@ export function chosenValueNames(lines, chosenNames) {
 }
 
 /**
- * Returns a list of the line whose name is exactly the text. If there is none, returns the lines with the text in their name, title or
- * group title.
+ * Returns a list with only the line whose name is exactly the text. If there is none, returns the lines with the text in their name, title
+ * or group title.
  * @param {WaveLine[]} lines
  * @param {string} text
  */
