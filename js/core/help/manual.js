@@ -18,7 +18,7 @@ import * as say from "../../words/help.js";
 /** The titles of the manual's sections about instructions, and about the cells of the machine (registers, RAM, ports ..). */
 export const INSTRUCTIONS = say.INSTRUCTIONS;
 export const CELLS = say.CELLS;
-/** The titles of the manual's sections that describe a bench line in each table row. */
+/** The titles of the manual's sections whose table rows each describe a bench line. */
 const BENCH_LINE_SECTIONS = say.SECTIONS_OF_LINES;
 
 /**

@@ -83,7 +83,7 @@ class ProgramImport {
     if (this.errors.length > 0) return [];
     this.chooseSpellings();
     let passes = MAX_PASSES;
-    // The value of a name can depend on later lines, so the passes continue until no value changes.
+    // The value of a name can depend on later lines, so the passes are repeated until no value changes, at most MAX_PASSES times.
     while (passes > 0 && this.computeValues()) passes -= 1;
     return this.lines.map((line, at) => this.attemptLine(at + 1, () => this.formatOutputLine(line), ""));
   }

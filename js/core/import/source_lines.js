@@ -115,8 +115,8 @@ function splitLabel(line) {
 }
 
 /**
- * Splits the statement after a label into its first word and its operands. A definition of a name has the form `X = 5` or `X EQU 5`, with
- * or without a colon after X.
+ * Splits the statement after a label into its first word and its operands. A definition of a name has a form such as `X = 5` or `X EQU 5`,
+ * with or without a colon after X.
  * @param {string} label
  * @param {string} code
  */

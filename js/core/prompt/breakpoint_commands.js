@@ -131,7 +131,7 @@ export class BreakpointCommands {
 
   /**
    * Deletes breakpoints or a watch.
-   * @param {string} argumentText the breakpoint numbers, or the watched place; "" for all breakpoints
+   * @param {string} argumentText the breakpoint numbers, or the watched place; or "" to delete all breakpoints
    */
   async remove(argumentText) {
     if (/[a-z]/i.test(argumentText.replace(LAST_BREAKPOINT, ""))) return this.unwatch(argumentText);
@@ -141,7 +141,7 @@ export class BreakpointCommands {
   }
 
   /**
-   * Sets a watch. Fails if `continue` already watches another place.
+   * Sets a watch. For a place that is not a RAM nibble, fails if `continue` already watches another place.
    * @param {string} argumentText the place to watch
    */
   async watch(argumentText) {

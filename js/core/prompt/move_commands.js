@@ -124,7 +124,8 @@ export class MoveCommands {
   }
 
   /**
-   * Presses and releases keys one after another while the machine runs. If a breakpoint stops the machine, does not press the other keys.
+   * Presses and releases keys one after another while the machine runs. If the machine stops early, such as at a breakpoint, does not press
+   * the remaining keys.
    * @param {string} argumentText the names of the keys
    */
   async pressKeys(argumentText) {

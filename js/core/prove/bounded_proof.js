@@ -1,5 +1,5 @@
-// Proves properties on the page. Asks the prover in the WebAssembly module repeatedly, each time with twice the previous limit on the
-// number of states, so that the page can show progress. Confirms a counterexample by running its test. The page's worker uses this module.
+// Proves properties on the page. Asks the prover in the WebAssembly module repeatedly, with increasing limits on the number of states, so
+// that the page can show progress. Confirms a counterexample by running its test. The page's worker uses this module.
 //
 //     const calls = { reportStates: async (states) => {}, yieldToMessages: async () => {} };
 //     const { proving, errors } = beginProving(engine, texts, 1000000, calls);

@@ -46,8 +46,8 @@ function countLinesAtOnePort(keys, { matrix }) {
 }
 
 /**
- * Returns the limits that a properties text sets on the inputs; null if a proof cannot use its limits. Without `press` and `test`, all keys
- * can be pressed in a proof, named or not. A limit on the number of keys that are down matters only if one read can see more keys.
+ * Returns the limits that a properties text sets on the inputs; null if it sets none that a proof can use. Without `press` and `test`, all
+ * keys can be pressed in a proof, named or not. A limit on the number of keys that are down matters only if one read can see more keys.
  * @param {Campaign} campaign
  * @param {Board} board
  * @returns {InputLimits | null}

@@ -18,7 +18,7 @@ import * as say from "../../words/prove.js";
  *
  * The state that decides whether the next instruction makes a mistake. `address` and `code` are the address and the opcode of the
  * instruction. `dcl` is the selected RAM bank, and `pair` is the value of register pair P0. `lastSrcByte` is the byte of the last SRC,
- * which selects the ROM port. `bankSrcBytes` has the byte of the last SRC to each RAM bank, by bank number.
+ * which selects the ROM port. `bankSrcBytes` contains the byte of the last SRC to each RAM bank, by bank number.
  * @typedef {{ board: Board, address: number, code: number, dcl: number, pair: number, lastSrcByte: number,
  *   bankSrcBytes: Map<number, number> }} MachineState
  */

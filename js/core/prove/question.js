@@ -75,8 +75,8 @@ const POWER_ON_ADDRESS = 0;
 const EMPTY_QUESTION = { forbidden: [], mistakes: [], stopwatch: null, presses: null, inputLimits: null };
 
 /**
- * Returns increasing limits on the number of states, for repeated tries of a question. Each limit is twice the previous one. The last one
- * is `maxBound`.
+ * Returns increasing limits on the number of states, for repeated tries of a question. Each limit is twice the previous one, except the
+ * last limit, which is `maxBound`.
  * @param {number} maxBound
  * @param {number} [firstBound]
  */

@@ -13,7 +13,7 @@ import * as say from "../../words/session.js";
  * @typedef {{ name: string, boardText: string, programText: string, testText?: string, propertiesText?: string }} Texts
  * @typedef {import("../debug/breakpoints.js").SavedBreakpoint} SavedBreakpoint
  *
- * The name and the texts of a project, with the saved breakpoints and the texts of the watch expressions (`watched`).
+ * The name and the texts of a project, with the saved breakpoints and the watch expressions as text (`watched`).
  * @typedef {Texts & { breakpoints?: SavedBreakpoint[], watched?: string[] }} TextsWithBreakpoints
  *
  * The contents of a project file; `file` contains the bytes of the session file.

@@ -39,7 +39,7 @@ import * as say from "../../words/testing.js";
  * Shared steps, defined by a `steps` line. `lineCount` is the number of lines that they execute, including all repetitions.
  * @typedef {{ source: Source, name: string, line: number, steps: Step[], lineCount: number }} SharedSteps
  *
- * A test. `textNumber` is the number of its text, from 1. `from` is the name of its start state, "" for power-on.
+ * A test. `textNumber` is the number of its text, from 1. `from` is the name of its start state, or "" if it starts at power-on.
  * @typedef {{ textNumber: number, name: string, line: number, from: string, steps: Step[] }} Test
  * @typedef {{ tests: Test[], errors: TestTextError[] }} TestText
  */

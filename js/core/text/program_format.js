@@ -154,8 +154,8 @@ export function findLengthError(lines) {
 }
 
 /**
- * Returns the changes between two versions of a text, one per changed line. A change omits the common prefix and suffix of the old and the
- * new line.
+ * Returns the changes between two versions of a program, one per changed line. A change omits the common prefix and suffix of the old and
+ * the new line.
  * @param {string[]} oldLines the old lines
  * @param {string[]} newLines the new lines; their number equals that of the old lines
  * @returns {Change[]}

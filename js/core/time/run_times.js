@@ -31,7 +31,7 @@ function formatRunTime(cycles) {
  * range rejects a line, if the range contains no run, or if there are fewer than `lastAnswer` answers.
  * @param {string[]} answers
  * @param {number} firstAnswer the number of the first answer to use, from 1
- * @param {number} lastAnswer the number of the last answer to use; 0 for the end of the list
+ * @param {number} lastAnswer the number of the last answer to use, or 0 to use all answers up to the end of the list
  * @param {PlaceDescriber | null} describePlace null to say why each run stopped instead of where
  * @returns {RunTimes}
  */

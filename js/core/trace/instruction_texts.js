@@ -79,7 +79,7 @@ export class InstructionTexts {
   }
 
   /**
-   * Reads the texts of the instructions at `addresses` from the bench, except for the texts that it has read before.
+   * Reads the instructions at `addresses` from the bench, except those that have been read before.
    * @param {EngineHost} engine
    * @param {State} state
    * @param {number[]} addresses
