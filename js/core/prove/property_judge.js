@@ -86,10 +86,7 @@ export class PropertyJudge {
     /** The questions about properties that can be combined into one. */
     this.jointQuestion = new JointQuestion(this.textProperties.flatMap(({ property, propertyQuestion: { question } }) => (
       !question || needsSeparateQuestion(property, question) ? [] : [question])), FINAL_ANSWERS, calls.ask);
-    /**
-     * @type {Verdict | null} the verdict that the program makes no common mistake, if a proof by sets of states has succeeded; otherwise
-     * null
-     */
+    /** @type {Verdict | null} the verdict of a proof by sets of states that there is no common mistake; null if there is no such proof */
     this.noMistakeVerdict = null;
     /** The question about all common mistakes. */
     this.anyMistakeQuestion = new JointQuestion(this.mistakes.map(({ word }) => mistakeQuestion([word])), FINAL_MISTAKE_ANSWERS, calls.ask);

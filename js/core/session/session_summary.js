@@ -25,8 +25,8 @@ function findFirstSentence(text, mark) {
 }
 
 /**
- * Returns the title in the board text; or else the first sentence of the board's comment; or else the first sentence of the program's
- * comment; "" if there is none of these.
+ * Returns the title in the board text; or else the first sentence of the board's comment, or of the program's comment. Returns "" if there
+ * is none of these.
  * @param {string} boardText
  * @param {string} programText
  */

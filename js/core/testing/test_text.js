@@ -387,8 +387,8 @@ class TestReader {
   }
 
   /**
-   * Parses a word that selects a key by a value: `{r4}` for the key whose name is the value, or `{r4:red,green}` for the key whose index in
-   * the list is the value. Returns null for any other word.
+   * Parses a word that selects a key by a value. `{r4}` selects the key whose name is the value. `{r4:red,green}` selects the key whose
+   * index in the list is the value. Returns null for any other word.
    * @param {string} word
    * @returns {ChosenKey | null}
    */
