@@ -153,7 +153,7 @@ export class SourceSync {
 }
 
 /**
- * Returns the addresses of all lines, "" for a line without bytes.
+ * Returns the addresses of all lines, with "" for a line without bytes.
  * @param {SourceMap} map
  */
 function listLineAddresses(map) {

@@ -1,5 +1,5 @@
-// A snapshot of the session for the panel. It contains the registers, keys, RAM, lamp brightness, and the instructions near the program
-// counter, from the answers to queries.
+// A snapshot of the session for the panel. The snapshot contains the registers, keys, RAM, lamp brightness, and the instructions near the
+// program counter, read from the answers to queries.
 
 import { readRam } from "../bench/answers.js";
 import { joinLines, matchAnswers, readInputs } from "../bench/inputs.js";

@@ -34,7 +34,7 @@ const MAX_CHECKED_CYCLES = 200000;
 /** The maximum number of cycles that one call of the bench runs. */
 const CHUNK_CYCLES = 500;
 
-/** @type {(board: Board, chip: number) => string} returns the port of a ROM as in the board text; "" if the board lacks it */
+/** @type {(board: Board, chip: number) => string} returns the port of a ROM as in the board text; "" if the board lacks the ROM */
 const findPortMarks = ({ roms }, chip) => (roms.find((rom) => Number(rom.chip) === chip) || { port: "" }).port;
 /** @type {(board: Board, address: number) => boolean} returns whether the board lacks the ROM that contains an address */
 const lacksRom = (board, address) => findPortMarks(board, address >> 8) === "";

@@ -126,7 +126,7 @@ export function combineQuestions(questions) {
 }
 
 /**
- * Returns `lists`, or a list with one conjunction that is never true if `lists` is empty.
+ * Returns `lists`; if `lists` is empty, returns a list with one conjunction that is never true.
  * @param {Comparisons[]} lists
  */
 const orImpossibleCondition = (lists) => (lists.length > 0 ? lists : [IMPOSSIBLE_COMPARISONS]);

@@ -180,7 +180,7 @@ class TestReader {
 
   /**
    * Returns a line without its comment. A comment starts with `#` or `;`, at the start of the line or between blanks. In the name of a
-   * test, these characters are part of the name. If one of them is also a key name, it means the key in a line with keys.
+   * test, these characters are part of the name. In a line with keys, such a character stands for the key if it is also a key name.
    * @param {string} line
    */
   removeComment(line) {

@@ -60,7 +60,7 @@ function createClearingTexts(addresses) {
 const RESERVED_LENGTH = PAGE_NUMBERS.length * formatStatements(0, [255], 1).length;
 
 /**
- * Returns statements that store one byte, the last one, in each ROM that only the other texts use.
+ * Returns statements that store the last byte of each ROM that only the other texts use.
  * @param {Int16Array} bytes the bytes by address; a negative number means no byte
  * @param {Set<number>} pages the ROMs to which this text stores bytes
  */

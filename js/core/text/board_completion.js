@@ -48,7 +48,7 @@ class BoardParts {
   }
 
   /**
-   * Returns the possible values of a key, an empty list if the values are unknown. Names of signal lines and port masks need quotes.
+   * Returns the possible values of a key; an empty list if the values are unknown. Names of signal lines and port masks need quotes.
    * @param {string} table
    * @param {string} key
    * @returns {{ list: CompletionItem[], isQuoted: boolean }}
